@@ -1,0 +1,137 @@
+//! Lists of machines and of sets of nodes.
+ghost use Rattle.std.specs.Prelude.{◌≡◌, IfOk};
+
+use cluster::ids::VmId;
+use cluster::sets::NodeSet;
+use memory::Memory;
+use std::alloc::Global;
+use std::marker::Model;
+
+/// A list of machines, which contracts see as that list.
+#[derive(Drop)]
+pub struct Vms {
+    ids: Vec<VmId>,
+}
+
+impl Model for Vms {
+    ghost use Rattle.std.specs.Prelude.{List};
+    ghost use Rattle.cluster.specs.declared.ids.VmId.{VmId};
+
+    ghost Value = { List VmId };
+
+    ghost view = { λ a. a.ids.items };
+}
+
+impl Vms {
+    /// These machines.
+    pub fn new(ids: Vec<VmId>) -> Vms
+        ensures { result ≡ ids.items }
+    {
+        Vms { ids }
+    }
+
+    /// The machines in their order.
+    pub fn items(&self) -> &[VmId]
+        ensures { result.now ≡ self.now }
+    {
+        &self.ids
+    }
+
+    /// An equal list.
+    pub fn copy(&self) -> Result<Vms, Memory>
+        ensures { IfOk result (λ v. v ≡ self.now) }
+    {
+        let ids = self.ids.clone()?;
+        Ok(Vms { ids })
+    }
+}
+
+/// A list of sets of nodes, which contracts see as that list.
+#[derive(Drop)]
+pub struct Groups {
+    sets: Vec<NodeSet>,
+}
+
+impl Model for Groups {
+    ghost use Rattle.std.specs.Prelude.{List};
+    ghost use Rattle.cluster.specs.declared.sets.NodeSet.{NodeSet};
+
+    ghost Value = { List NodeSet };
+
+    ghost view = { λ a. a.sets.items };
+}
+
+impl Groups {
+    /// These sets.
+    pub fn new(sets: Vec<NodeSet>) -> Groups
+        ensures { result ≡ sets.items }
+    {
+        Groups { sets }
+    }
+
+    /// The sets in their order.
+    pub fn items(&self) -> &[NodeSet]
+        ensures { result.now ≡ self.now }
+    {
+        &self.sets
+    }
+
+    /// An equal list.
+    pub fn copy(&self) -> Result<Groups, Memory>
+        ensures { IfOk result (λ v. v ≡ self.now) }
+    {
+        let sets = self.sets.clone()?;
+        Ok(Groups { sets })
+    }
+}
+
+/// A list of lists of machines, which contracts see as that list.
+#[derive(Drop)]
+pub struct Parts {
+    lists: Vec<Vms>,
+}
+
+impl Model for Parts {
+    ghost use Rattle.std.specs.Prelude.{List};
+    ghost use Rattle.cluster.specs.declared.ids.VmId.{VmId};
+
+    ghost Value = { List (List VmId) };
+
+    ghost view = { λ a. a.lists.items };
+}
+
+impl Parts {
+    /// These lists.
+    pub fn new(lists: Vec<Vms>) -> Parts
+        ensures { result ≡ lists.items }
+    {
+        Parts { lists }
+    }
+
+    /// The lists in their order.
+    pub fn items(&self) -> &[Vms]
+        ensures { result.now ≡ self.now }
+    {
+        &self.lists
+    }
+
+    /// An equal list.
+    pub fn copy(&self, alloc: Global) -> Result<Parts, Memory>
+        ensures { IfOk result (λ v. v ≡ self.now) }
+    {
+        let lists = copy_all(alloc, &self.lists)?;
+        Ok(Parts { lists })
+    }
+}
+
+/// Equal lists.
+fn copy_all(alloc: Global, lists: &[Vms]) -> Result<Vec<Vms>, Memory>
+    ensures { IfOk result (λ copies. copies.items ≡ lists.now) }
+{
+    let mut copies = Vec::new(alloc);
+    for list in lists {
+        let copy = list.copy()?;
+        copies.push(copy)?;
+    }
+    Ok(copies)
+}
