@@ -1,9 +1,10 @@
 //! Clusters.
-ghost use Rattle.std.specs.Prelude.{◌≡◌, ◌++◌, ◌∷◌, [], ◌<◌, ◌≤◌, length, IfOk, IfErr, OnOk, OnErr, unwrap_or, is_none, map, nat_le, ◌==◌};
+ghost use Rattle.std.specs.Prelude.{◌≡◌, ◌++◌, ◌∷◌, [], ◌<◌, ◌≤◌, length, IfOk, IfErr, OnOk, OnErr, unwrap_or, is_none, map, IsTrue, IsNone, true, nat_le, ◌==◌};
 ghost use Rattle.std.proofs.Props.{props};
-ghost use Rattle.std.specs.List.{position, list_all, list_any};
+ghost use Rattle.std.specs.List.{position, list_all, list_any, All};
 ghost use Rattle.std.specs.Str.{bytes_eq};
-ghost use Rattle.cluster.specs.Inventory.{IsInventory, element_named, resource_named, are_distinct, base_fault, node_fault, machine_fault, node_fits, machine_fits, amounts_fit, duration_fits, own_fits, node_own_fits, machine_own_fits, host_is_online};
+ghost use Rattle.cluster.specs.Names.{is_name};
+ghost use Rattle.cluster.specs.Inventory.{IsInventory, element_named, resource_named, are_distinct, base_fault, node_fault, machine_fault, node_fits, machine_fits, amounts_fit, duration_fits, own_fits, node_own_fits, machine_own_fits, host_is_online, has_places};
 
 use crate::ids::{Duration, Element, NodeId, State, VmId};
 use crate::names::Name;
@@ -62,7 +63,8 @@ pub struct Cluster {
 }
 
 impl Model for Cluster {
-    ghost use Rattle.cluster.specs.Inventory.{SoundInventory};
+    ghost use Rattle.cluster.specs.Names.{is_name};
+ghost use Rattle.cluster.specs.Inventory.{SoundInventory};
 
     ghost Value = { SoundInventory };
 
@@ -151,12 +153,15 @@ impl Cluster {
 
     /// What is wrong with one more node.
     fn fault_of_node(&self, node: &Node) -> Option<AddFault>
-        ensures { result ≡ node_fault self.now.given node.now }
+        ensures fault { result ≡ node_fault self.now.given node.now }
+        ensures named { IsTrue (is_name node.now.name) }
+        ensures places { IsTrue (has_places node.now.capacity node.now.own) }
     {
+        let name = node.name.as_text();
         if self.nodes.len() >= 512 {
             return Some(AddFault::TooMany);
         }
-        if self.find(node.name.as_text().as_bytes()).is_some() {
+        if self.find(name.as_bytes()).is_some() {
             return Some(AddFault::Twice);
         }
         if !node_fit(self.resources.len(), node) {
@@ -167,12 +172,15 @@ impl Cluster {
 
     /// What is wrong with one more machine.
     fn fault_of_machine(&self, machine: &Machine) -> Option<AddFault>
-        ensures { result ≡ machine_fault self.now.given machine.now }
+        ensures fault { result ≡ machine_fault self.now.given machine.now }
+        ensures named { IsTrue (is_name machine.now.name) }
+        ensures places { IsTrue (has_places machine.now.usage machine.now.own) }
     {
+        let name = machine.name.as_text();
         if self.machines.len() >= 4096 {
             return Some(AddFault::TooMany);
         }
-        if self.find(machine.name.as_text().as_bytes()).is_some() {
+        if self.find(name.as_bytes()).is_some() {
             return Some(AddFault::Twice);
         }
         if !is_host_online(&self.nodes, machine.state) {
@@ -231,15 +239,16 @@ fn place_of(names: &[Name], name: &[u8]) -> Option<usize>
 }
 
 fn has_name(names: &[Name], name: &Name) -> bool
-    ensures { result ≡ list_any (bytes_eq name.now) names.now }
+    ensures any { result ≡ list_any (bytes_eq name.now) names.now }
+    ensures named { IsTrue (is_name name.now) }
 {
-    names
-        .iter()
-        .any(|x| name.as_text().as_bytes() == x.as_text().as_bytes())
+    let name = name.as_text().as_bytes();
+    names.iter().any(|x| name == x.as_text().as_bytes())
 }
 
 fn are_all_distinct(names: &[Name]) -> bool
-    ensures { result ≡ are_distinct names.now }
+    ensures distinct { result ≡ are_distinct names.now }
+    ensures named { IsTrue result → All (λ name. is_name name ≡ true) names.now }
 {
     match names {
         [] => true,
@@ -249,7 +258,8 @@ fn are_all_distinct(names: &[Name]) -> bool
 
 /// What is wrong with the resources and the durations.
 fn fault_of_base(resources: &[Name], durations: &[Duration]) -> Option<AddFault>
-    ensures { result ≡ base_fault resources.now durations.now }
+    ensures fault { result ≡ base_fault resources.now durations.now }
+    ensures named { IsNone result → All (λ name. is_name name ≡ true) resources.now }
 {
     if resources.len() > 8 {
         return Some(AddFault::TooMany);
