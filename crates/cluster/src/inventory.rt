@@ -64,7 +64,7 @@ pub struct Cluster {
 
 impl Model for Cluster {
     ghost use Rattle.cluster.specs.Names.{is_name};
-ghost use Rattle.cluster.specs.Inventory.{SoundInventory};
+    ghost use Rattle.cluster.specs.Inventory.{SoundInventory};
 
     ghost Value = { SoundInventory };
 
