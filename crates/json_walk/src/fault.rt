@@ -1,29 +1,38 @@
 //! What is wrong with a value, and where.
 
 ghost use Rattle.std.specs.Prelude.{◌≡◌};
-ghost use Rattle.json_walk.specs.declared.fault.WalkFault.{WalkFault};
 ghost use Rattle.json_walk.specs.declared.fault.WalkFault.TheVariants as walk_faults;
+ghost use Rattle.json_walk.specs.declared.fault.ReadFault.TheVariants as read_faults;
 
 use crate::path::PathText;
 use memory::Memory;
 
+/// What is wrong with a value.
 #[derive(Clone, Copy, Debug, PartialEq, Eq)]
 pub enum FaultKind {
+    /// A member that has to be there is absent.
     Missing,
+    /// The value is of another kind: for a number, also one that is not whole.
     WrongKind,
+    /// A whole number that is negative, too small or too great, or a text that is not well formed.
     OutOfRange,
+    /// A word or a key that has no meaning here.
     Unknown,
 }
 
+/// What is wrong, and the path at which it is.
 #[derive(Drop)]
 pub struct Fault {
     pub path: PathText,
     pub kind: FaultKind,
 }
 
+/// Why a test of a value has no answer.
 #[derive(Drop)]
 pub enum WalkFault {
+    /// The value does not pass.
     Bad(Fault),
+    /// Want of memory.
     Memory,
 }
 
@@ -32,5 +41,22 @@ impl From<Memory> for WalkFault {
 
     fn from(_e: Memory) -> WalkFault {
         WalkFault::Memory
+    }
+}
+
+/// Why bytes have no value.
+#[derive(Clone, Copy, Debug, PartialEq, Eq)]
+pub enum ReadFault {
+    /// The bytes are not UTF-8, or no JSON that `serde_json` reads.
+    NotJson,
+    /// Want of memory.
+    Memory,
+}
+
+impl From<Memory> for ReadFault {
+    ghost from_gives = { λ _ e. e ≡ read_faults.Memory };
+
+    fn from(_e: Memory) -> ReadFault {
+        ReadFault::Memory
     }
 }
