@@ -1,0 +1,251 @@
+// Desks in memory: one of which listed calls fail, and one that never fails.
+ghost use Rattle.std.specs.Prelude.{◌≡◌, ◌⊎◌, ◌↔◌, ◌-◌, [], ◌++◌, Some, None, true, min, length, IsOk, IsErr, IsErrOf, IfOk, IfErr, OnOk, OnErr, option_copied};
+ghost use Rattle.plan_io.specs.Store.{stored, current_of, stored_fits};
+
+use crate::calls::Calls;
+use crate::store::{Store, copy_at};
+use crate::{Desk, Failed, OutFault};
+use memory::Memory;
+use std::alloc::Global;
+
+/// A desk in memory of which listed calls fail.
+///
+/// Its calls `read_at`, `create` and `append` are numbered from 0, all three in one row. A call whose
+/// number is listed fails: it changes nothing but the number and its count of faults, which go up by
+/// one. So does a `read_at` of a name that has no file. No other call fails. The number and the
+/// counts stand still at the end of a u64.
+#[derive(Drop)]
+pub struct DeskMem {
+    store: Store,
+    calls: Calls,
+    read_faults: u64,
+    write_faults: u64,
+}
+
+impl DeskMem {
+    ghost use Rattle.plan_io.specs.Files.{OthersStay};
+    ghost use Rattle.plan_io.specs.DeskMemory.{desk_files, desk_current, desk_calls, desk_read_faults, desk_write_faults, CountsNothing};
+
+    /// A desk without files, of which the calls with these numbers fail.
+    pub fn new(fails: Vec<u64>) -> DeskMem
+        ensures files { desk_files result ≡ (λ _. None) }
+        ensures current { desk_current result ≡ None }
+        ensures calls { desk_calls result ≡ record { fails = fails.items; next = 0 } }
+        ensures read_faults { desk_read_faults result ≡ 0 }
+        ensures write_faults { desk_write_faults result ≡ 0 }
+    {
+        let calls = Calls::new(fails);
+        DeskMem {
+            store: Store::new(calls.allocator()),
+            calls,
+            read_faults: 0,
+            write_faults: 0,
+        }
+    }
+
+    /// The bytes of the file of this name, if there is one. It is no call that is numbered.
+    pub fn get(&self, name: &str) -> Option<&[u8]>
+        ensures { option_copied result ≡ desk_files self.now name.now }
+    {
+        self.store.get(name)
+    }
+
+    /// Leaves a file of this name with these bytes. It is no call that is numbered. After want of
+    /// memory all is as before.
+    pub fn put(&mut self, name: &str, bytes: &[u8]) -> Result<(), Memory>
+        ensures put { OnOk result (desk_files self.new name.now ≡ Some bytes.now) }
+        ensures others { OthersStay name.now (desk_files self.old) (desk_files self.new) }
+        ensures kept { OnErr result (desk_files self.new ≡ desk_files self.old) }
+        ensures current { desk_current self.new ≡ desk_current self.old }
+        ensures counts { CountsNothing self.old self.new }
+    {
+        Ok(self.store.put(name, bytes)?)
+    }
+}
+
+impl Desk for DeskMem {
+    ghost tells = { true };
+
+    ghost reads = { λ _. true };
+
+    ghost writes = { λ _. true };
+
+    ghost files = { λ d. stored d.store };
+
+    ghost current = { λ d. current_of d.store };
+
+    ghost read_faults = { λ d. d.read_faults };
+
+    ghost write_faults = { λ d. d.write_faults };
+
+    ghost fits = { λ d name _. stored_fits d.store name };
+
+    ghost use Rattle.std.specs.Io.{ReadsAtMost};
+    ghost use Rattle.plan_io.specs.Calls.{IsListed, counted};
+    ghost use Rattle.plan_io.specs.Causes.{CountsReads, CountsWrites, raised};
+    ghost use Rattle.plan_io.specs.Files.{bytes_of, OthersStay, Gives, IsLeft};
+    ghost use Rattle.plan_io.specs.DeskMemory.{desk_files, desk_current, desk_calls, desk_read_faults, desk_write_faults};
+
+    /// Gives as many bytes as `buf` holds and are there. It fails exactly where its number is listed
+    /// or the name has no file.
+    fn read_at(&mut self, name: &str, place: u64, buf: &mut [u8]) -> Result<usize, Failed>
+        ensures failed { IsErr result ↔ (IsListed (desk_calls self.old) ⊎ (desk_files self.old name.now ≡ None)) }
+        ensures count { IfOk result (λ n. n ≡ min (length buf.old) (length (bytes_of (desk_files self.old name.now)) - place)) }
+        ensures bytes { IfOk result (λ n. Gives (bytes_of (desk_files self.old name.now)) place n buf.new) }
+        ensures bound { ReadsAtMost result buf.new }
+        ensures untouched { OnErr result (buf.new ≡ buf.old) }
+        ensures files { desk_files self.new ≡ desk_files self.old }
+        ensures current { desk_current self.new ≡ desk_current self.old }
+        ensures calls { desk_calls self.new ≡ counted (desk_calls self.old) }
+        ensures raised { OnErr result (desk_read_faults self.new ≡ raised (desk_read_faults self.old)) }
+        ensures cause { CountsReads (desk_read_faults self.old) (desk_read_faults self.new) result }
+        ensures writes_kept { desk_write_faults self.new ≡ desk_write_faults self.old }
+    {
+        let listed = self.calls.count();
+        match self.store.get(name) {
+            Some(bytes) if !listed => Ok(copy_at(bytes, place, buf)),
+            _ => {
+                self.read_faults = self.read_faults.saturating_add(1);
+                Err(Failed)
+            }
+        }
+    }
+
+    /// Fails exactly where its number is listed.
+    fn create(&mut self, name: &str) -> Result<(), OutFault>
+        ensures failed { IsErrOf result OutFault.Failed ↔ IsListed (desk_calls self.old) }
+        ensures empty { OnOk result (desk_files self.new name.now ≡ Some []) }
+        ensures kept { OnErr result (desk_files self.new ≡ desk_files self.old) }
+        ensures left { IsLeft (desk_files self.old name.now) (desk_files self.new name.now) }
+        ensures others { OthersStay name.now (desk_files self.old) (desk_files self.new) }
+        ensures current { OnOk result (desk_current self.new ≡ Some name.now) }
+        ensures current_kept { OnErr result (desk_current self.new ≡ desk_current self.old) }
+        ensures calls { desk_calls self.new ≡ counted (desk_calls self.old) }
+        ensures raised { IsErrOf result OutFault.Failed → desk_write_faults self.new ≡ raised (desk_write_faults self.old) }
+        ensures cause { CountsWrites (desk_write_faults self.old) (desk_write_faults self.new) result }
+        ensures reads_kept { desk_read_faults self.new ≡ desk_read_faults self.old }
+    {
+        if self.calls.count() {
+            self.write_faults = self.write_faults.saturating_add(1);
+            return Err(OutFault::Failed);
+        }
+        Ok(self.store.create(name)?)
+    }
+
+    /// Adds the whole piece. It fails exactly where its number is listed.
+    fn append(&mut self, name: &str, piece: &[u8]) -> Result<(), OutFault>
+        requires { desk_current self.old ≡ Some name.now }
+        ensures failed { IsErrOf result OutFault.Failed ↔ IsListed (desk_calls self.old) }
+        ensures grown { OnOk result (desk_files self.new name.now ≡ Some (bytes_of (desk_files self.old name.now) ++ piece.now)) }
+        ensures kept { OnErr result (desk_files self.new ≡ desk_files self.old) }
+        ensures others { OthersStay name.now (desk_files self.old) (desk_files self.new) }
+        ensures current { desk_current self.new ≡ desk_current self.old }
+        ensures calls { desk_calls self.new ≡ counted (desk_calls self.old) }
+        ensures raised { IsErrOf result OutFault.Failed → desk_write_faults self.new ≡ raised (desk_write_faults self.old) }
+        ensures cause { CountsWrites (desk_write_faults self.old) (desk_write_faults self.new) result }
+        ensures reads_kept { desk_read_faults self.new ≡ desk_read_faults self.old }
+    {
+        if self.calls.count() {
+            self.write_faults = self.write_faults.saturating_add(1);
+            return Err(OutFault::Failed);
+        }
+        Ok(self.store.append(name, piece)?)
+    }
+}
+
+/// A desk in memory that never fails. To it a name without a file is an empty file.
+#[derive(Drop)]
+pub struct DeskSure {
+    store: Store,
+}
+
+impl DeskSure {
+    ghost use Rattle.plan_io.specs.Files.{OthersStay};
+    ghost use Rattle.plan_io.specs.DeskMemory.{sure_files, sure_current};
+
+    /// A desk without files.
+    pub fn new(alloc: Global) -> DeskSure
+        ensures files { sure_files result ≡ (λ _. None) }
+        ensures current { sure_current result ≡ None }
+    {
+        DeskSure {
+            store: Store::new(alloc),
+        }
+    }
+
+    /// The bytes of the file of this name, if there is one.
+    pub fn get(&self, name: &str) -> Option<&[u8]>
+        ensures { option_copied result ≡ sure_files self.now name.now }
+    {
+        self.store.get(name)
+    }
+
+    /// Leaves a file of this name with these bytes. After want of memory all is as before.
+    pub fn put(&mut self, name: &str, bytes: &[u8]) -> Result<(), Memory>
+        ensures put { OnOk result (sure_files self.new name.now ≡ Some bytes.now) }
+        ensures others { OthersStay name.now (sure_files self.old) (sure_files self.new) }
+        ensures kept { OnErr result (sure_files self.new ≡ sure_files self.old) }
+        ensures current { sure_current self.new ≡ sure_current self.old }
+    {
+        Ok(self.store.put(name, bytes)?)
+    }
+}
+
+impl Desk for DeskSure {
+    ghost tells = { true };
+
+    ghost reads = { λ _. true };
+
+    ghost writes = { λ _. true };
+
+    ghost files = { λ d. stored d.store };
+
+    ghost current = { λ d. current_of d.store };
+
+    ghost read_faults = { λ _. 0 };
+
+    ghost write_faults = { λ _. 0 };
+
+    ghost fits = { λ d name _. stored_fits d.store name };
+
+    ghost use Rattle.std.specs.Io.{ReadsAtMost};
+    ghost use Rattle.plan_io.specs.Files.{bytes_of, OthersStay, Gives};
+    ghost use Rattle.plan_io.specs.DeskMemory.{sure_files, sure_current};
+
+    /// Gives as many bytes as `buf` holds and are there.
+    fn read_at(&mut self, name: &str, place: u64, buf: &mut [u8]) -> Result<usize, Failed>
+        ensures good { IsOk result }
+        ensures count { IfOk result (λ n. n ≡ min (length buf.old) (length (bytes_of (sure_files self.old name.now)) - place)) }
+        ensures bytes { IfOk result (λ n. Gives (bytes_of (sure_files self.old name.now)) place n buf.new) }
+        ensures bound { ReadsAtMost result buf.new }
+        ensures kept { self.new ≡ self.old }
+    {
+        match self.store.get(name) {
+            Some(bytes) => Ok(copy_at(bytes, place, buf)),
+            None => Ok(0),
+        }
+    }
+
+    fn create(&mut self, name: &str) -> Result<(), OutFault>
+        ensures memory { IfErr result (λ fault. fault ≡ OutFault.Memory) }
+        ensures empty { OnOk result (sure_files self.new name.now ≡ Some []) }
+        ensures kept { OnErr result (sure_files self.new ≡ sure_files self.old) }
+        ensures others { OthersStay name.now (sure_files self.old) (sure_files self.new) }
+        ensures current { OnOk result (sure_current self.new ≡ Some name.now) }
+        ensures current_kept { OnErr result (sure_current self.new ≡ sure_current self.old) }
+    {
+        Ok(self.store.create(name)?)
+    }
+
+    /// Adds the whole piece.
+    fn append(&mut self, name: &str, piece: &[u8]) -> Result<(), OutFault>
+        requires { sure_current self.old ≡ Some name.now }
+        ensures memory { IfErr result (λ fault. fault ≡ OutFault.Memory) }
+        ensures grown { OnOk result (sure_files self.new name.now ≡ Some (bytes_of (sure_files self.old name.now) ++ piece.now)) }
+        ensures kept { OnErr result (sure_files self.new ≡ sure_files self.old) }
+        ensures others { OthersStay name.now (sure_files self.old) (sure_files self.new) }
+        ensures current { sure_current self.new ≡ sure_current self.old }
+    {
+        Ok(self.store.append(name, piece)?)
+    }
+}
