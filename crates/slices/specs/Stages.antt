@@ -1,0 +1,113 @@
+-- Stages of actions, and what a machine holds at a stage.
+use Rattle.std.specs.Prelude.{ℕ, ◌+◌, ◌-◌, Bool, true, false, not, ◌&&◌, ◌==◌, nat_le, Option, Some, None, if◌then◌else◌}
+use Rattle.std.specs.Option.{option_map_or}
+use Rattle.cluster.specs.declared.ids.Choice.{Choice}
+use Rattle.cluster.specs.declared.ids.Choice.TheVariants.{Idle, Act}
+use Rattle.cluster.specs.declared.ids.Kind.{Kind}
+use Rattle.cluster.specs.declared.ids.Kind.TheVariants.{Boot, Shutdown, Suspend, Resume, Migrate, Allocate, Kill}
+use Rattle.cluster.specs.declared.ids.NodeId.{NodeId}
+use Rattle.cluster.specs.declared.ids.Place.{Place}
+use Rattle.cluster.specs.declared.ids.Place.TheVariants.{At}
+use Rattle.cluster.specs.declared.ids.State.{State}
+use Rattle.cluster.specs.declared.ids.State.TheVariants.{Ready, Running, Sleeping}
+use Rattle.catalogue.specs.Instance.{Instance}
+use Rattle.catalogue.specs.Values.{demand_of, use_of}
+use Rattle.slices.specs.declared.table.Slice.{Slice}
+use Rattle.slices.specs.declared.table.Slices.{Slices}
+use Rattle.slices.specs.declared.table.Span.{Span}
+use Rattle.slices.specs.declared.table.Span.TheVariants.{Always, FromStart, BeforeEnd}
+use Rattle.slices.specs.declared.table.Stage.{Stage}
+use Rattle.slices.specs.declared.table.Weight.{Weight}
+use Rattle.slices.specs.declared.table.Weight.TheVariants.{Amount, Presence, Image}
+use Rattle.slices.specs.declared.table.What.{What}
+use Rattle.slices.specs.declared.table.What.TheVariants.{Use, Demand, Raise, Image as OfImage}
+use Rattle.slices.specs.Elements.{state_of, vm}
+use Rattle.slices.specs.Actions.{kind_of}
+
+-- a set of nodes, by their numbers
+abbrev pub Nodes : Type 0
+Nodes = ℕ → Bool
+
+-- the set of one node
+abbrev pub one : ℕ → Nodes
+one n k = k == n
+
+-- ---- stages
+
+-- the stage at an instant of a choice whose action lasts so long
+abbrev pub stage_of : ℕ → Choice → ℕ → Stage
+stage_of duration Idle t = record { started = false; ended = false }
+stage_of duration (Act place start) t = record { started = nat_le start t; ended = nat_le (start + duration) t }
+
+-- a source counts until its action's end, a destination from its start
+abbrev pub covers : Span → Stage → Bool
+covers Always g = true
+covers FromStart g = g.started
+covers BeforeEnd g = not g.ended
+
+-- ---- slices
+
+abbrev pub slice : NodeId → Span → What → Option Slice
+slice n span what = Some (record { node = n; span = span; what = what })
+
+abbrev pub no_slices : Slices
+no_slices = record { source = None; target = None; image = None }
+
+-- what an idle machine holds: a running one its use, a sleeping one its image
+abbrev pub idle_slices : State → Slices
+idle_slices (Running h) = record { source = slice h Always Use; target = None; image = None }
+idle_slices (Sleeping h) = record { source = None; target = None; image = slice h Always OfImage }
+idle_slices state = no_slices
+
+-- what a machine holds over its action, by its state, the kind and the place; an allocation adds the raise to the use
+abbrev pub acting_slices : State → Kind → Place → Slices
+acting_slices (Running h) Migrate (At n) = record { source = slice h BeforeEnd Use; target = slice n FromStart Demand; image = None }
+acting_slices (Running h) Allocate place = record { source = slice h Always Use; target = slice h FromStart Raise; image = None }
+acting_slices (Running h) Shutdown place = record { source = slice h BeforeEnd Use; target = None; image = None }
+acting_slices (Running h) Kill place = record { source = slice h BeforeEnd Use; target = None; image = None }
+acting_slices (Running h) Suspend place = record { source = slice h BeforeEnd Use; target = None; image = slice h FromStart OfImage }
+acting_slices Ready Boot (At n) = record { source = None; target = slice n FromStart Demand; image = None }
+acting_slices (Sleeping h) Resume (At n) = record { source = None; target = slice n FromStart Demand; image = slice h BeforeEnd OfImage }
+acting_slices (Sleeping h) Kill place = record { source = None; target = None; image = slice h BeforeEnd OfImage }
+acting_slices state kind place = no_slices
+
+-- what a machine holds under a choice
+unfoldable pub slices_of : Instance → ℕ → Choice → Slices
+slices_of p v Idle = idle_slices (state_of p v)
+slices_of p v (Act place start) = option_map_or (λ kind. acting_slices (state_of p v) kind place) (kind_of p (vm v) place) no_slices
+
+-- ---- what slices weigh
+
+-- an amount of a resource; a presence, which a raise is not; an image
+abbrev pub weight_of : Instance → ℕ → Weight → What → ℕ
+weight_of p v (Amount r) Use = use_of p.machines v r
+weight_of p v (Amount r) Demand = demand_of p v r
+weight_of p v (Amount r) Raise = demand_of p v r - use_of p.machines v r
+weight_of p v (Amount r) OfImage = 0
+weight_of p v Presence Use = 1
+weight_of p v Presence Demand = 1
+weight_of p v Presence Raise = 0
+weight_of p v Presence OfImage = 0
+weight_of p v Image Use = 0
+weight_of p v Image Demand = 0
+weight_of p v Image Raise = 0
+weight_of p v Image OfImage = 1
+
+-- what a slice weighs on the nodes of a set at a stage
+abbrev pub weigh : Instance → ℕ → Weight → Option Slice → Stage → Nodes → ℕ
+weigh p v w None g set = 0
+weigh p v w (Some s) g set = if set s.node.0 && covers s.span g then weight_of p v w s.what else 0
+
+-- ---- nodes
+
+-- a node that shuts down is usable until its start, one that boots from its end
+abbrev pub usable_of : Bool → Choice → Stage → Bool
+usable_of online Idle g = online
+usable_of true (Act place start) g = not g.started
+usable_of false (Act place start) g = g.ended
+
+-- a node that shuts down is powered until its end, one that boots from its start
+abbrev pub powered_of : Bool → Choice → Stage → Bool
+powered_of online Idle g = online
+powered_of true (Act place start) g = not g.ended
+powered_of false (Act place start) g = g.started

@@ -1,0 +1,5 @@
+//! Timed plans: legal choices, what each uses and where, and the one definition of a valid plan.
+#![tactic(auto)]
+
+pub mod rule;
+pub mod table;
