@@ -1,100 +1,124 @@
-//! Constraints.
+//! Constraints, wishes, and why a constraint is refused.
 ghost use Rattle.std.specs.Prelude.{◌≡◌, IfOk};
 ghost use Rattle.catalogue.specs.Kinds.{is_continuous};
 
 use crate::lists::{Groups, Parts, Vms};
 use cluster::sets::NodeSet;
 use memory::Memory;
-use std::alloc::{AllocError, Global};
+use std::alloc::AllocError;
 use thiserror::Error;
 
-/// A rule that a plan keeps, or a part of what is wanted.
+/// A restriction of the plans, of BtrPlace's catalogue, or a part of what is wanted.
+///
+/// A *presence* is a pair of a machine and a node on which it uses something; a machine in
+/// migration has one on both nodes. Members are the machines that the constraint lists. A
+/// constraint with `continuous` is to hold at each instant, and without it at the horizon alone.
 #[derive(Drop)]
 pub enum Constraint {
+    /// No node has presences of two different members.
     Spread {
         machines: Vms,
         continuous: bool,
     },
+    /// No member is present on a node of the set.
     Ban {
         machines: Vms,
         nodes: NodeSet,
         continuous: bool,
     },
+    /// Members are present on nodes of the set only.
     Fence {
         machines: Vms,
         nodes: NodeSet,
         continuous: bool,
     },
+    /// One node holds all presences of members.
     Gather {
         machines: Vms,
         continuous: bool,
     },
+    /// No node has a presence of a member and one of another machine.
     Lonely {
         machines: Vms,
         continuous: bool,
     },
+    /// One of the groups of nodes contains the nodes of all presences of members.
     Among {
         machines: Vms,
         groups: Groups,
         continuous: bool,
     },
+    /// No node has presences of members of two different parts.
     Split {
         parts: Parts,
         continuous: bool,
     },
+    /// A member that runs at present is present on its host alone. It is continuous.
     Root {
         machines: Vms,
     },
+    /// The demand of each member for the resource is at least the amount.
     Preserve {
         machines: Vms,
         resource: u8,
         amount: u64,
     },
+    /// The uses of the resource on the nodes of the set are at most the amount in all.
     ResourceCapacity {
         nodes: NodeSet,
         resource: u8,
         amount: u64,
         continuous: bool,
     },
+    /// The presences on nodes of the set are at most so many.
     RunningCapacity {
         nodes: NodeSet,
         amount: u64,
         continuous: bool,
     },
+    /// The powered nodes of the set are at most so many.
     MaxOnline {
         nodes: NodeSet,
         amount: u64,
         continuous: bool,
     },
+    /// The capacity of each node of the set for the resource is at most `num / den` of the written
+    /// one, rounded down; above one, this raises it. It is continuous.
     Overbook {
         nodes: NodeSet,
         resource: u8,
         num: u64,
         den: u64,
     },
+    /// The nodes are wanted online.
     Online {
         nodes: NodeSet,
     },
+    /// The nodes are wanted offline.
     Offline {
         nodes: NodeSet,
     },
+    /// The machines are wanted running.
     Running {
         machines: Vms,
     },
+    /// The machines are wanted sleeping.
     Sleeping {
         machines: Vms,
     },
+    /// The machines are wanted ready.
     Ready {
         machines: Vms,
     },
+    /// The machines are wanted gone.
     Killed {
         machines: Vms,
     },
 }
 
 impl Constraint {
-    /// An equal constraint.
-    pub fn copy(&self, alloc: Global) -> Result<Constraint, Memory>
+    /// An equal constraint, made with the allocators of the lists; the only error is want of memory.
+    pub fn copy(&self) -> Result<Constraint, Memory>
         ensures { IfOk result (λ c. c ≡ self.now) }
     {
         Ok(match self {
@@ -147,7 +171,7 @@ impl Constraint {
                 continuous: *continuous,
             },
             Constraint::Split { parts, continuous } => Constraint::Split {
-                parts: parts.copy(alloc)?,
+                parts: parts.copy()?,
                 continuous: *continuous,
             },
             Constraint::Root { machines } => Constraint::Root {
@@ -219,7 +243,8 @@ impl Constraint {
         })
     }
 
-    /// Whether it is to hold at each instant.
+    /// Whether it is to hold at each instant, and not at the horizon alone. `Root` and `Overbook`
+    /// are; `Preserve` and the six wishes are not.
     pub fn is_continuous(&self) -> bool
         ensures { result ≡ is_continuous self.now }
     {
@@ -246,17 +271,23 @@ impl Constraint {
     }
 }
 
-/// Why a constraint was refused.
+/// Why a constraint was refused. The first fault in the order of the variants is answered.
 #[derive(Clone, Copy, Debug, PartialEq, Eq, Error)]
 pub enum RuleFault {
-    #[error("too many")]
+    /// The problem has 4,096 constraints.
+    #[error("too many constraints")]
     TooMany,
-    #[error("no such")]
+    /// A machine, a node or a resource is not listed.
+    #[error("no such machine, node or resource")]
     NoSuch,
-    #[error("twice")]
+    /// A machine stands twice in a list, or in the parts of a split.
+    #[error("a machine stands twice")]
     Twice,
-    #[error("too great")]
+    /// An amount is over 10^9, `num` or `den` is over 1,000, `den` is 0, there is no group, or
+    /// there are over 512 groups or over 4,096 parts.
+    #[error("a number or a count is out of range")]
     TooGreat,
+    /// Want of memory.
     #[error("out of memory")]
     Memory,
 }
@@ -272,7 +303,18 @@ impl From<AllocError> for RuleFault {
     }
 }
 
-/// A state that is wanted.
+impl From<Memory> for RuleFault {
+    ghost use Rattle.std.specs.Prelude.{◌≡◌};
+    ghost use Rattle.catalogue.specs.declared.constraint.RuleFault.TheVariants.{Memory as NoMemory};
+
+    ghost from_gives = { λ _ e. e ≡ NoMemory };
+
+    fn from(_error: Memory) -> RuleFault {
+        RuleFault::Memory
+    }
+}
+
+/// A state that is wanted at the horizon.
 #[derive(Clone, Copy, Debug, PartialEq, Eq)]
 pub enum Target {
     Online,
@@ -286,7 +328,10 @@ pub enum Target {
 /// What is wanted of an element.
 #[derive(Clone, Copy, Debug, PartialEq, Eq)]
 pub enum Wish {
+    /// Nothing is said: a machine keeps its state, and a node may do either.
     Keep,
+    /// One state is wanted, however often.
     To(Target),
+    /// Two different states are wanted.
     Clash,
 }

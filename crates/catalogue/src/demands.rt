@@ -1,29 +1,61 @@
-//! The table of demands.
-ghost use Rattle.std.specs.Prelude.{◌≡◌, ℕ, ◌<◌, ◌≤◌, ◌&&◌, ◌==◌, length, max, None, true, if◌then◌else◌, nat_lt, slice_index, map, IfOk};
+//! The table of the amounts that are to be preserved, one for each machine and resource.
+ghost use Rattle.std.specs.Prelude.{◌≡◌, ℕ, ◌<◌, ◌≤◌, ◌&&◌, ◌==◌, length, max, true, if◌then◌else◌, nat_lt, slice_index, OnOk, OnErr};
 ghost use Rattle.std.specs.List.{list_all};
-ghost use Rattle.catalogue.specs.Faults.{is_member, is_rule};
-ghost use Rattle.catalogue.specs.Values.{raised};
-ghost use Rattle.catalogue.specs.Cells.{cell};
+ghost use Rattle.catalogue.specs.Faults.{is_member};
+ghost use Rattle.catalogue.specs.Values.{preserved_with};
+ghost use Rattle.catalogue.specs.Cells.{HasRows, cell};
+ghost use Rattle.catalogue.specs.declared.constraint.Constraint.TheVariants.{Preserve};
 
-use crate::constraint::Constraint;
 use cluster::ids::VmId;
-use cluster::inventory::Cluster;
-use cluster::parts::Machine;
 use memory::Memory;
-use std::alloc::Global;
 
-/// Raises the demands of the machines.
-pub fn raise(demands: &mut [[u64; 8]], machines: &[VmId], r: u8, amount: u64)
-    requires machines { list_all (λ x. nat_lt x.0 (length demands.old)) machines.now ≡ true }
+/// Notes an amount that is to be preserved for machines: the greater of it and the noted one stays.
+pub fn note_preserve(
+    table: &mut Vec<[u64; 8]>,
+    count: usize,
+    machines: &[VmId],
+    r: u8,
+    amount: u64,
+) -> Result<(), Memory>
+    requires rows { HasRows count table.old.items }
+    requires machines { list_all (λ x. nat_lt x.0 count) machines.now ≡ true }
     requires resource { r < 8 }
-    ensures { (v q : ℕ) → v < length demands.old → q < 8 →
-        cell demands.new v q ≡ (if is_member machines.now v && (r == q) then max (cell demands.old v q) amount else cell demands.old v q) }
+    ensures rows { HasRows count table.new.items }
+    ensures noted { OnOk result ((v q : ℕ) → v < count → q < 8 →
+        cell table.new.items v q ≡ preserved_with v q (cell table.old.items v q) (Preserve machines.now r amount)) }
+    ensures kept { OnErr result (table.new.items ≡ table.old.items) }
+{
+    fill(table, count)?;
+    raise(table, machines, r, amount);
+    Ok(())
+}
+
+/// Gives the table a row for each machine, where it has none yet.
+fn fill(table: &mut Vec<[u64; 8]>, count: usize) -> Result<(), Memory>
+    requires { HasRows count table.old.items }
+    ensures full { OnOk result (length table.new.items ≡ count) }
+    ensures same { (v r : ℕ) → cell table.new.items v r ≡ cell table.old.items v r }
+    ensures kept { OnErr result (table.new.items ≡ table.old.items) }
+{
+    if table.is_empty() {
+        table.resize(count, [0; 8])?;
+    }
+    Ok(())
+}
+
+/// Raises the amounts of machines.
+fn raise(table: &mut [[u64; 8]], machines: &[VmId], r: u8, amount: u64)
+    requires machines { list_all (λ x. nat_lt x.0 (length table.old)) machines.now ≡ true }
+    requires resource { r < 8 }
+    ensures { (v q : ℕ) → v < length table.old → q < 8 →
+        cell table.new v q ≡ (if is_member machines.now v && (r == q) then max (cell table.old v q) amount else cell table.old v q) }
 {
     for id in machines {
-        raise_one(&mut demands[id.0 as usize], r, amount);
+        raise_one(&mut table[id.0 as usize], r, amount);
     }
 }
 
+/// Raises one amount of a row.
 fn raise_one(row: &mut [u64; 8], r: u8, amount: u64)
     requires { r < 8 }
     ensures { (q : ℕ) → q < 8 → slice_index row.new q ≡ (if r == q then max (slice_index row.old q) amount else slice_index row.old q) }
@@ -33,40 +65,13 @@ fn raise_one(row: &mut [u64; 8], r: u8, amount: u64)
     }
 }
 
-/// Notes a constraint in the table of demands.
-pub fn note_demands(cluster: &Cluster, demands: &mut Vec<[u64; 8]>, constraint: &Constraint)
-    requires rows { length demands.old.items ≡ length cluster.now.given.machines }
-    requires sound { is_rule cluster.now.given constraint.now ≡ true }
-    ensures rows { length demands.new.items ≡ length demands.old.items }
-    ensures cells { (v r : ℕ) → v < length cluster.now.given.machines → r < 8 →
-        cell demands.new.items v r ≡ raised v r (cell demands.old.items v r) constraint.now }
+/// The noted amount, 0 where there is no row.
+pub fn preserved_at(table: &[[u64; 8]], v: VmId, r: u8) -> u64
+    requires { r < 8 }
+    ensures { result ≡ cell table.now v.0 r }
 {
-    match constraint {
-        Constraint::Preserve {
-            machines,
-            resource,
-            amount,
-        } => raise(demands, machines.items(), *resource, *amount),
-        _ => {}
+    match table.get(v.0 as usize) {
+        Some(row) => row[r as usize],
+        None => 0,
     }
-}
-
-/// The table of the present uses.
-pub fn uses(alloc: Global, machines: &[Machine]) -> Result<Vec<[u64; 8]>, Memory>
-    ensures { IfOk result (λ t. t.items ≡ map (λ m. m.usage) machines.now) }
-{
-    let mut table = Vec::new(alloc);
-    for machine in machines {
-        table.push(machine.usage)?;
-    }
-    Ok(table)
-}
-
-/// A cell of the table.
-pub fn cell_at(table: &[[u64; 8]], v: usize, r: usize) -> u64
-    requires row { v < length table.now }
-    requires column { r < 8 }
-    ensures { result ≡ cell table.now v r }
-{
-    table[v][r]
 }

@@ -1,20 +1,79 @@
-//! The table of limits.
-ghost use Rattle.std.specs.Prelude.{◌≡◌, ℕ, ◌<◌, ◌≤◌, ◌&&◌, ◌==◌, ◌*◌, ◌/◌, length, None, Some, slice_index_or, if◌then◌else◌, replicate, IfOk, true};
+//! The table of the limits that overbooking sets, one for each node and resource.
+ghost use Rattle.std.specs.Prelude.{◌≡◌, ℕ, ◌<◌, ◌≤◌, ◌&&◌, ◌==◌, ◌*◌, ◌/◌, length, None, Some, slice_index_or, if◌then◌else◌, OnOk, OnErr};
 ghost use Rattle.cluster.specs.Sets.{has_node};
-ghost use Rattle.catalogue.specs.Faults.{is_rule};
-ghost use Rattle.catalogue.specs.Values.{least, limited, written_of};
-ghost use Rattle.catalogue.specs.Cells.{limit_cell};
+ghost use Rattle.catalogue.specs.Values.{least, limit_with, written_of};
+ghost use Rattle.catalogue.specs.Cells.{HasRows, limit_cell};
+ghost use Rattle.catalogue.specs.declared.constraint.Constraint.TheVariants.{Overbook};
 
-use crate::constraint::Constraint;
 use cluster::ids::NodeId;
 use cluster::inventory::Cluster;
-use cluster::parts::Node;
 use cluster::sets::NodeSet;
 use memory::Memory;
-use std::alloc::Global;
 
-/// Lowers the limit of a node.
-fn limit_one(row: &mut [Option<u64>; 8], r: u8, amount: u64)
+/// Notes that nodes may be used up to `num / den` of their written capacity, rounded down: the
+/// lesser of this and the noted limit stays.
+pub fn note_overbook(
+    cluster: &Cluster,
+    table: &mut Vec<[Option<u64>; 8]>,
+    nodes: &NodeSet,
+    r: u8,
+    num: u64,
+    den: u64,
+) -> Result<(), Memory>
+    requires rows { HasRows (length cluster.now.given.nodes) table.old.items }
+    requires resource { r < 8 }
+    requires num { num ≤ 1000 }
+    requires den { 0 < den }
+    ensures rows { HasRows (length cluster.now.given.nodes) table.new.items }
+    ensures noted { OnOk result ((n q : ℕ) → n < length cluster.now.given.nodes → q < 8 →
+        limit_cell table.new.items n q ≡ limit_with n q (written_of cluster.now.given.nodes n q) (limit_cell table.old.items n q) (Overbook nodes.now r num den)) }
+    ensures kept { OnErr result (table.new.items ≡ table.old.items) }
+{
+    fill(table, cluster.nodes().len())?;
+    lower(cluster, table, nodes, r, num, den);
+    Ok(())
+}
+
+/// Gives the table a row for each node, where it has none yet.
+fn fill(table: &mut Vec<[Option<u64>; 8]>, count: usize) -> Result<(), Memory>
+    requires { HasRows count table.old.items }
+    ensures full { OnOk result (length table.new.items ≡ count) }
+    ensures same { (n r : ℕ) → limit_cell table.new.items n r ≡ limit_cell table.old.items n r }
+    ensures kept { OnErr result (table.new.items ≡ table.old.items) }
+{
+    if table.is_empty() {
+        table.resize(count, [None; 8])?;
+    }
+    Ok(())
+}
+
+/// Lowers the limits of the nodes of a set.
+fn lower(
+    cluster: &Cluster,
+    table: &mut Vec<[Option<u64>; 8]>,
+    nodes: &NodeSet,
+    r: u8,
+    num: u64,
+    den: u64,
+)
+    requires rows { length table.old.items ≡ length cluster.now.given.nodes }
+    requires resource { r < 8 }
+    requires num { num ≤ 1000 }
+    requires den { 0 < den }
+    ensures rows { length table.new.items ≡ length table.old.items }
+    ensures cells { (n q : ℕ) → n < length cluster.now.given.nodes → q < 8 →
+        limit_cell table.new.items n q ≡ limit_with n q (written_of cluster.now.given.nodes n q) (limit_cell table.old.items n q) (Overbook nodes.now r num den) }
+{
+    for i in 0..cluster.nodes().len() {
+        let n = NodeId(i as u32);
+        if nodes.has(n) {
+            lower_one(&mut table[i], r, written(cluster, n, r) * num / den);
+        }
+    }
+}
+
+/// Lowers one limit of a row.
+fn lower_one(row: &mut [Option<u64>; 8], r: u8, amount: u64)
     requires { r < 8 }
     ensures { (q : ℕ) → q < 8 → slice_index_or row.new q None ≡ (if r == q then Some (least (slice_index_or row.old q None) amount) else slice_index_or row.old q None) }
 {
@@ -24,7 +83,7 @@ fn limit_one(row: &mut [Option<u64>; 8], r: u8, amount: u64)
     };
 }
 
-/// The written capacity of a node.
+/// The written capacity of a node for a resource.
 #[tactic(auto, using(crate::proofs::Facts::written_of_le))]
 pub fn written(cluster: &Cluster, n: NodeId, r: u8) -> u64
     requires node { n.0 < length cluster.now.given.nodes }
@@ -35,54 +94,13 @@ pub fn written(cluster: &Cluster, n: NodeId, r: u8) -> u64
     cluster.nodes()[n.0 as usize].capacity[r as usize]
 }
 
-/// Notes a constraint in the limits of a node.
-fn limit_row(cluster: &Cluster, row: &mut [Option<u64>; 8], n: NodeId, constraint: &Constraint)
-    requires node { n.0 < length cluster.now.given.nodes }
-    requires sound { is_rule cluster.now.given constraint.now ≡ true }
-    ensures { (q : ℕ) → q < 8 → slice_index_or row.new q None ≡ limited n.0 q (written_of cluster.now.given.nodes n.0 q) (slice_index_or row.old q None) constraint.now }
+/// The noted limit, none where there is no row.
+pub fn limit_at(table: &[[Option<u64>; 8]], n: NodeId, r: u8) -> Option<u64>
+    requires { r < 8 }
+    ensures { result ≡ limit_cell table.now n.0 r }
 {
-    match constraint {
-        Constraint::Overbook {
-            nodes,
-            resource,
-            num,
-            den,
-        } => {
-            if nodes.has(n) {
-                limit_one(row, *resource, written(cluster, n, *resource) * *num / *den);
-            }
-        }
-        _ => {}
+    match table.get(n.0 as usize) {
+        Some(row) => row[r as usize],
+        None => None,
     }
-}
-
-/// Notes a constraint in the table of limits.
-pub fn note_limits(cluster: &Cluster, limits: &mut Vec<[Option<u64>; 8]>, constraint: &Constraint)
-    requires rows { length limits.old.items ≡ length cluster.now.given.nodes }
-    requires sound { is_rule cluster.now.given constraint.now ≡ true }
-    ensures rows { length limits.new.items ≡ length limits.old.items }
-    ensures cells { (n r : ℕ) → n < length cluster.now.given.nodes → r < 8 →
-        limit_cell limits.new.items n r ≡ limited n r (written_of cluster.now.given.nodes n r) (limit_cell limits.old.items n r) constraint.now }
-{
-    for i in 0..cluster.nodes().len() {
-        limit_row(cluster, &mut limits[i], NodeId(i as u32), constraint);
-    }
-}
-
-/// The table without a limit.
-pub fn no_limits(alloc: Global, count: usize) -> Result<Vec<[Option<u64>; 8]>, Memory>
-    ensures { IfOk result (λ t. t.items ≡ replicate count (replicate 8 None)) }
-{
-    let mut table = Vec::new(alloc);
-    table.resize(count, [None; 8])?;
-    Ok(table)
-}
-
-/// A cell of the table.
-pub fn limit_at(table: &[[Option<u64>; 8]], n: usize, r: usize) -> Option<u64>
-    requires row { n < length table.now }
-    requires column { r < 8 }
-    ensures { result ≡ limit_cell table.now n r }
-{
-    table[n][r]
 }

@@ -1,4 +1,4 @@
-//! Lists of machines and of sets of nodes.
+//! The lists of constraints: machines, sets of nodes, and parts of machines.
 ghost use Rattle.std.specs.Prelude.{◌≡◌, IfOk};
 
 use cluster::ids::VmId;
@@ -23,7 +23,7 @@ impl Model for Vms {
 }
 
 impl Vms {
-    /// These machines.
+    /// The list of these machines, made without memory.
     pub fn new(ids: Vec<VmId>) -> Vms
         ensures { result ≡ ids.items }
     {
@@ -37,7 +37,7 @@ impl Vms {
         &self.ids
     }
 
-    /// An equal list.
+    /// An equal list, made with the allocator of this one; the only error is want of memory.
     pub fn copy(&self) -> Result<Vms, Memory>
         ensures { IfOk result (λ v. v ≡ self.now) }
     {
@@ -46,7 +46,7 @@ impl Vms {
     }
 }
 
-/// A list of sets of nodes, which contracts see as that list.
+/// Groups of nodes, each a set, which contracts see as a list of sets.
 #[derive(Drop)]
 pub struct Groups {
     sets: Vec<NodeSet>,
@@ -62,7 +62,7 @@ impl Model for Groups {
 }
 
 impl Groups {
-    /// These sets.
+    /// The list of these sets, made without memory.
     pub fn new(sets: Vec<NodeSet>) -> Groups
         ensures { result ≡ sets.items }
     {
@@ -76,7 +76,7 @@ impl Groups {
         &self.sets
     }
 
-    /// An equal list.
+    /// An equal list, made with the allocator of this one; the only error is want of memory.
     pub fn copy(&self) -> Result<Groups, Memory>
         ensures { IfOk result (λ v. v ≡ self.now) }
     {
@@ -85,7 +85,7 @@ impl Groups {
     }
 }
 
-/// A list of lists of machines, which contracts see as that list.
+/// The parts of a split, each a list of machines, which contracts see as a list of lists.
 #[derive(Drop)]
 pub struct Parts {
     lists: Vec<Vms>,
@@ -101,25 +101,25 @@ impl Model for Parts {
 }
 
 impl Parts {
-    /// These lists.
+    /// The list of these parts, made without memory.
     pub fn new(lists: Vec<Vms>) -> Parts
         ensures { result ≡ lists.items }
     {
         Parts { lists }
     }
 
-    /// The lists in their order.
+    /// The parts in their order.
     pub fn items(&self) -> &[Vms]
         ensures { result.now ≡ self.now }
     {
         &self.lists
     }
 
-    /// An equal list.
-    pub fn copy(&self, alloc: Global) -> Result<Parts, Memory>
+    /// An equal list, made with the allocator of this one; the only error is want of memory.
+    pub fn copy(&self) -> Result<Parts, Memory>
         ensures { IfOk result (λ v. v ≡ self.now) }
     {
-        let lists = copy_all(alloc, &self.lists)?;
+        let lists = copy_all(*self.lists.allocator(), &self.lists)?;
         Ok(Parts { lists })
     }
 }

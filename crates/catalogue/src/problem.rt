@@ -1,30 +1,31 @@
 //! Problems.
-ghost use Rattle.std.specs.Prelude.{◌≡◌, ◌++◌, ◌∷◌, [], ◌<◌, ◌≤◌, length, IfOk, IfErr, OnOk, OnErr, unwrap_or};
+ghost use Rattle.std.specs.Prelude.{◌≡◌, ◌++◌, ◌∷◌, [], ◌<◌, ◌≤◌, length, IfErr, OnOk, OnErr, unwrap_or};
 ghost use Rattle.std.proofs.Props.{props};
 ghost use Rattle.catalogue.specs.Instance.{IsElement, IsInstance, inventory_of, rule_fault};
 ghost use Rattle.catalogue.specs.Values.{demand_of, capacity_of, wanted_of, applies_at};
 
 use crate::constraint::{Constraint, RuleFault, Wish};
-use crate::demands::{cell_at, note_demands, uses};
+use crate::demands::preserved_at;
 use crate::faults::fault_of;
-use crate::limits::{limit_at, no_limits, note_limits, written};
-use crate::wishes::{no_wishes, note_machine_wishes, note_node_wishes};
+use crate::limits::{limit_at, written};
+use crate::tables::Tables;
+use crate::wishes::wish_at;
 use cluster::ids::{Element, Instant, NodeId, VmId};
 use cluster::inventory::Cluster;
-use memory::Memory;
 use std::alloc::Global;
 use std::marker::Model;
 
-/// What there is, what is wanted, and what is to hold.
+/// A cluster, the last instant of a plan, and the constraints, numbered from 0 in the order in
+/// which they came: BtrPlace's model with its satisfaction constraints.
+///
+/// Contracts see it as plain data, `given`, with the fact that it is sound, `sound`. Demands,
+/// capacities and wishes are kept ready, so each is answered at once.
 #[derive(Drop)]
 pub struct Problem {
     cluster: Cluster,
     horizon: Instant,
     constraints: Vec<Constraint>,
-    demands: Vec<[u64; 8]>,
-    limits: Vec<[Option<u64>; 8]>,
-    machine_wishes: Vec<Wish>,
-    node_wishes: Vec<Wish>,
+    tables: Tables,
     ghost sound: { IsInstance (record { resources = cluster.given.resources; durations = cluster.given.durations; nodes = cluster.given.nodes; machines = cluster.given.machines; horizon = horizon; constraints = constraints.items }) } by { Prim.hlevel props },
 }
 
@@ -41,24 +42,17 @@ impl Model for Problem {
 }
 
 impl Problem {
-    /// A problem without constraints.
-    pub fn new(alloc: Global, cluster: Cluster, horizon: Instant) -> Result<Problem, Memory>
+    /// A problem without constraints, made without memory.
+    pub fn new(alloc: Global, cluster: Cluster, horizon: Instant) -> Problem
         requires { horizon ≤ 1000000 }
-        ensures { IfOk result (λ p. p.given ≡ record { resources = cluster.given.resources; durations = cluster.given.durations; nodes = cluster.given.nodes; machines = cluster.given.machines; horizon = horizon; constraints = [] }) }
+        ensures { result.given ≡ record { resources = cluster.given.resources; durations = cluster.given.durations; nodes = cluster.given.nodes; machines = cluster.given.machines; horizon = horizon; constraints = [] } }
     {
-        let demands = uses(alloc, cluster.machines())?;
-        let limits = no_limits(alloc, cluster.nodes().len())?;
-        let machine_wishes = no_wishes(alloc, cluster.machines().len())?;
-        let node_wishes = no_wishes(alloc, cluster.nodes().len())?;
-        Ok(Problem {
+        Problem {
             cluster,
             horizon,
             constraints: Vec::new(alloc),
-            demands,
-            limits,
-            machine_wishes,
-            node_wishes,
-        })
+            tables: Tables::new(alloc),
+        }
     }
 
     /// The cluster.
@@ -82,27 +76,29 @@ impl Problem {
         &self.constraints
     }
 
-    /// The demand of a machine for a resource.
+    /// The demand of a machine for a resource: the greatest of its present use and all amounts
+    /// that are to be preserved for it, in the unit of the resource.
+    #[tactic(auto, unfolding(crate::specs::Values::demand_of))]
     pub fn demand(&self, v: VmId, r: u8) -> u64
         requires machine { v.0 < length self.now.given.machines }
         requires resource { r < length self.now.given.resources }
         ensures demand { result ≡ demand_of self.now.given v.0 r }
         ensures small { result ≤ 1000000000 }
     {
-        cell_at(&self.demands, v.0 as usize, r as usize)
+        let used = self.cluster.machines()[v.0 as usize].usage[r as usize];
+        used.max(preserved_at(&self.tables.preserved, v, r))
     }
 
-    /// The capacity of a node for a resource.
+    /// The capacity of a node for a resource, in the unit of the resource: the written one, or,
+    /// where constraints overbook it, the least of what they make of the written one.
+    #[tactic(auto, unfolding(crate::specs::Values::capacity_of))]
     pub fn capacity(&self, n: NodeId, r: u8) -> u64
         requires node { n.0 < length self.now.given.nodes }
         requires resource { r < length self.now.given.resources }
         ensures capacity { result ≡ capacity_of self.now.given n.0 r }
         ensures small { result ≤ 1000000000000 }
     {
-        match limit_at(&self.limits, n.0 as usize, r as usize) {
-            Some(limit) => limit,
-            None => written(&self.cluster, n, r),
-        }
+        limit_at(&self.tables.limits, n, r).unwrap_or(written(&self.cluster, n, r))
     }
 
     /// What is wanted of an element.
@@ -111,12 +107,13 @@ impl Problem {
         ensures wanted { result ≡ wanted_of self.now.given e }
     {
         match e {
-            Element::Vm(v) => self.machine_wishes[v.0 as usize],
-            Element::Node(n) => self.node_wishes[n.0 as usize],
+            Element::Vm(v) => wish_at(&self.tables.machine_wishes, v.0),
+            Element::Node(n) => wish_at(&self.tables.node_wishes, n.0),
         }
     }
 
-    /// Whether a constraint applies at an instant.
+    /// Whether the constraint of that number is to hold at an instant: a continuous one at each,
+    /// another one at the horizon. `Preserve` and the six wishes count among the others.
     pub fn applies(&self, c: u32, t: Instant) -> bool
         requires constraint { c < length self.now.given.constraints }
         ensures applies { result ≡ applies_at self.now.given c t }
@@ -124,7 +121,7 @@ impl Problem {
         self.constraints[c as usize].is_continuous() || t == self.horizon
     }
 
-    /// What is wrong with one more constraint.
+    /// What is wrong with one more constraint, want of memory apart.
     #[tactic(auto, unfolding(crate::specs::Instance::rule_fault))]
     fn fault_of_rule(&self, constraint: &Constraint) -> Option<RuleFault>
         ensures { result ≡ rule_fault self.now.given constraint.now }
@@ -135,10 +132,13 @@ impl Problem {
         fault_of(&self.cluster, constraint)
     }
 
-    /// Adds a constraint at the end.
+    /// Adds a constraint at the end. It is refused with its first fault, in the order of the
+    /// variants of `RuleFault`; the problem is then as it was.
     pub fn add(&mut self, constraint: Constraint) -> Result<(), RuleFault>
+        // With no fault, `Err` is want of memory.
         ensures fault { IfErr result (λ e. e ≡ unwrap_or (rule_fault self.old.given constraint) RuleFault.Memory) }
         ensures good { OnOk result (rule_fault self.old.given constraint ≡ None) }
+
         ensures added { OnOk result (self.new.given ≡ record self.old.given { constraints = self.old.given.constraints ++ constraint ∷ [] }) }
         ensures kept { OnErr result (self.new.given ≡ self.old.given) }
     {
@@ -147,10 +147,7 @@ impl Problem {
             None => {}
         }
         self.constraints.reserve(1)?;
-        note_demands(&self.cluster, &mut self.demands, &constraint);
-        note_limits(&self.cluster, &mut self.limits, &constraint);
-        note_machine_wishes(&self.cluster, &mut self.machine_wishes, &constraint);
-        note_node_wishes(&self.cluster, &mut self.node_wishes, &constraint);
+        self.tables.note(&self.cluster, &constraint)?;
         self.constraints.push(constraint).unwrap();
         Ok(())
     }

@@ -1,20 +1,94 @@
-//! The tables of wishes.
-ghost use Rattle.std.specs.Prelude.{◌≡◌, ℕ, ◌<◌, length, if◌then◌else◌, nat_lt, true, None, IfOk, replicate};
+//! The tables of what is wanted of each machine and each node.
+ghost use Rattle.std.specs.Prelude.{◌≡◌, ℕ, ◌<◌, ◌≤◌, length, nat_lt, true, OnOk, OnErr};
 ghost use Rattle.std.specs.List.{list_all};
 ghost use Rattle.cluster.specs.Sets.{has_node};
-ghost use Rattle.catalogue.specs.Faults.{is_member, is_rule};
-ghost use Rattle.catalogue.specs.Values.{joined, wished_machine, wished_node};
-ghost use Rattle.catalogue.specs.Cells.{wish_cell};
-ghost use Rattle.catalogue.specs.declared.constraint.Wish.TheVariants.{Keep};
+ghost use Rattle.catalogue.specs.Faults.{is_member};
+ghost use Rattle.catalogue.specs.Values.{joined, joined_where};
+ghost use Rattle.catalogue.specs.Cells.{HasRows, wish_cell};
 
-use crate::constraint::{Constraint, Target, Wish};
+use crate::constraint::{Target, Wish};
 use cluster::ids::{NodeId, VmId};
-use cluster::inventory::Cluster;
+use cluster::sets::NodeSet;
 use memory::Memory;
-use std::alloc::Global;
+
+/// Notes that machines are wanted in a state.
+pub fn note_machines(
+    table: &mut Vec<Wish>,
+    count: usize,
+    machines: &[VmId],
+    target: Target,
+) -> Result<(), Memory>
+    requires rows { HasRows count table.old.items }
+    requires machines { list_all (λ x. nat_lt x.0 count) machines.now ≡ true }
+    ensures rows { HasRows count table.new.items }
+    ensures noted { OnOk result ((v : ℕ) → v < count →
+        wish_cell table.new.items v ≡ joined_where (is_member machines.now v) (wish_cell table.old.items v) target) }
+    ensures kept { OnErr result (table.new.items ≡ table.old.items) }
+{
+    fill(table, count)?;
+    wish_machines(table, machines, target);
+    Ok(())
+}
+
+/// Notes that nodes are wanted in a state.
+pub fn note_nodes(
+    table: &mut Vec<Wish>,
+    count: usize,
+    nodes: &NodeSet,
+    target: Target,
+) -> Result<(), Memory>
+    requires rows { HasRows count table.old.items }
+    requires few { count ≤ 512 }
+    ensures rows { HasRows count table.new.items }
+    ensures noted { OnOk result ((n : ℕ) → n < count →
+        wish_cell table.new.items n ≡ joined_where (has_node nodes.now n) (wish_cell table.old.items n) target) }
+    ensures kept { OnErr result (table.new.items ≡ table.old.items) }
+{
+    fill(table, count)?;
+    wish_nodes(table, nodes, target);
+    Ok(())
+}
+
+/// Gives the table a wish for each element, where it has none yet.
+fn fill(table: &mut Vec<Wish>, count: usize) -> Result<(), Memory>
+    requires { HasRows count table.old.items }
+    ensures full { OnOk result (length table.new.items ≡ count) }
+    ensures same { (v : ℕ) → wish_cell table.new.items v ≡ wish_cell table.old.items v }
+    ensures kept { OnErr result (table.new.items ≡ table.old.items) }
+{
+    if table.is_empty() {
+        table.resize(count, Wish::Keep)?;
+    }
+    Ok(())
+}
+
+/// Joins a target to the wishes for machines.
+fn wish_machines(table: &mut [Wish], machines: &[VmId], target: Target)
+    requires { list_all (λ x. nat_lt x.0 (length table.old)) machines.now ≡ true }
+    ensures { (v : ℕ) → v < length table.old →
+        wish_cell table.new v ≡ joined_where (is_member machines.now v) (wish_cell table.old v) target }
+{
+    for id in machines {
+        let place = id.0 as usize;
+        table[place] = join(table[place], target);
+    }
+}
+
+/// Joins a target to the wishes for the nodes of a set.
+fn wish_nodes(table: &mut [Wish], nodes: &NodeSet, target: Target)
+    requires { length table.old ≤ 512 }
+    ensures { (n : ℕ) → n < length table.old →
+        wish_cell table.new n ≡ joined_where (has_node nodes.now n) (wish_cell table.old n) target }
+{
+    for i in 0..table.len() {
+        if nodes.has(NodeId(i as u32)) {
+            table[i] = join(table[i], target);
+        }
+    }
+}
 
 /// A wish with one more target.
-pub fn join(wish: Wish, target: Target) -> Wish
+fn join(wish: Wish, target: Target) -> Wish
     ensures { result ≡ joined wish target }
 {
     match wish {
@@ -30,76 +104,12 @@ pub fn join(wish: Wish, target: Target) -> Wish
     }
 }
 
-/// Joins a target to the wishes of the machines.
-pub fn wish_all(wishes: &mut [Wish], machines: &[VmId], target: Target)
-    requires machines { list_all (λ x. nat_lt x.0 (length wishes.old)) machines.now ≡ true }
-    ensures { (v : ℕ) → v < length wishes.old →
-        wish_cell wishes.new v ≡ (if is_member machines.now v then joined (wish_cell wishes.old v) target else wish_cell wishes.old v) }
+/// The noted wish, `Keep` where there is none.
+pub fn wish_at(table: &[Wish], place: u32) -> Wish
+    ensures { result ≡ wish_cell table.now place }
 {
-    for id in machines {
-        let place = id.0 as usize;
-        wishes[place] = join(wishes[place], target);
+    match table.get(place as usize) {
+        Some(wish) => *wish,
+        None => Wish::Keep,
     }
-}
-
-/// Notes a constraint in the wishes for machines.
-pub fn note_machine_wishes(cluster: &Cluster, wishes: &mut Vec<Wish>, constraint: &Constraint)
-    requires rows { length wishes.old.items ≡ length cluster.now.given.machines }
-    requires sound { is_rule cluster.now.given constraint.now ≡ true }
-    ensures rows { length wishes.new.items ≡ length wishes.old.items }
-    ensures cells { (v : ℕ) → v < length cluster.now.given.machines →
-        wish_cell wishes.new.items v ≡ wished_machine v (wish_cell wishes.old.items v) constraint.now }
-{
-    match constraint {
-        Constraint::Running { machines } => wish_all(wishes, machines.items(), Target::Running),
-        Constraint::Sleeping { machines } => wish_all(wishes, machines.items(), Target::Sleeping),
-        Constraint::Ready { machines } => wish_all(wishes, machines.items(), Target::Ready),
-        Constraint::Killed { machines } => wish_all(wishes, machines.items(), Target::Killed),
-        _ => {}
-    }
-}
-
-/// The wish for a node with one more constraint.
-fn wish_node(wish: Wish, n: NodeId, constraint: &Constraint) -> Wish
-    requires { n.0 < 512 }
-    ensures { result ≡ wished_node n.0 wish constraint.now }
-{
-    match constraint {
-        Constraint::Online { nodes } => {
-            if nodes.has(n) {
-                join(wish, Target::Online)
-            } else {
-                wish
-            }
-        }
-        Constraint::Offline { nodes } => {
-            if nodes.has(n) {
-                join(wish, Target::Offline)
-            } else {
-                wish
-            }
-        }
-        _ => wish,
-    }
-}
-
-/// Notes a constraint in the wishes for nodes.
-pub fn note_node_wishes(cluster: &Cluster, wishes: &mut Vec<Wish>, constraint: &Constraint)
-    requires rows { length wishes.old.items ≡ length cluster.now.given.nodes }
-    ensures rows { length wishes.new.items ≡ length wishes.old.items }
-    ensures cells { (n : ℕ) → n < length cluster.now.given.nodes →
-        wish_cell wishes.new.items n ≡ wished_node n (wish_cell wishes.old.items n) constraint.now }
-{
-    for i in 0..cluster.nodes().len() {
-        wishes[i] = wish_node(wishes[i], NodeId(i as u32), constraint);
-    }
-}
-
-/// The table without a wish.
-pub fn no_wishes(alloc: Global, count: usize) -> Result<Vec<Wish>, Memory>
-    ensures { IfOk result (λ t. t.items ≡ replicate count Keep) }
-{
-    let mut table = Vec::new(alloc);
-    table.resize(count, Wish::Keep)?;
-    Ok(table)
 }
