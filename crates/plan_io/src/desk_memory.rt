@@ -1,12 +1,133 @@
-// Desks in memory: one of which listed calls fail, and one that never fails.
+// Desks in memory: one that never fails, and one of which listed calls fail.
 ghost use Rattle.std.specs.Prelude.{◌≡◌, ◌⊎◌, ◌↔◌, ◌-◌, [], ◌++◌, Some, None, true, min, length, IsOk, IsErr, IsErrOf, IfOk, IfErr, OnOk, OnErr, option_copied};
-ghost use Rattle.plan_io.specs.Store.{stored, current_of, stored_fits};
 
 use crate::calls::Calls;
-use crate::store::{Store, copy_at};
+use crate::copies::copy_at;
 use crate::{Desk, Failed, OutFault};
 use memory::Memory;
 use std::alloc::Global;
+use std::collections::BTreeMap;
+
+/// A desk in memory that never fails. To it a name without a file is an empty file.
+#[derive(Drop)]
+pub struct DeskSure {
+    files: BTreeMap<String, Vec<u8>>,
+    current: Option<String>,
+    alloc: Global,
+}
+
+#[tactic(auto, using(std::proofs::lemmas::Map::Text::text_keys), unfolding(crate::specs::DeskSure::sure_files, crate::specs::DeskSure::sure_current))]
+impl DeskSure {
+    ghost use Rattle.plan_io.specs.Files.{OthersStay};
+    ghost use Rattle.plan_io.specs.DeskSure.{sure_files, sure_current};
+
+    /// A desk without files.
+    pub fn new(alloc: Global) -> DeskSure
+        ensures files { sure_files result ≡ (λ _. None) }
+        ensures current { sure_current result ≡ None }
+    {
+        DeskSure {
+            files: BTreeMap::new(alloc),
+            current: None,
+            alloc,
+        }
+    }
+
+    /// The bytes of the file of this name, if there is one.
+    pub fn get(&self, name: &str) -> Option<&[u8]>
+        ensures { option_copied result ≡ sure_files self.now name.now }
+    {
+        match self.files.get(name) {
+            Some(bytes) => Some(bytes.as_slice()),
+            None => None,
+        }
+    }
+
+    /// Leaves a file of this name with these bytes. After want of memory all is as before.
+    pub fn put(&mut self, name: &str, bytes: &[u8]) -> Result<(), Memory>
+        ensures put { OnOk result (sure_files self.new name.now ≡ Some bytes.now) }
+        ensures others { OthersStay name.now (sure_files self.old) (sure_files self.new) }
+        ensures kept { OnErr result (sure_files self.new ≡ sure_files self.old) }
+        ensures current { sure_current self.new ≡ sure_current self.old }
+    {
+        let key = String::from_str(self.alloc, name)?;
+        let value = Vec::from_slice(self.alloc, bytes)?;
+        self.files.insert(key, value)?;
+        Ok(())
+    }
+}
+
+#[tactic(auto, using(std::proofs::lemmas::Map::Text::text_keys), unfolding(crate::specs::DeskSure::sure_files, crate::specs::DeskSure::sure_current))]
+impl Desk for DeskSure {
+    ghost use Rattle.plan_io.specs.DeskSure.{sure_files, sure_current};
+    ghost use Rattle.plan_io.specs.Fits.{sure_fits};
+
+    ghost tells = { true };
+
+    ghost reads = { λ _. true };
+
+    ghost writes = { λ _. true };
+
+    ghost files = { sure_files };
+
+    ghost current = { sure_current };
+
+    ghost read_faults = { λ _. 0 };
+
+    ghost write_faults = { λ _. 0 };
+
+    ghost fits = { λ d name _. sure_fits d name };
+
+    ghost use Rattle.std.specs.Io.{ReadsAtMost};
+    ghost use Rattle.plan_io.specs.Files.{bytes_of, OthersStay, Gives};
+
+    /// Gives as many bytes as `buf` holds and are there.
+    fn read_at(&mut self, name: &str, place: u64, buf: &mut [u8]) -> Result<usize, Failed>
+        ensures good { IsOk result }
+        ensures count { IfOk result (λ n. n ≡ min (length buf.old) (length (bytes_of (sure_files self.old name.now)) - place)) }
+        ensures bytes { IfOk result (λ n. Gives (bytes_of (sure_files self.old name.now)) place n buf.new) }
+        ensures bound { ReadsAtMost result buf.new }
+        ensures kept { self.new ≡ self.old }
+    {
+        match self.get(name) {
+            Some(bytes) => Ok(copy_at(bytes, place, buf)),
+            None => Ok(0),
+        }
+    }
+
+    fn create(&mut self, name: &str) -> Result<(), OutFault>
+        ensures memory { IfErr result (λ fault. fault ≡ OutFault.Memory) }
+        ensures empty { OnOk result (sure_files self.new name.now ≡ Some []) }
+        ensures kept { OnErr result (sure_files self.new ≡ sure_files self.old) }
+        ensures others { OthersStay name.now (sure_files self.old) (sure_files self.new) }
+        ensures current { OnOk result (sure_current self.new ≡ Some name.now) }
+        ensures current_kept { OnErr result (sure_current self.new ≡ sure_current self.old) }
+    {
+        let current = String::from_str(self.alloc, name)?;
+        let key = String::from_str(self.alloc, name)?;
+        self.files.insert(key, Vec::new(self.alloc))?;
+        self.current = Some(current);
+        Ok(())
+    }
+
+    /// Adds the whole piece.
+    fn append(&mut self, name: &str, piece: &[u8]) -> Result<(), OutFault>
+        requires { sure_current self.old ≡ Some name.now }
+        ensures memory { IfErr result (λ fault. fault ≡ OutFault.Memory) }
+        ensures grown { OnOk result (sure_files self.new name.now ≡ Some (bytes_of (sure_files self.old name.now) ++ piece.now)) }
+        ensures kept { OnErr result (sure_files self.new ≡ sure_files self.old) }
+        ensures others { OthersStay name.now (sure_files self.old) (sure_files self.new) }
+        ensures current { sure_current self.new ≡ sure_current self.old }
+    {
+        if let Some(bytes) = self.files.get_mut(name) {
+            return Ok(bytes.extend_from_slice(piece)?);
+        }
+        let key = String::from_str(self.alloc, name)?;
+        let value = Vec::from_slice(self.alloc, piece)?;
+        self.files.insert(key, value)?;
+        Ok(())
+    }
+}
 
 /// A desk in memory of which listed calls fail.
 ///
@@ -16,7 +137,7 @@ use std::alloc::Global;
 /// counts stand still at the end of a u64.
 #[derive(Drop)]
 pub struct DeskMem {
-    store: Store,
+    desk: DeskSure,
     calls: Calls,
     read_faults: u64,
     write_faults: u64,
@@ -24,7 +145,7 @@ pub struct DeskMem {
 
 impl DeskMem {
     ghost use Rattle.plan_io.specs.Files.{OthersStay};
-    ghost use Rattle.plan_io.specs.DeskMemory.{desk_files, desk_current, desk_calls, desk_read_faults, desk_write_faults, CountsNothing};
+    ghost use Rattle.plan_io.specs.DeskMem.{desk_files, desk_current, desk_calls, desk_read_faults, desk_write_faults, CountsNothing};
 
     /// A desk without files, of which the calls with these numbers fail.
     pub fn new(fails: Vec<u64>) -> DeskMem
@@ -36,7 +157,7 @@ impl DeskMem {
     {
         let calls = Calls::new(fails);
         DeskMem {
-            store: Store::new(calls.allocator()),
+            desk: DeskSure::new(calls.allocator()),
             calls,
             read_faults: 0,
             write_faults: 0,
@@ -47,7 +168,7 @@ impl DeskMem {
     pub fn get(&self, name: &str) -> Option<&[u8]>
         ensures { option_copied result ≡ desk_files self.now name.now }
     {
-        self.store.get(name)
+        self.desk.get(name)
     }
 
     /// Leaves a file of this name with these bytes. It is no call that is numbered. After want of
@@ -59,32 +180,35 @@ impl DeskMem {
         ensures current { desk_current self.new ≡ desk_current self.old }
         ensures counts { CountsNothing self.old self.new }
     {
-        Ok(self.store.put(name, bytes)?)
+        self.desk.put(name, bytes)
     }
 }
 
 impl Desk for DeskMem {
+    ghost use Rattle.plan_io.specs.DeskSure.{sure_files, sure_current};
+    ghost use Rattle.plan_io.specs.Fits.{sure_fits};
+
     ghost tells = { true };
 
     ghost reads = { λ _. true };
 
     ghost writes = { λ _. true };
 
-    ghost files = { λ d. stored d.store };
+    ghost files = { λ d. sure_files d.desk };
 
-    ghost current = { λ d. current_of d.store };
+    ghost current = { λ d. sure_current d.desk };
 
     ghost read_faults = { λ d. d.read_faults };
 
     ghost write_faults = { λ d. d.write_faults };
 
-    ghost fits = { λ d name _. stored_fits d.store name };
+    ghost fits = { λ d name _. sure_fits d.desk name };
 
     ghost use Rattle.std.specs.Io.{ReadsAtMost};
     ghost use Rattle.plan_io.specs.Calls.{IsListed, counted};
     ghost use Rattle.plan_io.specs.Causes.{CountsReads, CountsWrites, raised};
     ghost use Rattle.plan_io.specs.Files.{bytes_of, OthersStay, Gives, IsLeft};
-    ghost use Rattle.plan_io.specs.DeskMemory.{desk_files, desk_current, desk_calls, desk_read_faults, desk_write_faults};
+    ghost use Rattle.plan_io.specs.DeskMem.{desk_files, desk_current, desk_calls, desk_read_faults, desk_write_faults};
 
     /// Gives as many bytes as `buf` holds and are there. It fails exactly where its number is listed
     /// or the name has no file.
@@ -102,7 +226,7 @@ impl Desk for DeskMem {
         ensures writes_kept { desk_write_faults self.new ≡ desk_write_faults self.old }
     {
         let listed = self.calls.count();
-        match self.store.get(name) {
+        match self.desk.get(name) {
             Some(bytes) if !listed => Ok(copy_at(bytes, place, buf)),
             _ => {
                 self.read_faults = self.read_faults.saturating_add(1);
@@ -129,7 +253,7 @@ impl Desk for DeskMem {
             self.write_faults = self.write_faults.saturating_add(1);
             return Err(OutFault::Failed);
         }
-        Ok(self.store.create(name)?)
+        self.desk.create(name)
     }
 
     /// Adds the whole piece. It fails exactly where its number is listed.
@@ -149,103 +273,6 @@ impl Desk for DeskMem {
             self.write_faults = self.write_faults.saturating_add(1);
             return Err(OutFault::Failed);
         }
-        Ok(self.store.append(name, piece)?)
-    }
-}
-
-/// A desk in memory that never fails. To it a name without a file is an empty file.
-#[derive(Drop)]
-pub struct DeskSure {
-    store: Store,
-}
-
-impl DeskSure {
-    ghost use Rattle.plan_io.specs.Files.{OthersStay};
-    ghost use Rattle.plan_io.specs.DeskMemory.{sure_files, sure_current};
-
-    /// A desk without files.
-    pub fn new(alloc: Global) -> DeskSure
-        ensures files { sure_files result ≡ (λ _. None) }
-        ensures current { sure_current result ≡ None }
-    {
-        DeskSure {
-            store: Store::new(alloc),
-        }
-    }
-
-    /// The bytes of the file of this name, if there is one.
-    pub fn get(&self, name: &str) -> Option<&[u8]>
-        ensures { option_copied result ≡ sure_files self.now name.now }
-    {
-        self.store.get(name)
-    }
-
-    /// Leaves a file of this name with these bytes. After want of memory all is as before.
-    pub fn put(&mut self, name: &str, bytes: &[u8]) -> Result<(), Memory>
-        ensures put { OnOk result (sure_files self.new name.now ≡ Some bytes.now) }
-        ensures others { OthersStay name.now (sure_files self.old) (sure_files self.new) }
-        ensures kept { OnErr result (sure_files self.new ≡ sure_files self.old) }
-        ensures current { sure_current self.new ≡ sure_current self.old }
-    {
-        Ok(self.store.put(name, bytes)?)
-    }
-}
-
-impl Desk for DeskSure {
-    ghost tells = { true };
-
-    ghost reads = { λ _. true };
-
-    ghost writes = { λ _. true };
-
-    ghost files = { λ d. stored d.store };
-
-    ghost current = { λ d. current_of d.store };
-
-    ghost read_faults = { λ _. 0 };
-
-    ghost write_faults = { λ _. 0 };
-
-    ghost fits = { λ d name _. stored_fits d.store name };
-
-    ghost use Rattle.std.specs.Io.{ReadsAtMost};
-    ghost use Rattle.plan_io.specs.Files.{bytes_of, OthersStay, Gives};
-    ghost use Rattle.plan_io.specs.DeskMemory.{sure_files, sure_current};
-
-    /// Gives as many bytes as `buf` holds and are there.
-    fn read_at(&mut self, name: &str, place: u64, buf: &mut [u8]) -> Result<usize, Failed>
-        ensures good { IsOk result }
-        ensures count { IfOk result (λ n. n ≡ min (length buf.old) (length (bytes_of (sure_files self.old name.now)) - place)) }
-        ensures bytes { IfOk result (λ n. Gives (bytes_of (sure_files self.old name.now)) place n buf.new) }
-        ensures bound { ReadsAtMost result buf.new }
-        ensures kept { self.new ≡ self.old }
-    {
-        match self.store.get(name) {
-            Some(bytes) => Ok(copy_at(bytes, place, buf)),
-            None => Ok(0),
-        }
-    }
-
-    fn create(&mut self, name: &str) -> Result<(), OutFault>
-        ensures memory { IfErr result (λ fault. fault ≡ OutFault.Memory) }
-        ensures empty { OnOk result (sure_files self.new name.now ≡ Some []) }
-        ensures kept { OnErr result (sure_files self.new ≡ sure_files self.old) }
-        ensures others { OthersStay name.now (sure_files self.old) (sure_files self.new) }
-        ensures current { OnOk result (sure_current self.new ≡ Some name.now) }
-        ensures current_kept { OnErr result (sure_current self.new ≡ sure_current self.old) }
-    {
-        Ok(self.store.create(name)?)
-    }
-
-    /// Adds the whole piece.
-    fn append(&mut self, name: &str, piece: &[u8]) -> Result<(), OutFault>
-        requires { sure_current self.old ≡ Some name.now }
-        ensures memory { IfErr result (λ fault. fault ≡ OutFault.Memory) }
-        ensures grown { OnOk result (sure_files self.new name.now ≡ Some (bytes_of (sure_files self.old name.now) ++ piece.now)) }
-        ensures kept { OnErr result (sure_files self.new ≡ sure_files self.old) }
-        ensures others { OthersStay name.now (sure_files self.old) (sure_files self.new) }
-        ensures current { sure_current self.new ≡ sure_current self.old }
-    {
-        Ok(self.store.append(name, piece)?)
+        self.desk.append(name, piece)
     }
 }

@@ -70,7 +70,7 @@ pub struct SinkMem {
 }
 
 impl Model for SinkMem {
-    ghost use Rattle.plan_io.specs.SinkMemory.{SinkState};
+    ghost use Rattle.plan_io.specs.SinkMem.{SinkState};
 
     ghost Value = { SinkState };
 

@@ -2,7 +2,7 @@
 ghost use Rattle.std.specs.Prelude.{◌≡◌, ◌↔◌, ◌<◌, [], ◌++◌, true, min, length, take, IsOk, IsErr, IfOk, OnOk, OnErr};
 
 use crate::calls::Calls;
-use crate::store::copy_at;
+use crate::copies::copy_at;
 use crate::{Failed, Source};
 use std::marker::Model;
 
@@ -67,7 +67,7 @@ pub struct SourceMem {
 }
 
 impl Model for SourceMem {
-    ghost use Rattle.plan_io.specs.SourceMemory.{SourceState};
+    ghost use Rattle.plan_io.specs.SourceMem.{SourceState};
 
     ghost Value = { SourceState };
 
