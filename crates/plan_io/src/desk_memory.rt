@@ -131,10 +131,11 @@ impl Desk for DeskSure {
 
 /// A desk in memory of which listed calls fail.
 ///
-/// Its calls `read_at`, `create` and `append` are numbered from 0, all three in one row. A call whose
-/// number is listed fails: it changes nothing but the number and its count of faults, which go up by
-/// one. So does a `read_at` of a name that has no file. No other call fails. The number and the
-/// counts stand still at the end of a u64.
+/// Its calls of `read_at`, `create` and `append` are numbered from 0, in one row. A call whose number
+/// is listed fails, and so does a `read_at` of a name that has no file: it changes nothing but its
+/// count of faults, which goes up by one. No other call fails. Each call raises the number of the next
+/// one. The number and the counts stand still at the end of a u64, so that all calls from there on
+/// have that last number.
 #[derive(Drop)]
 pub struct DeskMem {
     desk: DeskSure,
@@ -185,7 +186,7 @@ impl DeskMem {
 }
 
 impl Desk for DeskMem {
-    ghost use Rattle.plan_io.specs.DeskSure.{sure_files, sure_current};
+    ghost use Rattle.plan_io.specs.DeskMem.{desk_files, desk_current, desk_calls, desk_read_faults, desk_write_faults};
     ghost use Rattle.plan_io.specs.Fits.{sure_fits};
 
     ghost tells = { true };
@@ -194,13 +195,13 @@ impl Desk for DeskMem {
 
     ghost writes = { λ _. true };
 
-    ghost files = { λ d. sure_files d.desk };
+    ghost files = { desk_files };
 
-    ghost current = { λ d. sure_current d.desk };
+    ghost current = { desk_current };
 
-    ghost read_faults = { λ d. d.read_faults };
+    ghost read_faults = { desk_read_faults };
 
-    ghost write_faults = { λ d. d.write_faults };
+    ghost write_faults = { desk_write_faults };
 
     ghost fits = { λ d name _. sure_fits d.desk name };
 
@@ -208,7 +209,6 @@ impl Desk for DeskMem {
     ghost use Rattle.plan_io.specs.Calls.{IsListed, counted};
     ghost use Rattle.plan_io.specs.Causes.{CountsReads, CountsWrites, raised};
     ghost use Rattle.plan_io.specs.Files.{bytes_of, OthersStay, Gives, IsLeft};
-    ghost use Rattle.plan_io.specs.DeskMem.{desk_files, desk_current, desk_calls, desk_read_faults, desk_write_faults};
 
     /// Gives as many bytes as `buf` holds and are there. It fails exactly where its number is listed
     /// or the name has no file.

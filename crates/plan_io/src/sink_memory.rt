@@ -60,8 +60,9 @@ impl Sink for SinkSure {
 /// Keeps what is written, except that listed writes fail.
 ///
 /// Its writes are numbered from 0. A write whose number is listed fails: it changes nothing but the
-/// number and the count of faults, which go up by one. No other write fails. The number and the count
-/// stand still at the end of a u64.
+/// count of faults, which goes up by one. No other write fails. Each write raises the number of the
+/// next one. The number and the count stand still at the end of a u64, so that all writes from there
+/// on have that last number.
 #[derive(Drop)]
 pub struct SinkMem {
     sink: SinkSure,

@@ -57,8 +57,9 @@ impl Source for SourceSure {
 /// Bytes in memory, of which listed reads fail.
 ///
 /// Its reads are numbered from 0. A read whose number is listed fails: it changes nothing but the
-/// number and the count of faults, which go up by one. No other read fails. The number and the count
-/// stand still at the end of a u64.
+/// count of faults, which goes up by one. No other read fails. Each read raises the number of the
+/// next one. The number and the count stand still at the end of a u64, so that all reads from there
+/// on have that last number.
 #[derive(Drop)]
 pub struct SourceMem {
     source: SourceSure,
