@@ -72,9 +72,12 @@ may_node_idle true wish = true
 may_node_idle false (To ToOnline) = false
 may_node_idle false wish = true
 
+abbrev pub differs_in : Instance → ℕ → ℕ → Bool
+differs_in p v r = not (demand_of p v r == use_of p.machines v r)
+
 -- a machine's demand is raised where it differs from the present use in some resource
 abbrev pub is_raised : Instance → ℕ → Bool
-is_raised p v = list_any (λ r. not (demand_of p v r == use_of p.machines v r)) (range_with_len 0 (length p.resources))
+is_raised p v = list_any (differs_in p v) (range_with_len 0 (length p.resources))
 
 -- the kind of an element's action at a place, if it has a legal one there
 unfoldable pub kind_of : Instance → Element → Place → Option Kind

@@ -1,5 +1,7 @@
 //! Timed plans: legal choices, what each uses and where, and the one definition of a valid plan.
 #![tactic(auto)]
 
+pub mod actions;
+pub mod elements;
 pub mod rule;
 pub mod table;

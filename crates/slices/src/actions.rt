@@ -1,0 +1,251 @@
+//! Which action an element takes, how long it lasts, and which choices are legal.
+ghost use Rattle.std.specs.Prelude.{◌≡◌, ◌<◌, ◌≤◌, Bool, length};
+ghost use Rattle.catalogue.specs.Instance.{IsElement};
+ghost use Rattle.catalogue.specs.Values.{demand_of, use_of, wanted_of};
+ghost use Rattle.slices.specs.Elements.{state_of as the_state_of};
+ghost use Rattle.slices.specs.Actions.{kind_of as the_kind_of, settled as the_settled, machine_kind as the_machine_kind, node_kind as the_node_kind, may_machine_idle as the_may_machine_idle, may_node_idle as the_may_node_idle, differs_in, is_raised as is_the_raised, may_idle as the_may_idle};
+
+use crate::elements::{is_online, is_place, state_of};
+use catalogue::constraint::{Target, Wish};
+use catalogue::problem::Problem;
+use cluster::ids::{Element, Kind, NodeId, Place, State, VmId};
+
+/// What is wanted of a machine: without a wish it keeps its state.
+fn settled(state: State, wish: Wish) -> Wish
+    ensures { result ≡ the_settled state wish }
+{
+    match wish {
+        Wish::Keep => match state {
+            State::Init => Wish::Keep,
+            State::Ready => Wish::To(Target::Ready),
+            State::Running(_) => Wish::To(Target::Running),
+            State::Sleeping(_) => Wish::To(Target::Sleeping),
+            State::Gone => Wish::To(Target::Killed),
+        },
+        Wish::To(_) | Wish::Clash => wish,
+    }
+}
+
+/// The present use of a machine.
+pub(crate) fn usage(p: &Problem, v: VmId, r: u8) -> u64
+    requires machine { IsElement p.now.given (Element.Vm v) }
+    requires resource { r < 8 }
+    ensures usage { result ≡ use_of p.now.given.machines v.0 r }
+    ensures small { result ≤ 1_000_000_000 }
+{
+    p.cluster().machines()[v.0 as usize].usage[r as usize]
+}
+
+fn differs(p: &Problem, v: VmId, r: u8) -> bool
+    requires machine { IsElement p.now.given (Element.Vm v) }
+    requires resource { r < length p.now.given.resources }
+    ensures { result ≡ differs_in p.now.given v.0 r }
+{
+    p.demand(v, r) != usage(p, v, r)
+}
+
+/// Whether the demand of a machine differs from its present use in some resource.
+fn is_raised(p: &Problem, v: VmId) -> bool
+    requires { IsElement p.now.given (Element.Vm v) }
+    ensures { result ≡ is_the_raised p.now.given v.0 }
+{
+    for r in 0..p.cluster().resources().len() {
+        if differs(p, v, r as u8) {
+            return true;
+        }
+    }
+    false
+}
+
+/// The kind of action that makes a machine ready.
+fn kind_to_ready(state: State, place: Place) -> Option<Kind>
+    ensures { (raised : Bool) → result ≡ the_machine_kind state (Wish.To Target.Ready) raised place }
+{
+    match place {
+        Place::At(_) => None,
+        Place::Nowhere => match state {
+            State::Init => Some(Kind::Forge),
+            State::Running(_) => Some(Kind::Shutdown),
+            State::Ready | State::Sleeping(_) | State::Gone => None,
+        },
+    }
+}
+
+/// The kind of action that makes a machine run on a node.
+fn kind_to_running(p: &Problem, v: VmId, state: State, place: Place) -> Option<Kind>
+    requires { IsElement p.now.given (Element.Vm v) }
+    ensures { result ≡ the_machine_kind state (Wish.To Target.Running) (is_the_raised p.now.given v.0) place }
+{
+    match place {
+        Place::Nowhere => None,
+        Place::At(n) => match state {
+            State::Init | State::Gone => None,
+            State::Ready => Some(Kind::Boot),
+            State::Sleeping(_) => Some(Kind::Resume),
+            State::Running(h) => kind_while_running(p, v, h, n),
+        },
+    }
+}
+
+/// The kind of action that keeps a machine running that runs on a host.
+fn kind_while_running(p: &Problem, v: VmId, host: NodeId, n: NodeId) -> Option<Kind>
+    requires { IsElement p.now.given (Element.Vm v) }
+    ensures { result ≡ the_machine_kind (State.Running host) (Wish.To Target.Running) (is_the_raised p.now.given v.0) (Place.At n) }
+{
+    if n.0 != host.0 {
+        Some(Kind::Migrate)
+    } else if is_raised(p, v) {
+        Some(Kind::Allocate)
+    } else {
+        None
+    }
+}
+
+/// The kind of action that puts a machine to sleep.
+fn kind_to_sleeping(state: State, place: Place) -> Option<Kind>
+    ensures { (raised : Bool) → result ≡ the_machine_kind state (Wish.To Target.Sleeping) raised place }
+{
+    match place {
+        Place::Nowhere => None,
+        Place::At(n) => match state {
+            State::Running(h) => if n.0 == h.0 {
+                Some(Kind::Suspend)
+            } else {
+                None
+            },
+            State::Init | State::Ready | State::Sleeping(_) | State::Gone => None,
+        },
+    }
+}
+
+/// The kind of action that ends a machine.
+fn kind_to_killed(state: State, place: Place) -> Option<Kind>
+    ensures { (raised : Bool) → result ≡ the_machine_kind state (Wish.To Target.Killed) raised place }
+{
+    match place {
+        Place::At(_) => None,
+        Place::Nowhere => match state {
+            State::Ready | State::Running(_) | State::Sleeping(_) => Some(Kind::Kill),
+            State::Init | State::Gone => None,
+        },
+    }
+}
+
+/// The kind of a machine's action at a place of the instance.
+fn machine_kind(p: &Problem, v: VmId, place: Place) -> Option<Kind>
+    requires { IsElement p.now.given (Element.Vm v) }
+    ensures { result ≡ the_machine_kind (the_state_of p.now.given v.0) (the_settled (the_state_of p.now.given v.0) (wanted_of p.now.given (Element.Vm v))) (is_the_raised p.now.given v.0) place }
+{
+    let state = state_of(p, v);
+    match settled(state, p.wanted(Element::Vm(v))) {
+        Wish::Keep | Wish::Clash => None,
+        Wish::To(target) => match target {
+            Target::Online | Target::Offline => None,
+            Target::Running => kind_to_running(p, v, state, place),
+            Target::Sleeping => kind_to_sleeping(state, place),
+            Target::Ready => kind_to_ready(state, place),
+            Target::Killed => kind_to_killed(state, place),
+        },
+    }
+}
+
+/// The kind of a node's action at a place.
+fn node_kind(online: bool, wish: Wish, place: Place) -> Option<Kind>
+    ensures { result ≡ the_node_kind online wish place }
+{
+    match place {
+        Place::At(_) => None,
+        Place::Nowhere => match wish {
+            Wish::Clash => None,
+            Wish::To(Target::Online) => if online {
+                None
+            } else {
+                Some(Kind::NodeBoot)
+            },
+            Wish::To(Target::Offline) => if online {
+                Some(Kind::NodeShutdown)
+            } else {
+                None
+            },
+            Wish::Keep | Wish::To(Target::Running | Target::Sleeping | Target::Ready | Target::Killed) => if online {
+                Some(Kind::NodeShutdown)
+            } else {
+                Some(Kind::NodeBoot)
+            },
+        },
+    }
+}
+
+/// The kind of an element's action at a place; None where no legal choice acts there.
+#[tactic(auto, unfolding(crate::specs::Actions::kind_of))]
+pub fn kind_of(p: &Problem, e: Element, place: Place) -> Option<Kind>
+    requires { IsElement p.now.given e }
+    ensures { result ≡ the_kind_of p.now.given e place }
+{
+    match e {
+        Element::Vm(v) => if is_place(p, place) {
+            machine_kind(p, v, place)
+        } else {
+            None
+        },
+        Element::Node(n) => node_kind(is_online(p, n), p.wanted(e), place),
+    }
+}
+
+/// Whether a machine may be idle.
+fn may_machine_idle(p: &Problem, v: VmId) -> bool
+    requires { IsElement p.now.given (Element.Vm v) }
+    ensures { result ≡ the_may_machine_idle (the_state_of p.now.given v.0) (the_settled (the_state_of p.now.given v.0) (wanted_of p.now.given (Element.Vm v))) (is_the_raised p.now.given v.0) }
+{
+    let state = state_of(p, v);
+    match settled(state, p.wanted(Element::Vm(v))) {
+        Wish::Clash => false,
+        Wish::Keep => match state {
+            State::Init => true,
+            State::Ready | State::Running(_) | State::Sleeping(_) | State::Gone => false,
+        },
+        Wish::To(target) => match target {
+            Target::Online | Target::Offline => false,
+            Target::Ready => match state {
+                State::Ready => true,
+                State::Init | State::Running(_) | State::Sleeping(_) | State::Gone => false,
+            },
+            Target::Running => match state {
+                State::Running(_) => !is_raised(p, v),
+                State::Init | State::Ready | State::Sleeping(_) | State::Gone => false,
+            },
+            Target::Sleeping => match state {
+                State::Sleeping(_) => true,
+                State::Init | State::Ready | State::Running(_) | State::Gone => false,
+            },
+            Target::Killed => match state {
+                State::Gone => true,
+                State::Init | State::Ready | State::Running(_) | State::Sleeping(_) => false,
+            },
+        },
+    }
+}
+
+/// Whether a node may be idle.
+fn may_node_idle(online: bool, wish: Wish) -> bool
+    ensures { result ≡ the_may_node_idle online wish }
+{
+    match wish {
+        Wish::Clash => false,
+        Wish::To(Target::Online) => online,
+        Wish::To(Target::Offline) => !online,
+        Wish::Keep | Wish::To(Target::Running | Target::Sleeping | Target::Ready | Target::Killed) => true,
+    }
+}
+
+/// Whether an element may be idle.
+#[tactic(auto, unfolding(crate::specs::Actions::may_idle))]
+fn may_idle(p: &Problem, e: Element) -> bool
+    requires { IsElement p.now.given e }
+    ensures { result ≡ the_may_idle p.now.given e }
+{
+    match e {
+        Element::Vm(v) => may_machine_idle(p, v),
+        Element::Node(n) => may_node_idle(is_online(p, n), p.wanted(e)),
+    }
+}
