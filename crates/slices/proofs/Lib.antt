@@ -1,1 +1,4 @@
 pub mod RangeLemmas
+pub mod DurationLemmas
+pub mod PlaceLemmas
+pub mod HoldingLemmas

@@ -1,5 +1,5 @@
 -- A test of the numbers from one on, below a bound.
-use Rattle.std.proofs.Common.{◌≡◌, ℕ, zero, suc, ◌+◌, ◌-◌, ◌<◌, Bool, true, false, ◌||◌, refl, arith}
+use Rattle.std.proofs.Common.{◌≡◌, ℕ, suc, ◌+◌, ◌-◌, ◌<◌, Bool, true, false, ◌||◌, refl, arith}
 use Rattle.std.specs.List.{list_any, range_with_len}
 
 list_any-step : (f : ℕ → Bool) (r n k : ℕ) → n - r ≡ suc k → list_any f (range_with_len r (n - r)) ≡ (f r || list_any f (range_with_len (r + 1) k))

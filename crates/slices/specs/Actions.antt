@@ -16,6 +16,7 @@ use Rattle.cluster.specs.declared.ids.State.TheVariants.{Init, Ready, Running, S
 use Rattle.cluster.specs.declared.parts.Machine.{Machine}
 use Rattle.cluster.specs.declared.parts.Node.{Node}
 use Rattle.cluster.specs.Inventory.{is_online}
+use Rattle.cluster.specs.Kinds.{kind_number}
 use Rattle.catalogue.specs.declared.constraint.Target.TheVariants.{Online as ToOnline, Offline as ToOffline, Running as ToRunning, Sleeping as ToSleeping, Ready as ToReady, Killed as ToKilled}
 use Rattle.catalogue.specs.declared.constraint.Wish.{Wish}
 use Rattle.catalogue.specs.declared.constraint.Wish.TheVariants.{Keep, To, Clash}
@@ -94,19 +95,6 @@ may_idle p (TheNode n) = may_node_idle (is_online p.nodes n.0) (wanted_of p (The
 
 -- ---- how long
 
--- the place of a kind in the lists of durations
-abbrev pub kind_number : Kind → ℕ
-kind_number Forge = 0
-kind_number Boot = 1
-kind_number Shutdown = 2
-kind_number Suspend = 3
-kind_number Resume = 4
-kind_number Migrate = 5
-kind_number Allocate = 6
-kind_number Kill = 7
-kind_number NodeBoot = 8
-kind_number NodeShutdown = 9
-
 abbrev pub machine_own : Option Machine → ℕ → Option Duration
 machine_own None k = None
 machine_own (Some m) k = slice_index_or m.own k None
@@ -144,16 +132,16 @@ duration_of p e kind = value_of (unwrap_or (own_of p e kind) (common_of p kind))
 -- ---- choices
 
 -- how long the action of a choice lasts
-abbrev pub lasts : Instance → Element → Choice → ℕ
+unfoldable pub lasts : Instance → Element → Choice → ℕ
 lasts p e Idle = 0
 lasts p e (Act place start) = option_map_or (duration_of p e) (kind_of p e place) 0
 
 -- when the action of a choice ends, 0 where there is none
-abbrev pub end_of : Instance → Element → Choice → ℕ
+unfoldable pub end_of : Instance → Element → Choice → ℕ
 end_of p e Idle = 0
 end_of p e (Act place start) = start + lasts p e (Act place start)
 
 -- a choice is legal where it is one of the table, and its action ends by the horizon
-abbrev pub is_legal : Instance → Element → Choice → Bool
+unfoldable pub is_legal : Instance → Element → Choice → Bool
 is_legal p e Idle = may_idle p e
 is_legal p e (Act place start) = is_some (kind_of p e place) && nat_le (end_of p e (Act place start)) p.horizon

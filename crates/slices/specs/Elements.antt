@@ -33,7 +33,7 @@ number_of p (TheNode n) = machine_count p + n.0
 abbrev pub element_at : Instance → ℕ → Element
 element_at p x = if nat_lt x (machine_count p) then vm x else node (x - machine_count p)
 
-abbrev state_in : Option Machine → State
+abbrev pub state_in : Option Machine → State
 state_in None = Gone
 state_in (Some m) = m.state
 

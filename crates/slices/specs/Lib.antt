@@ -6,3 +6,4 @@ pub mod Snapshots
 pub mod Holds
 pub mod Rules
 pub mod Costs
+pub mod Holdings

@@ -1,5 +1,5 @@
 -- Plans: one legal choice for each element.
-use Rattle.std.specs.Prelude.{◌≡◌, List, length, take, drop, slice_index_or, IsTrue}
+use Rattle.std.specs.Prelude.{◌≡◌, ◌<◌, List, length, take, drop, slice_index_or, IsTrue}
 use Rattle.cluster.specs.declared.ids.Choice.{Choice}
 use Rattle.cluster.specs.declared.ids.Choice.TheVariants.{Idle}
 use Rattle.cluster.specs.declared.ids.Element.{Element}
@@ -21,6 +21,11 @@ pub record PlanChoices : Type 0 where
 abbrev pub choices_of : PlanChoices → Choices
 choices_of plan (Vm v) = slice_index_or plan.machines v.0 Idle
 choices_of plan (TheNode n) = slice_index_or plan.nodes n.0 Idle
+
+-- the plan has a choice for the element
+abbrev pub HasElement : PlanChoices → Element → Type 0
+HasElement plan (Vm v) = v.0 < length plan.machines
+HasElement plan (TheNode n) = n.0 < length plan.nodes
 
 -- a list of choices in the order of the elements, machines first
 abbrev pub parted : Instance → List Choice → PlanChoices

@@ -1,6 +1,5 @@
 -- Stages of actions, and what a machine holds at a stage.
 use Rattle.std.specs.Prelude.{ℕ, ◌+◌, ◌-◌, Bool, true, false, not, ◌&&◌, ◌==◌, nat_le, Option, Some, None, if◌then◌else◌}
-use Rattle.std.specs.Option.{option_map_or}
 use Rattle.cluster.specs.declared.ids.Choice.{Choice}
 use Rattle.cluster.specs.declared.ids.Choice.TheVariants.{Idle, Act}
 use Rattle.cluster.specs.declared.ids.Kind.{Kind}
@@ -71,10 +70,15 @@ acting_slices (Sleeping h) Resume (At n) = record { source = None; target = slic
 acting_slices (Sleeping h) Kill place = record { source = None; target = None; image = slice h BeforeEnd OfImage }
 acting_slices state kind place = no_slices
 
+-- what a machine holds over its action, if there is one
+unfoldable pub slices_by : State → Place → Option Kind → Slices
+slices_by state place None = no_slices
+slices_by state place (Some kind) = acting_slices state kind place
+
 -- what a machine holds under a choice
 unfoldable pub slices_of : Instance → ℕ → Choice → Slices
 slices_of p v Idle = idle_slices (state_of p v)
-slices_of p v (Act place start) = option_map_or (λ kind. acting_slices (state_of p v) kind place) (kind_of p (vm v) place) no_slices
+slices_of p v (Act place start) = slices_by (state_of p v) place (kind_of p (vm v) place)
 
 -- ---- what slices weigh
 

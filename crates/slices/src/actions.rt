@@ -1,14 +1,17 @@
 //! Which action an element takes, how long it lasts, and which choices are legal.
-ghost use Rattle.std.specs.Prelude.{◌≡◌, ◌<◌, ◌≤◌, Bool, length};
+ghost use Rattle.std.specs.Prelude.{◌≡◌, ◌<◌, ◌≤◌, Bool, length, unwrap_or, IsTrue, IfSome};
+ghost use Rattle.cluster.proofs.Durations.{IsDuration};
 ghost use Rattle.catalogue.specs.Instance.{IsElement};
 ghost use Rattle.catalogue.specs.Values.{demand_of, use_of, wanted_of};
 ghost use Rattle.slices.specs.Elements.{state_of as the_state_of};
-ghost use Rattle.slices.specs.Actions.{kind_of as the_kind_of, settled as the_settled, machine_kind as the_machine_kind, node_kind as the_node_kind, may_machine_idle as the_may_machine_idle, may_node_idle as the_may_node_idle, differs_in, is_raised as is_the_raised, may_idle as the_may_idle};
+ghost use Rattle.slices.specs.Actions.{kind_of as the_kind_of, settled as the_settled, machine_kind as the_machine_kind, node_kind as the_node_kind, may_machine_idle as the_may_machine_idle, may_node_idle as the_may_node_idle, differs_in, is_raised as is_the_raised, may_idle as the_may_idle, own_of, common_of, counted_of, amount_at, duration_of as the_duration_of, lasts as the_lasts, is_legal as is_the_legal, end_of as the_end_of};
+ghost use Rattle.slices.specs.Snapshots.{stage_at as the_stage_at};
 
 use crate::elements::{is_online, is_place, state_of};
+use crate::table::Stage;
 use catalogue::constraint::{Target, Wish};
 use catalogue::problem::Problem;
-use cluster::ids::{Element, Kind, NodeId, Place, State, VmId};
+use cluster::ids::{Choice, Duration, Element, Instant, Kind, NodeId, Place, State, VmId};
 
 /// What is wanted of a machine: without a wish it keeps its state.
 fn settled(state: State, wish: Wish) -> Wish
@@ -157,21 +160,19 @@ fn node_kind(online: bool, wish: Wish, place: Place) -> Option<Kind>
         Place::At(_) => None,
         Place::Nowhere => match wish {
             Wish::Clash => None,
-            Wish::To(Target::Online) => if online {
-                None
-            } else {
-                Some(Kind::NodeBoot)
-            },
+            Wish::To(Target::Online) => if online { None } else { Some(Kind::NodeBoot) },
             Wish::To(Target::Offline) => if online {
                 Some(Kind::NodeShutdown)
             } else {
                 None
             },
-            Wish::Keep | Wish::To(Target::Running | Target::Sleeping | Target::Ready | Target::Killed) => if online {
-                Some(Kind::NodeShutdown)
-            } else {
-                Some(Kind::NodeBoot)
-            },
+            Wish::Keep
+            | Wish::To(Target::Running | Target::Sleeping | Target::Ready | Target::Killed) =>
+                if online {
+                    Some(Kind::NodeShutdown)
+                } else {
+                    Some(Kind::NodeBoot)
+                },
         },
     }
 }
@@ -234,7 +235,8 @@ fn may_node_idle(online: bool, wish: Wish) -> bool
         Wish::Clash => false,
         Wish::To(Target::Online) => online,
         Wish::To(Target::Offline) => !online,
-        Wish::Keep | Wish::To(Target::Running | Target::Sleeping | Target::Ready | Target::Killed) => true,
+        Wish::Keep
+        | Wish::To(Target::Running | Target::Sleeping | Target::Ready | Target::Killed) => true,
     }
 }
 
@@ -247,5 +249,124 @@ fn may_idle(p: &Problem, e: Element) -> bool
     match e {
         Element::Vm(v) => may_machine_idle(p, v),
         Element::Node(n) => may_node_idle(is_online(p, n), p.wanted(e)),
+    }
+}
+
+/// An element's own duration of a kind, if it has one.
+fn own(p: &Problem, e: Element, kind: Kind) -> Option<Duration>
+    requires { IsElement p.now.given e }
+    ensures { result ≡ own_of p.now.given e kind }
+{
+    match e {
+        Element::Vm(v) => p.cluster().machines()[v.0 as usize].own[kind.number()],
+        Element::Node(n) => p.cluster().nodes()[n.0 as usize].own[kind.number()],
+    }
+}
+
+/// The cluster's duration of a kind.
+fn common(p: &Problem, kind: Kind) -> Duration
+    ensures { result ≡ common_of p.now.given kind }
+{
+    p.cluster().durations()[kind.number()]
+}
+
+/// An element's duration of a kind: its own, or else the cluster's.
+fn duration_for(p: &Problem, e: Element, kind: Kind) -> Duration
+    requires { IsElement p.now.given e }
+    ensures duration { result ≡ unwrap_or (own_of p.now.given e kind) (common_of p.now.given kind) }
+    ensures fits { IsDuration (length p.now.given.resources) result }
+{
+    own(p, e, kind).unwrap_or(common(p, kind))
+}
+
+/// The amount that a duration counts: a machine's present use, a node's written capacity.
+fn counted(p: &Problem, e: Element, resource: Option<u8>) -> u64
+    requires element { IsElement p.now.given e }
+    requires resource { IfSome resource (λ r. r < length p.now.given.resources) }
+    ensures counted { result ≡ amount_at resource (counted_of p.now.given e) }
+    ensures small { result ≤ 1_000_000_000 }
+{
+    match resource {
+        None => 0,
+        Some(r) => match e {
+            Element::Vm(v) => usage(p, v, r),
+            Element::Node(n) => p.cluster().nodes()[n.0 as usize].capacity[r as usize],
+        },
+    }
+}
+
+/// How long an element's action of a kind lasts: base + per * amount.
+#[tactic(auto, unfolding(crate::specs::Actions::duration_of))]
+pub fn duration(p: &Problem, e: Element, kind: Kind) -> u64
+    requires { IsElement p.now.given e }
+    ensures duration { result ≡ the_duration_of p.now.given e kind }
+    ensures lasting { 1 ≤ result }
+    ensures small { result ≤ 1_000_000_001_000_000 }
+{
+    let d = duration_for(p, e, kind);
+    u64::from(d.base) + u64::from(d.per) * counted(p, e, d.resource)
+}
+
+/// How long the action of a choice lasts, 0 for Idle.
+#[tactic(auto, unfolding(crate::specs::Actions::lasts))]
+fn lasts(p: &Problem, e: Element, c: Choice) -> u64
+    requires { IsElement p.now.given e }
+    ensures lasts { result ≡ the_lasts p.now.given e c }
+    ensures small { result ≤ 1_000_000_001_000_000 }
+{
+    match c {
+        Choice::Idle => 0,
+        Choice::Act { place, start: _ } => match kind_of(p, e, place) {
+            Some(kind) => duration(p, e, kind),
+            None => 0,
+        },
+    }
+}
+
+/// Whether a choice is one that the element's present and wanted state allow, with an action that
+/// ends by the horizon.
+#[tactic(auto, unfolding(crate::specs::Actions::is_legal, crate::specs::Actions::end_of, crate::specs::Actions::lasts))]
+pub fn is_legal(p: &Problem, e: Element, c: Choice) -> bool
+    requires { IsElement p.now.given e }
+    ensures { result ≡ is_the_legal p.now.given e c }
+{
+    match c {
+        Choice::Idle => may_idle(p, e),
+        Choice::Act { place, start } => match kind_of(p, e, place) {
+            Some(kind) => u64::from(start) + duration(p, e, kind) <= u64::from(p.horizon()),
+            None => false,
+        },
+    }
+}
+
+/// The instant at which the action of a legal choice ends, 0 for Idle.
+#[tactic(auto, unfolding(crate::specs::Actions::is_legal, crate::specs::Actions::end_of))]
+pub fn end_of(p: &Problem, e: Element, c: Choice) -> Instant
+    requires element { IsElement p.now.given e }
+    requires legal { IsTrue (is_the_legal p.now.given e c) }
+    ensures end { result ≡ the_end_of p.now.given e c }
+    ensures in_time { result ≤ p.now.given.horizon }
+{
+    match c {
+        Choice::Idle => 0,
+        Choice::Act { place: _, start } => (u64::from(start) + lasts(p, e, c)) as u32,
+    }
+}
+
+/// How far the action of a choice has come at an instant.
+#[tactic(auto, unfolding(crate::specs::Snapshots::stage_at))]
+pub fn stage(p: &Problem, e: Element, c: Choice, t: Instant) -> Stage
+    requires { IsElement p.now.given e }
+    ensures { result ≡ the_stage_at p.now.given e c t }
+{
+    match c {
+        Choice::Idle => Stage {
+            started: false,
+            ended: false,
+        },
+        Choice::Act { place: _, start } => Stage {
+            started: start <= t,
+            ended: u64::from(start) + lasts(p, e, c) <= u64::from(t),
+        },
     }
 }

@@ -3,5 +3,8 @@
 
 pub mod actions;
 pub mod elements;
+pub mod holding;
+pub mod plan;
 pub mod rule;
+pub mod snapshot;
 pub mod table;

@@ -1,5 +1,12 @@
 //! What an action uses, and where: slices of one node each, over a span of the action.
-use cluster::ids::NodeId;
+ghost use Rattle.std.specs.Prelude.{◌≡◌};
+ghost use Rattle.catalogue.specs.Instance.{IsElement};
+ghost use Rattle.slices.specs.Stages.{slice as the_slice, idle_slices as the_idle_slices, acting_slices as the_acting_slices, slices_by as the_slices_by, slices_of as the_slices_of, covers as is_covered};
+
+use crate::actions::kind_of;
+use crate::elements::state_of;
+use catalogue::problem::Problem;
+use cluster::ids::{Choice, Element, Kind, NodeId, Place, State, VmId};
 
 /// How far an action has come: whether it has started, and whether it has ended.
 #[derive(Clone, Copy, Debug, PartialEq, Eq)]
@@ -51,4 +58,186 @@ pub enum Weight {
     Amount(u8),
     Presence,
     Image,
+}
+
+/// A node on which a machine is present, and whether it takes its present use or its demand there.
+#[derive(Clone, Copy)]
+pub struct Held {
+    pub node: NodeId,
+    pub what: What,
+}
+
+/// All that a machine holds at one moment.
+///
+/// Each `Held` is one presence: none, one, or the two of a migration. An allocation is one, with
+/// the demand for its amounts from its start on.
+#[derive(Clone, Copy)]
+pub struct Holding {
+    pub source: Option<Held>,
+    pub target: Option<Held>,
+    pub image: Option<NodeId>,
+}
+
+const NOTHING: Slices = Slices {
+    source: None,
+    target: None,
+    image: None,
+};
+
+fn slice_on(node: NodeId, span: Span, what: What) -> Option<Slice>
+    ensures { result ≡ the_slice node span what }
+{
+    Some(Slice { node, span, what })
+}
+
+/// What an idle machine holds.
+fn idle_slices(state: State) -> Slices
+    ensures { result ≡ the_idle_slices state }
+{
+    match state {
+        State::Running(h) => Slices {
+            source: slice_on(h, Span::Always, What::Use),
+            ..NOTHING
+        },
+        State::Sleeping(h) => Slices {
+            image: slice_on(h, Span::Always, What::Image),
+            ..NOTHING
+        },
+        State::Init | State::Ready | State::Gone => NOTHING,
+    }
+}
+
+/// What a machine that runs on a host holds over its action.
+fn running_slices(host: NodeId, kind: Kind, place: Place) -> Slices
+    ensures { result ≡ the_acting_slices (State.Running host) kind place }
+{
+    let until_end = slice_on(host, Span::BeforeEnd, What::Use);
+    match kind {
+        Kind::Migrate => match place {
+            Place::Nowhere => NOTHING,
+            Place::At(n) => Slices {
+                source: until_end,
+                target: slice_on(n, Span::FromStart, What::Demand),
+                ..NOTHING
+            },
+        },
+        Kind::Allocate => Slices {
+            source: slice_on(host, Span::Always, What::Use),
+            target: slice_on(host, Span::FromStart, What::Raise),
+            ..NOTHING
+        },
+        Kind::Shutdown | Kind::Kill => Slices {
+            source: until_end,
+            ..NOTHING
+        },
+        Kind::Suspend => Slices {
+            source: until_end,
+            image: slice_on(host, Span::FromStart, What::Image),
+            ..NOTHING
+        },
+        Kind::Forge | Kind::Boot | Kind::Resume | Kind::NodeBoot | Kind::NodeShutdown => NOTHING,
+    }
+}
+
+/// What a ready machine holds over its action.
+fn ready_slices(kind: Kind, place: Place) -> Slices
+    ensures { result ≡ the_acting_slices State.Ready kind place }
+{
+    match kind {
+        Kind::Boot => match place {
+            Place::Nowhere => NOTHING,
+            Place::At(n) => Slices {
+                target: slice_on(n, Span::FromStart, What::Demand),
+                ..NOTHING
+            },
+        },
+        Kind::Forge
+        | Kind::Shutdown
+        | Kind::Suspend
+        | Kind::Resume
+        | Kind::Migrate
+        | Kind::Allocate
+        | Kind::Kill
+        | Kind::NodeBoot
+        | Kind::NodeShutdown => NOTHING,
+    }
+}
+
+/// What a machine that sleeps on a host holds over its action.
+fn sleeping_slices(host: NodeId, kind: Kind, place: Place) -> Slices
+    ensures { result ≡ the_acting_slices (State.Sleeping host) kind place }
+{
+    let until_end = slice_on(host, Span::BeforeEnd, What::Image);
+    match kind {
+        Kind::Resume => match place {
+            Place::Nowhere => NOTHING,
+            Place::At(n) => Slices {
+                target: slice_on(n, Span::FromStart, What::Demand),
+                image: until_end,
+                ..NOTHING
+            },
+        },
+        Kind::Kill => Slices {
+            image: until_end,
+            ..NOTHING
+        },
+        Kind::Forge
+        | Kind::Boot
+        | Kind::Shutdown
+        | Kind::Suspend
+        | Kind::Migrate
+        | Kind::Allocate
+        | Kind::NodeBoot
+        | Kind::NodeShutdown => NOTHING,
+    }
+}
+
+/// What a machine in a state holds over its action.
+fn acting_slices(state: State, kind: Kind, place: Place) -> Slices
+    ensures { result ≡ the_acting_slices state kind place }
+{
+    match state {
+        State::Running(h) => running_slices(h, kind, place),
+        State::Ready => ready_slices(kind, place),
+        State::Sleeping(h) => sleeping_slices(h, kind, place),
+        State::Init | State::Gone => NOTHING,
+    }
+}
+
+/// What a machine holds over its action, if there is one.
+#[tactic(auto, unfolding(crate::specs::Stages::slices_by))]
+fn slices_by(state: State, place: Place, kind: Option<Kind>) -> Slices
+    ensures { result ≡ the_slices_by state place kind }
+{
+    match kind {
+        Some(kind) => acting_slices(state, kind, place),
+        None => NOTHING,
+    }
+}
+
+/// All that a machine holds under a choice.
+#[tactic(auto, unfolding(crate::specs::Stages::slices_of))]
+pub fn slices_of(p: &Problem, v: VmId, c: Choice) -> Slices
+    requires { IsElement p.now.given (Element.Vm v) }
+    ensures { result ≡ the_slices_of p.now.given v.0 c }
+{
+    match c {
+        Choice::Idle => idle_slices(state_of(p, v)),
+        Choice::Act { place, start: _ } => slices_by(
+            state_of(p, v),
+            place,
+            kind_of(p, Element::Vm(v), place),
+        ),
+    }
+}
+
+/// Whether a span has come at a stage, and not passed.
+pub fn covers(span: Span, stage: Stage) -> bool
+    ensures { result ≡ is_covered span stage }
+{
+    match span {
+        Span::Always => true,
+        Span::FromStart => stage.started,
+        Span::BeforeEnd => !stage.ended,
+    }
 }

@@ -1,0 +1,73 @@
+-- Durations fit, so each is at least 1.
+use Rattle.std.proofs.Common.{◌≡◌, ℕ, zero, suc, ◌<◌, ◌≤◌, Bool, true, List, [], ◌∷◌, length, take, drop, Option, Some, None, is_none, unwrap_or, slice_get, slice_index_or, get_or, inl, inr, refl, sym, true≢false, arith}
+use Rattle.std.specs.List.{list_all}
+use Rattle.std.proofs.lemmas.Bool.{and_parts}
+use Rattle.std.proofs.lemmas.Option.{slice_get_cases}
+use Rattle.cluster.specs.declared.ids.Duration.{Duration}
+use Rattle.cluster.specs.declared.ids.Element.{Element}
+use Rattle.cluster.specs.declared.ids.Element.TheVariants.{Vm, Node as TheNode}
+use Rattle.cluster.specs.declared.ids.Kind.{Kind}
+use Rattle.cluster.specs.declared.ids.Kind.TheVariants.{Forge, Boot, Shutdown, Suspend, Resume, Migrate, Allocate, Kill, NodeBoot, NodeShutdown}
+use Rattle.cluster.specs.Inventory.{amounts_fit, duration_fits, machine_fits, machine_own_fits, node_fits, node_own_fits, own_fits}
+use Rattle.cluster.specs.Kinds.{kind_number}
+use Rattle.cluster.proofs.Durations.{IsDuration, IsDuration-fits, duration_at}
+use Rattle.catalogue.specs.Instance.{Instance, IsInstance, inventory_of}
+use Rattle.slices.specs.Actions.{common_of, duration_of, machine_own, node_own, own_of}
+
+-- what is at a place of a list, from what holds where there is nothing, and of each item
+pub of_get : {X : Type 0} (P : Option X → Type 0) (xs : List X) (i : ℕ) → P None → ((x : X) → i < length xs → get_or xs i x ≡ x → P (Some x)) → P (slice_get xs i)
+of_get P xs i none some =
+    elim (slice_get_cases xs i).1 [ inl w ↦ rw w.2 (some w.0 w.1 w.3) | inr w ↦ rw w.1 none ]
+
+-- the first n places pass one test and the others another one, and both say that they fit
+own_at : (f s t : Option Duration → Bool) → f None ≡ true → ((x : Option Duration) → s x ≡ true → f x ≡ true) → ((x : Option Duration) → t x ≡ true → f x ≡ true) → (n : ℕ) (xs : List (Option Duration)) (i : ℕ) → list_all s (take n xs) ≡ true → list_all t (drop n xs) ≡ true → f (slice_index_or xs i None) ≡ true
+own_at f s t none first last n [] i a b = none
+own_at f s t none first last zero (x ∷ xs) zero a b = last x (and_parts (t x) _ b).0
+own_at f s t none first last zero (x ∷ xs) (suc i) a b = own_at f s t none first last zero xs i refl (and_parts (t x) _ b).1
+own_at f s t none first last (suc n) (x ∷ xs) zero a b = first x (and_parts (s x) _ a).0
+own_at f s t none first last (suc n) (x ∷ xs) (suc i) a b = own_at f s t none first last n xs i (and_parts (s x) _ a).1 b
+
+none_fits : (count : ℕ) (x : Option Duration) → is_none x ≡ true → own_fits count x ≡ true
+none_fits count None h = refl
+none_fits count (Some d) h = absurd (true≢false (sym h))
+
+number_lt : (kind : Kind) → kind_number kind < 10
+number_lt Forge = omega arith
+number_lt Boot = omega arith
+number_lt Shutdown = omega arith
+number_lt Suspend = omega arith
+number_lt Resume = omega arith
+number_lt Migrate = omega arith
+number_lt Allocate = omega arith
+number_lt Kill = omega arith
+number_lt NodeBoot = omega arith
+number_lt NodeShutdown = omega arith
+
+own_of-fits : (p : Instance) → IsInstance p → (e : Element) (kind : Kind) → own_fits (length p.resources) (own_of p e kind) ≡ true
+own_of-fits p s (Vm v) kind =
+    let count = length p.resources in
+    of_get (λ o. own_fits count (machine_own o (kind_number kind)) ≡ true) p.machines v.0 refl
+    (λ m l e. let fits : machine_fits count m ≡ true = rw e at (s.inventory.machines_fit v.0 m l) in
+    let own = and_parts _ _ (and_parts (amounts_fit count m.usage) (machine_own_fits count m.own) fits).1 in
+    own_at (own_fits count) (own_fits count) is_none refl (λ x h. h) (none_fits count) 8 m.own (kind_number kind) own.0 own.1)
+own_of-fits p s (TheNode n) kind =
+    let count = length p.resources in
+    of_get (λ o. own_fits count (node_own o (kind_number kind)) ≡ true) p.nodes n.0 refl
+    (λ x l e. let fits : node_fits count x ≡ true = rw e at (s.inventory.nodes_fit n.0 x l) in
+    let own = and_parts _ _ (and_parts (amounts_fit count x.capacity) (node_own_fits count x.own) fits).1 in
+    own_at (own_fits count) is_none (own_fits count) refl (none_fits count) (λ x h. h) 8 x.own (kind_number kind) own.0 own.1)
+
+chosen-fits : (count : ℕ) (o : Option Duration) (d : Duration) → own_fits count o ≡ true → duration_fits count d ≡ true → duration_fits count (unwrap_or o d) ≡ true
+chosen-fits count None d a b = b
+chosen-fits count (Some x) d a b = a
+
+-- the duration that is taken fits
+pub chosen : (p : Instance) → IsInstance p → (e : Element) (kind : Kind) → IsDuration (length p.resources) (unwrap_or (own_of p e kind) (common_of p kind))
+chosen p s e kind =
+    IsDuration-fits (length p.resources) (unwrap_or (own_of p e kind) (common_of p kind))
+    (chosen-fits (length p.resources) (own_of p e kind) (common_of p kind) (own_of-fits p s e kind) (duration_at (inventory_of p) s.inventory (kind_number kind) _ (number_lt kind)))
+
+-- every duration is at least 1
+pub duration_of-least : (p : Instance) → IsInstance p → (e : Element) (kind : Kind) → 1 ≤ duration_of p e kind
+unfolding duration_of
+duration_of-least p s e kind = let d = chosen p s e kind in omega (arith, d.some)
