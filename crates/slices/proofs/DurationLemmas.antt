@@ -1,7 +1,8 @@
 -- Durations fit, so each is at least 1.
-use Rattle.std.proofs.Common.{◌≡◌, ℕ, zero, suc, ◌<◌, ◌≤◌, Bool, true, List, [], ◌∷◌, length, take, drop, Option, Some, None, is_none, unwrap_or, slice_get, slice_index_or, get_or, inl, inr, refl, sym, true≢false, arith}
+use Rattle.std.proofs.Common.{◌+◌, ◌&&◌, ◌≡◌, ℕ, zero, suc, ◌<◌, ◌≤◌, Bool, true, List, [], ◌∷◌, length, take, drop, Option, Some, None, is_none, is_some, nat_le, unwrap_or, slice_get, slice_index_or, get_or, inl, inr, refl, sym, true≢false, arith}
 use Rattle.std.specs.List.{list_all}
-use Rattle.std.proofs.lemmas.Bool.{and_parts}
+use Rattle.std.specs.Option.{option_map_or}
+use Rattle.std.proofs.lemmas.Bool.{and_parts, false≢true, leb-true}
 use Rattle.std.proofs.lemmas.Option.{slice_get_cases}
 use Rattle.cluster.specs.declared.ids.Duration.{Duration}
 use Rattle.cluster.specs.declared.ids.Element.{Element}
@@ -12,7 +13,8 @@ use Rattle.cluster.specs.Inventory.{amounts_fit, duration_fits, machine_fits, ma
 use Rattle.cluster.specs.Kinds.{kind_number}
 use Rattle.cluster.proofs.Durations.{IsDuration, IsDuration-fits, duration_at}
 use Rattle.catalogue.specs.Instance.{Instance, IsInstance, inventory_of}
-use Rattle.slices.specs.Actions.{common_of, duration_of, machine_own, node_own, own_of}
+use Rattle.slices.specs.Actions.{common_of, duration_of, end_of, is_legal, kind_of, lasts, machine_own, node_own, own_of}
+use Rattle.slices.specs.Parts.{LegalActsLast}
 
 -- what is at a place of a list, from what holds where there is nothing, and of each item
 pub of_get : {X : Type 0} (P : Option X → Type 0) (xs : List X) (i : ℕ) → P None → ((x : X) → i < length xs → get_or xs i x ≡ x → P (Some x)) → P (slice_get xs i)
@@ -71,3 +73,12 @@ chosen p s e kind =
 pub duration_of-least : (p : Instance) → IsInstance p → (e : Element) (kind : Kind) → 1 ≤ duration_of p e kind
 unfolding duration_of
 duration_of-least p s e kind = let d = chosen p s e kind in omega (arith, d.some)
+
+-- the action of a legal choice has a kind, so it lasts, and it ends by the horizon
+pub legal_acts_last : LegalActsLast
+unfolding is_legal end_of lasts
+legal_acts_last p s e place start legal = of (kind_of p e place) legal
+  where
+    of : (o : Option Kind) → (is_some o && nat_le (start + option_map_or (duration_of p e) o 0) p.horizon) ≡ true → (1 ≤ option_map_or (duration_of p e) o 0) × (start + option_map_or (duration_of p e) o 0 ≤ p.horizon)
+    of None h = absurd (false≢true h)
+    of (Some kind) h = (duration_of-least p s e kind, leb-true (start + duration_of p e kind) p.horizon h)

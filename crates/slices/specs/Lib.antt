@@ -7,3 +7,4 @@ pub mod Holds
 pub mod Rules
 pub mod Costs
 pub mod Holdings
+pub mod Parts

@@ -4,6 +4,7 @@
 pub mod actions;
 pub mod elements;
 pub mod holding;
+pub mod laws;
 pub mod plan;
 pub mod rule;
 pub mod snapshot;
