@@ -1,0 +1,10 @@
+use Rattle.std.proofs.Common.{◌≡◌, ◌≤◌, if◌then◌else◌}
+use Rattle.cluster.specs.Sets.{has_node}
+use Rattle.sums.specs.Sums.{sum_to}
+use Rattle.slices.specs.Plans.{choices_of}
+use Rattle.slices.specs.Snapshots.{snapshot_at}
+use Rattle.placement_rules.proofs.counts.powered_in.Given as goal
+
+abbrev pub invariant-loop-i : goal.invariant-loop-i
+invariant-loop-i l =
+    (l.count ≡ sum_to l.i (λ n. if has_node l.nodes n then (if (snapshot_at l.p.given (choices_of l.plan) l.t).powered n then 1 else 0) else 0)) × (l.count ≤ l.i)

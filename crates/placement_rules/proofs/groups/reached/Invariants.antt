@@ -1,0 +1,8 @@
+use Rattle.std.proofs.Common.{take}
+use Rattle.slices.specs.Plans.{choices_of}
+use Rattle.slices.specs.Snapshots.{snapshot_at}
+use Rattle.placement_rules.specs.Places.{AreReached}
+use Rattle.placement_rules.proofs.groups.reached.Given as goal
+
+abbrev pub invariant-loop-v : goal.invariant-loop-v
+invariant-loop-v l = AreReached (snapshot_at l.p.given (choices_of l.plan) l.t) (take l.v-index l.machines) l.set

@@ -1,0 +1,4 @@
+pub mod HoldsAt
+pub mod Fewer
+pub mod Labels
+pub mod Places

@@ -1,0 +1,157 @@
+//! Which machines share a node.
+ghost use Rattle.std.specs.Prelude.{◌≡◌, ◌↔◌, ◌⊎◌, ◌≢◌, ℕ, ◌+◌, ◌<◌, ◌≤◌, false, true, Some, None, nat_lt, length, if◌then◌else◌, IsTrue, slice_index_or, ◌||◌};
+ghost use Rattle.std.specs.List.{list_all};
+ghost use Rattle.catalogue.specs.declared.constraint.Constraint.TheVariants.{Spread, Split, Lonely};
+ghost use Rattle.catalogue.specs.Faults.{is_member};
+ghost use Rattle.catalogue.specs.Seen.{has_seen};
+ghost use Rattle.slices.specs.Elements.{machine_count};
+ghost use Rattle.slices.specs.Holds.{AreApart};
+ghost use Rattle.slices.specs.Plans.{IsPlanOf, choices_of};
+ghost use Rattle.slices.specs.Snapshots.{snapshot_at};
+ghost use Rattle.slices.specs.Stages.{one};
+ghost use Rattle.placement_rules.specs.Labels.{IsClaim, AreNoted, label_on, split_labels};
+ghost use Rattle.slices.specs.Holdings.{IsHeldWithin, is_in};
+
+use crate::counts::machines_of;
+use catalogue::lists::Vms;
+use catalogue::problem::Problem;
+use catalogue::seen::Seen;
+use cluster::ids::{Instant, VmId};
+use slices::plan::Plan;
+use slices::snapshot::holding_at;
+use slices::table::{Held, Holding};
+
+/// A table of nodes without labels.
+fn no_labels() -> [Option<u32>; 512]
+    ensures { (n : ℕ) → label_on result n ≡ None }
+{
+    [None; 512]
+}
+
+/// Notes a label where something is held. False where another label is noted there.
+fn claim(table: &mut [Option<u32>; 512], held: Option<Held>, label: u32) -> bool
+    requires within { IsHeldWithin 512 held }
+    ensures others { (n : ℕ) → is_in (one n) held ≡ false → label_on table.new n ≡ label_on table.old n }
+    ensures taken { IsTrue result → (n : ℕ) → IsTrue (is_in (one n) held) → label_on table.new n ≡ Some label }
+    ensures free { IsTrue result → (n : ℕ) → IsTrue (is_in (one n) held) → (label_on table.old n ≡ None) ⊎ (label_on table.old n ≡ Some label) }
+    ensures refused { result ≡ false → (n : ℕ) × (l : ℕ) × (n < 512) × IsTrue (is_in (one n) held) × (label_on table.old n ≡ Some l) × (l ≢ label) }
+{
+    match held {
+        Some(h) => {
+            let n = h.node.0 as usize;
+            match table[n] {
+                Some(other) if other != label => false,
+                _ => {
+                    table[n] = Some(label);
+                    true
+                }
+            }
+        }
+        None => true,
+    }
+}
+
+/// Notes a label on the nodes of a machine. False where another label is noted on one of them.
+fn claim_both(table: &mut [Option<u32>; 512], now: Holding, label: u32) -> bool
+    requires source { IsHeldWithin 512 now.source }
+    requires target { IsHeldWithin 512 now.target }
+    ensures { IsClaim now label table.old table.new result }
+{
+    claim(table, now.source, label) && claim(table, now.target, label)
+}
+
+/// Whether no node has presences of two of the machines.
+pub fn is_spread(p: &Problem, plan: &Plan, machines: &[VmId], t: Instant) -> bool
+    requires plan { IsPlanOf p.now.given plan.now }
+    requires machines { list_all (λ x. nat_lt x.0 (machine_count p.now.given)) machines.now ≡ true }
+    ensures { IsTrue result ↔ AreApart p.now.given (snapshot_at p.now.given (choices_of plan.now) t) (Spread machines.now true) }
+{
+    let mut table = no_labels();
+    for v in machines {
+        let now = holding_at(p, plan, *v, t);
+        if !claim_both(&mut table, now, v.0) {
+            return false;
+        }
+    }
+    true
+}
+
+/// Notes the number of a part on the nodes of its machines. False where another number is noted
+/// on one of them.
+fn claim_part(
+    table: &mut [Option<u32>; 512],
+    p: &Problem,
+    plan: &Plan,
+    parts: &[Vms],
+    i: usize,
+    t: Instant,
+) -> bool
+    requires plan { IsPlanOf p.now.given plan.now }
+    requires machines { list_all (list_all (λ x. nat_lt x.0 (machine_count p.now.given))) parts.now ≡ true }
+    requires part { i < length parts.now }
+    requires few { length parts.now ≤ 4096 }
+    requires noted { AreNoted (snapshot_at p.now.given (choices_of plan.now) t) (split_labels parts.now i) table.old }
+    ensures noted { IsTrue result → AreNoted (snapshot_at p.now.given (choices_of plan.now) t) (split_labels parts.now (i + 1)) table.new }
+    ensures met { result ≡ false → ¬ AreApart p.now.given (snapshot_at p.now.given (choices_of plan.now) t) (Split parts.now true) }
+{
+    for v in parts[i].items() {
+        let now = holding_at(p, plan, *v, t);
+        if !claim_both(table, now, i as u32) {
+            return false;
+        }
+    }
+    true
+}
+
+/// Whether no node has presences of machines of two parts.
+pub fn is_split(p: &Problem, plan: &Plan, parts: &[Vms], t: Instant) -> bool
+    requires plan { IsPlanOf p.now.given plan.now }
+    requires machines { list_all (list_all (λ x. nat_lt x.0 (machine_count p.now.given))) parts.now ≡ true }
+    requires few { length parts.now ≤ 4096 }
+    ensures { IsTrue result ↔ AreApart p.now.given (snapshot_at p.now.given (choices_of plan.now) t) (Split parts.now true) }
+{
+    let mut table = no_labels();
+    for i in 0..parts.len() {
+        if !claim_part(&mut table, p, plan, parts, i, t) {
+            return false;
+        }
+    }
+    true
+}
+
+/// The machines of a list.
+fn members(p: &Problem, machines: &[VmId]) -> Seen
+    requires machines { list_all (λ x. nat_lt x.0 (machine_count p.now.given)) machines.now ≡ true }
+    ensures { (v : ℕ) → has_seen result v ≡ is_member machines.now v }
+{
+    let mut members = Seen::new();
+    for v in machines {
+        members.mark(*v);
+    }
+    members
+}
+
+/// The label of a member, and that of another machine.
+fn label_of(is_member: bool) -> u32
+    ensures { result ≡ (if is_member then 1 else 0) }
+{
+    if is_member { 1 } else { 0 }
+}
+
+/// Whether no node has presences of one of the machines and of another machine.
+pub fn is_lonely(p: &Problem, plan: &Plan, machines: &[VmId], t: Instant) -> bool
+    requires plan { IsPlanOf p.now.given plan.now }
+    requires machines { list_all (λ x. nat_lt x.0 (machine_count p.now.given)) machines.now ≡ true }
+    ensures { IsTrue result ↔ AreApart p.now.given (snapshot_at p.now.given (choices_of plan.now) t) (Lonely machines.now true) }
+{
+    let members = members(p, machines);
+    let mut table = no_labels();
+    for i in 0..machines_of(p) {
+        let v = VmId(i as u32);
+        let now = holding_at(p, plan, v, t);
+        if !claim_both(&mut table, now, label_of(members.has(v))) {
+            return false;
+        }
+    }
+    true
+}
