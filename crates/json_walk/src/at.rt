@@ -1,6 +1,6 @@
 //! The tests of a value at a lent path, each with its first fault.
 
-ghost use Rattle.std.specs.Prelude.{◌≡◌, IfSome, map, string_bytes};
+ghost use Rattle.std.specs.Prelude.{◌≡◌, ◌≤◌, IfOk, IfSome, map, string_bytes};
 ghost use Rattle.std.specs.List.{list_any, list_all};
 ghost use Rattle.std.specs.Str.{bytes_eq};
 ghost use Rattle.std.specs.BTreeMap.{keys as map_keys};
@@ -68,8 +68,10 @@ pub fn number_at(
     least: u64,
     most: u64,
 ) -> Result<u64, WalkFault>
-    ensures { Gives fault_of (λ n. n) result
+    ensures gives { Gives fault_of (λ n. n) result
         (number_of (view value.now) (path_of path.now) least most) }
+    ensures low { IfOk result (λ n. least ≤ n) }
+    ensures high { IfOk result (λ n. n ≤ most) }
 {
     let Some(number) = value.as_number() else {
         return Err(fault_at(alloc, path, FaultKind::WrongKind));

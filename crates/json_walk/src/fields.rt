@@ -1,6 +1,6 @@
 //! Members of one kind, and members that may be absent.
 
-ghost use Rattle.std.specs.Prelude.{◌≡◌, map};
+ghost use Rattle.std.specs.Prelude.{◌≡◌, ◌≤◌, IfOk, map};
 ghost use Rattle.serde_json.specs.Find.{get};
 ghost use Rattle.serde_json.specs.View.{view};
 ghost use Rattle.json_walk.specs.Path.{key_path};
@@ -23,8 +23,10 @@ pub fn number_field(
     least: u64,
     most: u64,
 ) -> Result<u64, WalkFault>
-    ensures { Gives fault_of (λ n. n) result
+    ensures gives { Gives fault_of (λ n. n) result
         (number_field_of (view value.now) (path_of path.now) key.now least most) }
+    ensures low { IfOk result (λ n. least ≤ n) }
+    ensures high { IfOk result (λ n. n ≤ most) }
 {
     let found = at::field_at(alloc, value, path, key)?;
     at::number_at(alloc, found, &path.key(key), least, most)
@@ -73,9 +75,11 @@ pub fn optional_number(
     least: u64,
     most: u64,
 ) -> Result<u64, WalkFault>
-    ensures { Gives fault_of (λ n. n) result (optional absent
+    ensures gives { Gives fault_of (λ n. n) result (optional absent
         (λ v. number_of v (key_path (path_of path.now) key.now) least most)
         (get key.now (view value.now))) }
+    ensures low { least ≤ absent → IfOk result (λ n. least ≤ n) }
+    ensures high { absent ≤ most → IfOk result (λ n. n ≤ most) }
 {
     match value.get(key) {
         None => Ok(absent),

@@ -18,3 +18,6 @@ pub use path::PathText;
 pub use path_ref::PathRef;
 pub use reading::read_value;
 pub use walk::{field, flag, list, number, only, text};
+
+#[cfg(test)]
+mod tests;

@@ -1,6 +1,6 @@
 //! The tests of a value at a path whose text is there, each with its first fault.
 
-ghost use Rattle.std.specs.Prelude.{◌≡◌, map, string_bytes};
+ghost use Rattle.std.specs.Prelude.{◌≡◌, ◌≤◌, IfOk, map, string_bytes};
 ghost use Rattle.std.specs.List.{list_any, list_all};
 ghost use Rattle.std.specs.Str.{bytes_eq};
 ghost use Rattle.std.specs.BTreeMap.{keys as map_keys};
@@ -36,7 +36,9 @@ pub fn number(
     least: u64,
     most: u64,
 ) -> Result<u64, WalkFault>
-    ensures { Gives fault_of (λ n. n) result (number_of (view value.now) path.now least most) }
+    ensures gives { Gives fault_of (λ n. n) result (number_of (view value.now) path.now least most) }
+    ensures low { IfOk result (λ n. least ≤ n) }
+    ensures high { IfOk result (λ n. n ≤ most) }
 {
     at::number_at(alloc, value, &PathRef::Text(path), least, most)
 }
