@@ -1,4 +1,4 @@
-//! An object and a list that grow.
+//! An object and a list that grow, and the values that they hold.
 
 ghost use Rattle.std.specs.Prelude.{◌≡◌, [], ◌∷◌, ◌++◌, None, OnOk, OnErr, IfOk};
 ghost use Rattle.serde_json.specs.Data.{object, array, number as number_data, unsigned, boolean, string, no_members, put};
@@ -9,7 +9,8 @@ use memory::Memory;
 use serde_json::{Map, Value};
 use std::alloc::Global;
 
-/// An object, which `members` shows.
+/// An object that grows. Its members stand in ascending order of their keys' bytes, in whatever
+/// order they came.
 #[derive(Drop)]
 pub struct ObjectOut {
     alloc: Global,
@@ -19,6 +20,7 @@ pub struct ObjectOut {
 impl ObjectOut {
     ghost use Rattle.json_text.specs.Out.{members};
 
+    /// An object without members.
     pub fn new(alloc: Global) -> ObjectOut
         ensures { members result ≡ no_members }
     {
@@ -28,6 +30,7 @@ impl ObjectOut {
         }
     }
 
+    /// Adds a member. Where memory is wanting, the value is dropped and the object is as before.
     pub fn put(&mut self, key: &str, value: Value) -> Result<(), Memory>
         requires { get_member key.now (members self.old) ≡ None }
         ensures ok { OnOk result (members self.new ≡ put key.now (view value) (members self.old)) }
@@ -37,6 +40,7 @@ impl ObjectOut {
         Ok(())
     }
 
+    /// The object as a value.
     pub fn finish(self) -> Value
         ensures { view result ≡ object (members self) }
     {
@@ -44,7 +48,7 @@ impl ObjectOut {
     }
 }
 
-/// A list, which `items` shows.
+/// A list that grows at its end.
 #[derive(Drop)]
 pub struct ListOut {
     items: Vec<Value>,
@@ -53,6 +57,7 @@ pub struct ListOut {
 impl ListOut {
     ghost use Rattle.json_text.specs.Out.{items};
 
+    /// A list without items.
     pub fn new(alloc: Global) -> ListOut
         ensures { items result ≡ [] }
     {
@@ -61,6 +66,8 @@ impl ListOut {
         }
     }
 
+    /// Adds an item at the end. Where memory is wanting, the value is dropped and the list is as
+    /// before.
     pub fn push(&mut self, value: Value) -> Result<(), Memory>
         ensures ok { OnOk result (items self.new ≡ items self.old ++ view value ∷ []) }
         ensures err { OnErr result (items self.new ≡ items self.old) }
@@ -69,6 +76,7 @@ impl ListOut {
         Ok(())
     }
 
+    /// The list as a value.
     pub fn finish(self) -> Value
         ensures { view result ≡ array (items_of (items self)) }
     {
@@ -76,18 +84,21 @@ impl ListOut {
     }
 }
 
+/// A whole number.
 pub fn number(value: u64) -> Value
     ensures { view result ≡ number_data (unsigned value) }
 {
     Value::from(value)
 }
 
+/// A truth value.
 pub fn flag(value: bool) -> Value
     ensures { view result ≡ boolean value }
 {
     Value::Bool(value)
 }
 
+/// A text.
 pub fn word(alloc: Global, text: &str) -> Result<Value, Memory>
     ensures { IfOk result (λ v. view v ≡ string text.now) }
 {
