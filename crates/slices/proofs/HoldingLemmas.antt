@@ -58,7 +58,7 @@ module _ (p : Instance) (v : ℕ) (set : Nodes) (g : Stage) where
       at false false e = refl
 
   -- a slice whose sort weighs nothing
-  no_weight : (w : Weight) (nodes : ℕ) (what : What) (o : Option Slice) → weight_of p v w what ≡ 0 → IsSliceOf nodes what o → weigh p v w o g set ≡ 0
+  pub no_weight : (w : Weight) (nodes : ℕ) (what : What) (o : Option Slice) → weight_of p v w what ≡ 0 → IsSliceOf nodes what o → weigh p v w o g set ≡ 0
   no_weight w nodes what None e h = refl
   no_weight w nodes what (Some s) e h =
       let none : weight_of p v w s.what ≡ 0 = ap (weight_of p v w) h.1 ∙ e in

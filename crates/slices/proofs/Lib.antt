@@ -5,3 +5,5 @@ pub mod HoldingLemmas
 pub mod PartLemmas
 pub mod StartLemmas
 pub mod FirstLemmas
+pub mod EndLemmas
+pub mod NodeLemmas

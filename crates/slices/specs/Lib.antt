@@ -8,3 +8,4 @@ pub mod Rules
 pub mod Costs
 pub mod Holdings
 pub mod Parts
+pub mod Ends
