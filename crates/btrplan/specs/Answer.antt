@@ -1,0 +1,51 @@
+-- What the program answers where nothing fails.
+use Rattle.std.specs.Prelude.{◌≡◌, ◌≢◌, ◌++◌, Bool, ℕ, List, Option, Some, None, Result, Ok, Err, codes, if◌then◌else◌}
+use Rattle.plan_io.specs.Files.{Files, bytes_of}
+use Rattle.btrplan.specs.Words.{Command, plan}
+use Rattle.btrplan.specs.Instance.{reading_of, planned_of}
+use Rattle.btrplan.specs.declared.status.Status.{Status}
+use Rattle.btrplan.specs.declared.status.Status.TheVariants as status
+
+-- The files of the desk, and what the sink has got.
+pub record Outside : Type 0 where
+  pub files : Files
+  pub printed : List ℕ
+
+abbrev pub outside : Files → List ℕ → Outside
+outside files printed = record { files = files; printed = printed }
+
+-- What the source has left, where it tells.
+abbrev pub told : Bool → List ℕ → Option (List ℕ)
+told tells rest = if tells then Some rest else None
+
+-- A line and a status, and no file changes.
+pub record Says (line : List ℕ) (said : Status) (before after : Outside) (result : Status) : Type 0 where
+  pub printed : after.printed ≡ before.printed ++ line
+  pub status : result ≡ said
+  pub files : after.files ≡ before.files
+
+-- The certificate and the plan where nothing has to be done.
+unfoldable pub staying_certificate : List ℕ
+staying_certificate = codes "btrplan certificate 1\nfail bound\nend optimal 0\n"
+
+unfoldable pub staying_plan : List ℕ
+staying_plan = codes "{\"actions\":[]}\n"
+
+-- Staying is the answer: the two files are written, and no other changes.
+pub record Stays (plan_file certificate : List ℕ) (before after : Outside) (result : Status) : Type 0 where
+  pub certificate_text : after.files certificate ≡ Some staying_certificate
+  pub plan_text : after.files plan_file ≡ Some staying_plan
+  pub others : (other : List ℕ) → other ≢ plan_file → other ≢ certificate → after.files other ≡ before.files other
+  pub printed : after.printed ≡ before.printed ++ codes "optimal 0\n"
+  pub status : result ≡ status.Good
+
+-- `plan`, by the instance that it is given.
+abbrev pub IsPlanAnswer : (plan_file certificate : List ℕ) → Result (Unit {0}) (List ℕ) → Outside → Outside → Status → Type 0
+IsPlanAnswer plan_file certificate (Ok u) before after result = Stays plan_file certificate before after result
+IsPlanAnswer plan_file certificate (Err line) before after result = Says line status.Input before after result
+
+-- The answer to what was asked, from what the source has left and from what stood before.
+unfoldable pub IsAnswer : Option Command → Option (List ℕ) → Outside → Outside → Status → Type 0
+IsAnswer None source before after result = Says (codes "words\n") status.Words before after result
+IsAnswer (Some (plan instance plan_file certificate)) source before after result =
+    IsPlanAnswer plan_file certificate (planned_of (reading_of (bytes_of (before.files instance)))) before after result

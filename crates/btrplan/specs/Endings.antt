@@ -1,0 +1,84 @@
+-- How a command ends, before its last line is printed.
+use Rattle.std.specs.Prelude.{◌≡◌, ◌++◌, ℕ, List, Option, Some, None, Result, Ok, Err, IfSome, codes, string_bytes}
+use Rattle.plan_io.specs.declared.faults.OutFault.{OutFault}
+use Rattle.plan_io.specs.declared.faults.OutFault.TheVariants as out
+use Rattle.btrplan.specs.Words.{Command}
+use Rattle.btrplan.specs.Answer.{Outside, outside, IsAnswer}
+use Rattle.btrplan.specs.declared.status.Status.{Status}
+use Rattle.btrplan.specs.declared.status.Status.TheVariants as status
+use Rattle.btrplan.specs.declared.fault.Fault.{Fault}
+use Rattle.btrplan.specs.declared.fault.Fault.TheVariants as fault
+use Rattle.btrplan.specs.declared.fault.Ending.{Ending}
+use Rattle.btrplan.specs.declared.fault.Outcome.{Outcome}
+use Rattle.btrplan.specs.declared.fault.Outcome.TheVariants as outcome
+
+abbrev pub outcome_status : Outcome → Status
+outcome_status outcome.Good = status.Good
+outcome_status outcome.Negative = status.Negative
+outcome_status outcome.Undecided = status.Undecided
+
+abbrev pub fault_status : Fault → Status
+fault_status fault.Words = status.Words
+fault_status (fault.Input line) = status.Input
+fault_status fault.ReadFault = status.ReadFault
+fault_status fault.WriteFault = status.WriteFault
+fault_status fault.Memory = status.Memory
+
+-- The status that an ending gives.
+abbrev pub status_of : Result Ending Fault → Status
+status_of (Ok ending) = outcome_status ending.outcome
+status_of (Err f) = fault_status f
+
+-- The line of a fault. One of the outside and want of memory have none.
+abbrev pub line_of : Fault → Option (List ℕ)
+line_of fault.Words = Some (codes "words\n")
+line_of (fault.Input line) = Some (string_bytes line)
+line_of fault.ReadFault = None
+line_of fault.WriteFault = None
+line_of fault.Memory = None
+
+-- The answer stands as soon as the last line is printed, if there is one.
+unfoldable pub Ends : Option Command → Option (List ℕ) → Outside → Outside → Result Ending Fault → Type 0
+Ends command source before after (Ok ending) = IsAnswer command source before (outside after.files (after.printed ++ string_bytes ending.line)) (outcome_status ending.outcome)
+Ends command source before after (Err f) = IfSome (line_of f) (λ line. IsAnswer command source before (outside after.files (after.printed ++ line)) (fault_status f))
+
+-- A call that reads an input may fail by the input, by a failed read, or by want of memory.
+abbrev pub IsOfReading : Fault → Type 0
+IsOfReading fault.Words = ⊥
+IsOfReading (fault.Input line) = Unit {0}
+IsOfReading fault.ReadFault = Unit {0}
+IsOfReading fault.WriteFault = ⊥
+IsOfReading fault.Memory = Unit {0}
+
+-- The fault with this line, unless memory ran out.
+abbrev pub IsRefusal : Fault → List ℕ → Type 0
+IsRefusal fault.Words line = ⊥
+IsRefusal (fault.Input text) line = string_bytes text ≡ line
+IsRefusal fault.ReadFault line = ⊥
+IsRefusal fault.WriteFault line = ⊥
+IsRefusal fault.Memory line = Unit {0}
+
+-- What a call gave is this value, or the line of its fault, unless memory ran out.
+abbrev pub Reads : {X Y : Type 0} → (X → Y) → Result X Fault → Result Y (List ℕ) → Type 0
+Reads view (Ok x) reading = reading ≡ Ok (view x)
+Reads view (Err fault.Words) reading = ⊥
+Reads view (Err (fault.Input line)) reading = reading ≡ Err (string_bytes line)
+Reads view (Err fault.ReadFault) reading = ⊥
+Reads view (Err fault.WriteFault) reading = ⊥
+Reads view (Err fault.Memory) reading = Unit {0}
+
+-- A refused write, as a fault of the command.
+abbrev pub out_fault : OutFault → Fault
+out_fault out.Failed = fault.WriteFault
+out_fault out.Memory = fault.Memory
+
+-- A status that stands for an answer, and not for a fault of the outside or want of memory.
+abbrev pub IsAnswered : Status → Type 0
+IsAnswered status.Good = Unit {0}
+IsAnswered status.Negative = Unit {0}
+IsAnswered status.Undecided = Unit {0}
+IsAnswered status.Words = Unit {0}
+IsAnswered status.Input = Unit {0}
+IsAnswered status.ReadFault = ⊥
+IsAnswered status.WriteFault = ⊥
+IsAnswered status.Memory = ⊥

@@ -1,0 +1,32 @@
+-- What the words of the command line ask for.
+use Rattle.std.specs.Prelude.{◌&&◌, Bool, true, not, ℕ, List, [], ◌∷◌, length, nat_le, Option, Some, None, IsTrue, if◌then◌else◌, map, codes, String, string_bytes, bytes_eq}
+use Rattle.std.specs.List.{list_all}
+use Rattle.std.specs.declared.alloc.Global.{Global}
+
+-- A command, with the names of its files.
+pub data Command : Type 0 where
+  plan : (instance plan_file certificate : List ℕ) → Command
+
+-- A file's name has 1 to 4,096 bytes.
+abbrev pub is_name : List ℕ → Bool
+is_name word = nat_le 1 (length word) && nat_le (length word) 4096
+
+-- Names of files, no two of them the same.
+abbrev pub are_names : List (List ℕ) → Bool
+are_names [] = true
+are_names (word ∷ words) = is_name word && list_all (λ other. not (bytes_eq word other)) words && are_names words
+
+-- The command that these words are, if any.
+abbrev pub command_of : List (List ℕ) → Option Command
+command_of (word ∷ instance ∷ plan_file ∷ certificate ∷ []) =
+    if bytes_eq word (codes "plan") && are_names (instance ∷ plan_file ∷ certificate ∷ []) then Some (plan instance plan_file certificate) else None
+command_of _ = None
+
+-- The command that the words of the command line ask for.
+abbrev pub asked : List (String Global) → Option Command
+asked words = command_of (map string_bytes words)
+
+-- The desk reads the files that the command reads, and writes those that it creates.
+abbrev pub MayRun : (List ℕ → Bool) → (List ℕ → Bool) → Option Command → Type 0
+MayRun reads writes None = Unit {0}
+MayRun reads writes (Some (plan instance plan_file certificate)) = IsTrue (reads instance) × IsTrue (writes plan_file) × IsTrue (writes certificate)

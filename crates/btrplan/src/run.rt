@@ -1,0 +1,121 @@
+//! The top call, from the words of the command line to the files and the line that it leaves.
+
+ghost use Rattle.std.specs.Prelude.{◌≡◌, ◌≢◌, ◌⊎◌, ◌++◌, ◌↔◌, ℕ, List, Option, None, Err, IsTrue};
+ghost use Rattle.std.specs.Io.{StartsWith};
+ghost use Rattle.plan_io.specs.Causes.{Rose};
+ghost use Rattle.plan_io.specs.Files.{Files};
+ghost use Rattle.btrplan.specs.Words.{asked, MayRun, Command as Asked};
+ghost use Rattle.btrplan.specs.Answer.{IsAnswer, outside, told};
+ghost use Rattle.btrplan.specs.Left.{Leaves, LeavesAtFailedRead, PrintsFront, KeepsSource};
+ghost use Rattle.btrplan.specs.Causes.{Causes, DeskCauses, NothingFailed, counts};
+ghost use Rattle.btrplan.specs.Endings.{Ends, IsAnswered};
+
+use crate::fault::{Ending, Fault};
+use crate::plan::plan;
+use crate::status::Status;
+use crate::words::{Command, read_words};
+use plan_io::{Desk, OutFault, Sink, Source, write_text};
+use std::alloc::Global;
+
+/// Does what the words ask for, but for the last line.
+#[tactic(auto, using(crate::proofs::NoCommand::no_command))]
+fn answer<D: Desk>(alloc: Global, words: &[String], desk: &mut D) -> Result<Ending, Fault>
+    requires names { MayRun D.reads D.writes (asked words.now) }
+    ensures ends { IsTrue D.tells → (source : Option (List ℕ)) (printed : List ℕ) → Ends (asked words.now) source (outside (D.files desk.old) printed) (outside (D.files desk.new) printed) result }
+    ensures left { IsTrue D.tells → Leaves (asked words.now) (D.files desk.old) (D.files desk.new) }
+    ensures failed_read { IsTrue D.tells → result ≡ Err Fault.ReadFault → LeavesAtFailedRead (asked words.now) (D.files desk.old) (D.files desk.new) }
+    ensures causes { DeskCauses (D.read_faults desk.old) (D.read_faults desk.new) (D.write_faults desk.old) (D.write_faults desk.new) result }
+    ensures words { (asked words.now ≡ None) ↔ (result ≡ Err Fault.Words) }
+{
+    match read_words(words) {
+        Some(
+            Command::Plan {
+                instance,
+                plan_file,
+                certificate,
+            },
+        ) => plan(alloc, desk, instance, plan_file, certificate),
+        None => Err(Fault::Words),
+    }
+}
+
+/// Prints the last line, and gives the status that was to be said, or that of a refused write.
+#[tactic(auto, unfolding(crate::specs::Left::PrintsFront))]
+fn say<O: Sink>(out: &mut O, line: &str, said: Status) -> Status
+    requires { IsAnswered said }
+    ensures status { (result ≡ said) ⊎ (result ≡ Status.WriteFault) ⊎ (result ≡ Status.Memory) }
+    ensures written { IsTrue O.tells → result ≡ said → O.written out.new ≡ O.written out.old ++ line.now }
+    ensures front { IsTrue O.tells → (command : Option Asked) (source : Option (List ℕ)) (before after : Files)
+        → IsAnswer command source (outside before (O.written out.old)) (outside after (O.written out.old ++ line.now)) said
+        → PrintsFront command source (outside before (O.written out.old)) (outside after (O.written out.new)) }
+    ensures cause { result ≡ Status.WriteFault → Rose (O.faults out.old) (O.faults out.new) }
+    ensures kept { (O.faults out.new ≡ O.faults out.old) ⊎ (result ≡ Status.WriteFault) }
+{
+    match write_text(out, line.as_bytes()) {
+        Ok(()) => said,
+        Err(OutFault::Failed) => Status::WriteFault,
+        Err(OutFault::Memory) => Status::Memory,
+    }
+}
+
+/// Prints the last line of a command, if it has one, and gives its status or that of a refused write.
+#[tactic(auto, unfolding(crate::specs::Endings::Ends, crate::specs::Left::PrintsFront))]
+fn finish<O: Sink>(out: &mut O, ended: Result<Ending, Fault>) -> Status
+    ensures answer { IsTrue O.tells → IsAnswered result → (command : Option Asked) (source : Option (List ℕ)) (before after : Files)
+        → Ends command source (outside before (O.written out.old)) (outside after (O.written out.old)) ended
+        → IsAnswer command source (outside before (O.written out.old)) (outside after (O.written out.new)) result }
+    ensures printed { IsTrue O.tells → (command : Option Asked) (source : Option (List ℕ)) (before after : Files)
+        → Ends command source (outside before (O.written out.old)) (outside after (O.written out.old)) ended
+        → PrintsFront command source (outside before (O.written out.old)) (outside after (O.written out.new)) }
+    ensures words { result ≡ Status.Words → ended ≡ Err Fault.Words }
+    ensures words_told { ended ≡ Err Fault.Words → (result ≡ Status.Words) ⊎ (result ≡ Status.WriteFault) ⊎ (result ≡ Status.Memory) }
+    ensures read { result ≡ Status.ReadFault → ended ≡ Err Fault.ReadFault }
+    ensures read_told { ended ≡ Err Fault.ReadFault → result ≡ Status.ReadFault }
+    ensures write { result ≡ Status.WriteFault → (ended ≡ Err Fault.WriteFault) ⊎ Rose (O.faults out.old) (O.faults out.new) }
+    ensures write_told { ended ≡ Err Fault.WriteFault → result ≡ Status.WriteFault }
+    ensures kept { (O.faults out.new ≡ O.faults out.old) ⊎ (result ≡ Status.WriteFault) }
+{
+    match ended {
+        Ok(ending) => say(out, ending.line.as_str(), ending.outcome.status()),
+        Err(fault) => match fault.line() {
+            Some(line) => say(out, line, fault.status()),
+            None => fault.status(),
+        },
+    }
+}
+
+/// Does what the words ask for: it reads the files, writes those that the command creates, prints the
+/// lines, and says how it ended. The words are those of the command line without the program's name.
+pub fn run<D: Desk, I: Source, O: Sink>(
+    alloc: Global,
+    words: &[String],
+    desk: &mut D,
+    input: &mut I,
+    out: &mut O,
+) -> Status
+    requires names { MayRun D.reads D.writes (asked words.now) }
+
+    // The answer, where the desk and the sink tell, nothing failed and memory was there.
+    ensures answer { let before = counts (D.read_faults desk.old) (I.faults input.old) (D.write_faults desk.old) (O.faults out.old) in
+        let after = counts (D.read_faults desk.new) (I.faults input.new) (D.write_faults desk.new) (O.faults out.new) in
+        IsTrue D.tells → IsTrue O.tells → NothingFailed before after → result ≢ Status.Memory
+        → IsAnswer (asked words.now) (told I.tells (I.rest input.old)) (outside (D.files desk.old) (O.written out.old)) (outside (D.files desk.new) (O.written out.new)) result }
+
+    // For every desk and sink: this status only where the words are in no command, and there no answer but this.
+    ensures words { result ≡ Status.Words → asked words.now ≡ None }
+    ensures no_command { asked words.now ≡ None → (result ≡ Status.Words) ⊎ (result ≡ Status.WriteFault) ⊎ (result ≡ Status.Memory) }
+
+    // The causes of a failed read or write, and such a status for each cause.
+    ensures causes { let before = counts (D.read_faults desk.old) (I.faults input.old) (D.write_faults desk.old) (O.faults out.old) in
+        let after = counts (D.read_faults desk.new) (I.faults input.new) (D.write_faults desk.new) (O.faults out.new) in
+        Causes before after result }
+
+    // What is left however it ends: the files, what the sink has got, and the source.
+    ensures files { IsTrue D.tells → Leaves (asked words.now) (D.files desk.old) (D.files desk.new) }
+    ensures failed_read { IsTrue D.tells → result ≡ Status.ReadFault → LeavesAtFailedRead (asked words.now) (D.files desk.old) (D.files desk.new) }
+    ensures printed { IsTrue D.tells → IsTrue O.tells → PrintsFront (asked words.now) (told I.tells (I.rest input.old)) (outside (D.files desk.old) (O.written out.old)) (outside (D.files desk.new) (O.written out.new)) }
+    ensures source { KeepsSource (asked words.now) input.old input.new }
+{
+    let ended = answer(alloc, words, desk);
+    finish(out, ended)
+}

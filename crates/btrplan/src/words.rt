@@ -1,0 +1,56 @@
+//! The words of the command line.
+
+ghost use Rattle.std.specs.Prelude.{◌≡◌, [], ◌∷◌, option_map, IfSome};
+ghost use Rattle.btrplan.specs.Words.{asked, are_names, is_name};
+ghost use Rattle.btrplan.specs.Meaning.{meaning, HasFilesApart};
+
+/// A command, with the names of its files.
+#[derive(Clone, Copy, Debug, PartialEq, Eq)]
+pub enum Command<'a> {
+    /// Plans the instance, and writes the plan and its certificate.
+    Plan {
+        instance: &'a str,
+        plan_file: &'a str,
+        certificate: &'a str,
+    },
+}
+
+/// The most bytes of a file's name.
+const MOST: usize = 4096;
+
+fn is_name(word: &str) -> bool
+    ensures { result ≡ is_name word.now }
+{
+    1 <= word.len() && word.len() <= MOST
+}
+
+fn are_two_names(first: &str, second: &str) -> bool
+    ensures { result ≡ are_names (first.now ∷ second.now ∷ []) }
+{
+    is_name(first) && first != second && is_name(second)
+}
+
+fn are_three_names(first: &str, second: &str, third: &str) -> bool
+    ensures { result ≡ are_names (first.now ∷ second.now ∷ third.now ∷ []) }
+{
+    is_name(first) && first != second && first != third && are_two_names(second, third)
+}
+
+/// The command that these words are; `None` where they are in no command.
+pub fn read_words(words: &[String]) -> Option<Command<'_>>
+    ensures meaning { option_map meaning result ≡ asked words.now }
+    ensures apart { IfSome result (λ command. HasFilesApart (meaning command)) }
+{
+    match words {
+        [word, instance, plan_file, certificate]
+            if word.as_str() == "plan"
+                && are_three_names(instance.as_str(), plan_file.as_str(), certificate.as_str()) => {
+            Some(Command::Plan {
+                instance: instance.as_str(),
+                plan_file: plan_file.as_str(),
+                certificate: certificate.as_str(),
+            })
+        }
+        _ => None,
+    }
+}
