@@ -1,11 +1,12 @@
-//! Clusters.
-ghost use Rattle.std.specs.Prelude.{◌≡◌, ◌++◌, ◌∷◌, [], ◌<◌, ◌≤◌, length, IfOk, IfErr, OnOk, OnErr, unwrap_or, is_none, map, IsTrue, IsNone, true, nat_le, ◌==◌};
+//! Clusters: what was added to them, each refusal, and how names find elements.
+ghost use Rattle.std.specs.Prelude.{◌≡◌, ◌++◌, ◌∷◌, [], ◌<◌, ◌≤◌, length, IfOk, IfErr, OnOk, OnErr, unwrap_or, map, IsTrue, IsNone, true};
 ghost use Rattle.std.proofs.Props.{props};
-ghost use Rattle.std.specs.List.{position, list_all, list_any, All};
+ghost use Rattle.std.specs.List.{position, list_any, All};
 ghost use Rattle.std.specs.Str.{bytes_eq};
 ghost use Rattle.cluster.specs.Names.{is_name};
-ghost use Rattle.cluster.specs.Inventory.{IsInventory, element_named, resource_named, are_distinct, base_fault, node_fault, machine_fault, node_fits, machine_fits, amounts_fit, duration_fits, own_fits, node_own_fits, machine_own_fits, host_is_online, has_places};
+ghost use Rattle.cluster.specs.Inventory.{IsInventory, element_named, resource_named, are_distinct, base_fault, node_fault, machine_fault, host_is_online, has_places};
 
+use crate::fits::{are_durations, is_fitting_machine, is_fitting_node};
 use crate::ids::{Duration, Element, NodeId, State, VmId};
 use crate::names::Name;
 use crate::parts::{Machine, Node};
@@ -15,17 +16,24 @@ use std::alloc::{AllocError, Global};
 use std::marker::Model;
 use thiserror::Error;
 
-/// Why a node or a machine was refused.
+/// Why a cluster, a node or a machine was refused. Where several hold, the first in this order is the answer.
 #[derive(Clone, Copy, Debug, PartialEq, Eq, Error)]
 pub enum AddFault {
+    /// There would be more than 8 resources, 512 nodes or 4,096 machines.
     #[error("too many")]
     TooMany,
+    /// The name is there: among the resources, or among the nodes and machines together.
     #[error("the name is there")]
     Twice,
+    /// The machine's host is not an online node of the cluster.
     #[error("the host is not online")]
     BadHost,
+    /// An amount is above 1,000,000,000, or above 0 at a place past the listed resources;
+    /// or a duration has a `base` that is not 1 to 1,000,000, a `per` above 1,000,000, a `per` above 0 without a resource,
+    /// a resource that is not listed, or is of a kind of the other sort of element.
     #[error("too great")]
     TooGreat,
+    /// An allocation was refused.
     #[error("out of memory")]
     Memory,
 }
@@ -50,7 +58,10 @@ impl From<Memory> for AddFault {
     }
 }
 
-/// Nodes and machines, numbered in the order in which they came.
+/// Resources, durations, nodes and machines, each numbered in the order in which it came.
+///
+/// Nothing stands in a cluster that `Name::new`, `new`, `add_node` or `add_machine` refuses, and every `&Cluster` says so.
+/// A name finds its element in constant time.
 #[derive(Drop)]
 pub struct Cluster {
     resources: Vec<Name>,
@@ -76,7 +87,8 @@ impl Model for Cluster {
 }
 
 impl Cluster {
-    /// A cluster without nodes and machines.
+    /// A cluster without nodes and machines, with the durations of the ten kinds in their order.
+    /// Its faults are `TooMany`, `Twice`, `TooGreat` and `Memory`, the first that holds.
     pub fn new(
         alloc: Global,
         resources: Vec<Name>,
@@ -107,14 +119,14 @@ impl Cluster {
         &self.resources
     }
 
-    /// The durations of the ten kinds.
+    /// The durations of the ten kinds, for elements without one of their own.
     pub fn durations(&self) -> &[Duration; 10]
         ensures durations { result.now ≡ self.now.given.durations }
     {
         &self.durations
     }
 
-    /// The resource of that name.
+    /// The resource of that name, by its place; `None` exactly where there is none.
     pub fn resource(&self, name: &[u8]) -> Option<u8>
         ensures { result ≡ resource_named self.now.given name.now }
     {
@@ -138,7 +150,7 @@ impl Cluster {
         &self.machines
     }
 
-    /// The element of that name.
+    /// The element of that name; `None` exactly where there is none.
     pub fn find(&self, name: &[u8]) -> Option<Element>
         ensures { result ≡ element_named self.now.given name.now }
     {
@@ -151,7 +163,7 @@ impl Cluster {
         }
     }
 
-    /// What is wrong with one more node.
+    // what is wrong with one more node
     fn fault_of_node(&self, node: &Node) -> Option<AddFault>
         ensures fault { result ≡ node_fault self.now.given node.now }
         ensures named { IsTrue (is_name node.now.name) }
@@ -164,13 +176,13 @@ impl Cluster {
         if self.find(name.as_bytes()).is_some() {
             return Some(AddFault::Twice);
         }
-        if !node_fit(self.resources.len(), node) {
+        if !is_fitting_node(self.resources.len(), node) {
             return Some(AddFault::TooGreat);
         }
         None
     }
 
-    /// What is wrong with one more machine.
+    // what is wrong with one more machine
     fn fault_of_machine(&self, machine: &Machine) -> Option<AddFault>
         ensures fault { result ≡ machine_fault self.now.given machine.now }
         ensures named { IsTrue (is_name machine.now.name) }
@@ -186,13 +198,13 @@ impl Cluster {
         if !is_host_online(&self.nodes, machine.state) {
             return Some(AddFault::BadHost);
         }
-        if !machine_fit(self.resources.len(), machine) {
+        if !is_fitting_machine(self.resources.len(), machine) {
             return Some(AddFault::TooGreat);
         }
         None
     }
 
-    /// Adds a node at the end.
+    /// Adds a node at the end of the list. After a fault the cluster is as it was.
     pub fn add_node(&mut self, node: Node) -> Result<NodeId, AddFault>
         ensures fault { IfErr result (λ e. e ≡ unwrap_or (node_fault self.old.given node) AddFault.Memory) }
         ensures good { OnOk result (node_fault self.old.given node ≡ None) }
@@ -211,7 +223,7 @@ impl Cluster {
         Ok(id)
     }
 
-    /// Adds a machine at the end.
+    /// Adds a machine at the end of the list. After a fault the cluster is as it was.
     pub fn add_machine(&mut self, machine: Machine) -> Result<VmId, AddFault>
         ensures fault { IfErr result (λ e. e ≡ unwrap_or (machine_fault self.old.given machine) AddFault.Memory) }
         ensures good { OnOk result (machine_fault self.old.given machine ≡ None) }
@@ -231,13 +243,14 @@ impl Cluster {
     }
 }
 
-/// The place of a name in a list.
+// the place of a name in a list
 fn place_of(names: &[Name], name: &[u8]) -> Option<usize>
     ensures { result ≡ position (bytes_eq name.now) names.now }
 {
     names.iter().position(|x| name == x.as_text().as_bytes())
 }
 
+// whether the list has the name
 fn has_name(names: &[Name], name: &Name) -> bool
     ensures any { result ≡ list_any (bytes_eq name.now) names.now }
     ensures named { IsTrue (is_name name.now) }
@@ -246,6 +259,7 @@ fn has_name(names: &[Name], name: &Name) -> bool
     names.iter().any(|x| name == x.as_text().as_bytes())
 }
 
+// whether no name stands twice in the list
 fn are_all_distinct(names: &[Name]) -> bool
     ensures distinct { result ≡ are_distinct names.now }
     ensures named { IsTrue result → All (λ name. is_name name ≡ true) names.now }
@@ -256,7 +270,7 @@ fn are_all_distinct(names: &[Name]) -> bool
     }
 }
 
-/// What is wrong with the resources and the durations.
+// what is wrong with the resources and the durations
 fn fault_of_base(resources: &[Name], durations: &[Duration]) -> Option<AddFault>
     ensures fault { result ≡ base_fault resources.now durations.now }
     ensures named { IsNone result → All (λ name. is_name name ≡ true) resources.now }
@@ -267,96 +281,13 @@ fn fault_of_base(resources: &[Name], durations: &[Duration]) -> Option<AddFault>
     if !are_all_distinct(resources) {
         return Some(AddFault::Twice);
     }
-    if !durations_fit(resources.len(), durations) {
+    if !are_durations(resources.len(), durations) {
         return Some(AddFault::TooGreat);
     }
     None
 }
 
-fn duration_fit(count: usize, duration: Duration) -> bool
-    ensures { result ≡ duration_fits count duration }
-{
-    let known = match duration.resource {
-        Some(r) => (r as usize) < count,
-        None => duration.per == 0,
-    };
-    1 <= duration.base && duration.base <= 1_000_000 && duration.per <= 1_000_000 && known
-}
-
-fn durations_fit(count: usize, durations: &[Duration]) -> bool
-    ensures { result ≡ list_all (duration_fits count) durations.now }
-{
-    durations.iter().all(|d| duration_fit(count, *d))
-}
-
-fn own_fit(count: usize, own: Option<Duration>) -> bool
-    ensures { result ≡ own_fits count own }
-{
-    match own {
-        Some(duration) => duration_fit(count, duration),
-        None => true,
-    }
-}
-
-fn all_own_fit(count: usize, own: &[Option<Duration>]) -> bool
-    ensures { result ≡ list_all (own_fits count) own.now }
-{
-    own.iter().all(|d| own_fit(count, *d))
-}
-
-fn have_none(own: &[Option<Duration>]) -> bool
-    ensures { result ≡ list_all is_none own.now }
-{
-    own.iter().all(|d| d.is_none())
-}
-
-fn node_own_fit(count: usize, own: &[Option<Duration>]) -> bool
-    requires { length own.now ≡ 10 }
-    ensures { result ≡ node_own_fits count own.now }
-{
-    have_none(&own[..8]) && all_own_fit(count, &own[8..])
-}
-
-fn machine_own_fit(count: usize, own: &[Option<Duration>]) -> bool
-    requires { length own.now ≡ 10 }
-    ensures { result ≡ machine_own_fits count own.now }
-{
-    all_own_fit(count, &own[..8]) && have_none(&own[8..])
-}
-
-fn node_fit(count: usize, node: &Node) -> bool
-    requires { count ≤ 8 }
-    ensures { result ≡ node_fits count node.now }
-{
-    fit(count, &node.capacity) && node_own_fit(count, &node.own)
-}
-
-fn machine_fit(count: usize, machine: &Machine) -> bool
-    requires { count ≤ 8 }
-    ensures { result ≡ machine_fits count machine.now }
-{
-    fit(count, &machine.usage) && machine_own_fit(count, &machine.own)
-}
-
-fn fit(count: usize, amounts: &[u64]) -> bool
-    requires { count ≤ length amounts.now }
-    ensures { result ≡ amounts_fit count amounts.now }
-{
-    are_small(amounts) && are_zero(&amounts[count..])
-}
-
-fn are_small(amounts: &[u64]) -> bool
-    ensures { result ≡ list_all (λ a. nat_le a 1000000000) amounts.now }
-{
-    amounts.iter().all(|a| *a <= 1_000_000_000)
-}
-
-fn are_zero(amounts: &[u64]) -> bool
-    ensures { result ≡ list_all (λ a. a == 0) amounts.now }
-{
-    amounts.iter().all(|a| *a == 0)
-}
-
+// whether the host of a state, if it has one, is an online node of the list.
 fn is_host_online(nodes: &[Node], state: State) -> bool
     ensures { result ≡ host_is_online nodes.now state }
 {
@@ -369,7 +300,7 @@ fn is_host_online(nodes: &[Node], state: State) -> bool
     }
 }
 
-/// Adds a name that is not there.
+// adds a name that is not there
 fn add_name(names: &mut IndexSet<Vec<u8>>, name: &Name) -> Result<(), Memory>
     requires { position (bytes_eq name.now) (map (λ k. k.items) names.old.keys) ≡ None }
     ensures added { OnOk result (map (λ k. k.items) names.new.keys ≡ map (λ k. k.items) names.old.keys ++ name.now ∷ []) }

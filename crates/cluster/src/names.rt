@@ -1,4 +1,4 @@
-//! Names.
+//! Names of elements and resources.
 ghost use Rattle.std.specs.Prelude.{◌≡◌, IsTrue, IfOk, IfErr, OnOk, string_bytes, if◌then◌else◌};
 ghost use Rattle.cluster.specs.Names.{is_name, starts_name, goes_on_name};
 ghost use Rattle.std.specs.List.{list_all};
@@ -11,8 +11,10 @@ use thiserror::Error;
 /// Why a name was refused.
 #[derive(Clone, Copy, Debug, PartialEq, Eq, Error)]
 pub enum NameFault {
-    #[error("no name")]
+    /// The bytes are not 1 to 64 letters, digits, `_`, `.` and `-` that begin with a letter, a digit or `_`.
+    #[error("not a name")]
     BadName,
+    /// An allocation was refused.
     #[error("out of memory")]
     Memory,
 }
@@ -27,7 +29,9 @@ impl From<AllocError> for NameFault {
     }
 }
 
-/// A name, which contracts see as its bytes.
+/// A name: 1 to 64 letters, digits, `_`, `.` and `-`, the first a letter, a digit or `_`.
+///
+/// Contracts see it as its bytes.
 #[derive(Drop)]
 pub struct Name {
     text: String,
@@ -62,7 +66,7 @@ fn all_follow(bytes: &[u8]) -> bool
     bytes.iter().all(|b| may_follow(*b))
 }
 
-/// Whether the bytes are a name.
+/// Whether the bytes are a name, which is whether `Name::new` takes them.
 #[tactic(auto, unfolding(crate::specs::Names::is_name))]
 pub fn is_name_text(bytes: &[u8]) -> bool
     ensures { result ≡ is_name bytes.now }
@@ -72,7 +76,7 @@ pub fn is_name_text(bytes: &[u8]) -> bool
 }
 
 impl Name {
-    /// The name of these bytes.
+    /// The name of these bytes. `BadName` where they are none, `Memory` where an allocation was refused.
     pub fn new(alloc: Global, bytes: &[u8]) -> Result<Name, NameFault>
         ensures good { OnOk result (IsTrue (is_name bytes.now)) }
         ensures name { IfOk result (λ n. n ≡ bytes.now) }
@@ -90,7 +94,7 @@ impl Name {
         }
     }
 
-    /// The bytes as text.
+    /// The name as text.
     pub fn as_text(&self) -> &str
         ensures text { result.now ≡ self.now }
         ensures good { IsTrue (is_name self.now) }
@@ -98,15 +102,15 @@ impl Name {
         self.text.as_str()
     }
 
-    /// The bytes of their own.
-    pub fn to_bytes(&self) -> Result<Vec<u8>, Memory>
+    /// A copy of the bytes. Its one error is a refused allocation.
+    pub(crate) fn to_bytes(&self) -> Result<Vec<u8>, Memory>
         ensures { IfOk result (λ bytes. bytes.items ≡ self.now) }
     {
         let text = self.text.clone()?;
         Ok(text.into_bytes())
     }
 
-    /// An equal name.
+    /// An equal name. Its one error is a refused allocation.
     pub fn copy(&self) -> Result<Name, Memory>
         ensures { IfOk result (λ n. n ≡ self.now) }
     {

@@ -1,0 +1,94 @@
+//! Tests of amounts and durations, in a cluster of so many resources.
+ghost use Rattle.std.specs.Prelude.{◌≡◌, ◌≤◌, length, is_none, nat_le, ◌==◌};
+ghost use Rattle.std.specs.List.{list_all};
+ghost use Rattle.cluster.specs.Inventory.{duration_fits, own_fits, node_own_fits, machine_own_fits, amounts_fit, node_fits, machine_fits};
+
+use crate::ids::Duration;
+use crate::parts::{Machine, Node};
+
+/// Whether each of a cluster's durations may stand there.
+pub fn are_durations(count: usize, durations: &[Duration]) -> bool
+    ensures { result ≡ list_all (duration_fits count) durations.now }
+{
+    durations.iter().all(|d| is_duration(count, *d))
+}
+
+/// Whether a node's capacity and its own durations may stand in the cluster.
+pub fn is_fitting_node(count: usize, node: &Node) -> bool
+    requires { count ≤ 8 }
+    ensures { result ≡ node_fits count node.now }
+{
+    are_amounts(count, &node.capacity) && are_node_durations(count, &node.own)
+}
+
+/// Whether a machine's use and its own durations may stand in the cluster.
+pub fn is_fitting_machine(count: usize, machine: &Machine) -> bool
+    requires { count ≤ 8 }
+    ensures { result ≡ machine_fits count machine.now }
+{
+    are_amounts(count, &machine.usage) && are_machine_durations(count, &machine.own)
+}
+
+fn is_duration(count: usize, duration: Duration) -> bool
+    ensures { result ≡ duration_fits count duration }
+{
+    let known = match duration.resource {
+        Some(r) => (r as usize) < count,
+        None => duration.per == 0,
+    };
+    1 <= duration.base && duration.base <= 1_000_000 && duration.per <= 1_000_000 && known
+}
+
+fn is_own_duration(count: usize, own: Option<Duration>) -> bool
+    ensures { result ≡ own_fits count own }
+{
+    match own {
+        Some(duration) => is_duration(count, duration),
+        None => true,
+    }
+}
+
+fn are_own_durations(count: usize, own: &[Option<Duration>]) -> bool
+    ensures { result ≡ list_all (own_fits count) own.now }
+{
+    own.iter().all(|d| is_own_duration(count, *d))
+}
+
+fn are_none(own: &[Option<Duration>]) -> bool
+    ensures { result ≡ list_all is_none own.now }
+{
+    own.iter().all(|d| d.is_none())
+}
+
+fn are_node_durations(count: usize, own: &[Option<Duration>]) -> bool
+    requires { length own.now ≡ 10 }
+    ensures { result ≡ node_own_fits count own.now }
+{
+    are_none(&own[..8]) && are_own_durations(count, &own[8..])
+}
+
+fn are_machine_durations(count: usize, own: &[Option<Duration>]) -> bool
+    requires { length own.now ≡ 10 }
+    ensures { result ≡ machine_own_fits count own.now }
+{
+    are_own_durations(count, &own[..8]) && are_none(&own[8..])
+}
+
+fn are_amounts(count: usize, amounts: &[u64]) -> bool
+    requires { count ≤ length amounts.now }
+    ensures { result ≡ amounts_fit count amounts.now }
+{
+    are_small(amounts) && are_zero(&amounts[count..])
+}
+
+fn are_small(amounts: &[u64]) -> bool
+    ensures { result ≡ list_all (λ a. nat_le a 1000000000) amounts.now }
+{
+    amounts.iter().all(|a| *a <= 1_000_000_000)
+}
+
+fn are_zero(amounts: &[u64]) -> bool
+    ensures { result ≡ list_all (λ a. a == 0) amounts.now }
+{
+    amounts.iter().all(|a| *a == 0)
+}
