@@ -1,10 +1,10 @@
 //! Clusters: what was added to them, each refusal, and how names find elements.
-ghost use Rattle.std.specs.Prelude.{◌≡◌, ◌++◌, ◌∷◌, [], ◌<◌, ◌≤◌, length, IfOk, IfErr, OnOk, OnErr, unwrap_or, map, IsTrue, IsNone, true};
+ghost use Rattle.std.specs.Prelude.{◌≡◌, ◌++◌, ◌∷◌, [], ◌<◌, ◌≤◌, length, IfOk, IfErr, OnOk, OnErr, unwrap_or, map, IsTrue, IsNone, IsOk, IfSome, true};
 ghost use Rattle.std.proofs.Props.{props};
 ghost use Rattle.std.specs.List.{position, list_any, All};
 ghost use Rattle.std.specs.Str.{bytes_eq};
 ghost use Rattle.cluster.specs.Names.{is_name};
-ghost use Rattle.cluster.specs.Inventory.{IsInventory, element_named, resource_named, are_distinct, base_fault, node_fault, machine_fault, host_is_online, has_places};
+ghost use Rattle.cluster.specs.Inventory.{IsInventory, IsListed, element_named, resource_named, are_distinct, base_fault, node_fault, machine_fault, host_is_online, has_places};
 
 use crate::fits::{are_durations, is_fitting_machine, is_fitting_node};
 use crate::ids::{Duration, Element, NodeId, State, VmId};
@@ -74,7 +74,6 @@ pub struct Cluster {
 }
 
 impl Model for Cluster {
-    ghost use Rattle.cluster.specs.Names.{is_name};
     ghost use Rattle.cluster.specs.Inventory.{SoundInventory};
 
     ghost Value = { SoundInventory };
@@ -96,6 +95,7 @@ impl Cluster {
     ) -> Result<Cluster, AddFault>
         ensures fault { IfErr result (λ e. e ≡ unwrap_or (base_fault resources.items durations) AddFault.Memory) }
         ensures good { OnOk result (base_fault resources.items durations ≡ None) }
+        ensures made { base_fault resources.items durations ≡ None → IsOk result }
         ensures cluster { IfOk result (λ k. k.given ≡ record { resources = resources.items; durations = durations; nodes = []; machines = [] }) }
     {
         match fault_of_base(&resources, &durations) {
@@ -128,7 +128,8 @@ impl Cluster {
 
     /// The resource of that name, by its place; `None` exactly where there is none.
     pub fn resource(&self, name: &[u8]) -> Option<u8>
-        ensures { result ≡ resource_named self.now.given name.now }
+        ensures resource { result ≡ resource_named self.now.given name.now }
+        ensures listed { IfSome result (λ r. r < length self.now.given.resources) }
     {
         match place_of(&self.resources, name) {
             Some(place) => Some(place as u8),
@@ -152,7 +153,8 @@ impl Cluster {
 
     /// The element of that name; `None` exactly where there is none.
     pub fn find(&self, name: &[u8]) -> Option<Element>
-        ensures { result ≡ element_named self.now.given name.now }
+        ensures element { result ≡ element_named self.now.given name.now }
+        ensures listed { IfSome result (IsListed self.now.given) }
     {
         match self.machine_names.get_index_of(name) {
             Some(i) => Some(Element::Vm(VmId(i as u32))),
