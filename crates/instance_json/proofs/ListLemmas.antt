@@ -1,0 +1,86 @@
+-- Lists of machines and sets of nodes, one more at a time.
+use Rattle.std.proofs.Common.{◌≡◌, ℕ, zero, suc, ◌+◌, ◌<◌, ◌≤◌, ◌||◌, ◌==◌, Bool, true, false, not, List, [], ◌∷◌, ◌++◌, length, refl, sym, ap, ◌∙◌, arith}
+use Rattle.std.proofs.lemmas.Grind.{common_steps}
+use Rattle.std.proofs.lemmas.List.{append_assoc, append-nil}
+use Rattle.std.proofs.lemmas.List.Folds.{list_any-append}
+use Rattle.std.specs.List.{list_all, range_with_len}
+use Rattle.cluster.specs.declared.ids.VmId.{VmId}
+use Rattle.cluster.specs.declared.sets.NodeSet.{NodeSet}
+use Rattle.cluster.specs.Sets.{has_node}
+use Rattle.cluster.specs.Inventory.{Inventory}
+use Rattle.catalogue.specs.declared.seen.Seen.{Seen}
+use Rattle.catalogue.specs.Seen.{has_seen}
+use Rattle.catalogue.specs.Faults.{is_member, differ, all_of, are_nodes}
+use Rattle.instance_json.specs.Listed.{AreMarked}
+use Rattle.instance_json.specs.NodeSets.{no_nodes, with_node, IsWithin, are_groups}
+use Rattle.instance_json.proofs.NodeLemmas.{has_node-no_nodes, has_node-with_node}
+use Rattle.instance_json.proofs.Steps.{both, both_left, both_right}
+
+-- one more item that passes
+pub list_all_more : {X : Type 0} (p : X → Bool) (xs : List X) (x : X) → list_all p xs ≡ true → p x ≡ true → list_all p (xs ++ x ∷ []) ≡ true
+list_all_more p [] x all here = both here refl
+list_all_more p (y ∷ ys) x all here = both (both_left (p y) _ all) (list_all_more p ys x (both_right (p y) _ all) here)
+
+-- ---- machines
+
+all_of-more : (ps : List (List VmId)) (vs : List VmId) → all_of (ps ++ vs ∷ []) ≡ all_of ps ++ vs
+all_of-more [] vs = append-nil vs
+all_of-more (ws ∷ ps) vs = ap (λ (us : List VmId). ws ++ us) (all_of-more ps vs) ∙ sym (append_assoc ws (all_of ps) vs)
+
+either-way : (m n : ℕ) → (m == n) ≡ (n == m)
+either-way m n = grind (arith, common_steps)
+
+member-more : (vs : List VmId) (v : VmId) (m : ℕ) → is_member (vs ++ v ∷ []) m ≡ ((m == v.0) || is_member vs m)
+member-more vs v m = list_any-append (λ x. x.0 == m) vs (v ∷ []) ∙ turned (is_member vs m) (v.0 == m) (m == v.0) (either-way v.0 m)
+  where
+    turned : (a b c : Bool) → b ≡ c → (a || (b || false)) ≡ (c || a)
+    turned true true c h = sym (ap (λ d. d || true) (sym h))
+    turned true false c h = sym (ap (λ d. d || true) (sym h))
+    turned false true c h = sym (ap (λ d. d || false) (sym h))
+    turned false false c h = sym (ap (λ d. d || false) (sym h))
+
+differ-more : (vs : List VmId) (v : VmId) → differ vs ≡ true → is_member vs v.0 ≡ false → differ (vs ++ v ∷ []) ≡ true
+differ-more [] v all new = refl
+differ-more (x ∷ xs) v all new =
+    let apart : (x.0 == v.0) ≡ false = grind (arith, common_steps) in
+    let later : is_member xs v.0 ≡ false = grind (arith, common_steps) in
+    let here : not (is_member xs x.0) ≡ true = both_left (not (is_member xs x.0)) _ all in
+    both (ap not (member-more xs v x.0) ∙ fresh (x.0 == v.0) (is_member xs x.0) apart here) (differ-more xs v (both_right (not (is_member xs x.0)) _ all) later)
+  where
+    fresh : (a b : Bool) → a ≡ false → not b ≡ true → not (a || b) ≡ true
+    fresh a b h k = rw h k
+
+-- one more machine is marked
+pub AreMarked-push : (s t : Seen) (vs ws : List VmId) (v : VmId) → AreMarked s (vs ++ ws) → is_member (vs ++ ws) v.0 ≡ false
+    → ((m : ℕ) → has_seen t m ≡ ((m == v.0) || has_seen s m)) → AreMarked t (vs ++ (ws ++ v ∷ []))
+AreMarked-push s t vs ws v old new marks = rw (← append_assoc vs ws (v ∷ [])) (record {
+  marked = λ m. marks m ∙ ap (λ b. (m == v.0) || b) (old.marked m) ∙ sym (member-more (vs ++ ws) v m);
+  apart = differ-more (vs ++ ws) v old.apart new;
+})
+
+-- a list is done
+pub AreMarked-close : (s : Seen) (ps : List (List VmId)) (vs : List VmId) → AreMarked s (all_of ps ++ vs) → AreMarked s (all_of (ps ++ vs ∷ []) ++ [])
+AreMarked-close s ps vs old = rw (append-nil (all_of (ps ++ vs ∷ [])), all_of-more ps vs) old
+
+-- ---- nodes
+
+pub IsWithin_none : (count : ℕ) → IsWithin count no_nodes
+IsWithin_none count = record { none = λ m le. has_node-no_nodes m }
+
+pub IsWithin_with : (count : ℕ) (s : NodeSet) (n : ℕ) → n < 512 → n < count → IsWithin count s → IsWithin count (with_node s n)
+IsWithin_with count s n small below old = record { none = λ m le. has_node-with_node s n m small ∙ other m le }
+  where
+    other : (m : ℕ) → count ≤ m → ((m == n) || has_node s m) ≡ false
+    other m le = let rest : has_node s m ≡ false = old.none m le in grind (arith, common_steps)
+
+none-in-range : (p : ℕ → Bool) (a n : ℕ) → ((m : ℕ) → a ≤ m → p m ≡ false) → list_all (λ m. not (p m)) (range_with_len a n) ≡ true
+none-in-range p a zero none = refl
+none-in-range p a (suc n) none = both (ap not (none a (omega arith))) (none-in-range p (a + 1) n (λ m le. none m (omega arith)))
+
+-- a set within the nodes is one of listed nodes
+pub are_nodes_within : (k : Inventory) (s : NodeSet) → IsWithin (length k.nodes) s → are_nodes k s ≡ true
+are_nodes_within k s within = none-in-range (has_node s) (length k.nodes) _ within.none
+
+pub no_groups : (k : Inventory) → are_groups k [] ≡ true
+unfolding are_groups
+no_groups k = refl

@@ -1,0 +1,9 @@
+use Rattle.std.proofs.Common.{◌≡◌, length}
+use Rattle.serde_json.specs.View.{view}
+use Rattle.json_walk.specs.PathRef.{path_of}
+use Rattle.json_walk.proofs.Each.{StandsAt}
+use Rattle.instance_json.specs.Elements.{node_step}
+use Rattle.instance_json.proofs.nodes.nodes_in.Given as goal
+
+abbrev pub invariant-loop-i : goal.invariant-loop-i
+invariant-loop-i l = StandsAt (node_step (path_of l.path)) view l.values l.i l.cluster.given l.initial.cluster.given × (length l.cluster.given.nodes ≡ l.i) × (l.cluster.given.machines ≡ l.initial.cluster.given.machines)

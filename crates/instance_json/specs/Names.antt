@@ -1,0 +1,77 @@
+-- Names, and what they name.
+use Rattle.std.specs.Prelude.{ℕ, List, [], ◌∷◌, ◌++◌, length, not, nat_le, Option, Some, None, Ok}
+use Rattle.std.specs.Option.{ok_or}
+use Rattle.std.specs.List.{list_any, position}
+use Rattle.std.specs.Str.{bytes_eq}
+use Rattle.serde_json.specs.Data.{Data}
+use Rattle.json_walk.specs.declared.fault.FaultKind.TheVariants.{OutOfRange}
+use Rattle.json_walk.specs.Path.{item_path}
+use Rattle.json_walk.specs.Walk.{◌>>=◌, ◌>>◌, wants, text_of, list_of}
+use Rattle.json_walk.specs.Each.{each}
+use Rattle.cluster.specs.declared.ids.NodeId.{NodeId}
+use Rattle.cluster.specs.declared.ids.VmId.{VmId}
+use Rattle.cluster.specs.declared.ids.Element.{Element}
+use Rattle.cluster.specs.declared.ids.Element.TheVariants.{Vm, Node as NodeElement}
+use Rattle.cluster.specs.Names.{is_name}
+use Rattle.cluster.specs.Inventory.{Inventory, element_named, is_taken}
+use Rattle.instance_json.specs.declared.fault.InstanceFault.TheVariants.{Twice, NoSuch, Limit}
+use Rattle.instance_json.specs.Walk.{Walk, Test, looked, bad}
+
+-- a text that is a well-formed name
+unfoldable pub name_of : Test (List ℕ)
+name_of d path = do
+  text ← looked (text_of d path)
+  wants (is_name text) (bad path OutOfRange)
+  Ok text
+
+-- ---- names that are given
+
+-- the name of one more element
+unfoldable pub new_name_of : Inventory → Test (List ℕ)
+new_name_of k d path = do
+  name ← name_of d path
+  wants (not (is_taken k name)) (Twice path)
+  Ok name
+
+-- the name of one more resource
+unfoldable pub resource_step : List ℕ → ℕ → List (List ℕ) → Data → Walk (List (List ℕ))
+resource_step path place resources d = do
+  name ← name_of d (item_path path place)
+  wants (not (list_any (bytes_eq name) resources)) (Twice (item_path path place))
+  Ok (resources ++ name ∷ [])
+
+unfoldable pub resources_of : Test (List (List ℕ))
+resources_of d path = do
+  values ← looked (list_of d path)
+  wants (nat_le (length values) 8) (Limit path)
+  each (resource_step path) 0 [] values
+
+-- ---- names that are used
+
+abbrev pub machine_of : Option Element → Option VmId
+machine_of None = None
+machine_of (Some (Vm v)) = Some v
+machine_of (Some (NodeElement n)) = None
+
+abbrev pub node_of : Option Element → Option NodeId
+node_of None = None
+node_of (Some (Vm v)) = None
+node_of (Some (NodeElement n)) = Some n
+
+-- the listed machine that has the name
+unfoldable pub listed_machine : Inventory → Test VmId
+listed_machine k d path = do
+  name ← name_of d path
+  ok_or (machine_of (element_named k name)) (NoSuch path)
+
+-- the listed node that has the name
+unfoldable pub listed_node : Inventory → Test NodeId
+listed_node k d path = do
+  name ← name_of d path
+  ok_or (node_of (element_named k name)) (NoSuch path)
+
+-- the listed resource that has the name
+unfoldable pub listed_resource : List (List ℕ) → Test ℕ
+listed_resource resources d path = do
+  name ← name_of d path
+  ok_or (position (bytes_eq name) resources) (NoSuch path)

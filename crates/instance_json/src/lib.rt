@@ -1,0 +1,18 @@
+//! Reading an instance: the problem that a text has, or the text's first fault.
+#![tactic(auto)]
+
+mod amounts;
+mod durations;
+mod fault;
+mod keys;
+mod listing;
+mod lists;
+mod machines;
+mod names;
+mod nodes;
+mod read;
+mod rules;
+mod words;
+
+pub use fault::InstanceFault;
+pub use read::read_instance;

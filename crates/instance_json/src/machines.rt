@@ -1,0 +1,212 @@
+//! Machines.
+
+ghost use Rattle.std.specs.Prelude.{◌≡◌, ◌<◌, ◌≤◌, ◌+◌, ◌++◌, ◌∷◌, [], IfOk, OnOk, codes, length, map, true, false};
+ghost use Rattle.serde_json.specs.View.{view};
+ghost use Rattle.json_walk.specs.PathRef.{path_of};
+ghost use Rattle.json_walk.specs.Walk.{Gives, only_of};
+ghost use Rattle.json_walk.specs.Each.{each};
+ghost use Rattle.cluster.specs.Inventory.{is_taken, is_online, host_is_online, machine_fits};
+ghost use Rattle.instance_json.specs.Walk.{named, looked, needed};
+ghost use Rattle.instance_json.specs.Elements.{host_of, state_named, state_of, keys_in, machine_of, machine_step, machines_of};
+
+use crate::amounts::amounts_at;
+use crate::durations::machine_durations;
+use crate::fault::InstanceFault;
+use crate::nodes::element_name;
+use crate::{keys, names};
+use cluster::ids::{NodeId, State};
+use cluster::inventory::{AddFault, Cluster};
+use cluster::parts::Machine;
+use json_walk::{FaultKind, PathRef};
+use memory::Memory;
+use serde_json::Value;
+use std::alloc::Global;
+
+/// A listed node that is online.
+#[tactic(auto, unfolding(crate::specs::Elements::host_of))]
+fn host(
+    alloc: Global,
+    cluster: &Cluster,
+    value: &Value,
+    path: &PathRef,
+) -> Result<NodeId, InstanceFault>
+    ensures gives { Gives named (λ n. n) result
+        (host_of cluster.now.given (view value.now) (path_of path.now)) }
+    ensures online { IfOk result (λ n. is_online cluster.now.given.nodes n.0 ≡ true) }
+{
+    let n = names::node(alloc, cluster, value, path)?;
+    if !cluster.nodes()[n.0 as usize].online {
+        return Err(InstanceFault::BadHost(path.to_text(alloc)?));
+    }
+    Ok(n)
+}
+
+/// The member `node`, which must be there.
+fn host_at(
+    alloc: Global,
+    cluster: &Cluster,
+    value: &Value,
+    path: &PathRef,
+) -> Result<NodeId, InstanceFault>
+    ensures gives { Gives named (λ n. n) result
+        (needed (host_of cluster.now.given) (view value.now) (path_of path.now) (codes "node")) }
+    ensures online { IfOk result (λ n. is_online cluster.now.given.nodes n.0 ≡ true) }
+{
+    let found = json_walk::field_at(alloc, value, path, "node")?;
+    host(alloc, cluster, found, &path.key("node"))
+}
+
+/// The state of that word.
+#[tactic(auto, unfolding(crate::specs::Elements::state_named))]
+fn state_named(
+    alloc: Global,
+    cluster: &Cluster,
+    word: &str,
+    value: &Value,
+    path: &PathRef,
+) -> Result<State, InstanceFault>
+    ensures gives { Gives named (λ s. s) result
+        (state_named cluster.now.given word.now (view value.now) (path_of path.now)) }
+    ensures online { IfOk result (λ s. host_is_online cluster.now.given.nodes s ≡ true) }
+{
+    match word {
+        "init" => Ok(State::Init),
+        "ready" => Ok(State::Ready),
+        "running" => Ok(State::Running(host_at(alloc, cluster, value, path)?)),
+        "sleeping" => Ok(State::Sleeping(host_at(alloc, cluster, value, path)?)),
+        "gone" => Ok(State::Gone),
+        _ => Err(json_walk::fault_at(alloc, &path.key("state"), FaultKind::Unknown).into()),
+    }
+}
+
+#[tactic(auto, unfolding(crate::specs::Elements::state_of))]
+fn state(
+    alloc: Global,
+    cluster: &Cluster,
+    value: &Value,
+    path: &PathRef,
+) -> Result<State, InstanceFault>
+    ensures gives { Gives named (λ s. s) result
+        (state_of cluster.now.given (view value.now) (path_of path.now)) }
+    ensures online { IfOk result (λ s. host_is_online cluster.now.given.nodes s ≡ true) }
+{
+    let word = json_walk::text_field(alloc, value, path, "state")?;
+    state_named(alloc, cluster, word, value, path)
+}
+
+/// An object without keys beside those of a machine in that state.
+fn only_machine(
+    alloc: Global,
+    state: State,
+    value: &Value,
+    path: &PathRef,
+) -> Result<(), InstanceFault>
+    ensures { Gives named (λ _. tt) result
+        (looked (only_of (view value.now) (path_of path.now) (keys_in state))) }
+{
+    match state {
+        State::Running(_) | State::Sleeping(_) => {
+            json_walk::only_at(alloc, value, path, &keys::hosted_keys())?
+        }
+        State::Init | State::Ready | State::Gone => {
+            json_walk::only_at(alloc, value, path, &keys::machine_keys())?
+        }
+    }
+    Ok(())
+}
+
+#[tactic(auto, unfolding(crate::specs::Elements::machine_of))]
+fn machine(
+    alloc: Global,
+    cluster: &Cluster,
+    value: &Value,
+    path: &PathRef,
+) -> Result<Machine, InstanceFault>
+    ensures gives { Gives named (λ m. m) result
+        (machine_of cluster.now.given (view value.now) (path_of path.now)) }
+    ensures free { IfOk result (λ m. is_taken cluster.now.given m.name ≡ false) }
+    ensures online { IfOk result (λ m. host_is_online cluster.now.given.nodes m.state ≡ true) }
+    ensures fits { IfOk result (λ m. machine_fits (length cluster.now.given.resources) m ≡ true) }
+{
+    let name = element_name(alloc, cluster, value, path)?;
+    let state = state(alloc, cluster, value, path)?;
+    let usage = amounts_at(alloc, cluster.resources(), value, path, "use")?;
+    let own = machine_durations(alloc, cluster.resources(), value, path)?;
+    only_machine(alloc, state, value, path)?;
+    Ok(Machine {
+        name,
+        state,
+        usage,
+        own,
+    })
+}
+
+/// Adds a machine that has no fault.
+fn add_machine(cluster: &mut Cluster, machine: Machine) -> Result<(), Memory>
+    requires room { length cluster.old.given.machines < 4096 }
+    requires free { is_taken cluster.old.given machine.name ≡ false }
+    requires online { host_is_online cluster.old.given.nodes machine.state ≡ true }
+    requires fits { machine_fits (length cluster.old.given.resources) machine ≡ true }
+    ensures { OnOk result (cluster.new.given ≡ record cluster.old.given { machines = cluster.old.given.machines ++ machine ∷ [] }) }
+{
+    match cluster.add_machine(machine) {
+        Ok(_) => Ok(()),
+        Err(AddFault::Memory) => Err(Memory),
+        Err(_) => unreachable!(),
+    }
+}
+
+#[tactic(auto, unfolding(crate::specs::Elements::machine_step))]
+fn push_machine(
+    alloc: Global,
+    path: &PathRef,
+    place: u64,
+    cluster: &mut Cluster,
+    value: &Value,
+) -> Result<(), InstanceFault>
+    requires { length cluster.old.given.machines < 4096 }
+    ensures gives { Gives named (λ _. cluster.new.given) result
+        (machine_step (path_of path.now) place cluster.old.given (view value.now)) }
+    ensures longer { OnOk result (length cluster.new.given.machines ≡ length cluster.old.given.machines + 1) }
+{
+    let machine = machine(alloc, cluster, value, &path.item(place))?;
+    add_machine(cluster, machine)?;
+    Ok(())
+}
+
+#[tactic(auto, using(json_walk::proofs::Each::loop_rules))]
+fn machines_in(
+    alloc: Global,
+    cluster: &mut Cluster,
+    values: &[Value],
+    path: &PathRef,
+) -> Result<(), InstanceFault>
+    requires empty { cluster.old.given.machines ≡ [] }
+    requires few { length values.now ≤ 4096 }
+    ensures { Gives named (λ _. cluster.new.given) result
+        (each (machine_step (path_of path.now)) 0 cluster.old.given (map view values.now)) }
+{
+    for (i, value) in values.iter().enumerate() {
+        push_machine(alloc, path, i as u64, cluster, value)?;
+    }
+    Ok(())
+}
+
+/// Adds the listed machines, at most 4,096.
+#[tactic(auto, unfolding(crate::specs::Elements::machines_of))]
+pub(crate) fn add_machines(
+    alloc: Global,
+    cluster: &mut Cluster,
+    value: &Value,
+    path: &PathRef,
+) -> Result<(), InstanceFault>
+    requires { cluster.old.given.machines ≡ [] }
+    ensures { Gives named (λ _. cluster.new.given) result
+        (machines_of cluster.old.given (view value.now) (path_of path.now)) }
+{
+    let values = json_walk::list_at(alloc, value, path)?;
+    if values.len() > 4096 {
+        return Err(InstanceFault::Limit(path.to_text(alloc)?));
+    }
+    machines_in(alloc, cluster, values, path)
+}
