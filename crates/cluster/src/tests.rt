@@ -204,6 +204,7 @@ fn keeps_sets_and_kinds(rt: HostRuntime) {
     let mut set = NodeSet::new();
     set.insert(NodeId(511));
     assert!(rt; set.has(NodeId(511)) && !set.has(NodeId(0)) && !set.has(NodeId(512)));
+    assert!(rt; set.is_within(512) && !set.is_within(511));
     for (i, kind) in KINDS.iter().enumerate() {
         assert!(rt; kind.number() == i);
     }
