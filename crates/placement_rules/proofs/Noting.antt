@@ -33,7 +33,8 @@ pub record Meets (s : Snapshot) (labels : Labels) (nodes v l : ℕ) : Type 0 whe
   pub present : IsTrue (s.present other (one at))
   pub here : IsTrue (s.present v (one at))
 
-in_within : (k n : ℕ) (o : Option Held) → IsHeldWithin k o → IsTrue (is_in (one n) o) → n < k
+-- what is held on a node is on one of so many
+pub in_within : (k n : ℕ) (o : Option Held) → IsHeldWithin k o → IsTrue (is_in (one n) o) → n < k
 in_within k n None w h = absurd (both_ways false refl h)
 in_within k n (Some x) w h = let e : x.node.0 ≡ n = eqb-true x.node.0 n h in omega (arith, e, w)
 

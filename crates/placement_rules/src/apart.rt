@@ -1,5 +1,5 @@
 //! Which machines share a node.
-ghost use Rattle.std.specs.Prelude.{◌≡◌, ◌↔◌, ◌⊎◌, ◌≢◌, ℕ, ◌+◌, ◌<◌, ◌≤◌, false, true, Some, None, nat_lt, length, if◌then◌else◌, IsTrue, slice_index_or, ◌||◌};
+ghost use Rattle.std.specs.Prelude.{◌≡◌, ◌↔◌, ◌⊎◌, ◌≢◌, ℕ, ◌+◌, ◌<◌, ◌≤◌, false, true, Some, None, nat_lt, length, if◌then◌else◌, IsTrue, slice_index_or};
 ghost use Rattle.std.specs.List.{list_all};
 ghost use Rattle.catalogue.specs.declared.constraint.Constraint.TheVariants.{Spread, Split, Lonely};
 ghost use Rattle.catalogue.specs.Faults.{is_member};

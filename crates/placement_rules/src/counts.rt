@@ -1,11 +1,10 @@
 //! Sums over machines and nodes.
-ghost use Rattle.std.specs.Prelude.{◌≡◌, ◌≤◌, ◌<◌, ◌*◌, length};
+ghost use Rattle.std.specs.Prelude.{◌≡◌, ◌≤◌, ◌<◌, length};
 ghost use Rattle.cluster.specs.Sets.{has_node};
 ghost use Rattle.slices.specs.Elements.{machine_count, node_count};
 ghost use Rattle.slices.specs.Plans.{IsPlanOf, choices_of};
 ghost use Rattle.slices.specs.Snapshots.{snapshot_at, load, presences, powered_nodes};
-ghost use Rattle.slices.specs.declared.table.Weight.TheVariants.{Amount, Presence};
-ghost use Rattle.slices.specs.Holdings.{IsHeldWithin, amount_in, count_in};
+ghost use Rattle.slices.specs.Holdings.{amount_in, count_in};
 
 use catalogue::problem::Problem;
 use cluster::ids::{Instant, NodeId, VmId};

@@ -2,7 +2,7 @@
 ghost use Rattle.std.specs.Prelude.{◌≡◌, ◌↔◌, ◌<◌, ◌≤◌, ◌||◌, ℕ, false, true, nat_lt, IsTrue, Any};
 ghost use Rattle.std.specs.List.{list_all};
 ghost use Rattle.cluster.specs.Sets.{has_node};
-ghost use Rattle.slices.specs.Elements.{machine_count, node_count};
+ghost use Rattle.slices.specs.Elements.{machine_count};
 ghost use Rattle.slices.specs.Holds.{AreTogether, AreWithin};
 ghost use Rattle.slices.specs.Plans.{IsPlanOf, choices_of};
 ghost use Rattle.slices.specs.Snapshots.{snapshot_at};

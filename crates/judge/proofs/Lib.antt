@@ -1,0 +1,4 @@
+pub mod Tables
+pub mod Stances
+pub mod Quiet
+pub mod Lowering

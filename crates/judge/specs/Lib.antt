@@ -1,0 +1,3 @@
+pub mod Standing
+pub mod Where
+pub mod Verdict

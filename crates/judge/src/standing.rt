@@ -1,0 +1,138 @@
+//! Whether all loads fit and all machines stand on usable nodes, at one instant.
+ghost use Rattle.std.specs.Prelude.{◌≡◌, ◌↔◌, ◌<◌, ℕ, false, slice_index_or, nat_lt, IsTrue, MatchOption, length};
+ghost use Rattle.catalogue.specs.Cells.{cell};
+ghost use Rattle.slices.specs.Elements.{machine_count, node_count};
+ghost use Rattle.slices.specs.Holdings.{image_in, is_in, IsHeldWithin, IsNodeWithin};
+ghost use Rattle.slices.specs.Plans.{IsPlanOf, choices_of};
+ghost use Rattle.slices.specs.Snapshots.{snapshot_at};
+ghost use Rattle.slices.specs.Stages.{one};
+ghost use Rattle.judge.specs.Standing.{AreUsable, AreUsableNodes, IsFirstIn, IsFirstOver, LoadsFit, NodeFits, Stands, loads_of};
+ghost use Rattle.judge.specs.Where.{is_where};
+
+use crate::loads::{Loads, add_both, no_loads};
+use catalogue::problem::Problem;
+use cluster::ids::{Instant, NodeId, VmId};
+use slices::plan::Plan;
+use slices::snapshot::{holding_at, usable};
+use slices::table::{Held, Holding};
+
+/// How many machines there are.
+pub(crate) fn machines_of(p: &Problem) -> usize
+    ensures { result ≡ machine_count p.now.given }
+{
+    p.cluster().machines().len()
+}
+
+/// How many nodes there are.
+pub(crate) fn nodes_of(p: &Problem) -> usize
+    ensures { result ≡ node_count p.now.given }
+{
+    p.cluster().nodes().len()
+}
+
+fn no_nodes() -> [bool; 512]
+    ensures { (n : ℕ) → slice_index_or result n false ≡ false }
+{
+    [false; 512]
+}
+
+/// Which nodes are usable.
+pub(crate) fn usable_nodes(p: &Problem, plan: &Plan, t: Instant) -> [bool; 512]
+    requires plan { IsPlanOf p.now.given plan.now }
+    ensures { AreUsableNodes p.now.given (snapshot_at p.now.given (choices_of plan.now) t) result }
+{
+    let mut table = no_nodes();
+    for n in 0..nodes_of(p) {
+        table[n] = usable(p, plan, NodeId(n as u32), t);
+    }
+    table
+}
+
+/// Whether the node where a machine is held, if there is one, is usable.
+fn is_held_usably(nodes: &[bool; 512], held: Option<Held>) -> bool
+    requires { IsHeldWithin 512 held }
+    ensures { IsTrue result ↔ ((n : ℕ) → IsTrue (is_in (one n) held) → IsTrue (slice_index_or nodes.now n false)) }
+{
+    match held {
+        Some(h) => nodes[h.node.0 as usize],
+        None => true,
+    }
+}
+
+/// Whether the node of an image, if there is one, is usable.
+fn is_kept_usably(nodes: &[bool; 512], image: Option<NodeId>) -> bool
+    requires { IsNodeWithin 512 image }
+    ensures { IsTrue result ↔ ((n : ℕ) → IsTrue (nat_lt 0 (image_in (one n) image)) → IsTrue (slice_index_or nodes.now n false)) }
+{
+    match image {
+        Some(n) => nodes[n.0 as usize],
+        None => true,
+    }
+}
+
+/// Whether a machine that holds this stands on usable nodes alone.
+fn stands_usably(nodes: &[bool; 512], now: Holding) -> bool
+    requires source { IsHeldWithin 512 now.source }
+    requires target { IsHeldWithin 512 now.target }
+    requires image { IsNodeWithin 512 now.image }
+    ensures { IsTrue result ↔ ((n : ℕ) → IsTrue (is_where now n) → IsTrue (slice_index_or nodes.now n false)) }
+{
+    is_held_usably(nodes, now.source)
+        && is_held_usably(nodes, now.target)
+        && is_kept_usably(nodes, now.image)
+}
+
+/// Adds up what all machines take. True where all of them stand on usable nodes alone.
+pub(crate) fn sweep(table: &mut Loads, p: &Problem, plan: &Plan, t: Instant) -> bool
+    requires plan { IsPlanOf p.now.given plan.now }
+    requires empty { (n r : ℕ) → cell table.old n r ≡ 0 }
+    ensures loads { (n r : ℕ) → r < length p.now.given.resources → cell table.new n r ≡ loads_of p.now.given (snapshot_at p.now.given (choices_of plan.now) t) n r }
+    ensures usables { IsTrue result ↔ AreUsable p.now.given (snapshot_at p.now.given (choices_of plan.now) t) (machine_count p.now.given) }
+{
+    let nodes = usable_nodes(p, plan, t);
+    let mut all = true;
+    for i in 0..machines_of(p) {
+        let v = VmId(i as u32);
+        let now = holding_at(p, plan, v, t);
+        add_both(table, p, v, now);
+        let here = stands_usably(&nodes, now);
+        all = all & here;
+    }
+    all
+}
+
+/// The first resource whose load on a node exceeds the capacity.
+fn first_in(p: &Problem, table: &Loads, n: NodeId) -> Option<u8>
+    requires { n.0 < node_count p.now.given }
+    ensures { MatchOption result (NodeFits p.now.given (cell table.now) n.0) (IsFirstIn p.now.given (cell table.now) n.0) }
+{
+    for i in 0..p.cluster().resources().len() {
+        let r = i as u8;
+        if table[n.0 as usize][i] > p.capacity(n, r) {
+            return Some(r);
+        }
+    }
+    None
+}
+
+/// The first node, and the first resource there, whose load exceeds the capacity.
+pub(crate) fn first_over(p: &Problem, table: &Loads) -> Option<(NodeId, u8)>
+    ensures { MatchOption result (LoadsFit p.now.given (cell table.now) (node_count p.now.given)) (λ x. IsFirstOver p.now.given (cell table.now) x.0.0 x.1) }
+{
+    for i in 0..nodes_of(p) {
+        let n = NodeId(i as u32);
+        if let Some(r) = first_in(p, table, n) {
+            return Some((n, r));
+        }
+    }
+    None
+}
+
+/// Whether all loads fit and all machines stand on usable nodes.
+pub(crate) fn stands(p: &Problem, plan: &Plan, t: Instant) -> bool
+    requires plan { IsPlanOf p.now.given plan.now }
+    ensures { IsTrue result ↔ Stands p.now.given (snapshot_at p.now.given (choices_of plan.now) t) }
+{
+    let mut table = no_loads();
+    sweep(&mut table, p, plan, t) && first_over(p, &table).is_none()
+}
