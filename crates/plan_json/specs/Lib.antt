@@ -1,0 +1,5 @@
+pub mod Walk
+pub mod Words
+pub mod Actions
+pub mod Plans
+pub mod Texts
