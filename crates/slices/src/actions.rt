@@ -6,6 +6,7 @@ ghost use Rattle.catalogue.specs.Values.{demand_of, use_of, wanted_of};
 ghost use Rattle.slices.specs.Elements.{state_of as the_state_of};
 ghost use Rattle.slices.specs.Actions.{kind_of as the_kind_of, settled as the_settled, machine_kind as the_machine_kind, node_kind as the_node_kind, may_machine_idle as the_may_machine_idle, may_node_idle as the_may_node_idle, differs_in, is_raised as is_the_raised, may_idle as the_may_idle, own_of, common_of, counted_of, amount_at, duration_of as the_duration_of, lasts as the_lasts, is_legal as is_the_legal, end_of as the_end_of};
 ghost use Rattle.slices.specs.Snapshots.{stage_at as the_stage_at};
+ghost use Rattle.slices.specs.Parts.{start_of};
 
 use crate::elements::{is_online, is_place, state_of};
 use crate::table::Stage;
@@ -193,37 +194,19 @@ pub fn kind_of(p: &Problem, e: Element, place: Place) -> Option<Kind>
     }
 }
 
-/// Whether a machine may be idle.
+/// Whether a machine may be idle: it is as it is wanted, and if it runs its demand is not raised.
 fn may_machine_idle(p: &Problem, v: VmId) -> bool
     requires { IsElement p.now.given (Element.Vm v) }
     ensures { result ≡ the_may_machine_idle (the_state_of p.now.given v.0) (the_settled (the_state_of p.now.given v.0) (wanted_of p.now.given (Element.Vm v))) (is_the_raised p.now.given v.0) }
 {
     let state = state_of(p, v);
-    match settled(state, p.wanted(Element::Vm(v))) {
-        Wish::Clash => false,
-        Wish::Keep => match state {
-            State::Init => true,
-            State::Ready | State::Running(_) | State::Sleeping(_) | State::Gone => false,
-        },
-        Wish::To(target) => match target {
-            Target::Online | Target::Offline => false,
-            Target::Ready => match state {
-                State::Ready => true,
-                State::Init | State::Running(_) | State::Sleeping(_) | State::Gone => false,
-            },
-            Target::Running => match state {
-                State::Running(_) => !is_raised(p, v),
-                State::Init | State::Ready | State::Sleeping(_) | State::Gone => false,
-            },
-            Target::Sleeping => match state {
-                State::Sleeping(_) => true,
-                State::Init | State::Ready | State::Running(_) | State::Gone => false,
-            },
-            Target::Killed => match state {
-                State::Gone => true,
-                State::Init | State::Ready | State::Running(_) | State::Sleeping(_) => false,
-            },
-        },
+    let wanted = settled(state, p.wanted(Element::Vm(v)));
+    match state {
+        State::Init => matches!(wanted, Wish::Keep),
+        State::Ready => matches!(wanted, Wish::To(Target::Ready)),
+        State::Running(_) => matches!(wanted, Wish::To(Target::Running)) && !is_raised(p, v),
+        State::Sleeping(_) => matches!(wanted, Wish::To(Target::Sleeping)),
+        State::Gone => matches!(wanted, Wish::To(Target::Killed)),
     }
 }
 
@@ -350,6 +333,16 @@ pub fn end_of(p: &Problem, e: Element, c: Choice) -> Instant
     match c {
         Choice::Idle => 0,
         Choice::Act { place: _, start } => (u64::from(start) + lasts(p, e, c)) as u32,
+    }
+}
+
+/// The start of a choice's action, None for Idle.
+pub fn start(c: Choice) -> Option<Instant>
+    ensures { result ≡ start_of c }
+{
+    match c {
+        Choice::Idle => None,
+        Choice::Act { place: _, start } => Some(start),
     }
 }
 

@@ -9,3 +9,5 @@ pub mod plan;
 pub mod rule;
 pub mod snapshot;
 pub mod table;
+#[cfg(test)]
+mod tests;
