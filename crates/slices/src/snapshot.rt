@@ -101,12 +101,12 @@ fn usable_of(online: bool, c: Choice, stage: Stage) -> bool
     }
 }
 
-fn powered_of(online: bool, c: Choice, stage: Stage) -> bool
-    ensures { result ≡ is_powered_of online c stage }
+fn powered_of(online: bool, c: Choice, now: Stage) -> bool
+    ensures { result ≡ is_powered_of online c now }
 {
     match c {
         Choice::Idle => online,
-        Choice::Act { place: _, start: _ } => if online { !stage.ended } else { stage.started },
+        Choice::Act { place: _, start: _ } => if online { !now.ended } else { now.started },
     }
 }
 

@@ -131,7 +131,7 @@ fn running_slices(host: NodeId, kind: Kind, place: Place) -> Slices
             ..NOTHING
         },
         Kind::Suspend => Slices {
-            source: until_end,
+            source: slice_on(host, Span::BeforeEnd, What::Use),
             image: slice_on(host, Span::FromStart, What::Image),
             ..NOTHING
         },

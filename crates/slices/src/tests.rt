@@ -246,10 +246,8 @@ fn kinds(alloc: Global) -> Result<Problem, Fail> {
         ASLEEP,
     ];
     let mut cluster = nodes(alloc)?;
-    let mut amount = 1;
     for (v, state) in states.iter().enumerate() {
-        add_machine(alloc, &mut cluster, b'a' + v as u8, *state, amount)?;
-        amount = (amount * 2) % 4096;
+        add_machine(alloc, &mut cluster, b'a' + v as u8, *state, 1 << (v % 16))?;
     }
     let mut p = Problem::new(alloc, cluster, 20);
     wish(alloc, &mut p, [&[0, 2], &[1, 4], &[3], &[7, 8]])?;
