@@ -13,7 +13,7 @@ use Rattle.cluster.specs.Inventory.{amounts_fit, duration_fits, machine_fits, ma
 use Rattle.cluster.specs.Kinds.{kind_number}
 use Rattle.cluster.proofs.Durations.{IsDuration, IsDuration-fits, duration_at}
 use Rattle.catalogue.specs.Instance.{Instance, IsInstance, inventory_of}
-use Rattle.slices.specs.Actions.{common_of, duration_of, end_of, is_legal, kind_of, lasts, machine_own, node_own, own_of}
+use Rattle.slices.specs.Actions.{common_of, duration_of, end_of, is_legal, kind_of, lasts, lasts_by, machine_own, node_own, own_of}
 use Rattle.slices.specs.Parts.{LegalActsLast}
 
 -- what is at a place of a list, from what holds where there is nothing, and of each item
@@ -76,7 +76,7 @@ duration_of-least p s e kind = let d = chosen p s e kind in omega (arith, d.some
 
 -- the action of a legal choice has a kind, so it lasts, and it ends by the horizon
 pub legal_acts_last : LegalActsLast
-unfolding is_legal end_of lasts
+unfolding is_legal end_of lasts lasts_by
 legal_acts_last p s e place start legal = of (kind_of p e place) legal
   where
     of : (o : Option Kind) → (is_some o && nat_le (start + option_map_or (duration_of p e) o 0) p.horizon) ≡ true → (1 ≤ option_map_or (duration_of p e) o 0) × (start + option_map_or (duration_of p e) o 0 ≤ p.horizon)

@@ -1,5 +1,5 @@
 -- What is held of slices says all that they weigh.
-use Rattle.std.proofs.Common.{◌≡◌, inl, inr, ℕ, ◌+◌, ◌-◌, ◌<◌, Bool, true, false, ◌&&◌, ◌||◌, nat_lt, Option, Some, None, cond, refl, ap, ◌∙◌, arith}
+use Rattle.std.proofs.Common.{◌≡◌, inl, inr, ℕ, ◌+◌, ◌-◌, ◌<◌, Bool, true, false, ◌&&◌, ◌||◌, nat_lt, Option, Some, None, cond, refl, ap, ◌∙◌, subst, arith}
 use Rattle.cluster.specs.declared.ids.Choice.{Choice}
 use Rattle.cluster.specs.declared.ids.NodeId.{NodeId}
 use Rattle.catalogue.specs.Instance.{Instance, IsInstance}
@@ -14,9 +14,9 @@ use Rattle.slices.specs.declared.table.Weight.{Weight}
 use Rattle.slices.specs.declared.table.Weight.TheVariants.{Amount, Presence, Image}
 use Rattle.slices.specs.declared.table.What.{What}
 use Rattle.slices.specs.declared.table.What.TheVariants.{Use, Demand, Image as OfImage}
-use Rattle.slices.specs.Elements.{node_count}
-use Rattle.slices.specs.Holdings.{IsHeldWithin, IsHolding, IsHoldingBy, IsNodeWithin, amount_in, count_in, held_of, holding_of, image_in, is_in, is_raise, joined, node_of}
-use Rattle.slices.specs.Snapshots.{held_by}
+use Rattle.slices.specs.Elements.{node_count, vm}
+use Rattle.slices.specs.Holdings.{IsHeldWithin, IsHolding, IsHoldingAt, IsNodeWithin, amount_in, count_in, held_of, holding_of, image_in, is_in, is_raise, joined, node_of}
+use Rattle.slices.specs.Snapshots.{held_at, held_by, stage_at}
 use Rattle.slices.specs.Stages.{Nodes, covers, slices_of, weigh, weight_of}
 use Rattle.slices.proofs.PlaceLemmas.{AreSlices, ArePlain, IsSliceOf, allocated, are_slices}
 
@@ -195,6 +195,7 @@ module _ (p : Instance) (v : ℕ) (g : Stage) where
   of_slices x (inr w) = rw w.2 (of_allocated w.0 w.1)
 
 -- what is held of a machine's slices is all that it holds
-pub holding_of-is : (p : Instance) → IsInstance p → (v : ℕ) (c : Choice) (g : Stage) → IsHoldingBy p v c g (holding_of (slices_of p v c) g)
-unfolding held_by
-holding_of-is p s v c g = of_slices p v g (slices_of p v c) (are_slices p s v c)
+pub holding_of-is : (p : Instance) → IsInstance p → (v : ℕ) (c : Choice) (t : ℕ) (h : Holding) → holding_of (slices_of p v c) (stage_at p (vm v) c t) ≡ h → IsHoldingAt p v c t h
+unfolding held_at held_by
+holding_of-is p s v c t h e =
+    subst (IsHoldingAs p v (slices_of p v c) (stage_at p (vm v) c t)) e (of_slices p v (stage_at p (vm v) c t) (slices_of p v c) (are_slices p s v c))

@@ -13,14 +13,13 @@ use Rattle.cluster.specs.declared.ids.State.TheVariants.{Init, Ready, Running, S
 use Rattle.cluster.specs.Inventory.{host_is_online}
 use Rattle.cluster.proofs.Hosts.{is_online-lt}
 use Rattle.catalogue.specs.Instance.{Instance, IsInstance}
-use Rattle.catalogue.specs.Values.{wanted_of}
 use Rattle.slices.specs.declared.table.Slice.{Slice}
 use Rattle.slices.specs.declared.table.Slices.{Slices}
 use Rattle.slices.specs.declared.table.Span.TheVariants.{Always, FromStart}
 use Rattle.slices.specs.declared.table.What.{What}
 use Rattle.slices.specs.declared.table.What.TheVariants.{Use, Demand, Raise, Image as OfImage}
-use Rattle.slices.specs.Actions.{is_raised, kind_of, machine_kind, settled}
-use Rattle.slices.specs.Elements.{is_place, node_count, state_in, state_of, vm}
+use Rattle.slices.specs.Actions.{is_raised, kind_of, machine_kind, wanted_state}
+use Rattle.slices.specs.Elements.{is_place, node_count, state_in, state_of}
 use Rattle.slices.specs.Stages.{acting_slices, idle_slices, slice, slices_by, slices_of}
 use Rattle.slices.proofs.DurationLemmas.{of_get}
 
@@ -93,4 +92,4 @@ pub are_slices : (p : Instance) → IsInstance p → (v : ℕ) (c : Choice) → 
 unfolding slices_of kind_of
 are_slices p s v Idle = idle-slices (node_count p) (state_of p v) (state-within p s v)
 are_slices p s v (Act place start) =
-    by-slices p (state_of p v) place (is_place p place) (machine_kind (state_of p v) (settled (state_of p v) (wanted_of p (vm v))) (is_raised p v) place) refl (state-within p s v)
+    by-slices p (state_of p v) place (is_place p place) (machine_kind (state_of p v) (wanted_state p v) (is_raised p v) place) refl (state-within p s v)

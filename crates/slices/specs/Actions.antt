@@ -22,7 +22,7 @@ use Rattle.catalogue.specs.declared.constraint.Wish.{Wish}
 use Rattle.catalogue.specs.declared.constraint.Wish.TheVariants.{Keep, To, Clash}
 use Rattle.catalogue.specs.Instance.{Instance}
 use Rattle.catalogue.specs.Values.{demand_of, use_of, wanted_of, written_of}
-use Rattle.slices.specs.Elements.{is_place, state_of}
+use Rattle.slices.specs.Elements.{is_place, state_of, vm}
 
 -- ---- which action
 
@@ -80,17 +80,18 @@ differs_in p v r = not (demand_of p v r == use_of p.machines v r)
 abbrev pub is_raised : Instance → ℕ → Bool
 is_raised p v = list_any (differs_in p v) (range_with_len 0 (length p.resources))
 
+abbrev pub wanted_state : Instance → ℕ → Wish
+wanted_state p v = settled (state_of p v) (wanted_of p (vm v))
+
 -- the kind of an element's action at a place, if it has a legal one there
 unfoldable pub kind_of : Instance → Element → Place → Option Kind
 kind_of p (Vm v) place =
-    if is_place p place
-    then machine_kind (state_of p v.0) (settled (state_of p v.0) (wanted_of p (Vm v))) (is_raised p v.0) place
-    else None
+    if is_place p place then machine_kind (state_of p v.0) (wanted_state p v.0) (is_raised p v.0) place else None
 kind_of p (TheNode n) place = node_kind (is_online p.nodes n.0) (wanted_of p (TheNode n)) place
 
 -- whether an element may be idle
 unfoldable pub may_idle : Instance → Element → Bool
-may_idle p (Vm v) = may_machine_idle (state_of p v.0) (settled (state_of p v.0) (wanted_of p (Vm v))) (is_raised p v.0)
+may_idle p (Vm v) = may_machine_idle (state_of p v.0) (wanted_state p v.0) (is_raised p v.0)
 may_idle p (TheNode n) = may_node_idle (is_online p.nodes n.0) (wanted_of p (TheNode n))
 
 -- ---- how long
@@ -131,10 +132,14 @@ duration_of p e kind = value_of (unwrap_or (own_of p e kind) (common_of p kind))
 
 -- ---- choices
 
+-- how long an action lasts, 0 where there is none
+unfoldable pub lasts_by : Instance → Element → Option Kind → ℕ
+lasts_by p e kind = option_map_or (duration_of p e) kind 0
+
 -- how long the action of a choice lasts
 unfoldable pub lasts : Instance → Element → Choice → ℕ
 lasts p e Idle = 0
-lasts p e (Act place start) = option_map_or (duration_of p e) (kind_of p e place) 0
+lasts p e (Act place start) = lasts_by p e (kind_of p e place)
 
 -- when the action of a choice ends, 0 where there is none
 unfoldable pub end_of : Instance → Element → Choice → ℕ

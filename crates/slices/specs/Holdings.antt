@@ -1,5 +1,5 @@
 -- What a machine holds at one moment, as the code tells it.
-use Rattle.std.specs.Prelude.{◌≡◌, ℕ, ◌+◌, ◌<◌, Bool, true, false, ◌||◌, nat_lt, Option, Some, None, if◌then◌else◌}
+use Rattle.std.specs.Prelude.{◌≡◌, ℕ, ◌+◌, ◌<◌, Bool, true, false, ◌||◌, Option, Some, None, if◌then◌else◌}
 use Rattle.cluster.specs.declared.ids.Choice.{Choice}
 use Rattle.cluster.specs.declared.ids.NodeId.{NodeId}
 use Rattle.catalogue.specs.Instance.{Instance}
@@ -13,7 +13,7 @@ use Rattle.slices.specs.declared.table.Weight.TheVariants.{Amount, Presence, Ima
 use Rattle.slices.specs.declared.table.What.{What}
 use Rattle.slices.specs.declared.table.What.TheVariants.{Demand, Raise}
 use Rattle.slices.specs.Elements.{node_count}
-use Rattle.slices.specs.Snapshots.{Snapshot, held_by}
+use Rattle.slices.specs.Snapshots.{Snapshot, held_at, present_at}
 use Rattle.slices.specs.Stages.{Nodes, covers, weight_of}
 
 abbrev pub is_raise : What → Bool
@@ -86,6 +86,6 @@ pub record IsHolding (p : Instance) (v : ℕ) (weights : Weight → Nodes → �
 abbrev pub IsHoldingOf : Instance → Snapshot → ℕ → Holding → Type 0
 IsHoldingOf p s v h = IsHolding p v (s.held v) (s.present v) h
 
--- this is all that machine v holds at a stage of a choice
-abbrev pub IsHoldingBy : Instance → ℕ → Choice → Stage → Holding → Type 0
-IsHoldingBy p v c g h = IsHolding p v (λ w set. held_by p v w set c g) (λ set. nat_lt 0 (held_by p v Presence set c g)) h
+-- this is all that machine v holds at an instant of a choice
+abbrev pub IsHoldingAt : Instance → ℕ → Choice → ℕ → Holding → Type 0
+IsHoldingAt p v c t h = IsHolding p v (λ w set. held_at p v w set t c) (λ set. present_at p v set t c) h

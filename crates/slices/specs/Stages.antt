@@ -33,10 +33,14 @@ one n k = k == n
 
 -- ---- stages
 
+-- the stage at an instant of an action from a start on, which lasts so long
+abbrev pub stage_from : ℕ → ℕ → ℕ → Stage
+stage_from start duration t = record { started = nat_le start t; ended = nat_le (start + duration) t }
+
 -- the stage at an instant of a choice whose action lasts so long
 abbrev pub stage_of : ℕ → Choice → ℕ → Stage
 stage_of duration Idle t = record { started = false; ended = false }
-stage_of duration (Act place start) t = record { started = nat_le start t; ended = nat_le (start + duration) t }
+stage_of duration (Act place start) t = stage_from start duration t
 
 -- a source counts until its action's end, a destination from its start
 abbrev pub covers : Span → Stage → Bool

@@ -4,9 +4,10 @@ ghost use Rattle.cluster.proofs.Durations.{IsDuration};
 ghost use Rattle.catalogue.specs.Instance.{IsElement};
 ghost use Rattle.catalogue.specs.Values.{demand_of, use_of, wanted_of};
 ghost use Rattle.slices.specs.Elements.{state_of as the_state_of};
-ghost use Rattle.slices.specs.Actions.{kind_of as the_kind_of, settled as the_settled, machine_kind as the_machine_kind, node_kind as the_node_kind, may_machine_idle as the_may_machine_idle, may_node_idle as the_may_node_idle, differs_in, is_raised as is_the_raised, may_idle as the_may_idle, own_of, common_of, counted_of, amount_at, duration_of as the_duration_of, lasts as the_lasts, is_legal as is_the_legal, end_of as the_end_of};
+ghost use Rattle.slices.specs.Actions.{kind_of as the_kind_of, settled as the_settled, wanted_state as the_wanted_state, machine_kind as the_machine_kind, node_kind as the_node_kind, may_machine_idle as the_may_machine_idle, may_node_idle as the_may_node_idle, differs_in, is_raised as is_the_raised, may_idle as the_may_idle, own_of, common_of, counted_of, amount_at, duration_of as the_duration_of, lasts_by as the_lasts_by, lasts as the_lasts, is_legal as is_the_legal, end_of as the_end_of};
 ghost use Rattle.slices.specs.Snapshots.{stage_at as the_stage_at};
 ghost use Rattle.slices.specs.Parts.{start_of};
+ghost use Rattle.slices.specs.Stages.{stage_from};
 
 use crate::elements::{is_online, is_place, state_of};
 use crate::table::Stage;
@@ -135,13 +136,22 @@ fn kind_to_killed(state: State, place: Place) -> Option<Kind>
     }
 }
 
+/// What is wanted of a machine at the end.
+fn wanted_state(p: &Problem, v: VmId) -> Wish
+    requires { IsElement p.now.given (Element.Vm v) }
+    ensures { result ≡ the_wanted_state p.now.given v.0 }
+{
+    settled(state_of(p, v), p.wanted(Element::Vm(v)))
+}
+
 /// The kind of a machine's action at a place of the instance.
 fn machine_kind(p: &Problem, v: VmId, place: Place) -> Option<Kind>
     requires { IsElement p.now.given (Element.Vm v) }
-    ensures { result ≡ the_machine_kind (the_state_of p.now.given v.0) (the_settled (the_state_of p.now.given v.0) (wanted_of p.now.given (Element.Vm v))) (is_the_raised p.now.given v.0) place }
+    ensures { result ≡ the_machine_kind (the_state_of p.now.given v.0) (the_wanted_state p.now.given v.0)
+        (is_the_raised p.now.given v.0) place }
 {
     let state = state_of(p, v);
-    match settled(state, p.wanted(Element::Vm(v))) {
+    match wanted_state(p, v) {
         Wish::Keep | Wish::Clash => None,
         Wish::To(target) => match target {
             Target::Online | Target::Offline => None,
@@ -197,11 +207,11 @@ pub fn kind_of(p: &Problem, e: Element, place: Place) -> Option<Kind>
 /// Whether a machine may be idle: it is as it is wanted, and if it runs its demand is not raised.
 fn may_machine_idle(p: &Problem, v: VmId) -> bool
     requires { IsElement p.now.given (Element.Vm v) }
-    ensures { result ≡ the_may_machine_idle (the_state_of p.now.given v.0) (the_settled (the_state_of p.now.given v.0) (wanted_of p.now.given (Element.Vm v))) (is_the_raised p.now.given v.0) }
+    ensures { result ≡ the_may_machine_idle (the_state_of p.now.given v.0) (the_wanted_state p.now.given v.0)
+        (is_the_raised p.now.given v.0) }
 {
-    let state = state_of(p, v);
-    let wanted = settled(state, p.wanted(Element::Vm(v)));
-    match state {
+    let wanted = wanted_state(p, v);
+    match state_of(p, v) {
         State::Init => matches!(wanted, Wish::Keep),
         State::Ready => matches!(wanted, Wish::To(Target::Ready)),
         State::Running(_) => matches!(wanted, Wish::To(Target::Running)) && !is_raised(p, v),
@@ -290,6 +300,19 @@ pub fn duration(p: &Problem, e: Element, kind: Kind) -> u64
     u64::from(d.base) + u64::from(d.per) * counted(p, e, d.resource)
 }
 
+/// How long an action lasts, 0 where there is none.
+#[tactic(auto, unfolding(crate::specs::Actions::lasts_by))]
+fn lasts_by(p: &Problem, e: Element, kind: Option<Kind>) -> u64
+    requires { IsElement p.now.given e }
+    ensures lasts { result ≡ the_lasts_by p.now.given e kind }
+    ensures small { result ≤ 1_000_000_001_000_000 }
+{
+    match kind {
+        Some(kind) => duration(p, e, kind),
+        None => 0,
+    }
+}
+
 /// How long the action of a choice lasts, 0 for Idle.
 #[tactic(auto, unfolding(crate::specs::Actions::lasts))]
 fn lasts(p: &Problem, e: Element, c: Choice) -> u64
@@ -299,16 +322,13 @@ fn lasts(p: &Problem, e: Element, c: Choice) -> u64
 {
     match c {
         Choice::Idle => 0,
-        Choice::Act { place, start: _ } => match kind_of(p, e, place) {
-            Some(kind) => duration(p, e, kind),
-            None => 0,
-        },
+        Choice::Act { place, start: _ } => lasts_by(p, e, kind_of(p, e, place)),
     }
 }
 
 /// Whether a choice is one that the element's present and wanted state allow, with an action that
 /// ends by the horizon.
-#[tactic(auto, unfolding(crate::specs::Actions::is_legal, crate::specs::Actions::end_of, crate::specs::Actions::lasts))]
+#[tactic(auto, unfolding(crate::specs::Actions::is_legal, crate::specs::Actions::end_of, crate::specs::Actions::lasts, crate::specs::Actions::lasts_by))]
 pub fn is_legal(p: &Problem, e: Element, c: Choice) -> bool
     requires { IsElement p.now.given e }
     ensures { result ≡ is_the_legal p.now.given e c }
@@ -346,8 +366,27 @@ pub fn start(c: Choice) -> Option<Instant>
     }
 }
 
+/// How far an action of a kind has come at an instant; how long it lasts is asked only once it has
+/// started.
+pub(crate) fn stage_by(
+    p: &Problem,
+    e: Element,
+    kind: Option<Kind>,
+    start: Instant,
+    t: Instant,
+) -> Stage
+    requires { IsElement p.now.given e }
+    ensures { result ≡ stage_from start (the_lasts_by p.now.given e kind) t }
+{
+    let started = start <= t;
+    Stage {
+        started,
+        ended: started && u64::from(start) + lasts_by(p, e, kind) <= u64::from(t),
+    }
+}
+
 /// How far the action of a choice has come at an instant.
-#[tactic(auto, unfolding(crate::specs::Snapshots::stage_at))]
+#[tactic(auto, unfolding(crate::specs::Snapshots::stage_at, crate::specs::Actions::lasts))]
 pub fn stage(p: &Problem, e: Element, c: Choice, t: Instant) -> Stage
     requires { IsElement p.now.given e }
     ensures { result ≡ the_stage_at p.now.given e c t }
@@ -357,9 +396,6 @@ pub fn stage(p: &Problem, e: Element, c: Choice, t: Instant) -> Stage
             started: false,
             ended: false,
         },
-        Choice::Act { place: _, start } => Stage {
-            started: start <= t,
-            ended: u64::from(start) + lasts(p, e, c) <= u64::from(t),
-        },
+        Choice::Act { place, start } => stage_by(p, e, kind_of(p, e, place), start, t),
     }
 }

@@ -2,13 +2,14 @@
 ghost use Rattle.std.specs.Prelude.{◌≡◌, ◌<◌, ◌≤◌, length};
 ghost use Rattle.catalogue.specs.Instance.{IsElement};
 ghost use Rattle.slices.specs.Stages.{weight_of};
-ghost use Rattle.slices.specs.Holdings.{held_of, node_of as the_node_of, joined as the_joined, IsHoldingBy};
+ghost use Rattle.slices.specs.Holdings.{held_of, node_of as the_node_of, joined as the_joined, holding_of, IsHoldingAt};
 ghost use Rattle.slices.specs.declared.table.Weight.TheVariants.{Amount};
 
-use crate::actions::usage;
-use crate::table::{Held, Holding, Slice, Stage, What, covers, slices_of};
+use crate::actions::{kind_of, stage_by, usage};
+use crate::elements::state_of;
+use crate::table::{Held, Holding, Slice, Slices, Stage, What, covers, idle_slices, slices_by};
 use catalogue::problem::Problem;
-use cluster::ids::{Choice, Element, NodeId, VmId};
+use cluster::ids::{Choice, Element, Instant, NodeId, Place, VmId};
 
 /// The part of a slice that is held at a stage.
 fn held(slice: Option<Slice>, stage: Stage) -> Option<Held>
@@ -64,17 +65,41 @@ fn joined(source: Option<Held>, target: Option<Held>, image: Option<NodeId>) -> 
     }
 }
 
-/// All that a machine holds at a stage of a choice.
-pub fn holding(p: &Problem, v: VmId, c: Choice, stage: Stage) -> Holding
-    requires { IsElement p.now.given (Element.Vm v) }
-    ensures { IsHoldingBy p.now.given v.0 c stage result }
+/// What is held of slices at a stage.
+fn holding_from(slices: Slices, stage: Stage) -> Holding
+    ensures { result ≡ holding_of slices stage }
 {
-    let slices = slices_of(p, v, c);
     joined(
         held(slices.source, stage),
         held(slices.target, stage),
         node_of(held(slices.image, stage)),
     )
+}
+
+/// All that a machine holds at an instant of a choice.
+#[tactic(auto, unfolding(crate::specs::Stages::slices_of, crate::specs::Snapshots::stage_at, crate::specs::Actions::lasts))]
+pub fn holding(p: &Problem, v: VmId, c: Choice, t: Instant) -> Holding
+    requires { IsElement p.now.given (Element.Vm v) }
+    ensures { IsHoldingAt p.now.given v.0 c t result }
+{
+    let state = state_of(p, v);
+    match c {
+        Choice::Idle => {
+            let waiting = Stage {
+                started: false,
+                ended: false,
+            };
+            holding_from(idle_slices(state), waiting)
+        }
+        Choice::Act { place, start } => {
+            let e = Element::Vm(v);
+            let kind = kind_of(p, e, place);
+            holding_from(
+                slices_by(state, place, kind),
+                stage_by(p, e, kind, start, t),
+            )
+        }
+    }
 }
 
 /// The amount of a resource that a machine takes where it holds this.

@@ -17,15 +17,13 @@ use catalogue::problem::Problem;
 use cluster::ids::{Choice, Element, Instant, NodeId, VmId};
 
 /// All that a machine holds at an instant.
-#[tactic(auto, unfolding(crate::specs::Snapshots::snapshot, crate::specs::Snapshots::stages_at))]
+#[tactic(auto, unfolding(crate::specs::Snapshots::snapshot, crate::specs::Snapshots::stages_at, crate::specs::Snapshots::held_at))]
 pub fn holding_at(p: &Problem, plan: &Plan, v: VmId, t: Instant) -> Holding
     requires plan { IsPlanOf p.now.given plan.now }
     requires machine { IsElement p.now.given (Element.Vm v) }
     ensures { IsHoldingOf p.now.given (snapshot_at p.now.given (choices_of plan.now) t) v.0 result }
 {
-    let e = Element::Vm(v);
-    let c = plan.choice(e);
-    holding(p, v, c, stage(p, e, c, t))
+    holding(p, v, plan.choice(Element::Vm(v)), t)
 }
 
 /// What is held on one node, of a resource.

@@ -1,12 +1,8 @@
 //! What an action uses, and where: slices of one node each, over a span of the action.
 ghost use Rattle.std.specs.Prelude.{◌≡◌};
-ghost use Rattle.catalogue.specs.Instance.{IsElement};
-ghost use Rattle.slices.specs.Stages.{slice as the_slice, idle_slices as the_idle_slices, acting_slices as the_acting_slices, slices_by as the_slices_by, slices_of as the_slices_of, covers as is_covered};
+ghost use Rattle.slices.specs.Stages.{slice as the_slice, idle_slices as the_idle_slices, acting_slices as the_acting_slices, slices_by as the_slices_by, covers as is_covered};
 
-use crate::actions::kind_of;
-use crate::elements::state_of;
-use catalogue::problem::Problem;
-use cluster::ids::{Choice, Element, Kind, NodeId, Place, State, VmId};
+use cluster::ids::{Kind, NodeId, Place, State};
 
 /// How far an action has come: whether it has started, and whether it has ended.
 #[derive(Clone, Copy, Debug, PartialEq, Eq)]
@@ -91,7 +87,7 @@ fn slice_on(node: NodeId, span: Span, what: What) -> Option<Slice>
 }
 
 /// What an idle machine holds.
-fn idle_slices(state: State) -> Slices
+pub(crate) fn idle_slices(state: State) -> Slices
     ensures { result ≡ the_idle_slices state }
 {
     match state {
@@ -206,28 +202,12 @@ fn acting_slices(state: State, kind: Kind, place: Place) -> Slices
 
 /// What a machine holds over its action, if there is one.
 #[tactic(auto, unfolding(crate::specs::Stages::slices_by))]
-fn slices_by(state: State, place: Place, kind: Option<Kind>) -> Slices
+pub(crate) fn slices_by(state: State, place: Place, kind: Option<Kind>) -> Slices
     ensures { result ≡ the_slices_by state place kind }
 {
     match kind {
         Some(kind) => acting_slices(state, kind, place),
         None => NOTHING,
-    }
-}
-
-/// All that a machine holds under a choice.
-#[tactic(auto, unfolding(crate::specs::Stages::slices_of))]
-pub fn slices_of(p: &Problem, v: VmId, c: Choice) -> Slices
-    requires { IsElement p.now.given (Element.Vm v) }
-    ensures { result ≡ the_slices_of p.now.given v.0 c }
-{
-    match c {
-        Choice::Idle => idle_slices(state_of(p, v)),
-        Choice::Act { place, start: _ } => slices_by(
-            state_of(p, v),
-            place,
-            kind_of(p, Element::Vm(v), place),
-        ),
     }
 }
 
