@@ -24,11 +24,6 @@ fault_status fault.ReadFault = status.ReadFault
 fault_status fault.WriteFault = status.WriteFault
 fault_status fault.Memory = status.Memory
 
--- The status that an ending gives.
-abbrev pub status_of : Result Ending Fault → Status
-status_of (Ok ending) = outcome_status ending.outcome
-status_of (Err f) = fault_status f
-
 -- The line of a fault. One of the outside and want of memory have none.
 abbrev pub line_of : Fault → Option (List ℕ)
 line_of fault.Words = Some (codes "words\n")

@@ -1,7 +1,6 @@
 //! The command `plan`.
 
-ghost use Rattle.std.specs.Prelude.{◌≡◌, ◌≢◌, ◌⊎◌, ℕ, List, Option, Some, Err, IsTrue, OnOk};
-ghost use Rattle.std.specs.Io.{StartsWith};
+ghost use Rattle.std.specs.Prelude.{◌≡◌, ◌≢◌, ℕ, List, Option, Some, Err, IsTrue, OnOk};
 ghost use Rattle.plan_io.specs.Causes.{CountsWrites};
 ghost use Rattle.plan_io.specs.Files.{OthersStay, IsCut};
 ghost use Rattle.btrplan.specs.Words.{MayRun, plan};

@@ -1,7 +1,6 @@
 //! The top call, from the words of the command line to the files and the line that it leaves.
 
 ghost use Rattle.std.specs.Prelude.{◌≡◌, ◌≢◌, ◌⊎◌, ◌++◌, ◌↔◌, ℕ, List, Option, None, Err, IsTrue};
-ghost use Rattle.std.specs.Io.{StartsWith};
 ghost use Rattle.plan_io.specs.Causes.{Rose};
 ghost use Rattle.plan_io.specs.Files.{Files};
 ghost use Rattle.btrplan.specs.Words.{asked, MayRun, Command as Asked};

@@ -1,0 +1,118 @@
+#!/usr/bin/env python3
+"""Times the built program, and prints how much memory it takes at most.
+
+    bench/measure.py [WORD..]     the measurements whose names begin with a WORD, or all
+
+It writes instances of growing size into a temporary folder, runs the program on each, and prints a line:
+the measurement, the bytes of the instance, the status, the seconds, those of the processor (user and
+system), the megabytes in a second of the processor, the peak of the resident memory, and the line that
+the program printed. Nothing is compared with a wanted time. The program is built first where that is due.
+"""
+import os
+import random
+import subprocess
+import sys
+import tempfile
+import time
+
+TOP = os.path.dirname(os.path.dirname(os.path.realpath(__file__)))
+PROGRAM = os.path.join(TOP, "crates", "btrplan", "out", "btrplan")
+MIB = 1 << 20
+MOST = 64 * MIB  # the most bytes of an instance
+EMPTY = '{"horizon":5,"resources":[],"nodes":[],"machines":[],"constraints":[]}'
+
+# Each of these makes the pieces of an instance's text. They are written one by one, since the memory of
+# this process would count in the peak of those that it starts.
+
+
+def joined(items):
+    for number, item in enumerate(items):
+        yield ("," if number else "") + item
+
+
+def instance(nodes, machines, constraints, members):
+    """Machines spread over nodes, and spreads of so many of them each."""
+    pick = random.Random(1)
+    yield '{"horizon":1000,"resources":["cpu","mem"],"nodes":['
+    yield from joined(f'{{"name":"node-{n}","capacity":{{"cpu":1000,"mem":4000}}}}' for n in range(nodes))
+    yield '],"machines":['
+    yield from joined(
+        f'{{"name":"vm-{v}","state":"running","node":"node-{v % nodes}","use":{{"cpu":{1 + v % 4},"mem":{1 + v % 8}}}}}'
+        for v in range(machines))
+    yield '],"constraints":['
+    for number in range(constraints):
+        chosen = ",".join(f'"vm-{v}"' for v in sorted(pick.sample(range(machines), members)))
+        yield ("," if number else "") + f'{{"kind":"spread","machines":[{chosen}]}}'
+    yield "]}"
+
+
+def blanks(size):
+    """The empty instance behind blanks, so many bytes in all."""
+    left = size - len(EMPTY)
+    while left:
+        piece = min(left, MIB)
+        yield " " * piece
+        left -= piece
+    yield EMPTY
+
+
+def zeros(size):
+    """A list of zeros: no text of this length has more values."""
+    left = (size - 3) // 2
+    yield "["
+    while left:
+        piece = min(left, MIB)
+        yield "0," * piece
+        left -= piece
+    yield "0]"
+
+
+# The names with the most of each list: 512 nodes, 4,096 machines, 4,096 constraints.
+MEASUREMENTS = {
+    "names-1": lambda: instance(512, 4096, 4096, 20),
+    "names-8": lambda: instance(512, 4096, 4096, 200),
+    "names-32": lambda: instance(512, 4096, 4096, 800),
+    "names-64": lambda: instance(512, 4096, 4096, 1660),
+    "blanks-1": lambda: blanks(MIB),
+    "blanks-64": lambda: blanks(MOST),
+    "blanks-past": lambda: blanks(MOST + 1),
+    "zeros-8": lambda: zeros(8 * MIB),
+    "zeros-64": lambda: zeros(MOST),
+}
+
+
+def run(folder, pieces):
+    """Runs `plan` on this text: its bytes, status, seconds, what the system says that it used, and its last line."""
+    file = os.path.join(folder, "instance.json")
+    with open(file, "w", encoding="ascii") as it:
+        for piece in pieces:
+            it.write(piece)
+    words = [PROGRAM, "plan", file, os.path.join(folder, "plan.json"), os.path.join(folder, "certificate.txt")]
+    begun = time.monotonic()
+    with subprocess.Popen(words, stdin=subprocess.DEVNULL, stdout=subprocess.PIPE) as ran:
+        line = ran.stdout.read().decode().rstrip("\n")
+        _, status, usage = os.wait4(ran.pid, 0)
+        seconds = time.monotonic() - begun
+        ran.returncode = os.waitstatus_to_exitcode(status)
+    return os.path.getsize(file), ran.returncode, seconds, usage, line
+
+
+def main():
+    # It builds the program where that is due. Without words it prints `words`, status 3.
+    built = subprocess.run([os.path.join(TOP, "btrplan")], stdin=subprocess.DEVNULL, stdout=subprocess.DEVNULL)
+    if built.returncode > 7:
+        return built.returncode
+    wanted = tuple(sys.argv[1:])
+    print(f"{'measurement':<12} {'bytes':>10} {'status':>6} {'seconds':>8} {'cpu s':>7} {'MB/s':>7} {'peak MiB':>8}  line")
+    with tempfile.TemporaryDirectory(prefix="btrplan-bench-") as folder:
+        for name, pieces in MEASUREMENTS.items():
+            if wanted and not name.startswith(wanted):
+                continue
+            size, status, seconds, used, line = run(folder, pieces())
+            cpu = used.ru_utime + used.ru_stime
+            print(f"{name:<12} {size:>10} {status:>6} {seconds:>8.2f} {cpu:>7.2f} {size / 1e6 / cpu:>7.1f} {used.ru_maxrss / 1024:>8.0f}  {line}", flush=True)
+    return 0
+
+
+if __name__ == "__main__":
+    sys.exit(main())
