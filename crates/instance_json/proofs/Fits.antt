@@ -19,7 +19,7 @@ use Rattle.cluster.proofs.Finding.{position-Some}
 use Rattle.instance_json.specs.declared.fault.InstanceFault.{InstanceFault}
 use Rattle.instance_json.specs.declared.fault.InstanceFault.TheVariants.{NoSuch}
 use Rattle.instance_json.specs.Walk.{Walk, named, looked, bad, maybe, whole, whole_or}
-use Rattle.instance_json.specs.Names.{name_of, listed_resource}
+use Rattle.instance_json.specs.Names.{name_text_of, listed_resource}
 use Rattle.instance_json.specs.Words.{kind_word, machine_kinds, node_kinds, all_kinds}
 use Rattle.instance_json.specs.Keys.{duration_keys}
 use Rattle.instance_json.specs.Durations.{counted_of, duration_of, own_of, none_given, own_step, owns_of, machine_owns_of, node_owns_of, one_instant}
@@ -91,7 +91,7 @@ position-lt rs name r h = let below = position-Some (bytes_eq name) rs r [] h in
 resource-lt : (rs : List (List ℕ)) (d : Data) (path : List ℕ) (r : ℕ) → listed_resource rs d path ≡ Ok r → nat_lt r (length rs) ≡ true
 unfolding listed_resource
 resource-lt rs d path r h =
-    let name = step (name_of d path) (λ name. ok_or (position (bytes_eq name) rs) (NoSuch path)) r h in
+    let name = step (name_text_of d path) (λ name. ok_or (position (bytes_eq name) rs) (NoSuch path)) r h in
     by name.value (position (bytes_eq name.value) rs) refl name.rest
   where
     by : (name : List ℕ) (o : Option ℕ) → position (bytes_eq name) rs ≡ o → ok_or o (NoSuch path) ≡ Ok r → nat_lt r (length rs) ≡ true

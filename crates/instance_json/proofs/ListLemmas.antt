@@ -12,7 +12,7 @@ use Rattle.catalogue.specs.declared.seen.Seen.{Seen}
 use Rattle.catalogue.specs.Seen.{has_seen}
 use Rattle.catalogue.specs.Faults.{is_member, differ, all_of, are_nodes}
 use Rattle.instance_json.specs.Listed.{AreMarked}
-use Rattle.instance_json.specs.NodeSets.{no_nodes, with_node, IsWithin, are_groups}
+use Rattle.instance_json.specs.NodeSets.{no_nodes, with_node, is_listed_set, are_listed_sets}
 use Rattle.instance_json.proofs.NodeLemmas.{has_node-no_nodes, has_node-with_node}
 use Rattle.instance_json.proofs.Steps.{both, both_left, both_right}
 
@@ -64,23 +64,26 @@ AreMarked-close s ps vs old = rw (append-nil (all_of (ps ++ vs ∷ [])), all_of-
 
 -- ---- nodes
 
-pub IsWithin_none : (count : ℕ) → IsWithin count no_nodes
-IsWithin_none count = record { none = λ m le. has_node-no_nodes m }
+none-in-empty : (a n : ℕ) → list_all (λ m. not (has_node no_nodes m)) (range_with_len a n) ≡ true
+none-in-empty a zero = refl
+none-in-empty a (suc n) = both (ap not (has_node-no_nodes a)) (none-in-empty (a + 1) n)
 
-pub IsWithin_with : (count : ℕ) (s : NodeSet) (n : ℕ) → n < 512 → n < count → IsWithin count s → IsWithin count (with_node s n)
-IsWithin_with count s n small below old = record { none = λ m le. has_node-with_node s n m small ∙ other m le }
-  where
-    other : (m : ℕ) → count ≤ m → ((m == n) || has_node s m) ≡ false
-    other m le = let rest : has_node s m ≡ false = old.none m le in grind (arith, common_steps)
+pub no_nodes_listed : (k : Inventory) → is_listed_set k no_nodes ≡ true
+unfolding is_listed_set
+no_nodes_listed k = none-in-empty (length k.nodes) _
 
-none-in-range : (p : ℕ → Bool) (a n : ℕ) → ((m : ℕ) → a ≤ m → p m ≡ false) → list_all (λ m. not (p m)) (range_with_len a n) ≡ true
-none-in-range p a zero none = refl
-none-in-range p a (suc n) none = both (ap not (none a (omega arith))) (none-in-range p (a + 1) n (λ m le. none m (omega arith)))
+none-in-with : (s : NodeSet) (x a n : ℕ) → x < 512 → x < a → list_all (λ m. not (has_node s m)) (range_with_len a n) ≡ true
+    → list_all (λ m. not (has_node (with_node s x) m)) (range_with_len a n) ≡ true
+none-in-with s x a zero small below old = refl
+none-in-with s x a (suc n) small below old =
+    let apart : (a == x) ≡ false = grind (arith, common_steps) in
+    both (ap not (has_node-with_node s x a small) ∙ ap (λ b. not (b || has_node s a)) apart ∙ both_left (not (has_node s a)) _ old)
+    (none-in-with s x (a + 1) n small (omega arith) (both_right (not (has_node s a)) _ old))
 
--- a set within the nodes is one of listed nodes
-pub are_nodes_within : (k : Inventory) (s : NodeSet) → IsWithin (length k.nodes) s → are_nodes k s ≡ true
-are_nodes_within k s within = none-in-range (has_node s) (length k.nodes) _ within.none
+pub is_listed_set_with : (k : Inventory) (s : NodeSet) (n : ℕ) → n < 512 → n < length k.nodes → is_listed_set k s ≡ true → is_listed_set k (with_node s n) ≡ true
+unfolding is_listed_set
+is_listed_set_with k s n small below old = none-in-with s n (length k.nodes) _ small below old
 
-pub no_groups : (k : Inventory) → are_groups k [] ≡ true
-unfolding are_groups
-no_groups k = refl
+pub no_sets_listed : (k : Inventory) → are_listed_sets k [] ≡ true
+unfolding are_listed_sets
+no_sets_listed k = refl

@@ -22,6 +22,7 @@ counted_of resources per (Some d) path = do
   r ← listed_resource resources d path
   Ok (Some r)
 
+-- a duration, whose value is base + per * amount
 unfoldable pub duration_of : List (List ℕ) → Test Duration
 duration_of resources d path = do
   base ← whole 1 1000000 d path (codes "base")
@@ -40,6 +41,7 @@ own_of resources d path = do
 unfoldable pub none_given : List (Option Duration)
 none_given = replicate 10 None
 
+-- the duration of one more kind, at its place among the ten
 unfoldable pub own_step : List (List ℕ) → Data → List ℕ → ℕ → ℕ → List (Option Duration) → Kind → Walk (List (Option Duration))
 own_step resources d path first place own kind = do
   one ← maybe None (own_of resources) d path (kind_word kind)

@@ -25,6 +25,7 @@ use Rattle.instance_json.specs.Durations.{machine_owns_of, node_owns_of}
 unfoldable pub no_amounts : List ℕ
 no_amounts = replicate 8 0
 
+-- the amount of one more resource; 0 where it is not given
 unfoldable pub amount_step : Data → List ℕ → ℕ → List ℕ → List ℕ → Walk (List ℕ)
 amount_step d path place amounts resource = do
   n ← whole_or 0 0 1000000000 d path resource
@@ -40,6 +41,7 @@ amounts_of resources d path = do
 
 -- ---- nodes
 
+-- a node, online where nothing else is said
 unfoldable pub node_of : Inventory → Test Node
 node_of k d path = do
   name ← needed (new_name_of k) d path (codes "name")
@@ -49,11 +51,13 @@ node_of k d path = do
   looked (only_of d path node_keys)
   Ok (record { name = name; online = online; capacity = capacity; own = own })
 
+-- one more node
 unfoldable pub node_step : List ℕ → ℕ → Inventory → Data → Walk Inventory
 node_step path place k d = do
   node ← node_of k d (item_path path place)
   Ok (record k { nodes = k.nodes ++ node ∷ [] })
 
+-- at most 512 nodes
 unfoldable pub nodes_of : Inventory → Test Inventory
 nodes_of k d path = do
   values ← looked (list_of d path)
@@ -69,7 +73,7 @@ host_of k d path = do
   wants (is_online k.nodes n.0) (BadHost path)
   Ok n
 
--- a running or a sleeping machine has a host
+-- the state of that word: a running or a sleeping machine has a host
 unfoldable pub state_named : Inventory → List ℕ → Data → List ℕ → Walk State
 state_named k word d path =
     if bytes_eq word (codes "init") then Ok Init
@@ -79,6 +83,7 @@ state_named k word d path =
     else (if bytes_eq word (codes "gone") then Ok Gone
     else Err (bad (key_path path (codes "state")) Unknown)))))
 
+-- the state of a machine
 unfoldable pub state_of : Inventory → Data → List ℕ → Walk State
 state_of k d path = do
   word ← looked (text_field_of d path (codes "state"))
@@ -92,6 +97,7 @@ keys_in Init = machine_keys
 keys_in Ready = machine_keys
 keys_in Gone = machine_keys
 
+-- a machine
 unfoldable pub machine_of : Inventory → Test Machine
 machine_of k d path = do
   name ← needed (new_name_of k) d path (codes "name")
@@ -101,11 +107,13 @@ machine_of k d path = do
   looked (only_of d path (keys_in state))
   Ok (record { name = name; state = state; usage = usage; own = own })
 
+-- one more machine
 unfoldable pub machine_step : List ℕ → ℕ → Inventory → Data → Walk Inventory
 machine_step path place k d = do
   machine ← machine_of k d (item_path path place)
   Ok (record k { machines = k.machines ++ machine ∷ [] })
 
+-- at most 4,096 machines
 unfoldable pub machines_of : Inventory → Test Inventory
 machines_of k d path = do
   values ← looked (list_of d path)

@@ -22,6 +22,7 @@ base_of d path = do
   durations ← durations_of resources d path
   Ok (record { resources = resources; durations = durations; nodes = []; machines = [] })
 
+-- what there is
 unfoldable pub inventory_in : Test Inventory
 inventory_in d path = do
   base ← base_of d path
@@ -32,18 +33,21 @@ inventory_in d path = do
 abbrev pub begun : Inventory → ℕ → Instance
 begun k horizon = record { resources = k.resources; durations = k.durations; nodes = k.nodes; machines = k.machines; horizon = horizon; constraints = [] }
 
+-- the members of the root, in their order
 unfoldable pub problem_in : Test Instance
 problem_in d path = do
   horizon ← whole 0 1000000 d path (codes "horizon")
   inventory ← inventory_in d path
   needed (constraints_of (begun inventory horizon)) d path (codes "constraints")
 
+-- the members, and then no other key
 unfoldable pub walk : Data → Walk Instance
 walk d = do
   p ← problem_in d root
   looked (only_of d root root_keys)
   Ok p
 
+-- at most 67,108,864 bytes, which are JSON, and its walk
 unfoldable pub instance_of : List ℕ → Walk Instance
 instance_of bytes = do
   wants (nat_le (length bytes) 67108864) TooLong

@@ -31,15 +31,17 @@ machines_after k before d path = do
   values ← looked (list_of d path)
   each (machine_item k before path) 0 [] values
 
+-- a list of machines that differ
 abbrev pub machines_in : Inventory → Test (List VmId)
 machines_in k = machines_after k []
 
+-- one more part
 unfoldable pub part_step : Inventory → List ℕ → ℕ → List (List VmId) → Data → Walk (List (List VmId))
 part_step k path place parts d = do
   part ← machines_after k (all_of parts) d (item_path path place)
   Ok (parts ++ part ∷ [])
 
--- lists of machines that differ over all lists
+-- at most 4,096 lists of machines, which differ over all lists
 unfoldable pub parts_in : Inventory → Test (List (List VmId))
 parts_in k d path = do
   values ← looked (list_of d path)
@@ -48,6 +50,7 @@ parts_in k d path = do
 
 -- ---- nodes
 
+-- One more node, which is not in the list so far; of its two tests the same holds.
 unfoldable pub node_item : Inventory → List ℕ → ℕ → NodeSet → Data → Walk NodeSet
 node_item k path place found d = do
   n ← listed_node k d (item_path path place)
@@ -60,6 +63,7 @@ nodes_in k d path = do
   values ← looked (list_of d path)
   each (node_item k path) 0 no_nodes values
 
+-- one more group
 unfoldable pub group_step : Inventory → List ℕ → ℕ → List NodeSet → Data → Walk (List NodeSet)
 group_step k path place groups d = do
   group ← nodes_in k d (item_path path place)

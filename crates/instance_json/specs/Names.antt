@@ -18,8 +18,8 @@ use Rattle.instance_json.specs.declared.fault.InstanceFault.TheVariants.{Twice, 
 use Rattle.instance_json.specs.Walk.{Walk, Test, looked, bad}
 
 -- a text that is a well-formed name
-unfoldable pub name_of : Test (List ℕ)
-name_of d path = do
+unfoldable pub name_text_of : Test (List ℕ)
+name_text_of d path = do
   text ← looked (text_of d path)
   wants (is_name text) (bad path OutOfRange)
   Ok text
@@ -29,17 +29,18 @@ name_of d path = do
 -- the name of one more element
 unfoldable pub new_name_of : Inventory → Test (List ℕ)
 new_name_of k d path = do
-  name ← name_of d path
+  name ← name_text_of d path
   wants (not (is_taken k name)) (Twice path)
   Ok name
 
 -- the name of one more resource
 unfoldable pub resource_step : List ℕ → ℕ → List (List ℕ) → Data → Walk (List (List ℕ))
 resource_step path place resources d = do
-  name ← name_of d (item_path path place)
+  name ← name_text_of d (item_path path place)
   wants (not (list_any (bytes_eq name) resources)) (Twice (item_path path place))
   Ok (resources ++ name ∷ [])
 
+-- at most 8 names of resources, which differ
 unfoldable pub resources_of : Test (List (List ℕ))
 resources_of d path = do
   values ← looked (list_of d path)
@@ -48,30 +49,32 @@ resources_of d path = do
 
 -- ---- names that are used
 
-abbrev pub machine_of : Option Element → Option VmId
-machine_of None = None
-machine_of (Some (Vm v)) = Some v
-machine_of (Some (NodeElement n)) = None
+-- an element that is a machine
+abbrev pub as_machine : Option Element → Option VmId
+as_machine None = None
+as_machine (Some (Vm v)) = Some v
+as_machine (Some (NodeElement n)) = None
 
-abbrev pub node_of : Option Element → Option NodeId
-node_of None = None
-node_of (Some (Vm v)) = None
-node_of (Some (NodeElement n)) = Some n
+-- an element that is a node
+abbrev pub as_node : Option Element → Option NodeId
+as_node None = None
+as_node (Some (Vm v)) = None
+as_node (Some (NodeElement n)) = Some n
 
 -- the listed machine that has the name
 unfoldable pub listed_machine : Inventory → Test VmId
 listed_machine k d path = do
-  name ← name_of d path
-  ok_or (machine_of (element_named k name)) (NoSuch path)
+  name ← name_text_of d path
+  ok_or (as_machine (element_named k name)) (NoSuch path)
 
 -- the listed node that has the name
 unfoldable pub listed_node : Inventory → Test NodeId
 listed_node k d path = do
-  name ← name_of d path
-  ok_or (node_of (element_named k name)) (NoSuch path)
+  name ← name_text_of d path
+  ok_or (as_node (element_named k name)) (NoSuch path)
 
 -- the listed resource that has the name
 unfoldable pub listed_resource : List (List ℕ) → Test ℕ
 listed_resource resources d path = do
-  name ← name_of d path
+  name ← name_text_of d path
   ok_or (position (bytes_eq name) resources) (NoSuch path)

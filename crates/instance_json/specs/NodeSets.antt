@@ -1,5 +1,5 @@
 -- Sets of nodes, made one node at a time.
-use Rattle.std.specs.Prelude.{◌≡◌, ℕ, ◌<◌, ◌/◌, ◌%◌, ◌^◌, List, length, replicate, bit_or, slice_index, slice_set, Bool, false, refl}
+use Rattle.std.specs.Prelude.{◌≡◌, ℕ, ◌<◌, ◌/◌, ◌%◌, ◌^◌, List, length, replicate, bit_or, slice_index, slice_set, Bool, refl}
 use Rattle.std.proofs.Common.{◌∙◌, arith, lit<, subst, sym, ⊎_elim, ◌≤◌}
 use Rattle.std.proofs.lemmas.Bool.{cases_lt}
 use Rattle.std.proofs.lemmas.Nat.{or_lt}
@@ -9,7 +9,6 @@ use Rattle.std.proofs.Math.Pow.{pow-lt}
 use Rattle.std.specs.List.{list_all}
 use Rattle.cluster.specs.declared.sets.NodeSet.{NodeSet}
 use Rattle.cluster.specs.Words.{IsBits}
-use Rattle.cluster.specs.Sets.{has_node}
 use Rattle.cluster.specs.Inventory.{Inventory}
 use Rattle.catalogue.specs.Faults.{are_nodes}
 
@@ -42,10 +41,10 @@ no_nodes = record { words = replicate 8 0; bits = IsBits-none }
 unfoldable pub with_node : NodeSet → ℕ → NodeSet
 with_node s n = record { words = words_with s.words n; bits = IsBits-words_with s.words n s.bits }
 
--- no node from that number on
-pub record IsWithin (count : ℕ) (s : NodeSet) : Type 0 where
-  pub none : (m : ℕ) → count ≤ m → has_node s m ≡ false
+-- whether the set has listed nodes alone
+unfoldable pub is_listed_set : Inventory → NodeSet → Bool
+is_listed_set k s = are_nodes k s
 
 -- whether each set has listed nodes alone
-unfoldable pub are_groups : Inventory → List NodeSet → Bool
-are_groups k gs = list_all (are_nodes k) gs
+unfoldable pub are_listed_sets : Inventory → List NodeSet → Bool
+are_listed_sets k sets = list_all (are_nodes k) sets

@@ -40,12 +40,14 @@ continuous_at d path = flag_or false d path (codes "continuous")
 
 -- ---- the fields of a constraint, in their order
 
+-- root, running, sleeping, ready, killed
 unfoldable pub machines_fields : Inventory → Test (List VmId)
 machines_fields k d path = do
   machines ← machines_at k d path
   looked (only_of d path machines_keys)
   Ok machines
 
+-- spread, gather, lonely
 unfoldable pub flagged_machines_fields : Inventory → Test (List VmId × Bool)
 flagged_machines_fields k d path = do
   machines ← machines_at k d path
@@ -53,6 +55,7 @@ flagged_machines_fields k d path = do
   looked (only_of d path flagged_machines_keys)
   Ok (machines, continuous)
 
+-- ban, fence
 unfoldable pub both_fields : Inventory → Test (List VmId × NodeSet × Bool)
 both_fields k d path = do
   machines ← machines_at k d path
@@ -93,6 +96,7 @@ resource_capacity_of k d path = do
   looked (only_of d path resource_capacity_keys)
   Ok (rules.ResourceCapacity nodes resource amount continuous)
 
+-- runningCapacity, maxOnline
 unfoldable pub counted_nodes_fields : Inventory → Test (NodeSet × ℕ × Bool)
 counted_nodes_fields k d path = do
   nodes ← nodes_at k d path
@@ -110,6 +114,7 @@ overbook_of k d path = do
   looked (only_of d path overbook_keys)
   Ok (rules.Overbook nodes resource num den)
 
+-- online, offline
 unfoldable pub nodes_fields : Inventory → Test NodeSet
 nodes_fields k d path = do
   nodes ← nodes_at k d path
@@ -118,6 +123,7 @@ nodes_fields k d path = do
 
 -- ---- constraints
 
+-- a constraint of that kind
 unfoldable pub rule_of : Inventory → RuleKind → Test Constraint
 rule_of k Spread d path = flagged_machines_fields k d path >>= λ x. Ok (rules.Spread x.0 x.1)
 rule_of k Gather d path = flagged_machines_fields k d path >>= λ x. Ok (rules.Gather x.0 x.1)
@@ -139,17 +145,20 @@ rule_of k Sleeping d path = machines_fields k d path >>= λ vs. Ok (rules.Sleepi
 rule_of k Ready d path = machines_fields k d path >>= λ vs. Ok (rules.Ready vs)
 rule_of k Killed d path = machines_fields k d path >>= λ vs. Ok (rules.Killed vs)
 
+-- a constraint
 unfoldable pub constraint_of : Inventory → Test Constraint
 constraint_of k d path = do
   word ← looked (text_field_of d path (codes "kind"))
   kind ← ok_or (rule_kind word) (bad (key_path path (codes "kind")) Unknown)
   rule_of k kind d path
 
+-- one more constraint
 unfoldable pub constraint_step : List ℕ → ℕ → Instance → Data → Walk Instance
 constraint_step path place p d = do
   c ← constraint_of (inventory_of p) d (item_path path place)
   Ok (record p { constraints = p.constraints ++ c ∷ [] })
 
+-- at most 4,096 constraints
 unfoldable pub constraints_of : Instance → Test Instance
 constraints_of p d path = do
   values ← looked (list_of d path)

@@ -8,6 +8,7 @@ use Rattle.instance_json.specs.declared.words.RuleKind.TheVariants.{Spread, Gath
 
 -- ---- kinds of actions
 
+-- the word of a kind
 unfoldable pub kind_word : Kind → List ℕ
 kind_word Forge = codes "forge"
 kind_word Boot = codes "boot"
@@ -20,6 +21,7 @@ kind_word Kill = codes "kill"
 kind_word NodeBoot = codes "node_boot"
 kind_word NodeShutdown = codes "node_shutdown"
 
+-- the kinds of machines, of nodes, and all ten, in their order
 unfoldable pub machine_kinds : List Kind
 machine_kinds = Forge ∷ Boot ∷ Shutdown ∷ Suspend ∷ Resume ∷ Migrate ∷ Allocate ∷ Kill ∷ []
 
@@ -31,6 +33,7 @@ all_kinds = machine_kinds ++ node_kinds
 
 -- ---- kinds of constraints
 
+-- the kind of constraint that a word names
 unfoldable pub rule_kind : List ℕ → Option RuleKind
 rule_kind text =
     if bytes_eq text (codes "spread") then Some Spread

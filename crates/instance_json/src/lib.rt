@@ -16,3 +16,6 @@ mod words;
 
 pub use fault::InstanceFault;
 pub use read::read_instance;
+
+#[cfg(test)]
+mod tests;

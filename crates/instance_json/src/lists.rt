@@ -8,7 +8,7 @@ ghost use Rattle.json_walk.specs.Walk.{Gives};
 ghost use Rattle.json_walk.specs.Each.{each};
 ghost use Rattle.catalogue.specs.Faults.{are_machines, are_nodes, differ, all_of};
 ghost use Rattle.instance_json.specs.Walk.{named, needed};
-ghost use Rattle.instance_json.specs.NodeSets.{no_nodes, with_node, IsWithin, are_groups};
+ghost use Rattle.instance_json.specs.NodeSets.{no_nodes, with_node, is_listed_set, are_listed_sets};
 ghost use Rattle.instance_json.specs.Lists.{machine_item, machines_after, machines_in, part_step, parts_in, node_item, nodes_in, group_step, groups_in};
 
 use crate::fault::InstanceFault;
@@ -199,7 +199,7 @@ fn insert(set: &mut NodeSet, n: NodeId)
     set.insert(n);
 }
 
-#[tactic(auto, using(crate::proofs::ListLemmas::IsWithin_with), unfolding(crate::specs::Lists::node_item))]
+#[tactic(auto, using(crate::proofs::ListLemmas::is_listed_set_with), unfolding(crate::specs::Lists::node_item))]
 fn push_node(
     alloc: Global,
     cluster: &Cluster,
@@ -210,7 +210,7 @@ fn push_node(
 ) -> Result<(), InstanceFault>
     ensures gives { Gives named (λ _. set.new) result
         (node_item cluster.now.given (path_of path.now) place set.old (view value.now)) }
-    ensures within { OnOk result (IsWithin (length cluster.now.given.nodes) set.old → IsWithin (length cluster.now.given.nodes) set.new) }
+    ensures listed { OnOk result (is_listed_set cluster.now.given set.old ≡ true → is_listed_set cluster.now.given set.new ≡ true) }
 {
     let n = names::node(alloc, cluster, value, &path.item(place))?;
     if set.has(n) {
@@ -220,7 +220,7 @@ fn push_node(
     Ok(())
 }
 
-#[tactic(auto, using(json_walk::proofs::Each::loop_rules, crate::proofs::ListLemmas::IsWithin_none))]
+#[tactic(auto, using(json_walk::proofs::Each::loop_rules, crate::proofs::ListLemmas::no_nodes_listed))]
 fn nodes_from(
     alloc: Global,
     cluster: &Cluster,
@@ -229,7 +229,7 @@ fn nodes_from(
 ) -> Result<NodeSet, InstanceFault>
     ensures gives { Gives named (λ s. s) result
         (each (node_item cluster.now.given (path_of path.now)) 0 no_nodes (map view values.now)) }
-    ensures within { IfOk result (IsWithin (length cluster.now.given.nodes)) }
+    ensures listed { IfOk result (λ s. is_listed_set cluster.now.given s ≡ true) }
 {
     let mut set = no_nodes();
     for (i, value) in values.iter().enumerate() {
@@ -239,7 +239,7 @@ fn nodes_from(
 }
 
 /// A list of nodes that differ.
-#[tactic(auto, using(crate::proofs::ListLemmas::are_nodes_within), unfolding(crate::specs::Lists::nodes_in))]
+#[tactic(auto, unfolding(crate::specs::Lists::nodes_in, crate::specs::NodeSets::is_listed_set))]
 fn nodes(
     alloc: Global,
     cluster: &Cluster,
@@ -270,7 +270,7 @@ pub(crate) fn nodes_at(
     nodes(alloc, cluster, found, &path.key("nodes"))
 }
 
-#[tactic(auto, using(crate::proofs::ListLemmas::list_all_more), unfolding(crate::specs::Lists::group_step, crate::specs::NodeSets::are_groups))]
+#[tactic(auto, using(crate::proofs::ListLemmas::list_all_more), unfolding(crate::specs::Lists::group_step, crate::specs::NodeSets::are_listed_sets))]
 fn push_group(
     alloc: Global,
     cluster: &Cluster,
@@ -281,7 +281,7 @@ fn push_group(
 ) -> Result<(), InstanceFault>
     ensures gives { Gives named (λ _. groups.new.items) result
         (group_step cluster.now.given (path_of path.now) place groups.old.items (view value.now)) }
-    ensures listed { OnOk result (are_groups cluster.now.given groups.old.items ≡ true → are_groups cluster.now.given groups.new.items ≡ true) }
+    ensures listed { OnOk result (are_listed_sets cluster.now.given groups.old.items ≡ true → are_listed_sets cluster.now.given groups.new.items ≡ true) }
     ensures longer { OnOk result (length groups.new.items ≡ length groups.old.items + 1) }
 {
     let group = nodes(alloc, cluster, value, &path.item(place))?;
@@ -289,7 +289,7 @@ fn push_group(
     Ok(())
 }
 
-#[tactic(auto, using(json_walk::proofs::Each::loop_rules, crate::proofs::ListLemmas::no_groups))]
+#[tactic(auto, using(json_walk::proofs::Each::loop_rules, crate::proofs::ListLemmas::no_sets_listed))]
 fn groups_from(
     alloc: Global,
     cluster: &Cluster,
@@ -298,7 +298,7 @@ fn groups_from(
 ) -> Result<Vec<NodeSet>, InstanceFault>
     ensures gives { Gives named (λ gs. gs.items) result
         (each (group_step cluster.now.given (path_of path.now)) 0 [] (map view values.now)) }
-    ensures listed { IfOk result (λ gs. are_groups cluster.now.given gs.items ≡ true) }
+    ensures listed { IfOk result (λ gs. are_listed_sets cluster.now.given gs.items ≡ true) }
     ensures as_many { IfOk result (λ gs. length gs.items ≡ length values.now) }
 {
     let mut groups = Vec::new(alloc);
@@ -317,7 +317,7 @@ fn groups(
 ) -> Result<Groups, InstanceFault>
     ensures gives { Gives named (λ gs. gs) result
         (groups_in cluster.now.given (view value.now) (path_of path.now)) }
-    ensures listed { IfOk result (λ gs. are_groups cluster.now.given gs ≡ true) }
+    ensures listed { IfOk result (λ gs. are_listed_sets cluster.now.given gs ≡ true) }
     ensures some { IfOk result (λ gs. nat_lt 0 (length gs) ≡ true) }
     ensures few { IfOk result (λ gs. nat_le (length gs) 512 ≡ true) }
 {
@@ -341,7 +341,7 @@ pub(crate) fn groups_at(
 ) -> Result<Groups, InstanceFault>
     ensures gives { Gives named (λ gs. gs) result
         (needed (groups_in cluster.now.given) (view value.now) (path_of path.now) (codes "groups")) }
-    ensures listed { IfOk result (λ gs. are_groups cluster.now.given gs ≡ true) }
+    ensures listed { IfOk result (λ gs. are_listed_sets cluster.now.given gs ≡ true) }
     ensures some { IfOk result (λ gs. nat_lt 0 (length gs) ≡ true) }
     ensures few { IfOk result (λ gs. nat_le (length gs) 512 ≡ true) }
 {

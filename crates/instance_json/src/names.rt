@@ -10,7 +10,7 @@ ghost use Rattle.json_walk.specs.Each.{each};
 ghost use Rattle.cluster.specs.Names.{is_name};
 ghost use Rattle.cluster.specs.Inventory.{is_taken, are_distinct};
 ghost use Rattle.instance_json.specs.Walk.{named};
-ghost use Rattle.instance_json.specs.Names.{name_of, new_name_of, resource_step, resources_of, listed_machine, listed_node, listed_resource};
+ghost use Rattle.instance_json.specs.Names.{name_text_of, new_name_of, resource_step, resources_of, listed_machine, listed_node, listed_resource};
 
 use crate::fault::InstanceFault;
 use cluster::ids::{Element, NodeId, VmId};
@@ -22,9 +22,9 @@ use serde_json::Value;
 use std::alloc::Global;
 
 /// The text of a well-formed name.
-#[tactic(auto, unfolding(crate::specs::Names::name_of))]
+#[tactic(auto, unfolding(crate::specs::Names::name_text_of))]
 fn name_text<'a>(alloc: Global, value: &'a Value, path: &PathRef) -> Result<&'a str, InstanceFault>
-    ensures gives { Gives named (λ s. s.now) result (name_of (view value.now) (path_of path.now)) }
+    ensures gives { Gives named (λ s. s.now) result (name_text_of (view value.now) (path_of path.now)) }
     ensures well_formed { IfOk result (λ s. is_name s.now ≡ true) }
 {
     let text = json_walk::text_at(alloc, value, path)?;

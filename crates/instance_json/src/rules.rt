@@ -100,7 +100,7 @@ fn both_fields(
 }
 
 /// A constraint `among`.
-#[tactic(auto, unfolding(crate::specs::Rules::among_of, crate::specs::NodeSets::are_groups))]
+#[tactic(auto, unfolding(crate::specs::Rules::among_of, crate::specs::NodeSets::are_listed_sets))]
 fn among(
     alloc: Global,
     cluster: &Cluster,

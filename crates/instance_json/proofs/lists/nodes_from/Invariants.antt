@@ -1,10 +1,10 @@
-use Rattle.std.proofs.Common.{length}
+use Rattle.std.proofs.Common.{◌≡◌, true}
 use Rattle.serde_json.specs.View.{view}
 use Rattle.json_walk.specs.PathRef.{path_of}
 use Rattle.json_walk.proofs.Each.{StandsAt}
-use Rattle.instance_json.specs.NodeSets.{no_nodes, IsWithin}
+use Rattle.instance_json.specs.NodeSets.{no_nodes, is_listed_set}
 use Rattle.instance_json.specs.Lists.{node_item}
 use Rattle.instance_json.proofs.lists.nodes_from.Given as goal
 
 abbrev pub invariant-loop-i : goal.invariant-loop-i
-invariant-loop-i l = StandsAt (node_item l.cluster.given (path_of l.path)) view l.values l.i l.set no_nodes × IsWithin (length l.cluster.given.nodes) l.set
+invariant-loop-i l = StandsAt (node_item l.cluster.given (path_of l.path)) view l.values l.i l.set no_nodes × (is_listed_set l.cluster.given l.set ≡ true)
