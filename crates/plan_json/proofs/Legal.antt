@@ -15,7 +15,7 @@ use Rattle.slices.specs.Plans.{PlanChoices, parted, choices_of, IsPlanOf}
 use Rattle.slices.proofs.StartLemmas.{number_of-lt, element_at-number_of}
 use Rattle.plan_json.specs.Plans.{Chosen, choice_at, none_chosen, IsChosen, or_idle, is_missing, missing}
 
-none_at : (n x : ℕ) → choice_at (replicate n None) x ≡ None
+pub none_at : (n x : ℕ) → choice_at (replicate n None) x ≡ None
 none_at zero x = refl
 none_at (suc n) zero = refl
 none_at (suc n) (suc x) = none_at n x
@@ -74,10 +74,10 @@ choices_of-parted : (p : Instance) (choices : List Choice) (e : Element) → IsE
 choices_of-parted p choices (Vm v) there = get_or-take (machine_count p) choices v.0 Idle there
 choices_of-parted p choices (TheNode n) there = get_or-drop (machine_count p) choices n.0 Idle
 
-chosen_at : (p : Instance) (chosen : Chosen) (e : Element) → IsElement p e → IsChosen p chosen
+pub chosen_at : (p : Instance) (chosen : Chosen) (e : Element) → IsElement p e → length chosen ≡ element_count p
     → choices_of (parted p (map or_idle chosen)) e ≡ or_idle (choice_at chosen (number_of p e))
-chosen_at p chosen e there is =
-    let within : number_of p e < length chosen = omega (arith, number_of-lt p e there, is.places) in
+chosen_at p chosen e there places =
+    let within : number_of p e < length chosen = omega (arith, number_of-lt p e there, places) in
     choices_of-parted p (map or_idle chosen) e there ∙ get_or-map or_idle chosen (number_of p e) None Idle within
 
 -- then each element has one legal choice
@@ -87,7 +87,7 @@ all_legal p chosen is none =
     record {
       machines = omega (arith, length-take (machine_count p) (map or_idle chosen), count);
       nodes = omega (arith, length-drop (machine_count p) (map or_idle chosen), count);
-      legal = λ e there. (rw (chosen_at p chosen e there is)
+      legal = λ e there. (rw (chosen_at p chosen e there is.places)
           (rw (element_at-number_of p e there) at (each_legal p chosen (number_of p e) is none (number_of-lt p e there))));
     }
 

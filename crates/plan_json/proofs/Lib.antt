@@ -1,2 +1,5 @@
 pub mod Missing
 pub mod Legal
+pub mod Printed
+pub mod Again
+pub mod ReadBack

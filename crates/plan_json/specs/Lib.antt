@@ -3,3 +3,4 @@ pub mod Words
 pub mod Actions
 pub mod Plans
 pub mod Texts
+pub mod Print

@@ -1,11 +1,17 @@
-//! Plans as text: the plan that a text has for a problem, or the text's first fault.
+//! Plans as text: the plan that a text has for a problem, or the text's first fault; and the text
+//! of a plan.
 #![tactic(auto)]
 
 mod actions;
 mod fault;
 mod fields;
+mod printing;
 mod reading;
 mod words;
 
 pub use fault::PlanFault;
+pub use printing::print_plan;
 pub use reading::read_plan;
+
+#[cfg(test)]
+mod tests;

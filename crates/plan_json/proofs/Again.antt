@@ -1,0 +1,148 @@
+-- One printed action is read again.
+use Rattle.std.proofs.Common.{◌≡◌, ℕ, zero, suc, ◌+◌, ◌<◌, ◌≤◌, ◌&&◌, ◌==◌, Bool, true, false, List, [], ◌∷◌, length, map, nat_lt, nat_le, Option, Some, None, is_some, IsTrue, slice_set, slice_index_or, Ok, if◌then◌else◌, refl, sym, arith, true≢false}
+use Rattle.std.proofs.lemmas.Grind.{common_steps}
+use Rattle.std.proofs.lemmas.Bool.{ltb-true}
+use Rattle.std.proofs.lemmas.List.Elements.{All-head, All-tail}
+use Rattle.std.specs.List.{All}
+use Rattle.json_walk.specs.Path.{item_path}
+use Rattle.json_walk.specs.Walk.{optional, text_of, number_of as whole_of, number_field_of, field_of, only_of}
+use Rattle.cluster.specs.declared.ids.Choice.TheVariants.{Act}
+use Rattle.cluster.specs.declared.ids.Element.{Element}
+use Rattle.cluster.specs.declared.ids.Element.TheVariants.{Vm, Node as TheNode}
+use Rattle.cluster.specs.declared.ids.Kind.{Kind}
+use Rattle.cluster.specs.declared.ids.Kind.TheVariants.{Forge, Boot, Shutdown, Suspend, Resume, Migrate, Allocate, Kill, NodeBoot, NodeShutdown}
+use Rattle.cluster.specs.declared.ids.NodeId.{NodeId}
+use Rattle.cluster.specs.declared.ids.Place.{Place}
+use Rattle.cluster.specs.declared.ids.Place.TheVariants.{Nowhere, At}
+use Rattle.cluster.specs.Kinds.{kind_number}
+use Rattle.cluster.specs.Names.{is_name}
+use Rattle.cluster.specs.Inventory.{Inventory, IsInventory, IsListed, name_of, is_online}
+use Rattle.cluster.proofs.Finding.{element_named-name_of}
+use Rattle.catalogue.specs.declared.constraint.Target.{Target}
+use Rattle.catalogue.specs.declared.constraint.Target.TheVariants.{Online as ToOnline, Offline as ToOffline, Running as ToRunning, Sleeping as ToSleeping, Ready as ToReady, Killed as ToKilled}
+use Rattle.catalogue.specs.declared.constraint.Wish.{Wish}
+use Rattle.catalogue.specs.declared.constraint.Wish.TheVariants.{Keep, To, Clash}
+use Rattle.catalogue.specs.Instance.{Instance, IsInstance, IsElement, inventory_of}
+use Rattle.catalogue.specs.Values.{wanted_of}
+use Rattle.slices.specs.Elements.{number_of, node_count, state_of}
+use Rattle.slices.specs.Actions.{kind_of, node_kind, machine_kind, settled, is_raised, is_legal, end_of, lasts}
+use Rattle.plan_json.specs.Words.{kind_word, kind_named}
+use Rattle.plan_json.specs.Actions.{named_element, named_place, named_kind, action_keys, action_of}
+use Rattle.plan_json.specs.Plans.{Chosen, choice_at, action_step}
+use Rattle.plan_json.specs.Print.{action_data}
+
+-- ---- names and words
+
+name_at : {A : Type 0} (name : A → List ℕ) (xs : List A) (i : ℕ) → All (λ x. is_name (name x) ≡ true) xs → i < length xs → is_name (slice_index_or (map name xs) i []) ≡ true
+name_at name [] i h lt = absurd (omega arith)
+name_at name (x ∷ xs) zero h lt = All-head (λ y. is_name (name y) ≡ true) x xs h
+name_at name (x ∷ xs) (suc i) h lt = name_at name xs i (All-tail (λ y. is_name (name y) ≡ true) x xs h) (omega arith)
+
+is_name-name_of : (k : Inventory) (e : Element) → IsInventory k → IsListed k e → is_name (name_of k e) ≡ true
+is_name-name_of k (Vm v) is there = name_at (λ m. m.name) k.machines v.0 is.named_machines there
+is_name-name_of k (TheNode n) is there = name_at (λ m. m.name) k.nodes n.0 is.named_nodes there
+
+kind_named-kind_word : (kind : Kind) → kind_named (kind_word kind) ≡ Some kind
+unfolding kind_named kind_word
+kind_named-kind_word Forge = refl
+kind_named-kind_word Boot = refl
+kind_named-kind_word Shutdown = refl
+kind_named-kind_word Suspend = refl
+kind_named-kind_word Resume = refl
+kind_named-kind_word Migrate = refl
+kind_named-kind_word Allocate = refl
+kind_named-kind_word Kill = refl
+kind_named-kind_word NodeBoot = refl
+kind_named-kind_word NodeShutdown = refl
+
+-- ---- what a legal choice says
+
+no_place : (online : Bool) (wish : Wish) (n : NodeId) (kind : Kind) → node_kind online wish (At n) ≡ Some kind → ⊥
+no_place online Clash n kind h = absurd (cc)
+no_place true Keep n kind h = absurd (cc)
+no_place false Keep n kind h = absurd (cc)
+no_place true (To target) n kind h = by target h
+  where
+    by : (target : Target) → node_kind true (To target) (At n) ≡ Some kind → ⊥
+    by ToOnline h = absurd (cc)
+    by ToOffline h = absurd (cc)
+    by ToRunning h = absurd (cc)
+    by ToSleeping h = absurd (cc)
+    by ToReady h = absurd (cc)
+    by ToKilled h = absurd (cc)
+no_place false (To target) n kind h = by target h
+  where
+    by : (target : Target) → node_kind false (To target) (At n) ≡ Some kind → ⊥
+    by ToOnline h = absurd (cc)
+    by ToOffline h = absurd (cc)
+    by ToRunning h = absurd (cc)
+    by ToSleeping h = absurd (cc)
+    by ToReady h = absurd (cc)
+    by ToKilled h = absurd (cc)
+
+by_place : {A : Type 0} (b : Bool) (o : Option A) (a : A) → (if b then o else None) ≡ Some a → b ≡ true
+by_place true o a h = refl
+by_place false o a h = absurd (cc)
+
+-- an action on a node is on one of the instance
+on_node : (p : Instance) (e : Element) (n : NodeId) (kind : Kind) → kind_of p e (At n) ≡ Some kind → n.0 < node_count p
+unfolding kind_of
+on_node p (Vm v) n kind h =
+    ltb-true n.0 (node_count p) (by_place (nat_lt n.0 (node_count p)) (machine_kind (state_of p v.0) (settled (state_of p v.0) (wanted_of p (Vm v))) (is_raised p v.0) (At n)) kind h)
+on_node p (TheNode m) n kind h = absurd (no_place (is_online p.nodes m.0) (wanted_of p (TheNode m)) n kind h)
+
+record Acts (p : Instance) (e : Element) (place : Place) (start : ℕ) : Type 0 where
+  kind : Kind
+  is : kind_of p e place ≡ Some kind
+  early : start ≤ 1000000
+
+found : {A : Type 0} (o : Option A) → is_some o ≡ true → (a : A) × (o ≡ Some a)
+found None h = absurd (cc)
+found (Some a) h = (a, refl)
+
+both_hold : (a b : Bool) → (a && b) ≡ true → (a ≡ true) × (b ≡ true)
+both_hold true b h = (refl, h)
+both_hold false b h = absurd (true≢false (sym h))
+
+acts : (p : Instance) (e : Element) (place : Place) (start : ℕ) → IsInstance p → is_legal p e (Act place start) ≡ true → Acts p e place start
+unfolding is_legal end_of
+acts p e place start is legal =
+    let parts = both_hold (is_some (kind_of p e place)) (nat_le (start + lasts p e (Act place start)) p.horizon) legal in
+    let kind = found (kind_of p e place) parts.0 in
+    let late : start + lasts p e (Act place start) ≤ p.horizon = grind (arith, common_steps) in
+    record { kind = kind.0; is = kind.1; early = omega (arith, is.horizon) }
+
+-- ---- one action
+
+from_zero : (start : ℕ) → start ≤ 1000000 → (nat_le 0 start && nat_le start 1000000) ≡ true
+from_zero start le = grind (arith, common_steps)
+
+action_again : (p : Instance) (path : List ℕ) (e : Element) (place : Place) (start : ℕ) (kind : Kind) → IsInstance p → IsElement p e
+    → kind_of p e place ≡ Some kind → start ≤ 1000000
+    → action_of (inventory_of p) (action_data p e place start) path ≡ Ok (record { element = e; kind = kind; place = place; start = start })
+unfolding action_of action_data action_keys named_element named_kind named_place field_of text_of number_field_of whole_of only_of optional
+action_again p path e Nowhere start kind is there own early =
+    rw (is_name-name_of (inventory_of p) e is.inventory there, element_named-name_of (inventory_of p) e is.inventory there, own, kind_named-kind_word kind, from_zero start early) refl
+action_again p path e (At n) start kind is there own early =
+    let on : IsElement p (TheNode n) = on_node p e n kind own in
+    rw (
+      is_name-name_of (inventory_of p) e is.inventory there,
+      element_named-name_of (inventory_of p) e is.inventory there,
+      own,
+      kind_named-kind_word kind,
+      is_name-name_of (inventory_of p) (TheNode n) is.inventory on,
+      element_named-name_of (inventory_of p) (TheNode n) is.inventory on,
+      from_zero start early,
+    ) refl
+
+same_number : (n : ℕ) → (n == n) ≡ true
+same_number n = grind (arith, common_steps)
+
+-- it gives its element's choice, where no action before did
+pub step_again : (p : Instance) (path : List ℕ) (place : ℕ) (chosen : Chosen) (e : Element) (where_at : Place) (start : ℕ) → IsInstance p → IsElement p e
+    → IsTrue (is_legal p e (Act where_at start)) → choice_at chosen (number_of p e) ≡ None
+    → action_step p path place chosen (action_data p e where_at start) ≡ Ok (slice_set chosen (number_of p e) (Some (Act where_at start)))
+unfolding action_step
+step_again p path place chosen e where_at start is there legal new =
+    let a = acts p e where_at start is legal in
+    rw (action_again p (item_path path place) e where_at start a.kind is there a.is a.early, new, a.is, same_number (kind_number a.kind), legal) refl
