@@ -1,2 +1,4 @@
-pub mod Sizes
+pub mod Decisions
 pub mod NoCommand
+pub mod Readings
+pub mod Staying

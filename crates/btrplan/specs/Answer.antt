@@ -1,8 +1,10 @@
 -- What the program answers where nothing fails.
-use Rattle.std.specs.Prelude.{◌≡◌, ◌≢◌, ◌++◌, Bool, ℕ, List, Option, Some, None, Result, Ok, Err, codes, if◌then◌else◌}
+use Rattle.std.specs.Prelude.{◌≡◌, ◌≢◌, ◌⊎◌, ◌++◌, Bool, ℕ, List, Option, Some, None, Result, Ok, Err, codes, if◌then◌else◌}
 use Rattle.plan_io.specs.Files.{Files, bytes_of}
 use Rattle.btrplan.specs.Words.{Command, plan}
-use Rattle.btrplan.specs.Instance.{reading_of, planned_of}
+use Rattle.catalogue.specs.Instance.{Instance}
+use Rattle.slices.specs.Costs.{IsOptimal}
+use Rattle.btrplan.specs.Instance.{reading_of, staying, MayStay, not_built_line}
 use Rattle.btrplan.specs.declared.status.Status.{Status}
 use Rattle.btrplan.specs.declared.status.Status.TheVariants as status
 
@@ -39,13 +41,15 @@ pub record Stays (plan_file certificate : List ℕ) (before after : Outside) (re
   pub printed : after.printed ≡ before.printed ++ codes "optimal 0\n"
   pub status : result ≡ status.Good
 
--- `plan`, by the instance that it is given.
-abbrev pub IsPlanAnswer : (plan_file certificate : List ℕ) → Result (Unit {0}) (List ℕ) → Outside → Outside → Status → Type 0
-IsPlanAnswer plan_file certificate (Ok u) before after result = Stays plan_file certificate before after result
+-- `plan`, by the instance that it is given: where staying is a valid plan it is the answer, and then no plan costs less; no other
+-- answer to such an instance is built yet.
+abbrev pub IsPlanAnswer : (plan_file certificate : List ℕ) → Result Instance (List ℕ) → Outside → Outside → Status → Type 0
+IsPlanAnswer plan_file certificate (Ok p) before after result =
+    (IsOptimal p staying × Stays plan_file certificate before after result) ⊎ ((¬ MayStay p) × Says not_built_line status.Input before after result)
 IsPlanAnswer plan_file certificate (Err line) before after result = Says line status.Input before after result
 
 -- The answer to what was asked, from what the source has left and from what stood before.
 unfoldable pub IsAnswer : Option Command → Option (List ℕ) → Outside → Outside → Status → Type 0
 IsAnswer None source before after result = Says (codes "words\n") status.Words before after result
 IsAnswer (Some (plan instance plan_file certificate)) source before after result =
-    IsPlanAnswer plan_file certificate (planned_of (reading_of (bytes_of (before.files instance)))) before after result
+    IsPlanAnswer plan_file certificate (reading_of (bytes_of (before.files instance))) before after result

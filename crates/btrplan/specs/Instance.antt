@@ -1,40 +1,62 @@
--- What the bytes of an instance mean.
-use Rattle.std.specs.Prelude.{◌&&◌, ◌==◌, Bool, true, false, ℕ, ◌+◌, List, ◌++◌, length, nat_le, nat_lt, Result, Ok, Err, option_and_then, codes, if◌then◌else◌}
-use Rattle.std.specs.Option.{ok_or, option_map_or}
-use Rattle.serde_json.specs.Data.{Data, Items, no_items, item, Members, no_members, member}
-use Rattle.serde_json.specs.Find.{get, as_array, as_object, as_number, as_u64}
-use Rattle.json_walk.specs.Json.{json_of}
+-- What the bytes of an instance mean, and what is decided of it.
+use Rattle.std.specs.Prelude.{◌≡◌, ℕ, List, ◌++◌, Result, Ok, Err, codes, string_bytes}
+use Rattle.cluster.specs.declared.ids.Choice.TheVariants.{Idle}
+use Rattle.catalogue.specs.Instance.{Instance}
+use Rattle.slices.specs.Plans.{Choices, IsPlan}
+use Rattle.slices.specs.Rules.{IsValid}
+use Rattle.slices.specs.Costs.{IsOptimal}
+use Rattle.instance_json.specs.Instance.{instance_of}
+use Rattle.instance_json.specs.Texts.{fault_text}
+use Rattle.instance_json.specs.declared.fault.InstanceFault.{InstanceFault}
+use Rattle.btrplan.specs.declared.fault.Fault.{Fault}
+use Rattle.btrplan.specs.declared.fault.Fault.TheVariants as fault
 
 -- The line that refuses an instance.
 abbrev pub instance_line : List ℕ → List ℕ
 instance_line text = codes "input instance " ++ text ++ codes "\n"
 
--- The instance of these bytes, or the line that refuses them. At most 64 MiB are read.
-unfoldable pub reading_of : List ℕ → Result Data (List ℕ)
-reading_of bytes =
-    if nat_lt 67108864 (length bytes) then Err (instance_line (codes "too long")) else ok_or (json_of bytes) (instance_line (codes "not json"))
+-- A problem, or the line of its first fault.
+abbrev pub lined : Result Instance InstanceFault → Result Instance (List ℕ)
+lined (Ok p) = Ok p
+lined (Err f) = Err (instance_line (fault_text f))
 
-abbrev pub is_empty : Items → Bool
-is_empty no_items = true
-is_empty (item d ds) = false
+-- The problem of these bytes, or the line that refuses them.
+unfoldable pub reading_of : List ℕ → Result Instance (List ℕ)
+reading_of bytes = lined (instance_of bytes)
 
--- An empty list stands at this key.
-abbrev pub is_empty_at : List ℕ → Data → Bool
-is_empty_at key d = option_map_or is_empty (option_and_then as_array (get key d)) false
+-- The plan in which every element stays as it is.
+abbrev pub staying : Choices
+staying e = Idle
 
-abbrev pub is_horizon : Data → Bool
-is_horizon d = option_map_or (λ n. nat_le n 1000000) (option_and_then as_u64 (option_and_then as_number (get (codes "horizon") d))) false
+-- Staying is a plan of the problem, and valid.
+pub record MayStay (p : Instance) : Type 0 where
+  pub legal : IsPlan p staying
+  pub valid : IsValid p staying
 
-abbrev pub member_count : Members → ℕ
-member_count no_members = 0
-member_count (member k d ms) = 1 + member_count ms
+-- The line that refuses an instance for which a search is wanted.
+unfoldable pub not_built_line : List ℕ
+not_built_line = instance_line (codes "$ not built")
 
--- An instance that is planned so far: a horizon, four empty lists, and no other key.
-unfoldable pub is_planned : Data → Bool
-is_planned d =
-    is_horizon d && is_empty_at (codes "resources") d && is_empty_at (codes "nodes") d && is_empty_at (codes "machines") d && is_empty_at (codes "constraints") d && option_map_or (λ ms. member_count ms == 5) (as_object d) false
+-- The instance is refused with this line: by its first fault, or because its elements may not all stay.
+abbrev pub IsRefusedWith : Result Instance (List ℕ) → List ℕ → Type 0
+IsRefusedWith (Ok p) line = (¬ MayStay p) × (line ≡ not_built_line)
+IsRefusedWith (Err first) line = line ≡ first
 
--- An instance that was read is planned, or refused with this line.
-unfoldable pub planned_of : Result Data (List ℕ) → Result (Unit {0}) (List ℕ)
-planned_of (Ok d) = if is_planned d then Ok tt else Err (instance_line (codes "$ not built"))
-planned_of (Err line) = Err line
+-- The instance is refused.
+abbrev pub IsRefused : Result Instance (List ℕ) → Type 0
+IsRefused (Ok p) = ¬ MayStay p
+IsRefused (Err first) = Unit {0}
+
+-- Staying is a plan than which no valid one costs less.
+abbrev pub StaysBest : Result Instance (List ℕ) → Type 0
+StaysBest (Ok p) = IsOptimal p staying
+StaysBest (Err first) = ⊥
+
+-- What was decided of an instance, unless memory ran out: to stay, or to refuse it.
+abbrev pub IsDecided : {X : Type 0} → Result Instance (List ℕ) → Result X Fault → Type 0
+IsDecided reading (Ok u) = StaysBest reading
+IsDecided reading (Err fault.Words) = ⊥
+IsDecided reading (Err (fault.Input line)) = IsRefusedWith reading (string_bytes line)
+IsDecided reading (Err fault.ReadFault) = ⊥
+IsDecided reading (Err fault.WriteFault) = ⊥
+IsDecided reading (Err fault.Memory) = Unit {0}

@@ -1,16 +1,16 @@
 -- What a run leaves, however it ends.
-use Rattle.std.specs.Prelude.{◌≡◌, ◌≢◌, ◌⊎◌, ℕ, List, Option, Some, None, IsErr}
+use Rattle.std.specs.Prelude.{◌≡◌, ◌≢◌, ◌⊎◌, ℕ, List, Option, Some, None}
 use Rattle.std.specs.Io.{StartsWith}
 use Rattle.plan_io.specs.Files.{Files, bytes_of, IsCut}
 use Rattle.btrplan.specs.Words.{Command, plan}
-use Rattle.btrplan.specs.Instance.{reading_of, planned_of}
+use Rattle.btrplan.specs.Instance.{reading_of, IsRefused}
 use Rattle.btrplan.specs.Answer.{Outside, outside, IsAnswer, staying_certificate, staying_plan}
 use Rattle.btrplan.specs.declared.status.Status.{Status}
 
 -- What `plan` leaves in the files.
 pub record LeavesPlan (instance plan_file certificate : List ℕ) (before after : Files) : Type 0 where
   -- where the instance is refused, all files are as before
-  pub refused : IsErr (planned_of (reading_of (bytes_of (before instance)))) → after ≡ before
+  pub refused : IsRefused (reading_of (bytes_of (before instance))) → after ≡ before
   -- the certificate is as before, absent, empty or the front of its text
   pub certificate_cut : IsCut (before certificate) staying_certificate (after certificate)
   -- the plan's file is as before until the certificate is whole, and then as before, absent, empty or the front of its text

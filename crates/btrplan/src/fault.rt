@@ -5,6 +5,7 @@ ghost use Rattle.btrplan.specs.declared.fault.Fault.TheVariants as faults;
 ghost use Rattle.btrplan.specs.Endings.{out_fault};
 
 use crate::status::Status;
+use memory::Memory;
 use plan_io::OutFault;
 use std::alloc::AllocError;
 
@@ -96,6 +97,14 @@ impl From<AllocError> for Fault {
     ghost from_gives = { λ _ e. e ≡ faults.Memory };
 
     fn from(_error: AllocError) -> Fault {
+        Fault::Memory
+    }
+}
+
+impl From<Memory> for Fault {
+    ghost from_gives = { λ _ e. e ≡ faults.Memory };
+
+    fn from(_memory: Memory) -> Fault {
         Fault::Memory
     }
 }

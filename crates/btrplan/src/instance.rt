@@ -1,18 +1,26 @@
 //! Which instances are read, and which of them are planned.
 
-ghost use Rattle.std.specs.Prelude.{◌≡◌, ◌≢◌, ◌==◌, IsTrue, IfErr, Err, false};
-ghost use Rattle.std.specs.Option.{option_map_or};
-ghost use Rattle.serde_json.specs.Find.{as_object};
+ghost use Rattle.std.specs.Prelude.{◌≡◌, ◌≢◌, ◌↔◌, ℕ, List, Result, Ok, IsTrue, IfOk, IfErr, Err, length};
 ghost use Rattle.plan_io.specs.Files.{bytes_of};
-ghost use Rattle.serde_json.specs.View.{view};
-ghost use Rattle.btrplan.specs.Instance.{reading_of, planned_of, is_planned, is_empty_at, is_horizon, instance_line, member_count};
+ghost use Rattle.std.specs.Prelude.{replicate};
+ghost use Rattle.cluster.specs.declared.ids.Choice.TheVariants.{Idle};
+ghost use Rattle.slices.specs.Elements.{element_count};
+ghost use Rattle.slices.specs.Plans.{IsPlanOf, parted, choices_of};
+ghost use Rattle.slices.specs.Rules.{IsValid};
+ghost use Rattle.instance_json.specs.Texts.{fault_text};
+ghost use Rattle.btrplan.specs.Instance.{reading_of, instance_line, staying, MayStay, IsDecided, IsRefusedWith, not_built_line};
 ghost use Rattle.btrplan.specs.Causes.{DeskCauses};
 ghost use Rattle.btrplan.specs.Endings.{Reads, IsRefusal, IsOfReading};
 
 use crate::fault::Fault;
-use json_walk::{ReadFault, read_value};
+use catalogue::problem::Problem;
+use cluster::ids::Choice;
+use instance_json::{InstanceFault, read_instance};
+use judge::judge;
+use memory::Memory;
 use plan_io::{Desk, WholeFault, read_whole};
-use serde_json::Value;
+use slices::elements::count;
+use slices::plan::{Plan, is_plan};
 use std::alloc::Global;
 
 /// The most bytes of an instance.
@@ -28,91 +36,93 @@ fn refusal(alloc: Global, text: &str) -> Fault
     }
 }
 
-/// The instance of these bytes, or the line that refuses them.
-#[tactic(auto, unfolding(crate::specs::Instance::reading_of))]
-fn read_instance(alloc: Global, bytes: &[u8]) -> Result<Value, Fault>
-    ensures { Reads view result (reading_of bytes.now) }
+/// The fault with the line of an instance's fault.
+fn refusal_of(alloc: Global, fault: &InstanceFault) -> Fault
+    ensures { IsRefusal result (instance_line (fault_text fault.now)) }
 {
-    if bytes.len() as u64 > MOST {
-        return Err(refusal(alloc, "too long"));
-    }
-    match read_value(alloc, bytes) {
-        Ok(value) => Ok(value),
-        Err(ReadFault::NotJson) => Err(refusal(alloc, "not json")),
-        Err(ReadFault::Memory) => Err(Fault::Memory),
+    match fault.text(alloc) {
+        Ok(text) => refusal(alloc, &text),
+        Err(Memory) => Fault::Memory,
     }
 }
 
-/// The instance in the file of this name, or the line that refuses it.
-#[tactic(auto, unfolding(crate::specs::Instance::reading_of))]
-fn instance_at<D: Desk>(alloc: Global, desk: &mut D, name: &str) -> Result<Value, Fault>
+/// The problem of these bytes, or the line that refuses them.
+#[tactic(auto, using(crate::proofs::Readings::first_fault), unfolding(crate::specs::Instance::reading_of))]
+fn problem_of(alloc: Global, bytes: &[u8]) -> Result<Problem, Fault>
+    ensures reading { Reads (λ p. p.given) result (reading_of bytes.now) }
+    ensures kind { IfErr result IsOfReading }
+{
+    match read_instance(alloc, bytes) {
+        Ok(problem) => Ok(problem),
+        Err(InstanceFault::Memory) => Err(Fault::Memory),
+        Err(fault) => Err(refusal_of(alloc, &fault)),
+    }
+}
+
+/// The problem in the file of this name, or the line that refuses it.
+#[tactic(auto, using(crate::proofs::Readings::too_long))]
+fn problem_at<D: Desk>(alloc: Global, desk: &mut D, name: &str) -> Result<Problem, Fault>
     requires { IsTrue (D.reads name.now) }
-    ensures reading { IsTrue D.tells → result ≢ Err Fault.ReadFault → Reads view result (reading_of (bytes_of (D.files desk.old name.now))) }
+    ensures reading { IsTrue D.tells → result ≢ Err Fault.ReadFault → Reads (λ p. p.given) result (reading_of (bytes_of (D.files desk.old name.now))) }
     ensures files { IsTrue D.tells → D.files desk.new ≡ D.files desk.old }
     ensures causes { DeskCauses (D.read_faults desk.old) (D.read_faults desk.new) (D.write_faults desk.old) (D.write_faults desk.new) result }
     ensures kind { IfErr result IsOfReading }
 {
     match read_whole(alloc, desk, name, MOST) {
-        Ok(bytes) => read_instance(alloc, &bytes),
+        Ok(bytes) => problem_of(alloc, &bytes),
         Err(WholeFault::TooLong) => Err(refusal(alloc, "too long")),
         Err(WholeFault::ReadFault) => Err(Fault::ReadFault),
         Err(WholeFault::Memory) => Err(Fault::Memory),
     }
 }
 
-fn is_horizon(value: &Value) -> bool
-    ensures { result ≡ is_horizon (view value.now) }
+/// Idle for each element.
+fn idle_choices(alloc: Global, p: &Problem) -> Result<Vec<Choice>, Memory>
+    ensures { IfOk result (λ choices. choices.items ≡ replicate (element_count p.now.given) Idle) }
 {
-    match value.get("horizon").and_then(Value::as_u64) {
-        Some(horizon) => horizon <= 1_000_000,
-        None => false,
+    Ok(vec![in alloc; Choice::Idle; count(p)]?)
+}
+
+/// Whether the judge finds no broken rule in a plan of the problem.
+fn is_valid(p: &Problem, plan: &Plan) -> bool
+    requires { IsPlanOf p.now.given plan.now }
+    ensures { IsTrue result ↔ IsValid p.now.given (choices_of plan.now) }
+{
+    judge(p, plan).is_none()
+}
+
+/// Whether these choices are a plan of the problem, and valid.
+fn is_valid_plan(p: &Problem, choices: Vec<Choice>) -> bool
+    ensures plan { IsTrue result → IsPlanOf p.now.given (parted p.now.given choices.items) }
+    ensures valid { IsTrue result → IsValid p.now.given (choices_of (parted p.now.given choices.items)) }
+    ensures only { IsPlanOf p.now.given (parted p.now.given choices.items) → IsValid p.now.given (choices_of (parted p.now.given choices.items)) → IsTrue result }
+{
+    if !is_plan(p, &choices) {
+        return false;
     }
+    let plan = Plan::idle_or(p, choices);
+    is_valid(p, &plan)
 }
 
-#[tactic(auto, using(crate::proofs::Sizes::size_rules))]
-fn is_empty_at(value: &Value, key: &str) -> bool
-    ensures { result ≡ is_empty_at key.now (view value.now) }
+/// Whether staying is a plan of the problem, and valid.
+fn may_stay(alloc: Global, p: &Problem) -> Result<bool, Memory>
+    ensures { IfOk result (λ stays. IsTrue stays ↔ MayStay p.now.given) }
 {
-    match value.get(key).and_then(Value::as_array) {
-        Some(items) => items.is_empty(),
-        None => false,
-    }
+    let choices = idle_choices(alloc, p)?;
+    Ok(is_valid_plan(p, choices))
 }
 
-#[tactic(auto, using(crate::proofs::Sizes::size_rules))]
-fn has_five_members(value: &Value) -> bool
-    ensures { result ≡ option_map_or (λ ms. member_count ms == 5) (as_object (view value.now)) false }
-{
-    match value.as_object() {
-        Some(members) => members.len() == 5,
-        None => false,
-    }
-}
-
-/// Whether this instance is planned so far: a horizon, four empty lists, and no other key.
-#[tactic(auto, unfolding(crate::specs::Instance::is_planned))]
-fn is_planned(value: &Value) -> bool
-    ensures { result ≡ is_planned (view value.now) }
-{
-    is_horizon(value)
-        && is_empty_at(value, "resources")
-        && is_empty_at(value, "nodes")
-        && is_empty_at(value, "machines")
-        && is_empty_at(value, "constraints")
-        && has_five_members(value)
-}
-
-/// Reads the instance in the file of this name, and refuses one that is not planned so far.
-#[tactic(auto, unfolding(crate::specs::Instance::planned_of))]
+/// Reads the instance in the file of this name, and refuses one whose elements may not all stay.
+#[tactic(auto, using(crate::proofs::Staying::decided_best, crate::proofs::Readings::not_built))]
 pub fn planned_at<D: Desk>(alloc: Global, desk: &mut D, name: &str) -> Result<(), Fault>
     requires { IsTrue (D.reads name.now) }
-    ensures reading { IsTrue D.tells → result ≢ Err Fault.ReadFault → Reads (λ _. tt) result (planned_of (reading_of (bytes_of (D.files desk.old name.now)))) }
+    ensures decided { IsTrue D.tells → result ≢ Err Fault.ReadFault → IsDecided (reading_of (bytes_of (D.files desk.old name.now))) result }
     ensures files { IsTrue D.tells → D.files desk.new ≡ D.files desk.old }
     ensures causes { DeskCauses (D.read_faults desk.old) (D.read_faults desk.new) (D.write_faults desk.old) (D.write_faults desk.new) result }
     ensures kind { IfErr result IsOfReading }
 {
-    let instance = instance_at(alloc, desk, name)?;
-    if is_planned(&instance) {
+    let problem = problem_at(alloc, desk, name)?;
+    if may_stay(alloc, &problem)? {
         Ok(())
     } else {
         Err(refusal(alloc, "$ not built"))

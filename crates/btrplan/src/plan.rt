@@ -44,8 +44,8 @@ fn write_plan<D: Desk>(desk: &mut D, plan_file: &str) -> Result<(), OutFault>
 
 /// Plans the instance: writes the certificate, and then the plan.
 ///
-/// So far it plans instances without elements, in which nothing moves.
-#[tactic(auto, unfolding(crate::specs::Endings::Ends, crate::specs::Answer::IsAnswer))]
+/// So far it plans instances in which staying is a valid plan.
+#[tactic(auto, using(crate::proofs::Decisions::stays_answer, crate::proofs::Decisions::refused_answer, crate::proofs::Decisions::best_unrefused), unfolding(crate::specs::Endings::Ends, crate::specs::Answer::IsAnswer))]
 pub fn plan<D: Desk>(
     alloc: Global,
     desk: &mut D,

@@ -12,6 +12,14 @@ const PLAN: &[u8] = b"{\"actions\":[]}\n";
 const EMPTY: &[u8] =
     b"{\"horizon\":5,\"resources\":[],\"nodes\":[],\"machines\":[],\"constraints\":[]}";
 
+/// One machine on one node.
+const ALONE: &[u8] =
+    b"{\"horizon\":20,\"resources\":[\"cpu\"],\"nodes\":[{\"name\":\"n0\",\"capacity\":{\"cpu\":4}}],\"machines\":[{\"name\":\"v0\",\"state\":\"running\",\"node\":\"n0\",\"use\":{\"cpu\":1}}],\"constraints\":[{\"kind\":\"online\",\"nodes\":[\"n0\"]}]}";
+
+/// Two machines on one node, which are to be apart at the end.
+const APART: &[u8] =
+    b"{\"horizon\":20,\"resources\":[\"cpu\"],\"nodes\":[{\"name\":\"n0\",\"capacity\":{\"cpu\":4}}],\"machines\":[{\"name\":\"v0\",\"state\":\"running\",\"node\":\"n0\",\"use\":{\"cpu\":1}},{\"name\":\"v1\",\"state\":\"running\",\"node\":\"n0\",\"use\":{\"cpu\":1}}],\"constraints\":[{\"kind\":\"online\",\"nodes\":[\"n0\"]},{\"kind\":\"spread\",\"machines\":[\"v0\",\"v1\"]}]}";
+
 /// The words of a line, one after each blank.
 fn words(alloc: Global, line: &str) -> Result<Vec<String>, Fail> {
     let mut words = Vec::new(alloc);
@@ -111,21 +119,35 @@ fn instances_that_are_refused(rt: HostRuntime) -> Result<(), Fail> {
     let table: [(&[u8], &[u8]); 5] = [
         (b"{\"horizon\":", b"input instance not json\n"),
         (b"", b"input instance not json\n"),
-        (b"null", b"input instance $ not built\n"),
+        (b"null", b"input instance $ wrong kind\n"),
         (
             b"{\"horizon\":1000001,\"resources\":[],\"nodes\":[],\"machines\":[],\"constraints\":[]}",
-            b"input instance $ not built\n",
+            b"input instance horizon out of range\n",
         ),
-        (
-            b"{\"horizon\":5,\"resources\":[\"cpu\"],\"nodes\":[],\"machines\":[],\"constraints\":[]}",
-            b"input instance $ not built\n",
-        ),
+        (APART, b"input instance $ not built\n"),
     ];
     for (at, (instance, line)) in table.into_iter().enumerate() {
         let mut desk = desk(alloc, instance, Vec::new(alloc))?;
         says(&rt, alloc, "plan i p c", &mut desk, Status::Input, line, at)?;
         holds(&rt, &desk, b"old certificate", b"old plan", at);
     }
+    Ok(())
+}
+
+#[test]
+fn a_machine_that_stays(rt: HostRuntime) -> Result<(), Fail> {
+    let alloc = rt.alloc();
+    let mut desk = desk(alloc, ALONE, Vec::new(alloc))?;
+    says(
+        &rt,
+        alloc,
+        "plan i p c",
+        &mut desk,
+        Status::Good,
+        b"optimal 0\n",
+        0,
+    )?;
+    holds(&rt, &desk, CERTIFICATE, PLAN, 0);
     Ok(())
 }
 
