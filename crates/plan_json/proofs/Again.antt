@@ -91,10 +91,10 @@ on_node p (Vm v) n kind h =
     ltb-true n.0 (node_count p) (by_place (nat_lt n.0 (node_count p)) (machine_kind (state_of p v.0) (settled (state_of p v.0) (wanted_of p (Vm v))) (is_raised p v.0) (At n)) kind h)
 on_node p (TheNode m) n kind h = absurd (no_place (is_online p.nodes m.0) (wanted_of p (TheNode m)) n kind h)
 
-record Acts (p : Instance) (e : Element) (place : Place) (start : ℕ) : Type 0 where
-  kind : Kind
-  is : kind_of p e place ≡ Some kind
-  early : start ≤ 1000000
+pub record Acts (p : Instance) (e : Element) (place : Place) (start : ℕ) : Type 0 where
+  pub kind : Kind
+  pub is : kind_of p e place ≡ Some kind
+  pub early : start ≤ 1000000
 
 found : {A : Type 0} (o : Option A) → is_some o ≡ true → (a : A) × (o ≡ Some a)
 found None h = absurd (cc)
@@ -104,7 +104,7 @@ both_hold : (a b : Bool) → (a && b) ≡ true → (a ≡ true) × (b ≡ true)
 both_hold true b h = (refl, h)
 both_hold false b h = absurd (true≢false (sym h))
 
-acts : (p : Instance) (e : Element) (place : Place) (start : ℕ) → IsInstance p → is_legal p e (Act place start) ≡ true → Acts p e place start
+pub acts : (p : Instance) (e : Element) (place : Place) (start : ℕ) → IsInstance p → is_legal p e (Act place start) ≡ true → Acts p e place start
 unfolding is_legal end_of
 acts p e place start is legal =
     let parts = both_hold (is_some (kind_of p e place)) (nat_le (start + lasts p e (Act place start)) p.horizon) legal in

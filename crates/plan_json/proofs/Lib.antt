@@ -3,3 +3,4 @@ pub mod Legal
 pub mod Printed
 pub mod Again
 pub mod ReadBack
+pub mod Sizes

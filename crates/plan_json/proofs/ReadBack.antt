@@ -99,7 +99,7 @@ is_read p path chosen e Idle is there legal new = tt
 is_read p path chosen e (Act at start) is there legal new = λ place. step_again p path place chosen e at start is there legal new
 
 -- each element by its number
-is_there : (p : Instance) (x : ℕ) → x < element_count p → IsElement p (element_at p x) × (number_of p (element_at p x) ≡ x)
+pub is_there : (p : Instance) (x : ℕ) → x < element_count p → IsElement p (element_at p x) × (number_of p (element_at p x) ≡ x)
 is_there p x lt =
     elim (cases_lt x (machine_count p)) [
       | inl below ↦ rw (lt-ltb x (machine_count p) below) (below, refl)
@@ -223,6 +223,7 @@ pub lent : {A : Type 0} (P : A → Type 0) (o : Option (Bor A)) → IfSome o (λ
 lent P None h = tt
 lent P (Some a) h = h
 
+-- bytes that have a printed plan's value, and are no more than can be read
 pub bytes_again : (p : Instance) (plan : Option PlanChoices) (d : Data) (bytes : List ℕ) → IsInstance p → IfSome plan (IsPlanOf p) → d ≡ plan_data p plan
     → (depth d ≤ max_depth → json_of bytes ≡ Some d) → length bytes ≤ 67108864 → plan_of p bytes ≡ Ok plan
 bytes_again p plan d bytes is plan_is same reads le =

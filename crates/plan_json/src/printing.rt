@@ -1,6 +1,6 @@
 //! From a plan to its text.
 
-ghost use Rattle.std.specs.Prelude.{◌≡◌, ◌≤◌, ◌++◌, [], IfOk, IfSome, OnOk, length};
+ghost use Rattle.std.specs.Prelude.{◌≡◌, ◌++◌, [], IfOk, IfSome, OnOk};
 ghost use Rattle.std.specs.Option.{option_copied};
 ghost use Rattle.serde_json.specs.View.{view};
 ghost use Rattle.json_text.specs.Out.{items};
@@ -114,8 +114,7 @@ fn plan_value(alloc: Global, p: &Problem, plan: Option<&Plan>) -> Result<Value, 
 pub fn print_plan(alloc: Global, p: &Problem, plan: Option<&Plan>) -> Result<Vec<u8>, Memory>
     requires { IfSome plan (λ plan. IsPlanOf p.now.given plan.now) }
     ensures text { IfOk result (λ b. b.items ≡ plan_text p.now.given (option_copied plan.entry)) }
-    ensures reads_back { IfOk result (λ b. length b.items ≤ 67108864
-        → plan_of p.now.given b.items ≡ Ok (option_copied plan.entry)) }
+    ensures reads_back { IfOk result (λ b. plan_of p.now.given b.items ≡ Ok (option_copied plan.entry)) }
 {
     let value = plan_value(alloc, p, plan)?;
     Ok(print(alloc, &value)?)
