@@ -8,6 +8,7 @@ the measurement, the bytes of the instance, the status, the seconds, those of th
 system), the megabytes in a second of the processor, the peak of the resident memory, and the line that
 the program printed. Nothing is compared with a wanted time. The program is built first where that is due.
 """
+import json
 import os
 import random
 import subprocess
@@ -68,6 +69,55 @@ def zeros(size):
 
 
 # The names with the most of each list: 512 nodes, 4,096 machines, 4,096 constraints.
+def steady(nodes, machines, members):
+    """An instance in which staying is valid: offline nodes, sleeping machines, every kind of constraint."""
+    online = nodes - nodes // 64
+    resources = [f"r{r}" for r in range(8)]
+    up = [f"node-{n}" for n in range(online)]
+    down = [f"node-{n}" for n in range(online, nodes)]
+    listed = [{"name": n, "online": n in up, "capacity": dict.fromkeys(resources, 1_000_000)} for n in up + down]
+    named = {"running": [], "sleeping": [], "ready": []}
+    given, host = [], {}
+    for v in range(machines):
+        state = "sleeping" if v % 10 == 9 else "ready" if v % 50 == 8 else "running"
+        machine = {"name": f"vm-{v}", "state": state, "use": dict.fromkeys(resources, 1 + v % 4)}
+        if state != "ready":
+            machine["node"] = host[machine["name"]] = up[v % online]
+        named[state].append(machine["name"])
+        given.append(machine)
+    rules = []
+
+    def rule(kind, **fields):
+        rules.append({"kind": kind, **fields})
+
+    for first in range(300):
+        apart = {host[v]: v for v in named["running"][first:first + members]}
+        group, hosts = list(apart.values()), list(apart)
+        rule("spread", machines=group, continuous=first % 2 == 0)
+        rule("split", parts=[group[:5], group[5:]], continuous=True)
+        rule("ban", machines=group, nodes=down, continuous=True)
+        rule("fence", machines=group, nodes=hosts, continuous=True)
+        rule("among", machines=group, groups=[down, up], continuous=True)
+        rule("gather", machines=group[:1], continuous=True)
+        rule("root", machines=group)
+        rule("preserve", machines=group, resource="r0", amount=1)
+        rule("resourceCapacity", nodes=hosts, resource="r1", amount=1_000_000, continuous=True)
+        rule("runningCapacity", nodes=hosts, amount=machines, continuous=True)
+        rule("maxOnline", nodes=up + down, amount=online, continuous=True)
+        rule("overbook", nodes=hosts, resource="r0", num=3, den=2)
+    rule("lonely", machines=[v for v in named["running"] if host[v] == up[3]], continuous=True)
+    rule("online", nodes=up)
+    rule("offline", nodes=down)
+    for state, names in named.items():
+        rule(state, machines=names)
+    return {"horizon": 1_000_000, "resources": resources, "nodes": listed, "machines": given, "constraints": rules}
+
+
+def stage(**change):
+    """The steady instance with a change that stops the program after a stage."""
+    yield json.dumps({**steady(512, 4096, 40), **change}, separators=(",", ":"))
+
+
 MEASUREMENTS = {
     "names-1": lambda: instance(512, 4096, 4096, 20),
     "names-8": lambda: instance(512, 4096, 4096, 200),
@@ -78,6 +128,11 @@ MEASUREMENTS = {
     "blanks-past": lambda: blanks(MOST + 1),
     "zeros-8": lambda: zeros(8 * MIB),
     "zeros-64": lambda: zeros(MOST),
+    # The walk refuses the first value of all, then the last one, then nothing: what each takes longer than the
+    # one before is the parse, the walk, and the judge.
+    "steady-parse": lambda: stage(horizon=1_000_001),
+    "steady-walk": lambda: stage(unnamed=0),
+    "steady-judge": lambda: stage(),
 }
 
 
