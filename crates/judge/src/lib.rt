@@ -8,6 +8,8 @@ mod first;
 mod least;
 mod loads;
 mod standing;
+#[cfg(test)]
+mod tests;
 mod verdict;
 
 pub use slices::rule::{Broken, Rule};
