@@ -18,6 +18,7 @@ import time
 
 TOP = os.path.dirname(os.path.dirname(os.path.realpath(__file__)))
 PROGRAM = os.path.join(TOP, "crates", "btrplan", "out", "btrplan")
+JUDGE = os.path.join(TOP, "crates", "judge_bench", "out", "judge_bench")
 MIB = 1 << 20
 MOST = 64 * MIB  # the most bytes of an instance
 EMPTY = '{"horizon":5,"resources":[],"nodes":[],"machines":[],"constraints":[]}'
@@ -118,6 +119,32 @@ def stage(**change):
     yield json.dumps({**steady(512, 4096, 40), **change}, separators=(",", ":"))
 
 
+def moves(count, members):
+    """512 nodes, 4,096 machines that migrate at distinct starts, and so many fences of so many of them."""
+    resources = [f"r{r}" for r in range(8)]
+    everywhere = [f"node-{n}" for n in range(512)]
+    nodes = [{"name": n, "capacity": dict.fromkeys(resources, 1_000_000)} for n in everywhere]
+    machines = [
+        {"name": f"vm-{v}", "state": "running", "node": everywhere[v % 512], "use": dict.fromkeys(resources, 1 + v % 7)}
+        for v in range(4096)]
+    fences = [
+        {"kind": "fence", "machines": [f"vm-{(c + v) % 4096}" for v in range(members)], "nodes": everywhere, "continuous": True}
+        for c in range(count)]
+    actions = [
+        {"element": f"vm-{v}", "kind": "migrate", "place": everywhere[(v + 1) % 512], "start": v * 200} for v in range(4096)]
+    instance = {
+        "horizon": 1_000_000, "resources": resources, "durations": {"migrate": {"base": 3}},
+        "nodes": nodes, "machines": machines, "constraints": fences}
+    return instance, {"actions": actions}
+
+
+# The plans that `judge_bench` judges; each has 4,096 starts.
+PLANS = {
+    "moves": lambda: moves(0, 0),
+    "moves-100x100": lambda: moves(100, 100),
+    "moves-100x1000": lambda: moves(100, 1000),
+}
+
 MEASUREMENTS = {
     "names-1": lambda: instance(512, 4096, 4096, 20),
     "names-8": lambda: instance(512, 4096, 4096, 200),
@@ -152,20 +179,42 @@ def run(folder, pieces):
     return os.path.getsize(file), ran.returncode, seconds, usage, line
 
 
+def judge(folder, parts):
+    """Judges a plan, reading included: the bytes of the instance, seconds, what the system says that it used, the answer."""
+    for name, part in zip(("instance.json", "plan.json"), parts):
+        with open(os.path.join(folder, name), "w", encoding="ascii") as it:
+            json.dump(part, it, separators=(",", ":"))
+    begun = time.monotonic()
+    with subprocess.Popen([JUDGE], cwd=folder, stdin=subprocess.DEVNULL, stdout=subprocess.PIPE) as ran:
+        line = ran.stdout.read().decode().rstrip("\n")
+        _, status, usage = os.wait4(ran.pid, 0)
+        seconds = time.monotonic() - begun
+        ran.returncode = os.waitstatus_to_exitcode(status)
+    return os.path.getsize(os.path.join(folder, "instance.json")), ran.returncode, seconds, usage, line
+
+
+def report(name, measured):
+    size, status, seconds, used, line = measured
+    cpu = used.ru_utime + used.ru_stime
+    print(f"{name:<14} {size:>10} {status:>6} {seconds:>8.2f} {cpu:>7.2f} {size / 1e6 / cpu:>7.1f} {used.ru_maxrss / 1024:>8.0f}  {line}", flush=True)
+
+
 def main():
     # It builds the program where that is due. Without words it prints `words`, status 3.
     built = subprocess.run([os.path.join(TOP, "btrplan")], stdin=subprocess.DEVNULL, stdout=subprocess.DEVNULL)
     if built.returncode > 7:
         return built.returncode
     wanted = tuple(sys.argv[1:])
-    print(f"{'measurement':<12} {'bytes':>10} {'status':>6} {'seconds':>8} {'cpu s':>7} {'MB/s':>7} {'peak MiB':>8}  line")
+    print(f"{'measurement':<14} {'bytes':>10} {'status':>6} {'seconds':>8} {'cpu s':>7} {'MB/s':>7} {'peak MiB':>8}  line")
     with tempfile.TemporaryDirectory(prefix="btrplan-bench-") as folder:
         for name, pieces in MEASUREMENTS.items():
-            if wanted and not name.startswith(wanted):
-                continue
-            size, status, seconds, used, line = run(folder, pieces())
-            cpu = used.ru_utime + used.ru_stime
-            print(f"{name:<12} {size:>10} {status:>6} {seconds:>8.2f} {cpu:>7.2f} {size / 1e6 / cpu:>7.1f} {used.ru_maxrss / 1024:>8.0f}  {line}", flush=True)
+            if not wanted or name.startswith(wanted):
+                report(name, run(folder, pieces()))
+        for name, parts in PLANS.items():
+            if not wanted or name.startswith(wanted):
+                if not os.path.exists(JUDGE):
+                    subprocess.run(["rt", "run"], cwd=os.path.dirname(os.path.dirname(JUDGE)), stdout=subprocess.DEVNULL)
+                report(name, judge(folder, parts()))
     return 0
 
 
