@@ -1,5 +1,6 @@
 -- What the steps of a walk gave, where the walk came to its end.
-use Rattle.std.proofs.Common.{◌≡◌, ℕ, suc, ◌+◌, ◌<◌, ◌&&◌, ◌||◌, Bool, true, false, List, [], ◌∷◌, length, Option, Some, None, Result, Ok, Err, nat_le, is_some, refl, sym, ap, subst, ◌∙◌, arith, true≢false}
+use Rattle.std.proofs.Common.{◌≡◌, ℕ, suc, ◌+◌, ◌<◌, ◌&&◌, ◌||◌, Bool, true, false, List, [], ◌∷◌, length, Option, Some, None, Result, Ok, Err, nat_le, is_some, refl, sym, ap, subst, ◌∙◌, arith}
+use Rattle.std.proofs.lemmas.Bool.{and_parts}
 use Rattle.std.specs.Option.{ok_or}
 use Rattle.serde_json.specs.Data.{Data, Num}
 use Rattle.serde_json.specs.Find.{as_number, as_u64, as_i64}
@@ -47,10 +48,6 @@ each-keeps f n P keeps (x ∷ xs) place a out count p h =
 
 -- ---- a number that is read lies within its bounds
 
-both_sides : (a b : Bool) → (a && b) ≡ true → (a ≡ true) × (b ≡ true)
-both_sides true b h = (refl, h)
-both_sides false b h = absurd (true≢false (sym h))
-
 abbrev last_test : ℕ → ℕ → Fault → ℕ → Result ℕ Fault
 last_test least most e m = wants (nat_le least m && nat_le m most) e >> Ok m
 
@@ -66,7 +63,7 @@ number_of-within d path least most n h =
     let whole = passed (is_some (as_u64 x.value) || is_some (as_i64 x.value)) e (ok_or (as_u64 x.value) f >>= last_test least most f) n x.rest in
     let m = step (ok_or (as_u64 x.value) f) (last_test least most f) n whole.1 in
     let within = passed (nat_le least m.value && nat_le m.value most) f (Ok m.value) n m.rest in
-    let sides = both_sides (nat_le least m.value) (nat_le m.value most) within.0 in
+    let sides = and_parts (nat_le least m.value) (nat_le m.value most) within.0 in
     let same : m.value ≡ n = same-ok m.value n within.1 in
     (ap (nat_le least) (sym same) ∙ sides.0, ap (λ k. nat_le k most) (sym same) ∙ sides.1)
 
