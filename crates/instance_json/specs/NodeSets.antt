@@ -1,10 +1,11 @@
 -- Sets of nodes, made one node at a time.
-use Rattle.std.specs.Prelude.{◌≡◌, ℕ, ◌<◌, ◌/◌, ◌%◌, ◌^◌, List, length, replicate, bit_or, slice_index, slice_set, Bool, refl}
-use Rattle.std.proofs.Common.{◌∙◌, arith, lit<, subst, sym, ⊎_elim, ◌≤◌}
+use Rattle.std.specs.Prelude.{ℕ, ◌<◌, ◌/◌, ◌%◌, ◌^◌, List, length, replicate, bit_or, slice_index, slice_set, Bool, refl}
+use Rattle.std.proofs.Common.{◌∙◌, lit<, subst, sym, ⊎_elim, ◌≤◌}
 use Rattle.std.proofs.lemmas.Bool.{cases_lt}
 use Rattle.std.proofs.lemmas.Nat.{or_lt}
 use Rattle.std.proofs.lemmas.List.{length-set, get_or_past}
 use Rattle.std.proofs.lemmas.List.Elements.{All-set, All-replicate}
+use Rattle.std.proofs.Math.Nat.{mod-lt}
 use Rattle.std.proofs.Math.Pow.{pow-lt}
 use Rattle.std.specs.List.{list_all}
 use Rattle.cluster.specs.declared.sets.NodeSet.{NodeSet}
@@ -23,12 +24,10 @@ word-lt words i h = ⊎_elim
     (cases_lt i (length words))
 
 pub IsBits-words_with : (words : List ℕ) (n : ℕ) → IsBits words → IsBits (words_with words n)
-IsBits-words_with words n h =
-    let place : n % 64 < 64 = omega arith in
-    record {
-      eight = length-set words (n / 64) _ ∙ h.eight;
-      fit = All-set (λ w. w < 2 ^ 64) words (n / 64) _ (or_lt 64 _ _ (word-lt words (n / 64) h) (pow-lt place)) h.fit;
-    }
+IsBits-words_with words n h = record {
+  eight = length-set words (n / 64) _ ∙ h.eight;
+  fit = All-set (λ w. w < 2 ^ 64) words (n / 64) _ (or_lt 64 _ _ (word-lt words (n / 64) h) (pow-lt (mod-lt n (lit< tt)))) h.fit;
+}
 
 pub IsBits-none : IsBits (replicate 8 0)
 IsBits-none = record { eight = refl; fit = All-replicate (λ w. w < 2 ^ 64) 8 0 (lit< tt) }
