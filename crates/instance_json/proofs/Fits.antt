@@ -1,7 +1,7 @@
 -- What a walk gives is within the limits of a cluster.
-use Rattle.std.proofs.Common.{◌≡◌, ℕ, zero, suc, ◌+◌, ◌<◌, ◌≤◌, ◌==◌, Bool, true, false, List, [], ◌∷◌, length, map, replicate, take, drop, slice_set, Option, Some, None, is_none, unwrap_or, if◌then◌else◌, IfOk, Result, Ok, Err, nat_le, nat_lt, codes, refl, sym, ap, subst, ◌∙◌, arith, zero-add}
-use Rattle.std.proofs.lemmas.Grind.{common_steps}
-use Rattle.std.proofs.lemmas.List.{drop-set-lt, drop-set-add, take-set-le}
+use Rattle.std.proofs.Common.{◌≡◌, ℕ, zero, suc, ◌+◌, ◌-◌, ◌<◌, ◌≤◌, ◌==◌, Bool, true, false, List, [], ◌∷◌, length, map, replicate, take, drop, slice_set, Option, Some, None, is_none, unwrap_or, if◌then◌else◌, IfOk, Result, Ok, Err, nat_le, nat_lt, codes, refl, sym, ap, subst, ◌∙◌, arith, zero-add}
+use Rattle.std.proofs.lemmas.Bool.{and_from, and_parts, lt-ltb}
+use Rattle.std.proofs.lemmas.List.{drop-replicate, drop-set-lt, drop-set-add, take-set-le}
 use Rattle.std.proofs.Math.Seq.{take-set-lt}
 use Rattle.std.specs.List.{list_any, list_all, position}
 use Rattle.std.specs.Str.{bytes_eq}
@@ -15,7 +15,6 @@ use Rattle.json_walk.specs.Each.{each}
 use Rattle.cluster.specs.declared.ids.Kind.{Kind}
 use Rattle.cluster.specs.declared.ids.Duration.{Duration}
 use Rattle.cluster.specs.Inventory.{resource_fits, duration_fits, own_fits, amounts_fit, machine_own_fits, node_own_fits}
-use Rattle.cluster.proofs.Finding.{position-Some}
 use Rattle.instance_json.specs.declared.fault.InstanceFault.{InstanceFault}
 use Rattle.instance_json.specs.declared.fault.InstanceFault.TheVariants.{NoSuch}
 use Rattle.instance_json.specs.Walk.{Walk, named, looked, bad, maybe, whole, whole_or}
@@ -25,18 +24,19 @@ use Rattle.instance_json.specs.Keys.{duration_keys}
 use Rattle.instance_json.specs.Durations.{counted_of, duration_of, own_of, none_given, own_step, owns_of, machine_owns_of, node_owns_of, one_instant}
 use Rattle.instance_json.specs.Elements.{no_amounts, amount_step, amounts_of}
 use Rattle.json_walk.proofs.Steps.{step, passed, later, same-ok, each-keeps}
-use Rattle.instance_json.proofs.Steps.{both, both_left, both_right, whole_within, whole_or_within, absent-is, present-is}
+use Rattle.instance_json.proofs.Steps.{whole_within, whole_or_within}
+use Rattle.instance_json.proofs.NameLemmas.{place_below}
 
 -- ---- lists with one item set
 
 list_all-set : {X : Type 0} (p : X → Bool) (xs : List X) (i : ℕ) (y : X) → list_all p xs ≡ true → p y ≡ true → list_all p (slice_set xs i y) ≡ true
 list_all-set p [] i y all here = refl
-list_all-set p (x ∷ xs) zero y all here = both here (both_right (p x) _ all)
-list_all-set p (x ∷ xs) (suc i) y all here = both (both_left (p x) _ all) (list_all-set p xs i y (both_right (p x) _ all) here)
+list_all-set p (x ∷ xs) zero y all here = and_from _ _ here (and_parts (p x) _ all).1
+list_all-set p (x ∷ xs) (suc i) y all here = and_from _ _ (and_parts (p x) _ all).0 (list_all-set p xs i y (and_parts (p x) _ all).1 here)
 
 list_all-less : {X : Type 0} (p : X → Bool) (xs : List X) (i : ℕ) → list_all p (drop i xs) ≡ true → list_all p (drop (suc i) xs) ≡ true
 list_all-less p [] i all = refl
-list_all-less p (x ∷ xs) zero all = both_right (p x) _ all
+list_all-less p (x ∷ xs) zero all = (and_parts (p x) _ all).1
 list_all-less p (x ∷ xs) (suc i) all = list_all-less p xs i all
 
 -- ---- amounts
@@ -71,22 +71,17 @@ amounts_of_fit rs d path a h =
     let same : all.value ≡ a = cc in
     let start : AreAmounts 0 no_amounts = record { small = refl; rest = refl } in
     let kept = each-keeps (amount_step d path) (length rs) AreAmounts (λ place a next r _. amounts-step d path place a next r) rs 0 no_amounts all.value (sym (zero-add (length rs))) start all.made in
-    ap (amounts_fit (length rs)) (sym same) ∙ both kept.small kept.rest
+    ap (amounts_fit (length rs)) (sym same) ∙ and_from _ _ kept.small kept.rest
 
 no-amounts : (count : ℕ) → amounts_fit count no_amounts ≡ true
 unfolding no_amounts
-no-amounts count = none-after count 8
+no-amounts count = ap (list_all none) (drop-replicate count 8 0) ∙ none-of (8 - count)
   where
-    none-after : (i n : ℕ) → list_all none (drop i (replicate n 0)) ≡ true
-    none-after zero zero = refl
-    none-after (suc i) zero = refl
-    none-after zero (suc n) = none-after zero n
-    none-after (suc i) (suc n) = none-after i n
+    none-of : (n : ℕ) → list_all none (replicate n 0) ≡ true
+    none-of zero = refl
+    none-of (suc n) = none-of n
 
 -- ---- durations
-
-position-lt : (rs : List (List ℕ)) (name : List ℕ) (r : ℕ) → position (bytes_eq name) rs ≡ Some r → nat_lt r (length rs) ≡ true
-position-lt rs name r h = let below = position-Some (bytes_eq name) rs r [] h in grind (arith, common_steps)
 
 resource-lt : (rs : List (List ℕ)) (d : Data) (path : List ℕ) (r : ℕ) → listed_resource rs d path ≡ Ok r → nat_lt r (length rs) ≡ true
 unfolding listed_resource
@@ -96,7 +91,7 @@ resource-lt rs d path r h =
   where
     by : (name : List ℕ) (o : Option ℕ) → position (bytes_eq name) rs ≡ o → ok_or o (NoSuch path) ≡ Ok r → nat_lt r (length rs) ≡ true
     by name None is e = absurd (cc)
-    by name (Some i) is e = let same : i ≡ r = cc in position-lt rs name r (is ∙ ap Some same)
+    by name (Some i) is e = let same : i ≡ r = cc in lt-ltb r (length rs) (place_below name rs r (is ∙ ap Some same))
 
 counted-fits : (rs : List (List ℕ)) (per : ℕ) (o : Option Data) (path : List ℕ) (r : Option ℕ) → counted_of rs per o path ≡ Ok r → resource_fits (length rs) per r ≡ true
 unfolding counted_of
@@ -120,7 +115,7 @@ duration-fits rs d path x h =
     let bases = whole_within d path (codes "base") 1 1000000 base.value base.made in
     let pers = whole_or_within d path (codes "per") 0 0 1000000 per.value refl refl per.made in
     ap (duration_fits (length rs)) (sym made)
-    ∙ both (both (both bases.0 bases.1) pers.1) (counted-fits rs per.value (get (codes "resource") d) (key_path path (codes "resource")) resource.value resource.made)
+    ∙ and_from _ _ (and_from _ _ (and_from _ _ bases.0 bases.1) pers.1) (counted-fits rs per.value (get (codes "resource") d) (key_path path (codes "resource")) resource.value resource.made)
 
 given-fits : (rs : List (List ℕ)) (d : Data) (path : List ℕ) (o : Option Duration) → own_of rs d path ≡ Ok o → own_fits (length rs) o ≡ true
 unfolding own_of
@@ -130,13 +125,14 @@ given-fits rs d path o h =
     ap (own_fits (length rs)) (sym same) ∙ duration-fits rs d path s.value s.made
 
 own-fits : (rs : List (List ℕ)) (d : Data) (path key : List ℕ) (o : Option Duration) → maybe None (own_of rs) d path key ≡ Ok o → own_fits (length rs) o ≡ true
+unfolding optional
 own-fits rs d path key o h = by (get key d) h
   where
     by : (m : Option Data) → optional None (λ v. own_of rs v (key_path path key)) m ≡ Ok o → own_fits (length rs) o ≡ true
     by None e =
-        let same : None ≡ o = absent-is None (λ v. own_of rs v (key_path path key)) o e in
+        let same : None ≡ o = same-ok None o e in
         ap (own_fits (length rs)) (sym same)
-    by (Some v) e = given-fits rs v (key_path path key) o (present-is None (λ w. own_of rs w (key_path path key)) v o e)
+    by (Some v) e = given-fits rs v (key_path path key) o e
 
 -- ---- own durations
 
@@ -173,7 +169,7 @@ machine_own_fit : (rs : List (List ℕ)) (d : Data) (path : List ℕ) (own : Lis
 unfolding machine_kinds none_given
 machine_own_fit rs d path own h =
     let kept = owns-keep rs 0 machine_kinds (AreMachineOwn (length rs)) keeps (record { front = refl; back = refl }) d path own h in
-    both kept.front kept.back
+    and_from _ _ kept.front kept.back
   where
     keeps : (own : List (Option Duration)) (place : ℕ) (one : Option Duration) → place < 8 → AreMachineOwn (length rs) own → own_fits (length rs) one ≡ true → AreMachineOwn (length rs) (slice_set own (0 + place) one)
     keeps own place one lt p fits =
@@ -187,7 +183,7 @@ node_own_fit : (rs : List (List ℕ)) (d : Data) (path : List ℕ) (own : List (
 unfolding node_kinds none_given
 node_own_fit rs d path own h =
     let kept = owns-keep rs 8 node_kinds (AreNodeOwn (length rs)) keeps (record { front = refl; back = refl }) d path own h in
-    both kept.front kept.back
+    and_from _ _ kept.front kept.back
   where
     keeps : (own : List (Option Duration)) (place : ℕ) (one : Option Duration) → place < 2 → AreNodeOwn (length rs) own → own_fits (length rs) one ≡ true → AreNodeOwn (length rs) (slice_set own (8 + place) one)
     keeps own place one lt p fits =
@@ -209,12 +205,13 @@ all_own_fit rs d path own h =
 -- what the value that stands for an absent member is, and each value that the test gives
 read : {A : Type 0} (r : Result A InstanceFault) (absent : A) (test : Data → List ℕ → Walk A) (P : A → Type 0) (d : Data) (path key : List ℕ)
     → P absent → ((v : Data) (p : List ℕ) (x : A) → test v p ≡ Ok x → P x) → Gives named (λ x. x) r (maybe absent test d path key) → IfOk r P
+unfolding optional
 read (Err e) absent test P d path key none some h = tt
 read (Ok x) absent test P d path key none some h = by (get key d) h
   where
     by : (o : Option Data) → optional absent (λ v. test v (key_path path key)) o ≡ Ok x → P x
-    by None e = subst P (absent-is absent (λ v. test v (key_path path key)) x e) none
-    by (Some v) e = some v (key_path path key) x (present-is absent (λ w. test w (key_path path key)) v x e)
+    by None e = subst P (same-ok absent x e) none
+    by (Some v) e = some v (key_path path key) x e
 
 module _ (rs : List (List ℕ)) (d : Data) (path : List ℕ) where
   pub read_amounts : (key : List ℕ) (r : Result (List ℕ) InstanceFault) → Gives named (λ a. a) r (maybe no_amounts (amounts_of rs) d path key) → IfOk r (λ a. amounts_fit (length rs) a ≡ true)
@@ -238,4 +235,4 @@ module _ (rs : List (List ℕ)) (d : Data) (path : List ℕ) where
 
       filled : (os : List (Option Duration)) → list_all (own_fits (length rs)) os ≡ true → list_all (duration_fits (length rs)) (map (λ o. unwrap_or o one_instant) os) ≡ true
       filled [] fits = refl
-      filled (o ∷ os) fits = both (one o (both_left (own_fits (length rs) o) _ fits)) (filled os (both_right (own_fits (length rs) o) _ fits))
+      filled (o ∷ os) fits = let parts = and_parts (own_fits (length rs) o) _ fits in and_from _ _ (one o parts.0) (filled os parts.1)

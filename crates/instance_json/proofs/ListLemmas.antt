@@ -1,8 +1,9 @@
 -- Lists of machines and sets of nodes, one more at a time.
-use Rattle.std.proofs.Common.{◌≡◌, ℕ, zero, suc, ◌+◌, ◌<◌, ◌≤◌, ◌||◌, ◌==◌, Bool, true, false, not, List, [], ◌∷◌, ◌++◌, length, refl, sym, ap, ◌∙◌, arith}
+use Rattle.std.proofs.Common.{◌≡◌, ℕ, zero, suc, ◌+◌, ◌<◌, ◌||◌, ◌==◌, Bool, true, false, not, List, [], ◌∷◌, ◌++◌, length, refl, sym, ap, ◌∙◌, arith}
 use Rattle.std.proofs.lemmas.Grind.{common_steps}
 use Rattle.std.proofs.lemmas.List.{append_assoc, append-nil}
-use Rattle.std.proofs.lemmas.List.Folds.{list_any-append}
+use Rattle.std.proofs.lemmas.Bool.{and_from, and_parts}
+use Rattle.std.proofs.lemmas.List.Folds.{list_all-append, list_any-append}
 use Rattle.std.specs.List.{list_all, range_with_len}
 use Rattle.cluster.specs.declared.ids.VmId.{VmId}
 use Rattle.cluster.specs.declared.sets.NodeSet.{NodeSet}
@@ -10,16 +11,14 @@ use Rattle.cluster.specs.Sets.{has_node}
 use Rattle.cluster.specs.Inventory.{Inventory}
 use Rattle.catalogue.specs.declared.seen.Seen.{Seen}
 use Rattle.catalogue.specs.Seen.{has_seen}
-use Rattle.catalogue.specs.Faults.{is_member, differ, all_of, are_nodes}
+use Rattle.catalogue.specs.Faults.{is_member, differ, all_of}
 use Rattle.instance_json.specs.Listed.{AreMarked}
 use Rattle.instance_json.specs.NodeSets.{no_nodes, with_node, is_listed_set, are_listed_sets}
 use Rattle.instance_json.proofs.NodeLemmas.{has_node-no_nodes, has_node-with_node}
-use Rattle.instance_json.proofs.Steps.{both, both_left, both_right}
 
 -- one more item that passes
 pub list_all_more : {X : Type 0} (p : X → Bool) (xs : List X) (x : X) → list_all p xs ≡ true → p x ≡ true → list_all p (xs ++ x ∷ []) ≡ true
-list_all_more p [] x all here = both here refl
-list_all_more p (y ∷ ys) x all here = both (both_left (p y) _ all) (list_all_more p ys x (both_right (p y) _ all) here)
+list_all_more p xs x all here = list_all-append p xs (x ∷ []) ∙ and_from _ _ all (and_from _ _ here refl)
 
 -- ---- machines
 
@@ -44,8 +43,8 @@ differ-more [] v all new = refl
 differ-more (x ∷ xs) v all new =
     let apart : (x.0 == v.0) ≡ false = grind (arith, common_steps) in
     let later : is_member xs v.0 ≡ false = grind (arith, common_steps) in
-    let here : not (is_member xs x.0) ≡ true = both_left (not (is_member xs x.0)) _ all in
-    both (ap not (member-more xs v x.0) ∙ fresh (x.0 == v.0) (is_member xs x.0) apart here) (differ-more xs v (both_right (not (is_member xs x.0)) _ all) later)
+    let parts = and_parts (not (is_member xs x.0)) _ all in
+    and_from _ _ (ap not (member-more xs v x.0) ∙ fresh (x.0 == v.0) (is_member xs x.0) apart parts.0) (differ-more xs v parts.1 later)
   where
     fresh : (a b : Bool) → a ≡ false → not b ≡ true → not (a || b) ≡ true
     fresh a b h k = rw h k
@@ -66,7 +65,7 @@ AreMarked-close s ps vs old = rw (append-nil (all_of (ps ++ vs ∷ [])), all_of-
 
 none-in-empty : (a n : ℕ) → list_all (λ m. not (has_node no_nodes m)) (range_with_len a n) ≡ true
 none-in-empty a zero = refl
-none-in-empty a (suc n) = both (ap not (has_node-no_nodes a)) (none-in-empty (a + 1) n)
+none-in-empty a (suc n) = and_from _ _ (ap not (has_node-no_nodes a)) (none-in-empty (a + 1) n)
 
 pub no_nodes_listed : (k : Inventory) → is_listed_set k no_nodes ≡ true
 unfolding is_listed_set
@@ -77,8 +76,8 @@ none-in-with : (s : NodeSet) (x a n : ℕ) → x < 512 → x < a → list_all (�
 none-in-with s x a zero small below old = refl
 none-in-with s x a (suc n) small below old =
     let apart : (a == x) ≡ false = grind (arith, common_steps) in
-    both (ap not (has_node-with_node s x a small) ∙ ap (λ b. not (b || has_node s a)) apart ∙ both_left (not (has_node s a)) _ old)
-    (none-in-with s x (a + 1) n small (omega arith) (both_right (not (has_node s a)) _ old))
+    let parts = and_parts (not (has_node s a)) _ old in
+    and_from _ _ (ap not (has_node-with_node s x a small) ∙ ap (λ b. not (b || has_node s a)) apart ∙ parts.0) (none-in-with s x (a + 1) n small (omega arith) parts.1)
 
 pub is_listed_set_with : (k : Inventory) (s : NodeSet) (n : ℕ) → n < 512 → n < length k.nodes → is_listed_set k s ≡ true → is_listed_set k (with_node s n) ≡ true
 unfolding is_listed_set
