@@ -11,8 +11,7 @@ ghost use Rattle.judge.specs.Standing.{AreUsable, AreUsableNodes, IsFirstAway, I
 ghost use Rattle.judge.specs.Verdict.{ConstraintsHold, IsFirstUnmet, IsMetAt};
 ghost use Rattle.judge.specs.Where.{is_where};
 
-use crate::loads::no_loads;
-use crate::standing::{first_over, machines_of, nodes_of, sweep, usable_nodes};
+use crate::standing::{first_over, loads_at, machines_of, nodes_of, usable_nodes};
 use catalogue::problem::Problem;
 use cluster::ids::{Instant, NodeId, VmId};
 use placement_rules::holds;
@@ -117,9 +116,7 @@ pub(crate) fn first_broken_rule(p: &Problem, plan: &Plan, t: Instant) -> Option<
     requires plan { IsPlanOf p.now.given plan.now }
     ensures { MatchOption result (KeepsAllAt p.now.given (choices_of plan.now) t) (IsFirstRule p.now.given (choices_of plan.now) t) }
 {
-    let mut table = no_loads();
-    let _ = sweep(&mut table, p, plan, t);
-    if let Some((n, r)) = first_over(p, &table) {
+    if let Some((n, r)) = first_over(p, &loads_at(p, plan, t)) {
         return Some(Rule::Load(n, r));
     }
     if let Some((v, n)) = first_away(p, plan, t) {

@@ -12,5 +12,7 @@ mod standing;
 mod tests;
 mod verdict;
 
+pub use loads::Loads;
 pub use slices::rule::{Broken, Rule};
+pub use standing::loads_at;
 pub use verdict::judge;

@@ -11,8 +11,8 @@ use cluster::ids::{Element, VmId};
 use slices::holding::amount;
 use slices::table::{Held, Holding, What};
 
-/// The amounts of each resource, node by node.
-pub(crate) type Loads = [[u64; 8]; 512];
+/// The amounts of each resource, node by node, in the units of the resources.
+pub type Loads = [[u64; 8]; 512];
 
 /// A table of zeros.
 pub(crate) fn no_loads() -> Loads

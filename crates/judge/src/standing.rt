@@ -4,7 +4,7 @@ ghost use Rattle.catalogue.specs.Cells.{cell};
 ghost use Rattle.slices.specs.Elements.{machine_count, node_count};
 ghost use Rattle.slices.specs.Holdings.{image_in, is_in, IsHeldWithin, IsNodeWithin};
 ghost use Rattle.slices.specs.Plans.{IsPlanOf, choices_of};
-ghost use Rattle.slices.specs.Snapshots.{snapshot_at};
+ghost use Rattle.slices.specs.Snapshots.{snapshot_at, load};
 ghost use Rattle.slices.specs.Stages.{one};
 ghost use Rattle.judge.specs.Standing.{AreUsable, AreUsableNodes, IsFirstIn, IsFirstOver, LoadsFit, NodeFits, Stands, loads_of};
 ghost use Rattle.judge.specs.Where.{is_where};
@@ -99,6 +99,17 @@ pub(crate) fn sweep(table: &mut Loads, p: &Problem, plan: &Plan, t: Instant) -> 
         all = all & here;
     }
     all
+}
+
+/// The loads of all nodes at an instant, by one pass over the machines: what is compared with the
+/// capacities. Rows past the nodes and amounts past the resources say nothing.
+pub fn loads_at(p: &Problem, plan: &Plan, t: Instant) -> Loads
+    requires { IsPlanOf p.now.given plan.now }
+    ensures { (n r : ℕ) → r < length p.now.given.resources → cell result n r ≡ load p.now.given (snapshot_at p.now.given (choices_of plan.now) t) r (one n) }
+{
+    let mut table = no_loads();
+    let _ = sweep(&mut table, p, plan, t);
+    table
 }
 
 /// The first resource whose load on a node exceeds the capacity.
