@@ -1,0 +1,8 @@
+use Rattle.std.proofs.Common.{◌≡◌}
+use Rattle.std.specs.List.{filter, range_with_len}
+use Rattle.slices.specs.Plans.{choices_of}
+use Rattle.replay.specs.Events.{is_event}
+use Rattle.replay.proofs.events.events.Given as goal
+
+abbrev pub invariant-loop-t : goal.invariant-loop-t
+invariant-loop-t l = l.instants.items ≡ filter (is_event l.p.given (choices_of l.plan)) (range_with_len 0 l.t)

@@ -1,0 +1,73 @@
+//! The instants at which something happens: 0, each start and each end of an action, and the horizon.
+ghost use Rattle.std.specs.Prelude.{◌≡◌, ◌+◌, ◌||◌, ℕ, false, length, slice_index_or, IfOk};
+ghost use Rattle.catalogue.specs.Instance.{IsElement};
+ghost use Rattle.slices.specs.Elements.{element_count};
+ghost use Rattle.slices.specs.Plans.{IsPlanOf, choices_of};
+ghost use Rattle.replay.specs.Events.{events, is_event, turns, turns_below};
+
+use catalogue::problem::Problem;
+use cluster::ids::{Choice, Element, Instant};
+use memory::Memory;
+use slices::elements::{count, element};
+use slices::plan::{Plan, end_in};
+use std::alloc::Global;
+
+/// Marks the start and the end of an element's action, if it has one.
+#[tactic(auto, using(crate::proofs::Marks::marked), unfolding(crate::specs::Events::turns))]
+fn mark_element(marks: &mut [bool], p: &Problem, plan: &Plan, e: Element)
+    requires plan { IsPlanOf p.now.given plan.now }
+    requires element { IsElement p.now.given e }
+    requires room { length marks.old ≡ p.now.given.horizon + 1 }
+    ensures { (t : ℕ) → slice_index_or marks.new t false ≡ (slice_index_or marks.old t false || turns p.now.given e (choices_of plan.now e) t) }
+{
+    match plan.choice(e) {
+        Choice::Idle => {}
+        Choice::Act { place: _, start } => {
+            marks[start as usize] = true;
+            marks[end_in(p, plan, e) as usize] = true;
+        }
+    }
+}
+
+/// Marks the starts and the ends of all actions.
+#[tactic(auto, using(crate::proofs::Ranges::any_more))]
+fn mark_elements(marks: &mut [bool], p: &Problem, plan: &Plan)
+    requires plan { IsPlanOf p.now.given plan.now }
+    requires room { length marks.old ≡ p.now.given.horizon + 1 }
+    ensures { (t : ℕ) → slice_index_or marks.new t false ≡ (slice_index_or marks.old t false || turns_below p.now.given (choices_of plan.now) (element_count p.now.given) t) }
+{
+    for x in 0..count(p) {
+        mark_element(marks, p, plan, element(p, x));
+    }
+}
+
+/// Which instants up to the horizon are event instants.
+#[tactic(auto, using(crate::proofs::Marks::ends_marked), unfolding(crate::specs::Events::is_event))]
+fn marks(alloc: Global, p: &Problem, plan: &Plan) -> Result<Vec<bool>, Memory>
+    requires { IsPlanOf p.now.given plan.now }
+    ensures room { IfOk result (λ marks. length marks.items ≡ p.now.given.horizon + 1) }
+    ensures marks { IfOk result (λ marks. (t : ℕ) → slice_index_or marks.items t false ≡ is_event p.now.given (choices_of plan.now) t) }
+{
+    let horizon = p.horizon() as usize;
+    let mut marks = vec![in alloc; false; horizon + 1]?;
+    marks[0] = true;
+    marks[horizon] = true;
+    mark_elements(&mut marks, p, plan);
+    Ok(marks)
+}
+
+/// The event instants, ascending and without repeats.
+#[tactic(auto, using(crate::proofs::Ranges::passes_more, crate::proofs::Ranges::fails_more), unfolding(crate::specs::Events::events))]
+pub(crate) fn events(alloc: Global, p: &Problem, plan: &Plan) -> Result<Vec<Instant>, Memory>
+    requires { IsPlanOf p.now.given plan.now }
+    ensures events { IfOk result (λ instants. instants.items ≡ events p.now.given (choices_of plan.now)) }
+{
+    let marks = marks(alloc, p, plan)?;
+    let mut instants = Vec::new(alloc);
+    for t in 0..marks.len() {
+        if marks[t] {
+            instants.push(t as u32)?;
+        }
+    }
+    Ok(instants)
+}

@@ -1,0 +1,70 @@
+//! The report on a plan.
+ghost use Rattle.std.specs.Prelude.{◌≡◌, ◌++◌, IsTrue, IfOk, OnOk};
+ghost use Rattle.std.specs.Io.{StartsWith};
+ghost use Rattle.std.specs.List.{flat_map};
+ghost use Rattle.plan_io.specs.Causes.{CountsWrites};
+ghost use Rattle.slices.specs.Plans.{IsPlanOf, choices_of};
+ghost use Rattle.replay.specs.Lines.{at_line};
+ghost use Rattle.replay.specs.Report.{IsFrontOfReport, IsVerdict, report_text};
+
+use crate::events::events;
+use crate::lines::{at_line, verdict_line};
+use catalogue::problem::Problem;
+use cluster::ids::Instant;
+use judge::{Broken, judge};
+use plan_io::{OutFault, Sink, write_text};
+use slices::plan::Plan;
+use std::alloc::Global;
+
+/// Writes a line for each of some instants.
+#[tactic(auto, using(crate::proofs::Texts::piece_front))]
+fn write_instants<O: Sink>(
+    alloc: Global,
+    p: &Problem,
+    plan: &Plan,
+    instants: &[Instant],
+    out: &mut O,
+) -> Result<(), OutFault>
+    requires { IsPlanOf p.now.given plan.now }
+    ensures written { IsTrue O.tells → OnOk result (O.written out.new ≡ O.written out.old ++ flat_map (at_line p.now.given (choices_of plan.now)) instants.now) }
+    ensures cut { IsTrue O.tells → StartsWith (O.written out.old ++ flat_map (at_line p.now.given (choices_of plan.now)) instants.now) (O.written out.new) }
+    ensures stays { IsTrue O.tells → StartsWith (O.written out.new) (O.written out.old) }
+    ensures cause { CountsWrites (O.faults out.old) (O.faults out.new) result }
+{
+    for t in instants {
+        let line = at_line(alloc, p, plan, *t)?;
+        write_text(out, line.as_bytes())?;
+    }
+    Ok(())
+}
+
+/// Writes the report on a plan, line by line, and gives what is broken first, if anything is.
+///
+/// For 0, each start and each end of an action and the horizon, in ascending order and each once,
+/// there is a line `at T`, and behind it for each node in order its name and its load of each
+/// resource in order. The last line is `valid C` with the plan's cost, or `broken T RULE`. Each line
+/// is offered to the sink whole.
+///
+/// After a refusal the sink has got a front of the report. `Failed` comes only where the sink's
+/// count of faults rose.
+#[tactic(auto, using(sums::proofs::Fronts::longer, sums::proofs::Fronts::longer_text, sums::proofs::Fronts::further), unfolding(crate::specs::Report::report_text))]
+pub fn report<O: Sink>(
+    alloc: Global,
+    p: &Problem,
+    plan: &Plan,
+    out: &mut O,
+) -> Result<Option<Broken>, OutFault>
+    requires { IsPlanOf p.now.given plan.now }
+    ensures verdict { IfOk result (IsVerdict p.now.given (choices_of plan.now)) }
+    ensures written { IsTrue O.tells → IfOk result (λ answer. O.written out.new ≡ O.written out.old ++ report_text p.now.given (choices_of plan.now) answer) }
+    ensures cut { IsTrue O.tells → IsFrontOfReport p.now.given (choices_of plan.now) (O.written out.old) (O.written out.new) }
+    ensures stays { IsTrue O.tells → StartsWith (O.written out.new) (O.written out.old) }
+    ensures cause { CountsWrites (O.faults out.old) (O.faults out.new) result }
+{
+    let answer = judge(p, plan);
+    let instants = events(alloc, p, plan)?;
+    write_instants(alloc, p, plan, &instants, out)?;
+    let line = verdict_line(alloc, p, plan, answer)?;
+    write_text(out, line.as_bytes())?;
+    Ok(answer)
+}
