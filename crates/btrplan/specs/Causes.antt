@@ -33,6 +33,15 @@ pub record Causes (before after : Counts) (result : Status) : Type 0 where
   pub writes : (after.writes ≡ before.writes) ⊎ (result ≡ WriteFault)
   pub sink : (after.sink ≡ before.sink) ⊎ (result ≡ WriteFault)
 
+-- The same of a command whose last line may still have to be printed.
+pub record CommandCauses {T : Type 0} (before after : Counts) (result : Result T Fault) : Type 0 where
+  pub read : result ≡ Err fault.ReadFault → Rose before.reads after.reads ⊎ Rose before.source after.source
+  pub write : result ≡ Err fault.WriteFault → Rose before.writes after.writes ⊎ Rose before.sink after.sink
+  pub reads : (after.reads ≡ before.reads) ⊎ (result ≡ Err fault.ReadFault)
+  pub source : (after.source ≡ before.source) ⊎ (result ≡ Err fault.ReadFault)
+  pub writes : (after.writes ≡ before.writes) ⊎ (result ≡ Err fault.WriteFault)
+  pub sink : (after.sink ≡ before.sink) ⊎ (result ≡ Err fault.WriteFault)
+
 -- The same of a part of a command that has the desk alone.
 pub record DeskCauses {T : Type 0} (reads_before reads_after writes_before writes_after : ℕ) (result : Result T Fault) : Type 0 where
   pub read : result ≡ Err fault.ReadFault → Rose reads_before reads_after

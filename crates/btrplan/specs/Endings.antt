@@ -1,5 +1,6 @@
 -- How a command ends, before its last line is printed.
-use Rattle.std.specs.Prelude.{◌≡◌, ◌++◌, ℕ, List, Option, Some, None, Result, Ok, Err, IfSome, codes, string_bytes}
+use Rattle.std.specs.Prelude.{◌≡◌, ◌++◌, ℕ, List, Option, Some, None, Result, Ok, Err, IfSome, codes, String, string_bytes}
+use Rattle.std.specs.declared.alloc.Global.{Global}
 use Rattle.plan_io.specs.declared.faults.OutFault.{OutFault}
 use Rattle.plan_io.specs.declared.faults.OutFault.TheVariants as out
 use Rattle.btrplan.specs.Words.{Command}
@@ -32,9 +33,14 @@ line_of fault.ReadFault = None
 line_of fault.WriteFault = None
 line_of fault.Memory = None
 
+-- What is printed in the end: the last line too, where one is still to be printed.
+abbrev pub printed_with : List ℕ → Option (String Global) → List ℕ
+printed_with printed None = printed
+printed_with printed (Some line) = printed ++ string_bytes line
+
 -- The answer stands as soon as the last line is printed, if there is one.
 unfoldable pub Ends : Option Command → Option (List ℕ) → Outside → Outside → Result Ending Fault → Type 0
-Ends command source before after (Ok ending) = IsAnswer command source before (outside after.files (after.printed ++ string_bytes ending.line)) (outcome_status ending.outcome)
+Ends command source before after (Ok ending) = IsAnswer command source before (outside after.files (printed_with after.printed ending.line)) (outcome_status ending.outcome)
 Ends command source before after (Err f) = IfSome (line_of f) (λ line. IsAnswer command source before (outside after.files (after.printed ++ line)) (fault_status f))
 
 -- A call that reads an input may fail by the input, by a failed read, or by want of memory.

@@ -32,10 +32,10 @@ impl Outcome {
     }
 }
 
-/// How a command ends that meets no fault: its last line, which is still to be printed.
+/// How a command ends that meets no fault: its last line, where one is still to be printed.
 #[derive(Debug, Drop)]
 pub struct Ending {
-    pub line: String,
+    pub line: Option<String>,
     pub outcome: Outcome,
 }
 

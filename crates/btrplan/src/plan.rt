@@ -65,7 +65,7 @@ pub fn plan<D: Desk>(
     write_certificate(desk, certificate)?;
     write_plan(desk, plan_file)?;
     Ok(Ending {
-        line: String::from_str(alloc, "optimal 0\n")?,
+        line: Some(String::from_str(alloc, "optimal 0\n")?),
         outcome: Outcome::Good,
     })
 }

@@ -4,9 +4,9 @@ ghost use Rattle.std.specs.Prelude.{◌≡◌, ◌≢◌, ◌⊎◌, ◌++◌, �
 ghost use Rattle.plan_io.specs.Causes.{Rose};
 ghost use Rattle.plan_io.specs.Files.{Files};
 ghost use Rattle.btrplan.specs.Words.{asked, MayRun, Command as Asked};
-ghost use Rattle.btrplan.specs.Answer.{IsAnswer, outside, told};
+ghost use Rattle.btrplan.specs.Answer.{Outside, IsAnswer, outside, told};
 ghost use Rattle.btrplan.specs.Left.{Leaves, LeavesAtFailedRead, PrintsFront, KeepsSource};
-ghost use Rattle.btrplan.specs.Causes.{Causes, DeskCauses, NothingFailed, counts};
+ghost use Rattle.btrplan.specs.Causes.{Counts, Causes, CommandCauses, NothingFailed, counts};
 ghost use Rattle.btrplan.specs.Endings.{Ends, IsAnswered};
 
 use crate::fault::{Ending, Fault};
@@ -16,14 +16,24 @@ use crate::words::{Command, read_words};
 use plan_io::{Desk, OutFault, Sink, Source, write_text};
 use std::alloc::Global;
 
-/// Does what the words ask for, but for the last line.
-#[tactic(auto, using(crate::proofs::NoCommand::no_command))]
-fn answer<D: Desk>(alloc: Global, words: &[String], desk: &mut D) -> Result<Ending, Fault>
+/// Does what the words ask for, but for the last line where one is still to be printed.
+#[tactic(auto, using(crate::proofs::NoCommand::no_command, crate::proofs::Printing::prints_nothing))]
+fn answer<D: Desk, I: Source, O: Sink>(
+    alloc: Global,
+    words: &[String],
+    desk: &mut D,
+    input: &mut I,
+    out: &mut O,
+) -> Result<Ending, Fault>
     requires names { MayRun D.reads D.writes (asked words.now) }
-    ensures ends { IsTrue D.tells → (source : Option (List ℕ)) (printed : List ℕ) → Ends (asked words.now) source (outside (D.files desk.old) printed) (outside (D.files desk.new) printed) result }
+    ensures ends { IsTrue D.tells → IsTrue O.tells → Ends (asked words.now) (told I.tells (I.rest input.old)) (outside (D.files desk.old) (O.written out.old)) (outside (D.files desk.new) (O.written out.new)) result }
     ensures left { IsTrue D.tells → Leaves (asked words.now) (D.files desk.old) (D.files desk.new) }
     ensures failed_read { IsTrue D.tells → result ≡ Err Fault.ReadFault → LeavesAtFailedRead (asked words.now) (D.files desk.old) (D.files desk.new) }
-    ensures causes { DeskCauses (D.read_faults desk.old) (D.read_faults desk.new) (D.write_faults desk.old) (D.write_faults desk.new) result }
+    ensures printed { IsTrue D.tells → IsTrue O.tells → PrintsFront (asked words.now) (told I.tells (I.rest input.old)) (outside (D.files desk.old) (O.written out.old)) (outside (D.files desk.new) (O.written out.new)) }
+    ensures source { KeepsSource (asked words.now) input.old input.new }
+    ensures causes { let before = counts (D.read_faults desk.old) (I.faults input.old) (D.write_faults desk.old) (O.faults out.old) in
+        let after = counts (D.read_faults desk.new) (I.faults input.new) (D.write_faults desk.new) (O.faults out.new) in
+        CommandCauses before after result }
     ensures words { (asked words.now ≡ None) ↔ (result ≡ Err Fault.Words) }
 {
     match read_words(words) {
@@ -39,14 +49,15 @@ fn answer<D: Desk>(alloc: Global, words: &[String], desk: &mut D) -> Result<Endi
 }
 
 /// Prints the last line, and gives the status that was to be said, or that of a refused write.
-#[tactic(auto, unfolding(crate::specs::Left::PrintsFront))]
+#[tactic(auto, using(crate::proofs::Printing::prints_last))]
 fn say<O: Sink>(out: &mut O, line: &str, said: Status) -> Status
     requires { IsAnswered said }
     ensures status { (result ≡ said) ⊎ (result ≡ Status.WriteFault) ⊎ (result ≡ Status.Memory) }
     ensures written { IsTrue O.tells → result ≡ said → O.written out.new ≡ O.written out.old ++ line.now }
-    ensures front { IsTrue O.tells → (command : Option Asked) (source : Option (List ℕ)) (before after : Files)
-        → IsAnswer command source (outside before (O.written out.old)) (outside after (O.written out.old ++ line.now)) said
-        → PrintsFront command source (outside before (O.written out.old)) (outside after (O.written out.new)) }
+    ensures front { IsTrue O.tells → (command : Option Asked) (source : Option (List ℕ)) (before : Outside) (after : Files)
+        → PrintsFront command source before (outside after (O.written out.old))
+        → IsAnswer command source before (outside after (O.written out.old ++ line.now)) said
+        → PrintsFront command source before (outside after (O.written out.new)) }
     ensures cause { result ≡ Status.WriteFault → Rose (O.faults out.old) (O.faults out.new) }
     ensures kept { (O.faults out.new ≡ O.faults out.old) ⊎ (result ≡ Status.WriteFault) }
 {
@@ -58,24 +69,27 @@ fn say<O: Sink>(out: &mut O, line: &str, said: Status) -> Status
 }
 
 /// Prints the last line of a command, if it has one, and gives its status or that of a refused write.
-#[tactic(auto, unfolding(crate::specs::Endings::Ends, crate::specs::Left::PrintsFront))]
+#[tactic(auto, using(crate::proofs::Causing::causes_of_line, crate::proofs::Causing::causes_as_they_were), unfolding(crate::specs::Endings::Ends))]
 fn finish<O: Sink>(out: &mut O, ended: Result<Ending, Fault>) -> Status
-    ensures answer { IsTrue O.tells → IsAnswered result → (command : Option Asked) (source : Option (List ℕ)) (before after : Files)
-        → Ends command source (outside before (O.written out.old)) (outside after (O.written out.old)) ended
-        → IsAnswer command source (outside before (O.written out.old)) (outside after (O.written out.new)) result }
-    ensures printed { IsTrue O.tells → (command : Option Asked) (source : Option (List ℕ)) (before after : Files)
-        → Ends command source (outside before (O.written out.old)) (outside after (O.written out.old)) ended
-        → PrintsFront command source (outside before (O.written out.old)) (outside after (O.written out.new)) }
+    ensures answer { IsTrue O.tells → IsAnswered result → (command : Option Asked) (source : Option (List ℕ)) (before : Outside) (after : Files)
+        → Ends command source before (outside after (O.written out.old)) ended
+        → IsAnswer command source before (outside after (O.written out.new)) result }
+    ensures printed { IsTrue O.tells → (command : Option Asked) (source : Option (List ℕ)) (before : Outside) (after : Files)
+        → PrintsFront command source before (outside after (O.written out.old))
+        → Ends command source before (outside after (O.written out.old)) ended
+        → PrintsFront command source before (outside after (O.written out.new)) }
     ensures words { result ≡ Status.Words → ended ≡ Err Fault.Words }
     ensures words_told { ended ≡ Err Fault.Words → (result ≡ Status.Words) ⊎ (result ≡ Status.WriteFault) ⊎ (result ≡ Status.Memory) }
     ensures read { result ≡ Status.ReadFault → ended ≡ Err Fault.ReadFault }
-    ensures read_told { ended ≡ Err Fault.ReadFault → result ≡ Status.ReadFault }
-    ensures write { result ≡ Status.WriteFault → (ended ≡ Err Fault.WriteFault) ⊎ Rose (O.faults out.old) (O.faults out.new) }
-    ensures write_told { ended ≡ Err Fault.WriteFault → result ≡ Status.WriteFault }
-    ensures kept { (O.faults out.new ≡ O.faults out.old) ⊎ (result ≡ Status.WriteFault) }
+    ensures causes { (before : Counts) (reads source writes : ℕ)
+        → CommandCauses before (counts reads source writes (O.faults out.old)) ended
+        → Causes before (counts reads source writes (O.faults out.new)) result }
 {
     match ended {
-        Ok(ending) => say(out, ending.line.as_str(), ending.outcome.status()),
+        Ok(Ending { line, outcome }) => match line {
+            Some(line) => say(out, line.as_str(), outcome.status()),
+            None => outcome.status(),
+        },
         Err(fault) => match fault.line() {
             Some(line) => say(out, line, fault.status()),
             None => fault.status(),
@@ -115,6 +129,6 @@ pub fn run<D: Desk, I: Source, O: Sink>(
     ensures printed { IsTrue D.tells → IsTrue O.tells → PrintsFront (asked words.now) (told I.tells (I.rest input.old)) (outside (D.files desk.old) (O.written out.old)) (outside (D.files desk.new) (O.written out.new)) }
     ensures source { KeepsSource (asked words.now) input.old input.new }
 {
-    let ended = answer(alloc, words, desk);
+    let ended = answer(alloc, words, desk, input, out);
     finish(out, ended)
 }
