@@ -13,7 +13,7 @@ use slices::plan::{Plan, end_in};
 use std::alloc::Global;
 
 /// Marks the start and the end of an element's action, if it has one.
-#[tactic(auto, using(crate::proofs::Marks::marked), unfolding(crate::specs::Events::turns))]
+#[tactic(auto, unfolding(crate::specs::Events::turns))]
 fn mark_element(marks: &mut [bool], p: &Problem, plan: &Plan, e: Element)
     requires plan { IsPlanOf p.now.given plan.now }
     requires element { IsElement p.now.given e }
