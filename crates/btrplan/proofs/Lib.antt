@@ -1,6 +1,7 @@
 pub mod Causing
 pub mod Decisions
-pub mod NoCommand
+pub mod Ends
 pub mod Printing
 pub mod Readings
+pub mod ReplayAnswers
 pub mod Staying

@@ -1,5 +1,5 @@
 -- The plan in which every element stays as it is.
-use Rattle.std.proofs.Common.{◌≡◌, ◌↔◌, ◌≤◌, ◌+◌, ◌-◌, ℕ, zero, suc, List, take, drop, slice_index_or, refl, sym, ◌∙◌, ap, subst, arith, Result, Ok, Err, IsTrue}
+use Rattle.std.proofs.Common.{◌≡◌, ◌≤◌, ◌+◌, ◌-◌, ℕ, zero, suc, List, take, drop, slice_index_or, refl, sym, ◌∙◌, ap, subst, arith, Result, Ok}
 use Rattle.std.specs.Prelude.{replicate}
 use Rattle.std.proofs.lemmas.List.{take-replicate, drop-replicate, length-replicate}
 use Rattle.cluster.specs.declared.ids.Choice.{Choice}
@@ -14,7 +14,7 @@ use Rattle.slices.specs.Elements.{machine_count, node_count, element_count, vm, 
 use Rattle.slices.specs.Plans.{choices_of, parted, IsPlan, IsPlanOf}
 use Rattle.slices.specs.Rules.{IsValid}
 use Rattle.slices.specs.Costs.{IsOptimal, cost_of}
-use Rattle.btrplan.specs.Instance.{staying, MayStay, StaysBest}
+use Rattle.btrplan.specs.Staying.{staying, MayStay, StaysBest}
 
 idle_at : (n i : ℕ) → slice_index_or (replicate n Idle) i Idle ≡ Idle
 idle_at zero i = refl

@@ -1,7 +1,8 @@
 pub mod Codes
 pub mod Words
 pub mod Meaning
-pub mod Instance
+pub mod Inputs
+pub mod Staying
 pub mod Answer
 pub mod Left
 pub mod Causes

@@ -6,6 +6,7 @@ use Rattle.std.specs.declared.alloc.Global.{Global}
 -- A command, with the names of its files.
 pub data Command : Type 0 where
   plan : (instance plan_file certificate : List ℕ) → Command
+  replay : (instance plan_file : List ℕ) → Command
 
 -- A file's name has 1 to 4,096 bytes.
 abbrev pub is_name : List ℕ → Bool
@@ -20,6 +21,8 @@ are_names (word ∷ words) = is_name word && list_all (λ other. not (bytes_eq w
 abbrev pub command_of : List (List ℕ) → Option Command
 command_of (word ∷ instance ∷ plan_file ∷ certificate ∷ []) =
     if bytes_eq word (codes "plan") && are_names (instance ∷ plan_file ∷ certificate ∷ []) then Some (plan instance plan_file certificate) else None
+command_of (word ∷ instance ∷ plan_file ∷ []) =
+    if bytes_eq word (codes "replay") && are_names (instance ∷ plan_file ∷ []) then Some (replay instance plan_file) else None
 command_of _ = None
 
 -- The command that the words of the command line ask for.
@@ -30,3 +33,4 @@ asked words = command_of (map string_bytes words)
 abbrev pub MayRun : (List ℕ → Bool) → (List ℕ → Bool) → Option Command → Type 0
 MayRun reads writes None = Unit {0}
 MayRun reads writes (Some (plan instance plan_file certificate)) = IsTrue (reads instance) × IsTrue (writes plan_file) × IsTrue (writes certificate)
+MayRun reads writes (Some (replay instance plan_file)) = IsTrue (reads instance) × IsTrue (reads plan_file)

@@ -3,11 +3,15 @@
 #![tactic(auto)]
 
 mod fault;
+mod inputs;
 mod instance;
 mod lines;
 mod plan;
+mod plan_file;
+mod replaying;
 mod run;
 mod status;
+mod stay;
 mod words;
 
 use plan_io::{FileDesk, StdSink, StdSource};

@@ -10,8 +10,8 @@ ghost use Rattle.btrplan.specs.Endings.{Ends};
 ghost use Rattle.btrplan.specs.Left.{LeavesPlan};
 
 use crate::fault::{Ending, Fault, Outcome};
-use crate::instance::planned_at;
 use crate::lines::write_lines;
+use crate::stay::planned_at;
 use plan_io::{Desk, OutFault, write_whole};
 use std::alloc::Global;
 

@@ -5,19 +5,20 @@ ghost use Rattle.plan_io.specs.Causes.{Rose};
 ghost use Rattle.plan_io.specs.Files.{Files};
 ghost use Rattle.btrplan.specs.Words.{asked, MayRun, Command as Asked};
 ghost use Rattle.btrplan.specs.Answer.{Outside, IsAnswer, outside, told};
-ghost use Rattle.btrplan.specs.Left.{Leaves, LeavesAtFailedRead, PrintsFront, KeepsSource};
+ghost use Rattle.btrplan.specs.Left.{Leaves, LeavesAtFailedRead, PrintsFront, KeepsSource, KeepsDeskWrites};
 ghost use Rattle.btrplan.specs.Causes.{Counts, Causes, CommandCauses, NothingFailed, counts};
 ghost use Rattle.btrplan.specs.Endings.{Ends, IsAnswered};
 
 use crate::fault::{Ending, Fault};
 use crate::plan::plan;
+use crate::replaying::replay;
 use crate::status::Status;
 use crate::words::{Command, read_words};
 use plan_io::{Desk, OutFault, Sink, Source, write_text};
 use std::alloc::Global;
 
 /// Does what the words ask for, but for the last line where one is still to be printed.
-#[tactic(auto, using(crate::proofs::NoCommand::no_command, crate::proofs::Printing::prints_nothing))]
+#[tactic(auto, using(crate::proofs::Ends::no_command, crate::proofs::Printing::prints_nothing))]
 fn answer<D: Desk, I: Source, O: Sink>(
     alloc: Global,
     words: &[String],
@@ -34,6 +35,7 @@ fn answer<D: Desk, I: Source, O: Sink>(
     ensures causes { let before = counts (D.read_faults desk.old) (I.faults input.old) (D.write_faults desk.old) (O.faults out.old) in
         let after = counts (D.read_faults desk.new) (I.faults input.new) (D.write_faults desk.new) (O.faults out.new) in
         CommandCauses before after result }
+    ensures desk_writes { KeepsDeskWrites (asked words.now) (D.write_faults desk.old) (D.write_faults desk.new) }
     ensures words { (asked words.now ≡ None) ↔ (result ≡ Err Fault.Words) }
 {
     match read_words(words) {
@@ -44,6 +46,12 @@ fn answer<D: Desk, I: Source, O: Sink>(
                 certificate,
             },
         ) => plan(alloc, desk, instance, plan_file, certificate),
+        Some(
+            Command::Replay {
+                instance,
+                plan_file,
+            },
+        ) => replay(alloc, desk, out, instance, plan_file),
         None => Err(Fault::Words),
     }
 }
@@ -128,6 +136,9 @@ pub fn run<D: Desk, I: Source, O: Sink>(
     ensures failed_read { IsTrue D.tells → result ≡ Status.ReadFault → LeavesAtFailedRead (asked words.now) (D.files desk.old) (D.files desk.new) }
     ensures printed { IsTrue D.tells → IsTrue O.tells → PrintsFront (asked words.now) (told I.tells (I.rest input.old)) (outside (D.files desk.old) (O.written out.old)) (outside (D.files desk.new) (O.written out.new)) }
     ensures source { KeepsSource (asked words.now) input.old input.new }
+
+    // For every desk: a command that only reads leaves its count of failed writes.
+    ensures desk_writes { KeepsDeskWrites (asked words.now) (D.write_faults desk.old) (D.write_faults desk.new) }
 {
     let ended = answer(alloc, words, desk, input, out);
     finish(out, ended)

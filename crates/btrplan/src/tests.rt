@@ -5,6 +5,9 @@ use std::alloc::Global;
 use std::process::Abort;
 use std::test::Fail;
 
+mod instances;
+mod replays;
+
 const CERTIFICATE: &[u8] = b"btrplan certificate 1\nfail bound\nend optimal 0\n";
 
 const PLAN: &[u8] = b"{\"actions\":[]}\n";
@@ -39,6 +42,13 @@ fn desk(alloc: Global, instance: &[u8], fails: Vec<u64>) -> Result<DeskMem, Fail
     Ok(desk)
 }
 
+/// Runs the words of a line on this desk and sink.
+fn ran(alloc: Global, line: &str, desk: &mut DeskMem, out: &mut SinkMem) -> Result<Status, Fail> {
+    let words = words(alloc, line)?;
+    let mut input = SourceMem::new(Vec::new(alloc), Vec::new(alloc));
+    Ok(run(alloc, &words, desk, &mut input, out))
+}
+
 /// Runs the words of a line on this desk, and sees the status and what is printed.
 fn says(
     rt: &impl Abort,
@@ -49,10 +59,8 @@ fn says(
     printed: &[u8],
     at: usize,
 ) -> Result<(), Fail> {
-    let words = words(alloc, line)?;
-    let mut input = SourceMem::new(Vec::new(alloc), Vec::new(alloc));
     let mut out = SinkMem::new(Vec::new(alloc));
-    let answer = run(alloc, &words, desk, &mut input, &mut out);
+    let answer = ran(alloc, line, desk, &mut out)?;
     assert_eq!(rt; answer, status, "at {at}");
     assert_eq!(rt; out.written(), printed, "at {at}");
     Ok(())
@@ -102,11 +110,9 @@ fn each_failing_call_of_the_desk(rt: HostRuntime) -> Result<(), Fail> {
 #[test]
 fn a_failing_sink(rt: HostRuntime) -> Result<(), Fail> {
     let alloc = rt.alloc();
-    let words = words(alloc, "plan i p c")?;
     let mut desk = desk(alloc, EMPTY, Vec::new(alloc))?;
-    let mut input = SourceMem::new(Vec::new(alloc), Vec::new(alloc));
     let mut out = SinkMem::new(vec![in alloc; 0]?);
-    let answer = run(alloc, &words, &mut desk, &mut input, &mut out);
+    let answer = ran(alloc, "plan i p c", &mut desk, &mut out)?;
     assert_eq!(rt; answer, Status::WriteFault);
     assert_eq!(rt; out.written(), b"".as_slice());
     holds(&rt, &desk, CERTIFICATE, PLAN, 0);
@@ -165,6 +171,9 @@ fn words_in_no_command(rt: HostRuntime) -> Result<(), Fail> {
         "plan i p c d",
         "plan i  c",
         "plans i p c",
+        "replay i",
+        "replay i i",
+        "replay i p c",
     ];
     for (at, line) in lines.into_iter().enumerate() {
         says(&rt, alloc, line, &mut desk, Status::Words, b"words\n", at)?;

@@ -13,6 +13,11 @@ pub enum Command<'a> {
         plan_file: &'a str,
         certificate: &'a str,
     },
+    /// Replays a plan of the instance, and prints the verdict on it.
+    Replay {
+        instance: &'a str,
+        plan_file: &'a str,
+    },
 }
 
 /// The most bytes of a file's name.
@@ -51,6 +56,14 @@ pub fn read_words(words: &[String]) -> Option<Command<'_>>
                 certificate: certificate.as_str(),
             })
         }
+        [word, instance, plan_file]
+            if word.as_str() == "replay" && are_two_names(instance.as_str(), plan_file.as_str()) =>
+            {
+                Some(Command::Replay {
+                    instance: instance.as_str(),
+                    plan_file: plan_file.as_str(),
+                })
+            }
         _ => None,
     }
 }

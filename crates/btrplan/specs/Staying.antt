@@ -1,28 +1,13 @@
--- What the bytes of an instance mean, and what is decided of it.
-use Rattle.std.specs.Prelude.{◌≡◌, ℕ, List, ◌++◌, Result, Ok, Err, codes, string_bytes}
+-- What is decided of an instance.
+use Rattle.std.specs.Prelude.{◌≡◌, ℕ, List, Result, Ok, Err, codes, string_bytes}
 use Rattle.cluster.specs.declared.ids.Choice.TheVariants.{Idle}
 use Rattle.catalogue.specs.Instance.{Instance}
 use Rattle.slices.specs.Plans.{Choices, IsPlan}
 use Rattle.slices.specs.Rules.{IsValid}
 use Rattle.slices.specs.Costs.{IsOptimal}
-use Rattle.instance_json.specs.Instance.{instance_of}
-use Rattle.instance_json.specs.Texts.{fault_text}
-use Rattle.instance_json.specs.declared.fault.InstanceFault.{InstanceFault}
+use Rattle.btrplan.specs.Inputs.{instance_line}
 use Rattle.btrplan.specs.declared.fault.Fault.{Fault}
 use Rattle.btrplan.specs.declared.fault.Fault.TheVariants as fault
-
--- The line that refuses an instance.
-abbrev pub instance_line : List ℕ → List ℕ
-instance_line text = codes "input instance " ++ text ++ codes "\n"
-
--- A problem, or the line of its first fault.
-abbrev pub lined : Result Instance InstanceFault → Result Instance (List ℕ)
-lined (Ok p) = Ok p
-lined (Err f) = Err (instance_line (fault_text f))
-
--- The problem of these bytes, or the line that refuses them.
-unfoldable pub reading_of : List ℕ → Result Instance (List ℕ)
-reading_of bytes = lined (instance_of bytes)
 
 -- The plan in which every element stays as it is.
 abbrev pub staying : Choices

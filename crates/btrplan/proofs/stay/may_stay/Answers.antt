@@ -1,5 +1,5 @@
 use Rattle.btrplan.proofs.Staying.{staying_of, plan_of, valid_of}
-use Rattle.btrplan.proofs.instance.may_stay.Goals as goal
+use Rattle.btrplan.proofs.stay.may_stay.Goals as goal
 
 pub returns : goal.returns
 returns c =

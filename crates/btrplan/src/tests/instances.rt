@@ -1,0 +1,46 @@
+//! Instances on nodes with 4 of one resource each. A migration takes 3, the start of a node 4, and the
+//! actions of machines that are no migration take 1.
+
+/// Two machines, of which the first takes the place that the second leaves.
+pub const SWAP: &[u8] =
+    b"{\"horizon\":20,\"resources\":[\"cpu\"],\"durations\":{\"migrate\":{\"base\":3},\"allocate\":{\"base\":1},\"node_boot\":{\"base\":4},\"node_shutdown\":{\"base\":2}},\"nodes\":[{\"name\":\"n0\",\"capacity\":{\"cpu\":4}},{\"name\":\"n1\",\"capacity\":{\"cpu\":4}},{\"name\":\"n2\",\"capacity\":{\"cpu\":4}}],\"machines\":[{\"name\":\"v0\",\"state\":\"running\",\"node\":\"n0\",\"use\":{\"cpu\":3}},{\"name\":\"v1\",\"state\":\"running\",\"node\":\"n1\",\"use\":{\"cpu\":3}}],\"constraints\":[{\"kind\":\"fence\",\"machines\":[\"v0\"],\"nodes\":[\"n1\"]},{\"kind\":\"fence\",\"machines\":[\"v1\"],\"nodes\":[\"n2\"]},{\"kind\":\"online\",\"nodes\":[\"n0\",\"n1\",\"n2\"]}]}";
+
+/// The same machines, which are wanted nowhere.
+pub const UNFENCED: &[u8] =
+    b"{\"horizon\":20,\"resources\":[\"cpu\"],\"durations\":{\"migrate\":{\"base\":3},\"allocate\":{\"base\":1},\"node_boot\":{\"base\":4},\"node_shutdown\":{\"base\":2}},\"nodes\":[{\"name\":\"n0\",\"capacity\":{\"cpu\":4}},{\"name\":\"n1\",\"capacity\":{\"cpu\":4}},{\"name\":\"n2\",\"capacity\":{\"cpu\":4}}],\"machines\":[{\"name\":\"v0\",\"state\":\"running\",\"node\":\"n0\",\"use\":{\"cpu\":3}},{\"name\":\"v1\",\"state\":\"running\",\"node\":\"n1\",\"use\":{\"cpu\":3}}],\"constraints\":[{\"kind\":\"online\",\"nodes\":[\"n0\",\"n1\",\"n2\"]}]}";
+
+/// A machine that wants more of its node.
+pub const RAISED: &[u8] =
+    b"{\"horizon\":20,\"resources\":[\"cpu\"],\"durations\":{\"migrate\":{\"base\":3},\"allocate\":{\"base\":1},\"node_boot\":{\"base\":4},\"node_shutdown\":{\"base\":2}},\"nodes\":[{\"name\":\"n0\",\"capacity\":{\"cpu\":4}}],\"machines\":[{\"name\":\"v0\",\"state\":\"running\",\"node\":\"n0\",\"use\":{\"cpu\":2}}],\"constraints\":[{\"kind\":\"preserve\",\"machines\":[\"v0\"],\"resource\":\"cpu\",\"amount\":3},{\"kind\":\"online\",\"nodes\":[\"n0\"]}]}";
+
+/// A machine that is to sleep, and one that is to run in its place.
+pub const TURNS: &[u8] =
+    b"{\"horizon\":20,\"resources\":[\"cpu\"],\"durations\":{\"migrate\":{\"base\":3},\"allocate\":{\"base\":1},\"node_boot\":{\"base\":4},\"node_shutdown\":{\"base\":2}},\"nodes\":[{\"name\":\"n0\",\"capacity\":{\"cpu\":4}}],\"machines\":[{\"name\":\"v0\",\"state\":\"running\",\"node\":\"n0\",\"use\":{\"cpu\":3}},{\"name\":\"v1\",\"state\":\"sleeping\",\"node\":\"n0\",\"use\":{\"cpu\":3}}],\"constraints\":[{\"kind\":\"sleeping\",\"machines\":[\"v0\"]},{\"kind\":\"running\",\"machines\":[\"v1\"]},{\"kind\":\"online\",\"nodes\":[\"n0\"]}]}";
+
+/// A node that may boot.
+pub const OFFLINE: &[u8] =
+    b"{\"horizon\":20,\"resources\":[\"cpu\"],\"durations\":{\"migrate\":{\"base\":3},\"allocate\":{\"base\":1},\"node_boot\":{\"base\":4},\"node_shutdown\":{\"base\":2}},\"nodes\":[{\"name\":\"n0\",\"capacity\":{\"cpu\":4}},{\"name\":\"n1\",\"online\":false,\"capacity\":{\"cpu\":4}}],\"machines\":[{\"name\":\"v0\",\"state\":\"running\",\"node\":\"n0\",\"use\":{\"cpu\":1}}],\"constraints\":[{\"kind\":\"online\",\"nodes\":[\"n0\"]}]}";
+
+/// Two machines that are to be apart at the end.
+pub const APART_AT_THE_END: &[u8] =
+    b"{\"horizon\":20,\"resources\":[\"cpu\"],\"durations\":{\"migrate\":{\"base\":3},\"allocate\":{\"base\":1},\"node_boot\":{\"base\":4},\"node_shutdown\":{\"base\":2}},\"nodes\":[{\"name\":\"n0\",\"capacity\":{\"cpu\":4}},{\"name\":\"n1\",\"capacity\":{\"cpu\":4}},{\"name\":\"n2\",\"capacity\":{\"cpu\":4}}],\"machines\":[{\"name\":\"v0\",\"state\":\"running\",\"node\":\"n0\",\"use\":{\"cpu\":1}},{\"name\":\"v1\",\"state\":\"running\",\"node\":\"n1\",\"use\":{\"cpu\":1}}],\"constraints\":[{\"kind\":\"fence\",\"machines\":[\"v0\"],\"nodes\":[\"n1\"]},{\"kind\":\"fence\",\"machines\":[\"v1\"],\"nodes\":[\"n2\"]},{\"kind\":\"spread\",\"machines\":[\"v0\",\"v1\"]},{\"kind\":\"online\",\"nodes\":[\"n0\",\"n1\",\"n2\"]}]}";
+
+/// Two machines that are always to be apart.
+pub const APART_ALWAYS: &[u8] =
+    b"{\"horizon\":20,\"resources\":[\"cpu\"],\"durations\":{\"migrate\":{\"base\":3},\"allocate\":{\"base\":1},\"node_boot\":{\"base\":4},\"node_shutdown\":{\"base\":2}},\"nodes\":[{\"name\":\"n0\",\"capacity\":{\"cpu\":4}},{\"name\":\"n1\",\"capacity\":{\"cpu\":4}},{\"name\":\"n2\",\"capacity\":{\"cpu\":4}}],\"machines\":[{\"name\":\"v0\",\"state\":\"running\",\"node\":\"n0\",\"use\":{\"cpu\":1}},{\"name\":\"v1\",\"state\":\"running\",\"node\":\"n1\",\"use\":{\"cpu\":1}}],\"constraints\":[{\"kind\":\"fence\",\"machines\":[\"v0\"],\"nodes\":[\"n1\"]},{\"kind\":\"fence\",\"machines\":[\"v1\"],\"nodes\":[\"n2\"]},{\"kind\":\"spread\",\"machines\":[\"v0\",\"v1\"],\"continuous\":true},{\"kind\":\"online\",\"nodes\":[\"n0\",\"n1\",\"n2\"]}]}";
+
+/// Two machines on a node that may bear a quarter more than it has.
+pub const OVERBOOKED: &[u8] =
+    b"{\"horizon\":20,\"resources\":[\"cpu\"],\"durations\":{\"migrate\":{\"base\":3},\"allocate\":{\"base\":1},\"node_boot\":{\"base\":4},\"node_shutdown\":{\"base\":2}},\"nodes\":[{\"name\":\"n0\",\"capacity\":{\"cpu\":4}}],\"machines\":[{\"name\":\"v0\",\"state\":\"running\",\"node\":\"n0\",\"use\":{\"cpu\":3}},{\"name\":\"v1\",\"state\":\"running\",\"node\":\"n0\",\"use\":{\"cpu\":2}}],\"constraints\":[{\"kind\":\"overbook\",\"nodes\":[\"n0\"],\"resource\":\"cpu\",\"num\":5,\"den\":4},{\"kind\":\"online\",\"nodes\":[\"n0\"]}]}";
+
+/// Two machines on a node that may bear half of what it has.
+pub const HALVED: &[u8] =
+    b"{\"horizon\":20,\"resources\":[\"cpu\"],\"durations\":{\"migrate\":{\"base\":3},\"allocate\":{\"base\":1},\"node_boot\":{\"base\":4},\"node_shutdown\":{\"base\":2}},\"nodes\":[{\"name\":\"n0\",\"capacity\":{\"cpu\":4}}],\"machines\":[{\"name\":\"v0\",\"state\":\"running\",\"node\":\"n0\",\"use\":{\"cpu\":3}},{\"name\":\"v1\",\"state\":\"running\",\"node\":\"n0\",\"use\":{\"cpu\":2}}],\"constraints\":[{\"kind\":\"overbook\",\"nodes\":[\"n0\"],\"resource\":\"cpu\",\"num\":1,\"den\":2},{\"kind\":\"online\",\"nodes\":[\"n0\"]}]}";
+
+/// A machine that is to leave its node, and two nodes that may bear 3 at the end.
+pub const SHARED_AT_THE_END: &[u8] =
+    b"{\"horizon\":20,\"resources\":[\"cpu\"],\"durations\":{\"migrate\":{\"base\":3},\"allocate\":{\"base\":1},\"node_boot\":{\"base\":4},\"node_shutdown\":{\"base\":2}},\"nodes\":[{\"name\":\"n0\",\"capacity\":{\"cpu\":4}},{\"name\":\"n1\",\"capacity\":{\"cpu\":4}}],\"machines\":[{\"name\":\"v0\",\"state\":\"running\",\"node\":\"n0\",\"use\":{\"cpu\":2}}],\"constraints\":[{\"kind\":\"ban\",\"machines\":[\"v0\"],\"nodes\":[\"n0\"]},{\"kind\":\"resourceCapacity\",\"nodes\":[\"n0\",\"n1\"],\"resource\":\"cpu\",\"amount\":3},{\"kind\":\"online\",\"nodes\":[\"n0\",\"n1\"]}]}";
+
+/// The same, and the two nodes may never bear more.
+pub const SHARED_ALWAYS: &[u8] =
+    b"{\"horizon\":20,\"resources\":[\"cpu\"],\"durations\":{\"migrate\":{\"base\":3},\"allocate\":{\"base\":1},\"node_boot\":{\"base\":4},\"node_shutdown\":{\"base\":2}},\"nodes\":[{\"name\":\"n0\",\"capacity\":{\"cpu\":4}},{\"name\":\"n1\",\"capacity\":{\"cpu\":4}}],\"machines\":[{\"name\":\"v0\",\"state\":\"running\",\"node\":\"n0\",\"use\":{\"cpu\":2}}],\"constraints\":[{\"kind\":\"ban\",\"machines\":[\"v0\"],\"nodes\":[\"n0\"]},{\"kind\":\"resourceCapacity\",\"nodes\":[\"n0\",\"n1\"],\"resource\":\"cpu\",\"amount\":3,\"continuous\":true},{\"kind\":\"online\",\"nodes\":[\"n0\",\"n1\"]}]}";
