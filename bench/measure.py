@@ -3,10 +3,11 @@
 
     bench/measure.py [WORD..]     the measurements whose names begin with a WORD, or all
 
-It writes instances of growing size into a temporary folder, runs the program on each, and prints a line:
-the measurement, the bytes of the instance, the status, the seconds, those of the processor (user and
-system), the megabytes in a second of the processor, the peak of the resident memory, and the line that
-the program printed. Nothing is compared with a wanted time. The program is built first where that is due.
+It writes instances of growing size, and plans for some of them, into a temporary folder, plans or
+replays each, and prints a line: the measurement, the bytes of the instance, the status, the seconds,
+those of the processor (user and system), the megabytes in a second of the processor, the peak of the
+resident memory, and the last line that the program printed. Nothing is compared with a wanted time.
+The program is built first where that is due.
 """
 import json
 import os
@@ -18,7 +19,6 @@ import time
 
 TOP = os.path.dirname(os.path.dirname(os.path.realpath(__file__)))
 PROGRAM = os.path.join(TOP, "crates", "btrplan", "out", "btrplan")
-JUDGE = os.path.join(TOP, "crates", "judge_bench", "out", "judge_bench")
 MIB = 1 << 20
 MOST = 64 * MIB  # the most bytes of an instance
 EMPTY = '{"horizon":5,"resources":[],"nodes":[],"machines":[],"constraints":[]}'
@@ -138,7 +138,7 @@ def moves(count, members):
     return instance, {"actions": actions}
 
 
-# The plans that `judge_bench` judges; each has 4,096 starts.
+# The plans that are replayed; each has 4,096 starts, hence a report of some 8,000 lines of 22 KB.
 PLANS = {
     "moves": lambda: moves(0, 0),
     "moves-100x100": lambda: moves(100, 100),
@@ -163,34 +163,46 @@ MEASUREMENTS = {
 }
 
 
-def run(folder, pieces):
-    """Runs `plan` on this text: its bytes, status, seconds, what the system says that it used, and its last line."""
-    file = os.path.join(folder, "instance.json")
+def write(folder, name, pieces):
+    """Writes a text into a file of the folder, and gives the file's name."""
+    file = os.path.join(folder, name)
     with open(file, "w", encoding="ascii") as it:
         for piece in pieces:
             it.write(piece)
-    words = [PROGRAM, "plan", file, os.path.join(folder, "plan.json"), os.path.join(folder, "certificate.txt")]
+    return file
+
+
+def last_line(stream):
+    """Reads to the end, and keeps the last line alone."""
+    last = b""
+    while piece := stream.read(MIB):
+        last = (last + piece)[-4096:]
+    return last.decode().rstrip("\n").rpartition("\n")[2]
+
+
+def run(command, instance_file, *others):
+    """Runs a command: the bytes of the instance, its status, seconds, what the system says that it used, its last line."""
     begun = time.monotonic()
-    with subprocess.Popen(words, stdin=subprocess.DEVNULL, stdout=subprocess.PIPE) as ran:
-        line = ran.stdout.read().decode().rstrip("\n")
+    with subprocess.Popen([PROGRAM, command, instance_file, *others], stdin=subprocess.DEVNULL, stdout=subprocess.PIPE) as ran:
+        line = last_line(ran.stdout)
         _, status, usage = os.wait4(ran.pid, 0)
         seconds = time.monotonic() - begun
         ran.returncode = os.waitstatus_to_exitcode(status)
-    return os.path.getsize(file), ran.returncode, seconds, usage, line
+    return os.path.getsize(instance_file), ran.returncode, seconds, usage, line
 
 
-def judge(folder, parts):
-    """Judges a plan, reading included: the bytes of the instance, seconds, what the system says that it used, the answer."""
-    for name, part in zip(("instance.json", "plan.json"), parts):
-        with open(os.path.join(folder, name), "w", encoding="ascii") as it:
-            json.dump(part, it, separators=(",", ":"))
-    begun = time.monotonic()
-    with subprocess.Popen([JUDGE], cwd=folder, stdin=subprocess.DEVNULL, stdout=subprocess.PIPE) as ran:
-        line = ran.stdout.read().decode().rstrip("\n")
-        _, status, usage = os.wait4(ran.pid, 0)
-        seconds = time.monotonic() - begun
-        ran.returncode = os.waitstatus_to_exitcode(status)
-    return os.path.getsize(os.path.join(folder, "instance.json")), ran.returncode, seconds, usage, line
+def plan(folder, pieces):
+    """Plans an instance."""
+    instance_file = write(folder, "instance.json", pieces)
+    return run("plan", instance_file, os.path.join(folder, "plan.json"), os.path.join(folder, "certificate.txt"))
+
+
+def replay(folder, parts):
+    """Replays a plan."""
+    files = [
+        write(folder, name, [json.dumps(part, separators=(",", ":"))])
+        for name, part in zip(("instance.json", "plan.json"), parts)]
+    return run("replay", *files)
 
 
 def report(name, measured):
@@ -209,12 +221,10 @@ def main():
     with tempfile.TemporaryDirectory(prefix="btrplan-bench-") as folder:
         for name, pieces in MEASUREMENTS.items():
             if not wanted or name.startswith(wanted):
-                report(name, run(folder, pieces()))
+                report(name, plan(folder, pieces()))
         for name, parts in PLANS.items():
             if not wanted or name.startswith(wanted):
-                if not os.path.exists(JUDGE):
-                    subprocess.run(["rt", "run"], cwd=os.path.dirname(os.path.dirname(JUDGE)), stdout=subprocess.DEVNULL)
-                report(name, judge(folder, parts()))
+                report(name, replay(folder, parts()))
     return 0
 
 
