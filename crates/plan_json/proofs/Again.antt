@@ -1,7 +1,7 @@
 -- One printed action is read again.
-use Rattle.std.proofs.Common.{◌≡◌, ℕ, zero, suc, ◌+◌, ◌<◌, ◌≤◌, ◌&&◌, ◌==◌, Bool, true, false, List, [], ◌∷◌, length, map, nat_lt, nat_le, Option, Some, None, is_some, IsTrue, slice_set, slice_index_or, Ok, if◌then◌else◌, refl, sym, arith, true≢false}
+use Rattle.std.proofs.Common.{◌≡◌, ℕ, zero, suc, ◌+◌, ◌<◌, ◌≤◌, ◌&&◌, ◌==◌, Bool, true, false, List, [], ◌∷◌, length, map, nat_lt, nat_le, Option, Some, None, is_some, IsTrue, slice_set, slice_index_or, Ok, if◌then◌else◌, refl, arith}
 use Rattle.std.proofs.lemmas.Grind.{common_steps}
-use Rattle.std.proofs.lemmas.Bool.{ltb-true}
+use Rattle.std.proofs.lemmas.Bool.{and_parts, eq-eqb, ltb-true}
 use Rattle.std.proofs.lemmas.List.Elements.{All-head, All-tail}
 use Rattle.std.specs.List.{All}
 use Rattle.json_walk.specs.Path.{item_path}
@@ -100,14 +100,10 @@ found : {A : Type 0} (o : Option A) → is_some o ≡ true → (a : A) × (o ≡
 found None h = absurd (cc)
 found (Some a) h = (a, refl)
 
-both_hold : (a b : Bool) → (a && b) ≡ true → (a ≡ true) × (b ≡ true)
-both_hold true b h = (refl, h)
-both_hold false b h = absurd (true≢false (sym h))
-
 pub acts : (p : Instance) (e : Element) (place : Place) (start : ℕ) → IsInstance p → is_legal p e (Act place start) ≡ true → Acts p e place start
 unfolding is_legal end_of
 acts p e place start is legal =
-    let parts = both_hold (is_some (kind_of p e place)) (nat_le (start + lasts p e (Act place start)) p.horizon) legal in
+    let parts = and_parts (is_some (kind_of p e place)) (nat_le (start + lasts p e (Act place start)) p.horizon) legal in
     let kind = found (kind_of p e place) parts.0 in
     let late : start + lasts p e (Act place start) ≤ p.horizon = grind (arith, common_steps) in
     record { kind = kind.0; is = kind.1; early = omega (arith, is.horizon) }
@@ -135,9 +131,6 @@ action_again p path e (At n) start kind is there own early =
       from_zero start early,
     ) refl
 
-same_number : (n : ℕ) → (n == n) ≡ true
-same_number n = grind (arith, common_steps)
-
 -- it gives its element's choice, where no action before did
 pub step_again : (p : Instance) (path : List ℕ) (place : ℕ) (chosen : Chosen) (e : Element) (where_at : Place) (start : ℕ) → IsInstance p → IsElement p e
     → IsTrue (is_legal p e (Act where_at start)) → choice_at chosen (number_of p e) ≡ None
@@ -145,4 +138,4 @@ pub step_again : (p : Instance) (path : List ℕ) (place : ℕ) (chosen : Chosen
 unfolding action_step
 step_again p path place chosen e where_at start is there legal new =
     let a = acts p e where_at start is legal in
-    rw (action_again p (item_path path place) e where_at start a.kind is there a.is a.early, new, a.is, same_number (kind_number a.kind), legal) refl
+    rw (action_again p (item_path path place) e where_at start a.kind is there a.is a.early, new, a.is, eq-eqb (kind_number a.kind) (kind_number a.kind) refl, legal) refl

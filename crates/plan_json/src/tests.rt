@@ -57,8 +57,8 @@ fn problem(alloc: Global) -> Result<Problem, Fail> {
 }
 
 /// What a text gives: the plan printed again, or its first fault.
-fn line(alloc: Global, p: &Problem, text: &[u8]) -> Result<String, Fail> {
-    match read_plan(alloc, p, text) {
+fn line(alloc: Global, p: &Problem, text: &str) -> Result<String, Fail> {
+    match read_plan(alloc, p, text.as_bytes()) {
         Ok(plan) => {
             let bytes = print_plan(alloc, p, plan.as_ref())?;
             Ok(String::from_utf8(bytes)?)
@@ -67,186 +67,121 @@ fn line(alloc: Global, p: &Problem, text: &[u8]) -> Result<String, Fail> {
     }
 }
 
+const WHOLE: &str = r#"nul => not json
+0 => $ wrong kind
+{} => actions missing
+{"actions":null} => actions wrong kind
+{"actions":[0],"z":1} => actions[0] wrong kind
+{"actions":[],"z":1} => $ unknown
+{"actions":[]} => v1 must act"#;
+
+/// The fields of one action.
+const FIELDS: &str = r#"[] => actions[0] wrong kind
+{"kind":0} => actions[0].element missing
+{"element":0} => actions[0].element wrong kind
+{"element":""} => actions[0].element out of range
+{"element":"v2"} => actions[0].element no such name
+{"element":"v1"} => actions[0].kind missing
+{"element":"v1","kind":null} => actions[0].kind wrong kind
+{"element":"v1","kind":"fly","start":-1} => actions[0].kind unknown
+{"element":"v1","kind":"boot","place":null,"start":0} => actions[0].place wrong kind
+{"element":"v1","kind":"boot","place":"-","start":0} => actions[0].place out of range
+{"element":"v1","kind":"boot","place":"v0","start":0} => actions[0].place no such name
+{"element":"v1","kind":"boot","place":"n0"} => actions[0].start missing
+{"element":"v1","kind":"boot","place":"n0","start":"0"} => actions[0].start wrong kind
+{"element":"v1","kind":"boot","place":"n0","start":1000001,"z":0} => actions[0].start out of range
+{"element":"v1","kind":"fly","place":"n0","start":0,"z":0} => actions[0].kind unknown
+{"element":"v1","kind":"kill","place":"n0","start":0,"z":0} => actions[0] unknown"#;
+
+/// One action that is whole.
+const CHOICES: &str = r#"{"element":"v0","kind":"migrate","place":"n1","start":19} => v1 must act
+{"element":"v0","kind":"migrate","place":"n1","start":20} => actions[0] not legal
+{"element":"v0","kind":"migrate","place":"n0","start":0} => actions[0] not legal
+{"element":"v0","kind":"boot","place":"n1","start":0} => actions[0] not legal
+{"element":"v1","kind":"boot","start":0} => actions[0] not legal
+{"element":"n1","kind":"node_shutdown","place":"n1","start":0} => actions[0] not legal"#;
+
+/// An action behind a boot of v1.
+const SECOND: &str = r#"{"element":"v1","kind":"kill","start":0,"z":0} => actions[1] unknown
+{"element":"v1","kind":"kill","start":0} => actions[1].element twice
+{"element":"v0","kind":"kill","start":0} => actions[1] not legal"#;
+
+/// Whether a row `MIDDLE => LINE` holds: the text of these three parts gives that line.
+fn holds(alloc: Global, p: &Problem, front: &str, row: &str, end: &str) -> Result<bool, Fail> {
+    let Some((middle, want)) = row.split_once(" => ") else {
+        return Ok(false);
+    };
+    let text = format!(in alloc; "{front}{middle}{end}")?;
+    Ok(line(alloc, p, text.as_str())?.as_str() == want)
+}
+
 #[test]
-fn whole_texts(rt: HostRuntime) -> Result<(), Fail> {
+fn faults(rt: HostRuntime) -> Result<(), Fail> {
+    let p = problem(rt.alloc())?;
+    let boot = r#"{"actions":[{"element":"v1","kind":"boot","place":"n1","start":2},"#;
+    let tables = [
+        ("", WHOLE, ""),
+        ("{\"actions\":[", FIELDS, "]}"),
+        ("{\"actions\":[", CHOICES, "]}"),
+        (boot, SECOND, "]}"),
+    ];
+    for (front, table, end) in tables {
+        for row in table.lines() {
+            assert!(rt; holds(rt.alloc(), &p, front, row, end)?, "at {row}");
+        }
+    }
+    Ok(())
+}
+
+#[test]
+fn plans(rt: HostRuntime) -> Result<(), Fail> {
     let p = problem(rt.alloc())?;
     let cases = [
         ("null", "null\n"),
-        ("nul", "not json"),
-        ("0", "$ wrong kind"),
-        ("{}", "actions missing"),
-        (r#"{"actions":null}"#, "actions wrong kind"),
-        (r#"{"actions":[0],"z":1}"#, "actions[0] wrong kind"),
-        (r#"{"actions":[],"z":1}"#, "$ unknown"),
-        (r#"{"actions":[]}"#, "v1 must act"),
-    ];
-    for (text, want) in cases {
-        let got = line(rt.alloc(), &p, text.as_bytes())?;
-        assert_eq!(rt; got.as_str(), want, "at {text}");
-    }
-    Ok(())
-}
-
-/// What a plan of these actions gives.
-fn of_actions(alloc: Global, p: &Problem, actions: &str) -> Result<String, Fail> {
-    let text = format!(in alloc; "{{\"actions\":[{actions}]}}")?;
-    line(alloc, p, text.as_bytes())
-}
-
-#[test]
-fn fields_of_an_action(rt: HostRuntime) -> Result<(), Fail> {
-    let p = problem(rt.alloc())?;
-    let cases = [
-        (r#"[]"#, "actions[0] wrong kind"),
-        (r#"{"kind":0}"#, "actions[0].element missing"),
-        (r#"{"element":0}"#, "actions[0].element wrong kind"),
-        (r#"{"element":""}"#, "actions[0].element out of range"),
-        (r#"{"element":"v2"}"#, "actions[0].element no such name"),
-        (r#"{"element":"v1"}"#, "actions[0].kind missing"),
         (
-            r#"{"element":"v1","kind":null}"#,
-            "actions[0].kind wrong kind",
-        ),
-        (
-            r#"{"element":"v1","kind":"fly","start":-1}"#,
-            "actions[0].kind unknown",
-        ),
-        (
-            r#"{"element":"v1","kind":"boot","place":null,"start":0}"#,
-            "actions[0].place wrong kind",
-        ),
-        (
-            r#"{"element":"v1","kind":"boot","place":"-","start":0}"#,
-            "actions[0].place out of range",
-        ),
-        (
-            r#"{"element":"v1","kind":"boot","place":"v0","start":0}"#,
-            "actions[0].place no such name",
-        ),
-        (
-            r#"{"element":"v1","kind":"boot","place":"n0"}"#,
-            "actions[0].start missing",
-        ),
-        (
-            r#"{"element":"v1","kind":"boot","place":"n0","start":"0"}"#,
-            "actions[0].start wrong kind",
-        ),
-        (
-            r#"{"element":"v1","kind":"boot","place":"n0","start":1000001,"z":0}"#,
-            "actions[0].start out of range",
-        ),
-        (
-            r#"{"element":"v1","kind":"fly","place":"n0","start":0,"z":0}"#,
-            "actions[0].kind unknown",
-        ),
-        (
-            r#"{"element":"v1","kind":"kill","place":"n0","start":0,"z":0}"#,
-            "actions[0] unknown",
-        ),
-    ];
-    for (actions, want) in cases {
-        let got = of_actions(rt.alloc(), &p, actions)?;
-        assert_eq!(rt; got.as_str(), want, "at {actions}");
-    }
-    Ok(())
-}
-
-const BOOT: &str = r#"{"element":"v1","kind":"boot","place":"n1","start":2}"#;
-
-#[test]
-fn choices_of_elements(rt: HostRuntime) -> Result<(), Fail> {
-    let p = problem(rt.alloc())?;
-    let cases = [
-        (
-            r#"{"element":"v0","kind":"migrate","place":"n1","start":19}"#,
-            "v1 must act",
-        ),
-        (
-            r#"{"element":"v0","kind":"migrate","place":"n1","start":20}"#,
-            "actions[0] not legal",
-        ),
-        (
-            r#"{"element":"v0","kind":"migrate","place":"n0","start":0}"#,
-            "actions[0] not legal",
-        ),
-        (
-            r#"{"element":"v0","kind":"boot","place":"n1","start":0}"#,
-            "actions[0] not legal",
-        ),
-        (
-            r#"{"element":"v1","kind":"boot","start":0}"#,
-            "actions[0] not legal",
-        ),
-        (
-            r#"{"element":"n1","kind":"node_shutdown","place":"n1","start":0}"#,
-            "actions[0] not legal",
-        ),
-    ];
-    for (actions, want) in cases {
-        let got = of_actions(rt.alloc(), &p, actions)?;
-        assert_eq!(rt; got.as_str(), want, "at {actions}");
-    }
-    Ok(())
-}
-
-/// What the boot of v1 and a second action give.
-fn after_boot(alloc: Global, p: &Problem, second: &str) -> Result<String, Fail> {
-    let actions = format!(in alloc; "{BOOT},{second}")?;
-    of_actions(alloc, p, actions.as_str())
-}
-
-#[test]
-fn second_actions(rt: HostRuntime) -> Result<(), Fail> {
-    let p = problem(rt.alloc())?;
-    let cases = [
-        (
-            r#"{"element":"v1","kind":"kill","start":0,"z":0}"#,
-            "actions[1] unknown",
-        ),
-        (
-            r#"{"element":"v1","kind":"kill","start":0}"#,
-            "actions[1].element twice",
-        ),
-        (
-            r#"{"element":"v0","kind":"kill","start":0}"#,
-            "actions[1] not legal",
-        ),
-        (
-            r#"{"start":0,"kind":"node_shutdown","element":"n1"}"#,
+            r#"{"actions":[{"element":"v1","kind":"boot","place":"n1","start":2},
+            {"start":0,"kind":"node_shutdown","element":"n1"}]}"#,
             "{\"actions\":[{\"element\":\"v1\",\"kind\":\"boot\",\"place\":\"n1\",\"start\":2},\
              {\"element\":\"n1\",\"kind\":\"node_shutdown\",\"start\":0}]}\n",
         ),
         (
-            r#"{"element":"v0","kind":"migrate","place":"n1","start":0}"#,
+            r#"{"actions":[{"element":"v1","kind":"boot","place":"n1","start":2},
+            {"element":"v0","kind":"migrate","place":"n1","start":0}]}"#,
             "{\"actions\":[{\"element\":\"v0\",\"kind\":\"migrate\",\"place\":\"n1\",\"start\":0},\
              {\"element\":\"v1\",\"kind\":\"boot\",\"place\":\"n1\",\"start\":2}]}\n",
         ),
     ];
-    for (second, want) in cases {
-        let got = after_boot(rt.alloc(), &p, second)?;
-        assert_eq!(rt; got.as_str(), want, "at {second}");
+    for (text, want) in cases {
+        assert_eq!(rt; line(rt.alloc(), &p, text)?.as_str(), want, "at {text}");
     }
     Ok(())
 }
 
-/// What a plan of so many values that are no actions gives.
-fn of_many(alloc: Global, p: &Problem, count: usize) -> Result<String, Fail> {
-    let mut actions = String::new(alloc);
-    for _ in 1..count {
-        actions.push_str("0,")?;
-    }
-    actions.push('0')?;
-    of_actions(alloc, p, actions.as_str())
+/// What the text with so many pieces between front and end gives.
+fn of_many(
+    alloc: Global,
+    p: &Problem,
+    front: &str,
+    piece: &str,
+    count: usize,
+    end: &str,
+) -> Result<String, Fail> {
+    let pieces = piece.repeat(alloc, count)?;
+    let text = format!(in alloc; "{front}{pieces}{end}")?;
+    line(alloc, p, text.as_str())
 }
 
 #[test]
 fn limits(rt: HostRuntime) -> Result<(), Fail> {
     let p = problem(rt.alloc())?;
-    let most = of_many(rt.alloc(), &p, 4608)?;
-    assert_eq!(rt; most.as_str(), "actions[0] wrong kind");
-    let more = of_many(rt.alloc(), &p, 4609)?;
-    assert_eq!(rt; more.as_str(), "actions out of range");
-    let blank = vec![in rt.alloc(); b' '; 67_108_865]?;
-    assert_eq!(rt; line(rt.alloc(), &p, &blank)?.as_str(), "too long");
+    let cases = [
+        ("{\"actions\":[", "0,", 4607, "0]}", "actions[0] wrong kind"),
+        ("{\"actions\":[", "0,", 4608, "0]}", "actions out of range"),
+        ("", " ", 67_108_865, "", "too long"),
+    ];
+    for (front, piece, count, end, want) in cases {
+        let got = of_many(rt.alloc(), &p, front, piece, count, end)?;
+        assert_eq!(rt; got.as_str(), want);
+    }
     Ok(())
 }
