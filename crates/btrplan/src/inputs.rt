@@ -1,6 +1,5 @@
 //! What the inputs that commands read from files have in common.
 
-ghost use Rattle.std.specs.Prelude.{◌≡◌};
 ghost use Rattle.btrplan.specs.Inputs.{input_line};
 ghost use Rattle.btrplan.specs.Endings.{IsRefusal};
 

@@ -1,6 +1,6 @@
 //! The instance that a command reads.
 
-ghost use Rattle.std.specs.Prelude.{◌≡◌, ◌≢◌, ℕ, List, Result, IsTrue, IfErr, Err, codes};
+ghost use Rattle.std.specs.Prelude.{◌≡◌, ◌≢◌, Result, IsTrue, IfErr, Err};
 ghost use Rattle.plan_io.specs.Files.{bytes_of};
 ghost use Rattle.instance_json.specs.Texts.{fault_text};
 ghost use Rattle.btrplan.specs.Inputs.{reading_of, instance_line};

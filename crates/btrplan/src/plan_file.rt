@@ -1,6 +1,6 @@
 //! The plan that a command reads.
 
-ghost use Rattle.std.specs.Prelude.{◌≡◌, ◌≢◌, ℕ, List, Result, IsTrue, IfOk, IfErr, Err, codes};
+ghost use Rattle.std.specs.Prelude.{◌≡◌, ◌≢◌, Result, IsTrue, IfOk, IfErr, Err};
 ghost use Rattle.catalogue.specs.Instance.{inventory_of};
 ghost use Rattle.plan_io.specs.Files.{bytes_of};
 ghost use Rattle.slices.specs.Plans.{IsPlanOf, choices_of};

@@ -26,7 +26,7 @@ fn outcome_of(verdict: &Option<Broken>) -> Outcome
 }
 
 /// Replays a plan of an instance: prints its report with the verdict on it.
-#[tactic(auto, using(crate::proofs::ReplayAnswers::refused_instance, crate::proofs::ReplayAnswers::refused_plan, crate::proofs::ReplayAnswers::replayed, crate::proofs::ReplayAnswers::front_replayed, crate::proofs::Printing::prints_nothing, crate::proofs::Ends::refused_write, crate::proofs::Causing::causes_of_refused_write), unfolding(crate::specs::Endings::Ends))]
+#[tactic(auto, using(crate::proofs::ReplayAnswers::refused_instance, crate::proofs::ReplayAnswers::refused_plan, crate::proofs::ReplayAnswers::replayed, crate::proofs::ReplayAnswers::front_replayed, crate::proofs::Printing::prints_nothing, crate::proofs::Ends::refused_write), unfolding(crate::specs::Endings::Ends))]
 pub fn replay<D: Desk, O: Sink>(
     alloc: Global,
     desk: &mut D,

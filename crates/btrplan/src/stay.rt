@@ -1,13 +1,13 @@
 //! Which instances are planned: those in which staying is a valid plan.
 
-ghost use Rattle.std.specs.Prelude.{◌≡◌, ◌≢◌, ◌↔◌, ℕ, List, Result, Ok, IsTrue, IfOk, IfErr, Err, length, replicate};
+ghost use Rattle.std.specs.Prelude.{◌≡◌, ◌≢◌, ◌↔◌, Result, Ok, IsTrue, IfOk, IfErr, Err, replicate};
 ghost use Rattle.plan_io.specs.Files.{bytes_of};
 ghost use Rattle.cluster.specs.declared.ids.Choice.TheVariants.{Idle};
 ghost use Rattle.slices.specs.Elements.{element_count};
 ghost use Rattle.slices.specs.Plans.{IsPlanOf, parted, choices_of};
 ghost use Rattle.slices.specs.Rules.{IsValid};
 ghost use Rattle.btrplan.specs.Inputs.{reading_of};
-ghost use Rattle.btrplan.specs.Staying.{MayStay, IsDecided, IsRefusedWith};
+ghost use Rattle.btrplan.specs.Staying.{MayStay, IsDecided};
 ghost use Rattle.btrplan.specs.Causes.{DeskCauses};
 ghost use Rattle.btrplan.specs.Endings.{IsOfReading};
 
