@@ -175,18 +175,19 @@ fn refused_inputs(rt: HostRuntime) -> Result<(), Fail> {
     Ok(())
 }
 
-/// Replays with failing calls of the desk and of the sink, and sees the status and how many bytes of
-/// the report are printed.
+/// Replays with failing calls of the desk and of the sink, and sees the status, the counts of failed
+/// reads of the desk and of failed writes of the sink, and how many bytes of the report are printed.
 fn fails(
     rt: &impl Abort,
     alloc: Global,
     (desk_fails, sink_fails): (Vec<u64>, Vec<u64>),
-    (status, size): (Status, usize),
+    (status, counts, size): (Status, (u64, u64), usize),
 ) -> Result<(), Fail> {
     let mut desk = plan_desk(alloc, SWAP, ONE_BY_ONE, desk_fails)?;
     let mut out = SinkMem::new(sink_fails);
     let answer = ran(alloc, "replay i p", &mut desk, &mut out)?;
     assert_eq!(rt; answer, status, "at {size}");
+    assert_eq!(rt; (desk.read_faults(), out.faults()), counts, "at {size}");
     assert_eq!(rt; Some(out.written()), REPORT.get(..size), "at {size}");
     holds(rt, &desk, b"old certificate", ONE_BY_ONE, size);
     Ok(())
@@ -198,13 +199,13 @@ fn each_failing_call(rt: HostRuntime) -> Result<(), Fail> {
     // each file is read by two calls, the second of which sees its end
     for call in 0..4 {
         let failing = (vec![in alloc; call]?, Vec::new(alloc));
-        fails(&rt, alloc, failing, (Status::ReadFault, 0))?;
+        fails(&rt, alloc, failing, (Status::ReadFault, (1, 0), 0))?;
     }
     // each line is written by one call
     for (call, size) in [(0, 0), (1, 20), (2, 40), (3, 60), (4, 81)] {
         let failing = (Vec::new(alloc), vec![in alloc; call]?);
-        fails(&rt, alloc, failing, (Status::WriteFault, size))?;
+        fails(&rt, alloc, failing, (Status::WriteFault, (0, 1), size))?;
     }
     let past = (vec![in alloc; 4]?, vec![in alloc; 5]?);
-    fails(&rt, alloc, past, (Status::Good, REPORT.len()))
+    fails(&rt, alloc, past, (Status::Good, (0, 0), REPORT.len()))
 }
