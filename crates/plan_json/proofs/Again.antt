@@ -1,5 +1,5 @@
 -- One printed action is read again.
-use Rattle.std.proofs.Common.{◌≡◌, ℕ, zero, suc, ◌+◌, ◌<◌, ◌≤◌, ◌&&◌, ◌==◌, Bool, true, false, List, [], ◌∷◌, length, map, nat_lt, nat_le, Option, Some, None, is_some, IsTrue, slice_set, slice_index_or, Ok, if◌then◌else◌, refl, arith}
+use Rattle.std.proofs.Common.{◌≡◌, ℕ, zero, suc, ◌+◌, ◌<◌, ◌≤◌, ◌&&◌, Bool, true, false, List, [], ◌∷◌, length, map, nat_lt, nat_le, Option, Some, None, is_some, IsTrue, slice_set, slice_index_or, Ok, if◌then◌else◌, refl, arith}
 use Rattle.std.proofs.lemmas.Grind.{common_steps}
 use Rattle.std.proofs.lemmas.Bool.{and_parts, eq-eqb, ltb-true}
 use Rattle.std.proofs.lemmas.List.Elements.{All-head, All-tail}
