@@ -12,16 +12,15 @@ const CERTIFICATE: &[u8] = b"btrplan certificate 1\nfail bound\nend optimal 0\n"
 
 const PLAN: &[u8] = b"{\"actions\":[]}\n";
 
-const EMPTY: &[u8] =
-    b"{\"horizon\":5,\"resources\":[],\"nodes\":[],\"machines\":[],\"constraints\":[]}";
+const EMPTY: &[u8] = br#"{"horizon":5,"resources":[],"nodes":[],"machines":[],"constraints":[]}"#;
 
 /// One machine on one node.
 const ALONE: &[u8] =
-    b"{\"horizon\":20,\"resources\":[\"cpu\"],\"nodes\":[{\"name\":\"n0\",\"capacity\":{\"cpu\":4}}],\"machines\":[{\"name\":\"v0\",\"state\":\"running\",\"node\":\"n0\",\"use\":{\"cpu\":1}}],\"constraints\":[{\"kind\":\"online\",\"nodes\":[\"n0\"]}]}";
+    br#"{"horizon":20,"resources":["cpu"],"nodes":[{"name":"n0","capacity":{"cpu":4}}],"machines":[{"name":"v0","state":"running","node":"n0","use":{"cpu":1}}],"constraints":[{"kind":"online","nodes":["n0"]}]}"#;
 
 /// Two machines on one node, which are to be apart at the end.
 const APART: &[u8] =
-    b"{\"horizon\":20,\"resources\":[\"cpu\"],\"nodes\":[{\"name\":\"n0\",\"capacity\":{\"cpu\":4}}],\"machines\":[{\"name\":\"v0\",\"state\":\"running\",\"node\":\"n0\",\"use\":{\"cpu\":1}},{\"name\":\"v1\",\"state\":\"running\",\"node\":\"n0\",\"use\":{\"cpu\":1}}],\"constraints\":[{\"kind\":\"online\",\"nodes\":[\"n0\"]},{\"kind\":\"spread\",\"machines\":[\"v0\",\"v1\"]}]}";
+    br#"{"horizon":20,"resources":["cpu"],"nodes":[{"name":"n0","capacity":{"cpu":4}}],"machines":[{"name":"v0","state":"running","node":"n0","use":{"cpu":1}},{"name":"v1","state":"running","node":"n0","use":{"cpu":1}}],"constraints":[{"kind":"online","nodes":["n0"]},{"kind":"spread","machines":["v0","v1"]}]}"#;
 
 /// The words of a line, one after each blank.
 fn words(alloc: Global, line: &str) -> Result<Vec<String>, Fail> {
@@ -123,11 +122,11 @@ fn a_failing_sink(rt: HostRuntime) -> Result<(), Fail> {
 fn instances_that_are_refused(rt: HostRuntime) -> Result<(), Fail> {
     let alloc = rt.alloc();
     let table: [(&[u8], &[u8]); 5] = [
-        (b"{\"horizon\":", b"input instance not json\n"),
+        (br#"{"horizon":"#, b"input instance not json\n"),
         (b"", b"input instance not json\n"),
         (b"null", b"input instance $ wrong kind\n"),
         (
-            b"{\"horizon\":1000001,\"resources\":[],\"nodes\":[],\"machines\":[],\"constraints\":[]}",
+            br#"{"horizon":1000001,"resources":[],"nodes":[],"machines":[],"constraints":[]}"#,
             b"input instance horizon out of range\n",
         ),
         (APART, b"input instance $ not built\n"),

@@ -9,17 +9,16 @@ use std::alloc::Global;
 use std::process::Abort;
 use std::test::Fail;
 
-const NO_ACTIONS: &[u8] = b"{\"actions\":[]}";
+const NO_ACTIONS: &[u8] = br#"{"actions":[]}"#;
 
 /// The second machine moves, and then the first one.
 const ONE_BY_ONE: &[u8] =
-    b"{\"actions\":[{\"element\":\"v0\",\"kind\":\"migrate\",\"place\":\"n1\",\"start\":3},{\"element\":\"v1\",\"kind\":\"migrate\",\"place\":\"n2\",\"start\":0}]}";
+    br#"{"actions":[{"element":"v0","kind":"migrate","place":"n1","start":3},{"element":"v1","kind":"migrate","place":"n2","start":0}]}"#;
 
 const AT_ONCE: &[u8] =
-    b"{\"actions\":[{\"element\":\"v0\",\"kind\":\"migrate\",\"place\":\"n1\",\"start\":0},{\"element\":\"v1\",\"kind\":\"migrate\",\"place\":\"n2\",\"start\":0}]}";
+    br#"{"actions":[{"element":"v0","kind":"migrate","place":"n1","start":0},{"element":"v1","kind":"migrate","place":"n2","start":0}]}"#;
 
-const LEAVES: &[u8] =
-    b"{\"actions\":[{\"element\":\"v0\",\"kind\":\"migrate\",\"place\":\"n1\",\"start\":0}]}";
+const LEAVES: &[u8] = br#"{"actions":[{"element":"v0","kind":"migrate","place":"n1","start":0}]}"#;
 
 /// The report of `SWAP` with `ONE_BY_ONE`.
 const REPORT: &[u8] =
@@ -65,7 +64,7 @@ fn whole_reports(rt: HostRuntime) -> Result<(), Fail> {
         ),
         (
             TURNS,
-            b"{\"actions\":[{\"element\":\"v0\",\"kind\":\"suspend\",\"place\":\"n0\",\"start\":0},{\"element\":\"v1\",\"kind\":\"resume\",\"place\":\"n0\",\"start\":1}]}",
+            br#"{"actions":[{"element":"v0","kind":"suspend","place":"n0","start":0},{"element":"v1","kind":"resume","place":"n0","start":1}]}"#,
             Status::Good,
             b"at 0 n0 3\nat 1 n0 3\nat 2 n0 3\nat 20 n0 3\nvalid 3\n",
         ),
@@ -110,25 +109,25 @@ fn verdicts(rt: HostRuntime) -> Result<(), Fail> {
     let table: [(&[u8], &[u8], Status, &[u8]); 8] = [
         (
             RAISED,
-            b"{\"actions\":[{\"element\":\"v0\",\"kind\":\"allocate\",\"place\":\"n0\",\"start\":0}]}",
+            br#"{"actions":[{"element":"v0","kind":"allocate","place":"n0","start":0}]}"#,
             Status::Good,
             b"\nvalid 1\n",
         ),
         (
             TURNS,
-            b"{\"actions\":[{\"element\":\"v0\",\"kind\":\"suspend\",\"place\":\"n0\",\"start\":0},{\"element\":\"v1\",\"kind\":\"resume\",\"place\":\"n0\",\"start\":0}]}",
+            br#"{"actions":[{"element":"v0","kind":"suspend","place":"n0","start":0},{"element":"v1","kind":"resume","place":"n0","start":0}]}"#,
             Status::Negative,
             b"\nbroken 0 load n0 cpu\n",
         ),
         (
             OFFLINE,
-            b"{\"actions\":[{\"element\":\"n1\",\"kind\":\"node_boot\",\"start\":0},{\"element\":\"v0\",\"kind\":\"migrate\",\"place\":\"n1\",\"start\":4}]}",
+            br#"{"actions":[{"element":"n1","kind":"node_boot","start":0},{"element":"v0","kind":"migrate","place":"n1","start":4}]}"#,
             Status::Good,
             b"\nvalid 11\n",
         ),
         (
             OFFLINE,
-            b"{\"actions\":[{\"element\":\"n1\",\"kind\":\"node_boot\",\"start\":0},{\"element\":\"v0\",\"kind\":\"migrate\",\"place\":\"n1\",\"start\":3}]}",
+            br#"{"actions":[{"element":"n1","kind":"node_boot","start":0},{"element":"v0","kind":"migrate","place":"n1","start":3}]}"#,
             Status::Negative,
             b"\nbroken 3 usable v0 n1\n",
         ),
@@ -159,12 +158,12 @@ fn refused_inputs(rt: HostRuntime) -> Result<(), Fail> {
     let table: [(&[u8], &[u8], &[u8]); 7] = [
         (b"null", ONE_BY_ONE, b"input instance $ wrong kind\n"),
         (b"null", b"null", b"input instance $ wrong kind\n"),
-        (b"{\"horizon\":", b"", b"input instance not json\n"),
+        (br#"{"horizon":"#, b"", b"input instance not json\n"),
         (SWAP, b"", b"input plan not json\n"),
         (SWAP, b"null", b"input plan no plan\n"),
         (
             SWAP,
-            b"{\"actions\":[{\"element\":\"v0\",\"kind\":\"boot\",\"place\":\"n1\",\"start\":0}]}",
+            br#"{"actions":[{"element":"v0","kind":"boot","place":"n1","start":0}]}"#,
             b"input plan actions[0] not legal\n",
         ),
         (RAISED, NO_ACTIONS, b"input plan v0 must act\n"),
@@ -208,4 +207,35 @@ fn each_failing_call(rt: HostRuntime) -> Result<(), Fail> {
     }
     let past = (vec![in alloc; 4]?, vec![in alloc; 5]?);
     fails(&rt, alloc, past, (Status::Good, (0, 0), REPORT.len()))
+}
+
+/// The plan's file is read only where the instance is read well.
+#[test]
+fn an_absent_plan(rt: HostRuntime) -> Result<(), Fail> {
+    let alloc = rt.alloc();
+    let mut desk = DeskMem::new(Vec::new(alloc));
+    desk.put("i", b"null")?;
+    let refused = b"input instance $ wrong kind\n";
+    says(
+        &rt,
+        alloc,
+        "replay i p",
+        &mut desk,
+        Status::Input,
+        refused,
+        0,
+    )?;
+    assert_eq!(&rt; desk.read_faults(), 0);
+    desk.put("i", SWAP)?;
+    says(
+        &rt,
+        alloc,
+        "replay i p",
+        &mut desk,
+        Status::ReadFault,
+        b"",
+        1,
+    )?;
+    assert_eq!(&rt; desk.read_faults(), 1);
+    Ok(())
 }
