@@ -1,14 +1,14 @@
 -- Over the starts at one place, what is held is least at an end; between starts there is only less.
 use Rattle.std.proofs.Common.{◌≡◌, ℕ, ◌+◌, ◌≤◌, min, Bool, true, false, not, ◌&&◌, cond, nat_le, Option, Some, None, refl, arith}
 use Rattle.std.proofs.lemmas.Bool.Decides.{nat_tests}
-use Rattle.cluster.specs.declared.ids.Choice.TheVariants.{Act}
-use Rattle.cluster.specs.declared.ids.Place.{Place}
+use Rattle.cluster.specs.declared.choices.Choice.TheVariants.{Act}
+use Rattle.cluster.specs.declared.choices.Place.{Place}
 use Rattle.cluster.specs.Inventory.{is_online}
 use Rattle.catalogue.specs.Instance.{Instance}
-use Rattle.slices.specs.declared.table.Slice.{Slice}
-use Rattle.slices.specs.declared.table.Span.{Span}
-use Rattle.slices.specs.declared.table.Span.TheVariants.{Always, FromStart, BeforeEnd}
-use Rattle.slices.specs.declared.table.Weight.{Weight}
+use Rattle.slices.specs.declared.slice.Slice.{Slice}
+use Rattle.slices.specs.declared.slice.Span.{Span}
+use Rattle.slices.specs.declared.slice.Span.TheVariants.{Always, FromStart, BeforeEnd}
+use Rattle.slices.specs.declared.slice.Weight.{Weight}
 use Rattle.slices.specs.Actions.{lasts}
 use Rattle.slices.specs.Elements.{node, vm}
 use Rattle.slices.specs.Ends.{HeldAtEnds, HeldQuiet, IsPointwise, PoweredAtEnds, PoweredQuiet, UnusableAtEnds, UsableQuiet}

@@ -4,8 +4,8 @@ use Rattle.std.proofs.lemmas.Bool.{false≢true}
 use Rattle.std.proofs.lemmas.Bool.Decides.{nat_tests}
 use Rattle.sums.specs.Sums.{sum_to}
 use Rattle.sums.proofs.Sums.{sum_to-le}
-use Rattle.cluster.specs.declared.ids.Choice.{Choice}
-use Rattle.cluster.specs.declared.ids.Choice.TheVariants.{Idle, Act}
+use Rattle.cluster.specs.declared.choices.Choice.{Choice}
+use Rattle.cluster.specs.declared.choices.Choice.TheVariants.{Idle, Act}
 use Rattle.cluster.specs.Inventory.{is_online}
 use Rattle.cluster.specs.Sets.{has_node}
 use Rattle.catalogue.specs.declared.constraint.Constraint.{Constraint}
@@ -14,12 +14,12 @@ use Rattle.catalogue.specs.Instance.{Instance}
 use Rattle.catalogue.specs.Values.{continuous_at}
 use Rattle.slices.specs.declared.rule.Rule.{Rule}
 use Rattle.slices.specs.declared.rule.Rule.TheVariants.{Load, Usable, Constraint as OfConstraint}
-use Rattle.slices.specs.declared.table.Slice.{Slice}
-use Rattle.slices.specs.declared.table.Span.{Span}
-use Rattle.slices.specs.declared.table.Span.TheVariants.{Always, FromStart, BeforeEnd}
-use Rattle.slices.specs.declared.table.Stage.{Stage}
-use Rattle.slices.specs.declared.table.Weight.{Weight}
-use Rattle.slices.specs.declared.table.Weight.TheVariants.{Amount, Presence, Image}
+use Rattle.slices.specs.declared.slice.Slice.{Slice}
+use Rattle.slices.specs.declared.slice.Span.{Span}
+use Rattle.slices.specs.declared.slice.Span.TheVariants.{Always, FromStart, BeforeEnd}
+use Rattle.slices.specs.declared.stage.Stage.{Stage}
+use Rattle.slices.specs.declared.slice.Weight.{Weight}
+use Rattle.slices.specs.declared.slice.Weight.TheVariants.{Amount, Presence, Image}
 use Rattle.slices.specs.Elements.{machine_count, node_count, node, vm}
 use Rattle.slices.specs.Holds.{AreAllowed, AreApart, Holds}
 use Rattle.slices.specs.Parts.{ExecutionKeeps, IsPartOf, PartsKeep, StagePartsArePart}

@@ -2,24 +2,24 @@
 use Rattle.std.specs.Prelude.{ℕ, ◌+◌, ◌*◌, Bool, true, false, not, ◌&&◌, ◌==◌, nat_le, length, Option, Some, None, is_some, unwrap_or, slice_get, slice_index_or, if◌then◌else◌}
 use Rattle.std.specs.List.{list_any, range_with_len}
 use Rattle.std.specs.Option.{option_map_or}
-use Rattle.cluster.specs.declared.ids.Choice.{Choice}
-use Rattle.cluster.specs.declared.ids.Choice.TheVariants.{Idle, Act}
-use Rattle.cluster.specs.declared.ids.Duration.{Duration}
+use Rattle.cluster.specs.declared.choices.Choice.{Choice}
+use Rattle.cluster.specs.declared.choices.Choice.TheVariants.{Idle, Act}
+use Rattle.cluster.specs.declared.durations.Duration.{Duration}
 use Rattle.cluster.specs.declared.ids.Element.{Element}
 use Rattle.cluster.specs.declared.ids.Element.TheVariants.{Vm, Node as TheNode}
-use Rattle.cluster.specs.declared.ids.Kind.{Kind}
-use Rattle.cluster.specs.declared.ids.Kind.TheVariants.{Forge, Boot, Shutdown, Suspend, Resume, Migrate, Allocate, Kill, NodeBoot, NodeShutdown}
-use Rattle.cluster.specs.declared.ids.Place.{Place}
-use Rattle.cluster.specs.declared.ids.Place.TheVariants.{Nowhere, At}
-use Rattle.cluster.specs.declared.ids.State.{State}
-use Rattle.cluster.specs.declared.ids.State.TheVariants.{Init, Ready, Running, Sleeping, Gone}
-use Rattle.cluster.specs.declared.parts.Machine.{Machine}
-use Rattle.cluster.specs.declared.parts.Node.{Node}
+use Rattle.cluster.specs.declared.kinds.Kind.{Kind}
+use Rattle.cluster.specs.declared.kinds.Kind.TheVariants.{Forge, Boot, Shutdown, Suspend, Resume, Migrate, Allocate, Kill, NodeBoot, NodeShutdown}
+use Rattle.cluster.specs.declared.choices.Place.{Place}
+use Rattle.cluster.specs.declared.choices.Place.TheVariants.{Nowhere, At}
+use Rattle.cluster.specs.declared.states.State.{State}
+use Rattle.cluster.specs.declared.states.State.TheVariants.{Init, Ready, Running, Sleeping, Gone}
+use Rattle.cluster.specs.declared.machines.Machine.{Machine}
+use Rattle.cluster.specs.declared.nodes.Node.{Node}
 use Rattle.cluster.specs.Inventory.{is_online}
 use Rattle.cluster.specs.Kinds.{kind_number}
-use Rattle.catalogue.specs.declared.constraint.Target.TheVariants.{Online as ToOnline, Offline as ToOffline, Running as ToRunning, Sleeping as ToSleeping, Ready as ToReady, Killed as ToKilled}
-use Rattle.catalogue.specs.declared.constraint.Wish.{Wish}
-use Rattle.catalogue.specs.declared.constraint.Wish.TheVariants.{Keep, To, Clash}
+use Rattle.catalogue.specs.declared.targets.Target.TheVariants.{Online as ToOnline, Offline as ToOffline, Running as ToRunning, Sleeping as ToSleeping, Ready as ToReady, Killed as ToKilled}
+use Rattle.catalogue.specs.declared.targets.Wish.{Wish}
+use Rattle.catalogue.specs.declared.targets.Wish.TheVariants.{Keep, To, Clash}
 use Rattle.catalogue.specs.Instance.{Instance}
 use Rattle.catalogue.specs.Values.{demand_of, use_of, wanted_of, written_of}
 use Rattle.slices.specs.Elements.{is_place, state_of, vm}

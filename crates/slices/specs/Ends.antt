@@ -1,12 +1,12 @@
 -- Laws of what one choice holds: over the starts at a place, between starts, and by nodes.
 use Rattle.std.specs.Prelude.{◌≡◌, ℕ, ◌<◌, ◌≤◌, false, min, if◌then◌else◌, IsTrue}
-use Rattle.cluster.specs.declared.ids.Choice.{Choice}
-use Rattle.cluster.specs.declared.ids.Choice.TheVariants.{Act}
-use Rattle.cluster.specs.declared.ids.Place.{Place}
+use Rattle.cluster.specs.declared.choices.Choice.{Choice}
+use Rattle.cluster.specs.declared.choices.Choice.TheVariants.{Act}
+use Rattle.cluster.specs.declared.choices.Place.{Place}
 use Rattle.catalogue.specs.Instance.{Instance, IsInstance}
 use Rattle.sums.specs.Sums.{sum_to}
-use Rattle.slices.specs.declared.table.Weight.{Weight}
-use Rattle.slices.specs.declared.table.Weight.TheVariants.{Amount, Presence, Image}
+use Rattle.slices.specs.declared.slice.Weight.{Weight}
+use Rattle.slices.specs.declared.slice.Weight.TheVariants.{Amount, Presence, Image}
 use Rattle.slices.specs.Elements.{node_count, node, vm}
 use Rattle.slices.specs.Parts.{IsQuiet}
 use Rattle.slices.specs.Plans.{Choices}

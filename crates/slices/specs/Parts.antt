@@ -1,16 +1,16 @@
 -- Laws of valid plans: a part of a snapshot keeps what the snapshot keeps, the starts suffice, and the first broken rule is one.
 use Rattle.std.specs.Prelude.{◌≡◌, ◌⊎◌, ℕ, ◌+◌, ◌<◌, ◌≤◌, Bool, false, Option, Some, None, IsTrue}
 use Rattle.std.specs.Option.{ForSome}
-use Rattle.cluster.specs.declared.ids.Choice.{Choice}
-use Rattle.cluster.specs.declared.ids.Choice.TheVariants.{Idle, Act}
+use Rattle.cluster.specs.declared.choices.Choice.{Choice}
+use Rattle.cluster.specs.declared.choices.Choice.TheVariants.{Idle, Act}
 use Rattle.cluster.specs.declared.ids.Element.{Element}
-use Rattle.cluster.specs.declared.ids.Kind.{Kind}
-use Rattle.cluster.specs.declared.ids.Place.{Place}
+use Rattle.cluster.specs.declared.kinds.Kind.{Kind}
+use Rattle.cluster.specs.declared.choices.Place.{Place}
 use Rattle.catalogue.specs.Instance.{Instance, IsElement, IsInstance}
 use Rattle.slices.specs.declared.rule.Broken.{Broken}
 use Rattle.slices.specs.declared.rule.Rule.{Rule}
-use Rattle.slices.specs.declared.table.Stage.{Stage}
-use Rattle.slices.specs.declared.table.Weight.{Weight}
+use Rattle.slices.specs.declared.stage.Stage.{Stage}
+use Rattle.slices.specs.declared.slice.Weight.{Weight}
 use Rattle.slices.specs.Actions.{duration_of, is_legal, lasts}
 use Rattle.slices.specs.Plans.{Choices, PlanChoices, IsPlanOf, choices_of}
 use Rattle.slices.specs.Rules.{InRange, IsFirstBroken, IsValid, Keeps, KeepsAllAt}

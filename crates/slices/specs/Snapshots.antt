@@ -1,13 +1,13 @@
 -- What is where at one moment.
 use Rattle.std.specs.Prelude.{ℕ, ◌+◌, Bool, ◌||◌, nat_lt, if◌then◌else◌}
-use Rattle.cluster.specs.declared.ids.Choice.{Choice}
+use Rattle.cluster.specs.declared.choices.Choice.{Choice}
 use Rattle.cluster.specs.declared.ids.Element.{Element}
 use Rattle.cluster.specs.Inventory.{is_online}
 use Rattle.catalogue.specs.Instance.{Instance}
 use Rattle.sums.specs.Sums.{sum_to}
-use Rattle.slices.specs.declared.table.Stage.{Stage}
-use Rattle.slices.specs.declared.table.Weight.{Weight}
-use Rattle.slices.specs.declared.table.Weight.TheVariants.{Amount, Presence, Image}
+use Rattle.slices.specs.declared.stage.Stage.{Stage}
+use Rattle.slices.specs.declared.slice.Weight.{Weight}
+use Rattle.slices.specs.declared.slice.Weight.TheVariants.{Amount, Presence, Image}
 use Rattle.slices.specs.Elements.{machine_count, node_count, vm, node}
 use Rattle.slices.specs.Actions.{lasts}
 use Rattle.slices.specs.Plans.{Choices}

@@ -10,10 +10,14 @@ ghost use Rattle.slices.specs.Parts.{start_of};
 ghost use Rattle.slices.specs.Stages.{stage_from};
 
 use crate::elements::{is_online, is_place, state_of};
-use crate::table::Stage;
-use catalogue::constraint::{Target, Wish};
+use crate::stage::Stage;
 use catalogue::problem::Problem;
-use cluster::ids::{Choice, Duration, Element, Instant, Kind, NodeId, Place, State, VmId};
+use catalogue::targets::{Target, Wish};
+use cluster::choices::{Choice, Instant, Place};
+use cluster::durations::Duration;
+use cluster::ids::{Element, NodeId, VmId};
+use cluster::kinds::Kind;
+use cluster::states::State;
 
 /// What is wanted of a machine: without a wish it keeps its state.
 fn settled(state: State, wish: Wish) -> Wish

@@ -5,7 +5,9 @@ ghost use Rattle.catalogue.specs.Instance.{IsElement};
 ghost use Rattle.slices.specs.Elements.{element_at, element_count, number_of, state_of as the_state_of, is_place as is_the_place};
 
 use catalogue::problem::Problem;
-use cluster::ids::{Element, NodeId, Place, State, VmId};
+use cluster::choices::Place;
+use cluster::ids::{Element, NodeId, VmId};
+use cluster::states::State;
 
 /// How many elements there are.
 pub fn count(p: &Problem) -> usize

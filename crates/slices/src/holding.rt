@@ -3,13 +3,33 @@ ghost use Rattle.std.specs.Prelude.{◌≡◌, ◌<◌, ◌≤◌, length};
 ghost use Rattle.catalogue.specs.Instance.{IsElement};
 ghost use Rattle.slices.specs.Stages.{weight_of};
 ghost use Rattle.slices.specs.Holdings.{held_of, node_of as the_node_of, joined as the_joined, holding_of, IsHoldingAt};
-ghost use Rattle.slices.specs.declared.table.Weight.TheVariants.{Amount};
+ghost use Rattle.slices.specs.declared.slice.Weight.TheVariants.{Amount};
 
 use crate::actions::{kind_of, stage_by, usage};
 use crate::elements::state_of;
-use crate::table::{Held, Holding, Slice, Slices, Stage, What, covers, idle_slices, slices_by};
+use crate::slice::{Slice, Slices, What, covers, idle_slices, slices_by};
+use crate::stage::Stage;
 use catalogue::problem::Problem;
-use cluster::ids::{Choice, Element, Instant, NodeId, Place, VmId};
+use cluster::choices::{Choice, Instant, Place};
+use cluster::ids::{Element, NodeId, VmId};
+
+/// A node on which a machine is present, and whether it takes its present use or its demand there.
+#[derive(Clone, Copy)]
+pub struct Held {
+    pub node: NodeId,
+    pub what: What,
+}
+
+/// All that a machine holds at one moment.
+///
+/// Each `Held` is one presence: none, one, or the two of a migration. An allocation is one, with
+/// the demand for its amounts from its start on.
+#[derive(Clone, Copy)]
+pub struct Holding {
+    pub source: Option<Held>,
+    pub target: Option<Held>,
+    pub image: Option<NodeId>,
+}
 
 /// The part of a slice that is held at a stage.
 fn held(slice: Option<Slice>, stage: Stage) -> Option<Held>

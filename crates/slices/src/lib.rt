@@ -7,7 +7,8 @@ pub mod holding;
 pub mod laws;
 pub mod plan;
 pub mod rule;
+pub mod slice;
 pub mod snapshot;
-pub mod table;
+pub mod stage;
 #[cfg(test)]
 mod tests;

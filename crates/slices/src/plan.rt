@@ -8,7 +8,8 @@ ghost use Rattle.slices.specs.Costs.{cost_of};
 use crate::actions::{end_of, is_legal};
 use crate::elements::{count, element};
 use catalogue::problem::Problem;
-use cluster::ids::{Choice, Element, Instant, NodeId, VmId};
+use cluster::choices::{Choice, Instant};
+use cluster::ids::{Element, NodeId, VmId};
 use std::marker::Model;
 
 /// One choice for each element.

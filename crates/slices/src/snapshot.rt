@@ -6,15 +6,16 @@ ghost use Rattle.slices.specs.Plans.{choices_of, IsPlanOf};
 ghost use Rattle.slices.specs.Stages.{one, usable_of as is_usable_of, powered_of as is_powered_of};
 ghost use Rattle.slices.specs.Holdings.{amount_in, is_in, image_in, IsHoldingOf};
 ghost use Rattle.slices.specs.Snapshots.{snapshot_at, load};
-ghost use Rattle.slices.specs.declared.table.Weight.TheVariants.{Image};
+ghost use Rattle.slices.specs.declared.slice.Weight.TheVariants.{Image};
 
 use crate::actions::stage;
 use crate::elements::is_online;
-use crate::holding::{amount, holding};
+use crate::holding::{Held, Holding, amount, holding};
 use crate::plan::Plan;
-use crate::table::{Held, Holding, Stage};
+use crate::stage::Stage;
 use catalogue::problem::Problem;
-use cluster::ids::{Choice, Element, Instant, NodeId, VmId};
+use cluster::choices::{Choice, Instant};
+use cluster::ids::{Element, NodeId, VmId};
 
 /// All that a machine holds at an instant.
 #[tactic(auto, unfolding(crate::specs::Snapshots::snapshot, crate::specs::Snapshots::stages_at, crate::specs::Snapshots::held_at))]

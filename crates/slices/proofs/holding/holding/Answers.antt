@@ -1,5 +1,5 @@
 use Rattle.std.proofs.Common.{◌≡◌}
-use Rattle.cluster.specs.declared.ids.Choice.TheVariants.{Idle, Act}
+use Rattle.cluster.specs.declared.choices.Choice.TheVariants.{Idle, Act}
 use Rattle.slices.specs.Actions.{lasts}
 use Rattle.slices.specs.Elements.{vm}
 use Rattle.slices.specs.Holdings.{holding_of}

@@ -1,15 +1,12 @@
-//! What an action uses, and where: slices of one node each, over a span of the action.
+//! Slices: what a machine holds on one node each, over a span of its action.
 ghost use Rattle.std.specs.Prelude.{◌≡◌};
 ghost use Rattle.slices.specs.Stages.{slice as the_slice, idle_slices as the_idle_slices, acting_slices as the_acting_slices, slices_by as the_slices_by, covers as is_covered};
 
-use cluster::ids::{Kind, NodeId, Place, State};
-
-/// How far an action has come: whether it has started, and whether it has ended.
-#[derive(Clone, Copy, Debug, PartialEq, Eq)]
-pub struct Stage {
-    pub started: bool,
-    pub ended: bool,
-}
+use crate::stage::Stage;
+use cluster::choices::Place;
+use cluster::ids::NodeId;
+use cluster::kinds::Kind;
+use cluster::states::State;
 
 /// The stretch of an action over which a slice is held.
 ///
@@ -54,24 +51,6 @@ pub enum Weight {
     Amount(u8),
     Presence,
     Image,
-}
-
-/// A node on which a machine is present, and whether it takes its present use or its demand there.
-#[derive(Clone, Copy)]
-pub struct Held {
-    pub node: NodeId,
-    pub what: What,
-}
-
-/// All that a machine holds at one moment.
-///
-/// Each `Held` is one presence: none, one, or the two of a migration. An allocation is one, with
-/// the demand for its amounts from its start on.
-#[derive(Clone, Copy)]
-pub struct Holding {
-    pub source: Option<Held>,
-    pub target: Option<Held>,
-    pub image: Option<NodeId>,
 }
 
 const NOTHING: Slices = Slices {
