@@ -1,16 +1,13 @@
-//! A small plan with actions of most kinds, and answers that were taken from the tables by hand.
-ghost use Rattle.std.specs.Prelude.{IfSome};
+//! One machine that migrates and one node that boots, with answers that were taken from the tables
+//! by hand.
+ghost use Rattle.std.specs.Prelude.{IfOk, IfSome};
 ghost use Rattle.slices.specs.Plans.{IsPlanOf};
 
 use crate::actions::{duration, end_of, is_legal, kind_of, start};
 use crate::choice;
-use crate::holding::amount;
 use crate::plan::{Plan, cost, is_plan};
-use crate::slice::What;
 use crate::snapshot::{action_at, image, powered, present, usable, used};
 use crate::stage::Progress;
-use catalogue::constraint::Constraint;
-use catalogue::lists::Vms;
 use catalogue::problem::Problem;
 use cluster::choices::{Choice, Instant, Place};
 use cluster::durations::Duration;
@@ -24,271 +21,137 @@ use cluster::states::State;
 use std::alloc::Global;
 use std::test::Fail;
 
-const HERE: State = State::Running(NodeId(0));
-
-const PLAIN: Duration = Duration {
-    base: 3,
-    per: 0,
-    resource: None,
+/// Each kind lasts 1 instant, and one more for each unit of the resource.
+const COUNTED: Duration = Duration {
+    base: 1,
+    per: 1,
+    resource: Some(0),
 };
 
-/// Each kind lasts 3 instants, and a resume one more for each unit of the resource.
-fn base(alloc: Global) -> Result<Cluster, Fail> {
-    let mut durations = [PLAIN; 10];
-    durations[4] = Duration {
-        base: 3,
-        per: 1,
-        resource: Some(0),
-    };
+/// Node 0 is online, node 1 is not, and the machine uses 2 on node 0.
+fn problem(alloc: Global) -> Result<Problem, Fail> {
     let mut resources = Vec::new(alloc);
     resources.push(Name::new(alloc, b"cpu")?)?;
-    Ok(Cluster::new(alloc, resources, durations)?)
-}
-
-/// Nodes 0, 1 and 2 are online, 3 is not; machine v has the amount 2 ^ v.
-fn site(alloc: Global) -> Result<Cluster, Fail> {
-    let mut cluster = base(alloc)?;
-    for (letter, online) in [(b'a', true), (b'b', true), (b'c', true), (b'd', false)] {
+    let mut cluster = Cluster::new(alloc, resources, [COUNTED; 10])?;
+    for (name, online) in [(b"n0", true), (b"n1", false)] {
         cluster.add_node(Node {
-            name: Name::new(alloc, &[b'n', letter])?,
+            name: Name::new(alloc, name)?,
             online,
-            capacity: [2, 0, 0, 0, 0, 0, 0, 0],
+            capacity: [3, 0, 0, 0, 0, 0, 0, 0],
             own: [None; 10],
         })?;
     }
-    let asleep = State::Sleeping(NodeId(0));
-    for (v, state) in [State::Ready, HERE, HERE, asleep, HERE, HERE, HERE]
-        .iter()
-        .enumerate()
-    {
-        cluster.add_machine(Machine {
-            name: Name::new(alloc, &[b'v', b'a' + v as u8])?,
-            state: *state,
-            usage: [1 << (v % 8), 0, 0, 0, 0, 0, 0, 0],
-            own: [None; 10],
-        })?;
-    }
-    Ok(cluster)
+    cluster.add_machine(Machine {
+        name: Name::new(alloc, b"v0")?,
+        state: State::Running(NodeId(0)),
+        usage: [2, 0, 0, 0, 0, 0, 0, 0],
+        own: [None; 10],
+    })?;
+    Ok(Problem::new(alloc, cluster, 20))
 }
 
-fn vms(alloc: Global, ids: &[u32]) -> Result<Vms, Fail> {
-    let mut list = Vec::new(alloc);
-    for id in ids {
-        list.push(VmId(*id))?;
-    }
-    Ok(Vms::new(list))
-}
+const MOVE: Choice = Choice::Act {
+    place: Place::At(NodeId(1)),
+    start: 4,
+};
 
-/// Machines 0 and 3 are to run, 2 to sleep and 5 to go, and machine 4 is to have 1,000.
-fn problem(alloc: Global) -> Result<Problem, Fail> {
-    let mut p = Problem::new(alloc, site(alloc)?, 20);
-    p.add(Constraint::Running {
-        machines: vms(alloc, &[0, 3])?,
-    })?;
-    p.add(Constraint::Sleeping {
-        machines: vms(alloc, &[2])?,
-    })?;
-    p.add(Constraint::Killed {
-        machines: vms(alloc, &[5])?,
-    })?;
-    p.add(Constraint::Preserve {
-        machines: vms(alloc, &[4])?,
-        resource: 0,
-        amount: 1000,
-    })?;
-    Ok(p)
-}
+const BOOT: Choice = Choice::Act {
+    place: Place::Nowhere,
+    start: 0,
+};
 
-/// All actions start at 4: a boot, a migration, a suspension, a resume, an allocation and a kill,
-/// and nodes 2 and 3 change. Machine 6 stays.
-fn choices(alloc: Global) -> Result<Vec<Choice>, Fail> {
-    let act = |place| Choice::Act { place, start: 4 };
-    let to = |n| act(Place::At(NodeId(n)));
-    let away = act(Place::Nowhere);
-    let stay = Choice::Idle;
-    let mut list = Vec::new(alloc);
-    for choice in [
-        to(1),
-        to(1),
-        to(0),
-        to(1),
-        to(0),
-        away,
-        stay,
-        stay,
-        stay,
-        away,
-        away,
-    ] {
-        list.push(choice)?;
-    }
-    Ok(list)
-}
-
-/// The plan of these choices, if they are one.
-fn planned(p: &Problem, choices: Vec<Choice>) -> Option<Plan>
-    ensures { IfSome result (λ plan. IsPlanOf p.now.given plan) }
+/// The plan that boots node 1 at 0 and moves the machine there at 4, if it is one.
+fn plan(alloc: Global, p: &Problem) -> Result<Option<Plan>, Fail>
+    ensures { IfOk result (λ found. IfSome found (λ plan. IsPlanOf p.now.given plan)) }
 {
-    if is_plan(p, &choices) {
+    let mut choices = Vec::new(alloc);
+    choices.push(MOVE)?;
+    choices.push(Choice::Idle)?;
+    choices.push(BOOT)?;
+    Ok(if is_plan(p, &choices) {
         Some(Plan::idle_or(p, choices))
     } else {
         None
-    }
+    })
 }
 
-/// The loads of nodes 0 and 1, and the demand of machine 4.
-fn loads(p: &Problem, plan: &Plan, t: Instant) -> Option<[u64; 3]>
+/// Of the machine: whether it is on node 0 and on node 1, has its image on node 0, and whether its
+/// action has started, has not ended and is under way. Of node 1: whether it is usable and powered.
+fn look(p: &Problem, plan: &Plan, t: Instant) -> Option<[bool; 8]>
     requires { IsPlanOf p.now.given plan.now }
 {
-    if p.cluster().resources().is_empty() || p.cluster().machines().len() < 5 {
+    let cluster = p.cluster();
+    if cluster.machines().is_empty() || cluster.nodes().len() < 2 {
         return None;
     }
-    let load = |n| used(p, plan, NodeId(n), 0, t);
-    Some([load(0), load(1), amount(p, VmId(4), What::Demand, 0)])
-}
-
-/// Whether a machine is present on nodes 0 and 1 and has its image on node 0; whether its action
-/// has started, has not ended, and is under way; whether it has a target slice, and holds it.
-fn standing(p: &Problem, plan: &Plan, v: u32, t: Instant) -> Option<[bool; 8]>
-    requires { IsPlanOf p.now.given plan.now }
-{
-    if (v as usize) >= p.cluster().machines().len() {
-        return None;
-    }
-    let vm = VmId(v);
-    let c = plan.choice(Element::Vm(vm));
+    let (v, far) = (VmId(0), NodeId(1));
     Some([
-        present(p, plan, vm, NodeId(0), t),
-        present(p, plan, vm, NodeId(1), t),
-        image(p, plan, vm, NodeId(0), t),
-        action_at(p, plan, vm, Progress::Started, t),
-        action_at(p, plan, vm, Progress::Unended, t),
-        choice::action(p, vm, c, Progress::Acting, t),
-        choice::slices(p, vm, c).target.is_some(),
-        choice::holding(p, vm, c, t).target.is_some(),
+        present(p, plan, v, NodeId(0), t),
+        present(p, plan, v, far, t),
+        image(p, plan, v, NodeId(0), t),
+        action_at(p, plan, v, Progress::Started, t),
+        action_at(p, plan, v, Progress::Unended, t),
+        choice::action(p, v, MOVE, Progress::Acting, t),
+        usable(p, plan, far, t),
+        powered(p, plan, far, t),
     ])
 }
 
-/// Whether a node is usable, and powered.
-fn serving(p: &Problem, plan: &Plan, n: u32, t: Instant) -> Option<[bool; 2]>
+/// The load of a node.
+fn load(p: &Problem, plan: &Plan, n: NodeId, t: Instant) -> Option<u64>
     requires { IsPlanOf p.now.given plan.now }
 {
-    if (n as usize) >= p.cluster().nodes().len() {
+    if p.cluster().resources().is_empty() {
         return None;
     }
-    Some([
-        usable(p, plan, NodeId(n), t),
-        powered(p, plan, NodeId(n), t),
-    ])
+    Some(used(p, plan, n, 0, t))
+}
+
+/// Whether the machine has a target slice under a choice, and holds it at an instant.
+fn targets(p: &Problem, c: Choice, t: Instant) -> Option<(bool, bool)> {
+    if p.cluster().machines().is_empty() {
+        return None;
+    }
+    let v = VmId(0);
+    Some((
+        choice::slices(p, v, c).target.is_some(),
+        choice::holding(p, v, c, t).target.is_some(),
+    ))
+}
+
+/// The kind of the machine's action at a place, how long it lasts and when it ends.
+fn measure(p: &Problem, place: Place, at: Instant) -> Option<(Kind, u64, Instant)> {
+    if p.cluster().machines().is_empty() {
+        return None;
+    }
+    let e = Element::Vm(VmId(0));
+    let c = Choice::Act { place, start: at };
+    match kind_of(p, e, place) {
+        Some(kind) if is_legal(p, e, c) => Some((kind, duration(p, e, kind), end_of(p, e, c))),
+        Some(_) | None => None,
+    }
 }
 
 #[test]
-fn follows_actions_from_start_to_end(rt: HostRuntime) -> Result<(), Fail> {
+fn follows_a_plan(rt: HostRuntime) -> Result<(), Fail> {
     let p = problem(rt.alloc())?;
-    let plan = planned(&p, choices(rt.alloc())?).expect(&rt, "a plan");
-    let sums = [
-        [118, 0, 1000],
-        [1102, 11, 1000],
-        [1102, 11, 1000],
-        [1064, 11, 1000],
-    ];
-    let machines = [
-        [
-            b"----", b"-xxx", b"----", b"-xxx", b"xxx-", b"-xx-", b"xxxx", b"-xxx",
-        ],
-        [
-            b"xxx-", b"-xxx", b"----", b"-xxx", b"xxx-", b"-xx-", b"xxxx", b"-xxx",
-        ],
-        [
-            b"xxx-", b"----", b"-xxx", b"-xxx", b"xxx-", b"-xx-", b"----", b"----",
-        ],
-        [
-            b"----", b"-xxx", b"xxxx", b"-xxx", b"xxxx", b"-xxx", b"xxxx", b"-xxx",
-        ],
-        [
-            b"xxxx", b"----", b"----", b"-xxx", b"xxx-", b"-xx-", b"xxxx", b"----",
-        ],
-        [
-            b"xxx-", b"----", b"----", b"-xxx", b"xxx-", b"-xx-", b"----", b"----",
-        ],
-        [
-            b"xxxx", b"----", b"----", b"----", b"----", b"----", b"----", b"----",
-        ],
-    ];
-    let nodes = [
-        [b"xxxx", b"xxxx"],
-        [b"xxxx", b"xxxx"],
-        [b"x---", b"xxx-"],
-        [b"---x", b"-xxx"],
-    ];
-    for (i, t) in [3, 4, 6, 7].iter().enumerate() {
-        assert_eq!(rt; loads(&p, &plan, *t), Some(sums[i]), "at {t}");
-        for (v, want) in machines.iter().enumerate() {
-            let want = want.map(|row| row[i] == b'x');
-            assert_eq!(rt;
-                standing(&p, &plan, v as u32, *t),
-                Some(want),
-                "machine {v} at {t}"
-            );
-        }
-        for (n, want) in nodes.iter().enumerate() {
-            let want = want.map(|row| row[i] == b'x');
-            assert_eq!(rt;
-                serving(&p, &plan, n as u32, *t),
-                Some(want),
-                "node {n} at {t}"
-            );
-        }
-    }
-    assert_eq!(rt; cost(&p, &plan), 64);
+    let plan = plan(rt.alloc(), &p)?.expect(&rt, "a plan");
+    let during = [true, true, false, true, true, true, true, true];
+    let after = [false, true, false, true, false, false, true, true];
+    assert_eq!(rt; look(&p, &plan, 4), Some(during));
+    assert_eq!(rt; look(&p, &plan, 7), Some(after));
+    assert_eq!(rt; load(&p, &plan, NodeId(0), 6), Some(2));
+    assert_eq!(rt; cost(&p, &plan), 11);
     Ok(())
 }
 
-/// The kind of an element's action at a place, how long it lasts, and when it ends if it may start
-/// then.
-fn acting(
-    p: &Problem,
-    x: usize,
-    place: Place,
-    at: Instant,
-) -> Option<(Kind, u64, Option<Instant>)> {
-    if x >= p.cluster().element_count() {
-        return None;
-    }
-    let e = p.cluster().element(x);
-    let c = Choice::Act { place, start: at };
-    match kind_of(p, e, place) {
-        Some(kind) => Some((
-            kind,
-            duration(p, e, kind),
-            if is_legal(p, e, c) {
-                Some(end_of(p, e, c))
-            } else {
-                None
-            },
-        )),
-        None => None,
-    }
-}
-
 #[test]
-fn measures_actions(rt: HostRuntime) -> Result<(), Fail> {
+fn measures_an_action(rt: HostRuntime) -> Result<(), Fail> {
     let p = problem(rt.alloc())?;
-    let (away, there) = (Place::Nowhere, Place::At(NodeId(1)));
-    let rows = [
-        (0, there, 17, Some((Kind::Boot, 3, Some(20)))),
-        (0, there, 18, Some((Kind::Boot, 3, None))),
-        (0, away, 0, None),
-        (3, there, 9, Some((Kind::Resume, 11, Some(20)))),
-        (9, away, 1, Some((Kind::NodeShutdown, 3, Some(4)))),
-    ];
-    for (x, place, at, want) in rows {
-        assert_eq!(rt; acting(&p, x, place, at), want, "at {x}");
-    }
-    let c = Choice::Act {
-        place: away,
-        start: 17,
-    };
-    assert_eq!(rt; start(c), Some(17));
+    assert_eq!(rt; targets(&p, MOVE, 3), Some((true, false)));
+    let place = Place::At(NodeId(1));
+    assert_eq!(rt; measure(&p, place, 17), Some((Kind::Migrate, 3, 20)));
+    assert_eq!(rt; measure(&p, place, 18), None);
+    assert_eq!(rt; start(BOOT), Some(0));
     Ok(())
 }
