@@ -6,22 +6,12 @@ use serde_json::Value;
 use std::alloc::{AllocError, Global};
 use std::test::Fail;
 
-fn word(kind: FaultKind) -> &'static str {
-    match kind {
-        FaultKind::Missing => "missing",
-        FaultKind::WrongKind => "wrong kind",
-        FaultKind::OutOfRange => "out of range",
-        FaultKind::Unknown => "unknown",
-    }
-}
-
 fn line(alloc: Global, answer: Result<u64, WalkFault>) -> Result<String, AllocError> {
     match answer {
         Ok(n) => format!(in alloc; "{n}"),
         Err(WalkFault::Memory) => String::from_str(alloc, "memory"),
         Err(WalkFault::Bad(fault)) => {
-            let word = word(fault.kind);
-            format!(in alloc; "{} {word}", fault.path.as_text())
+            format!(in alloc; "{} {}", fault.path.as_text(), fault.kind.as_text())
         }
     }
 }
