@@ -1,6 +1,6 @@
 use Rattle.std.proofs.Common.{sym, ◌∙◌, arith}
 use Rattle.slices.proofs.DurationLemmas.{legal_acts_last}
-use Rattle.judge.proofs.least.start_in.Goals as goal
+use Rattle.judge.proofs.next.start_in.Goals as goal
 
 pub returns-in-Act-clause-in_time : goal.returns-in-Act-clause-in_time
 returns-in-Act-clause-in_time c =
