@@ -2,6 +2,7 @@
 #![tactic(auto)]
 
 pub mod actions;
+pub mod choice;
 pub mod elements;
 pub mod holding;
 pub mod laws;
