@@ -1,6 +1,6 @@
 -- What is decided of an instance.
 use Rattle.std.specs.Prelude.{◌≡◌, ℕ, List, Result, Ok, Err, codes, string_bytes}
-use Rattle.cluster.specs.declared.ids.Choice.TheVariants.{Idle}
+use Rattle.cluster.specs.declared.choices.Choice.TheVariants.{Idle}
 use Rattle.catalogue.specs.Instance.{Instance}
 use Rattle.slices.specs.Plans.{Choices, IsPlan}
 use Rattle.slices.specs.Rules.{IsValid}

@@ -2,7 +2,7 @@
 
 ghost use Rattle.std.specs.Prelude.{◌≡◌, ◌≢◌, ◌↔◌, Result, Ok, IsTrue, IfOk, IfErr, Err, replicate};
 ghost use Rattle.plan_io.specs.Files.{bytes_of};
-ghost use Rattle.cluster.specs.declared.ids.Choice.TheVariants.{Idle};
+ghost use Rattle.cluster.specs.declared.choices.Choice.TheVariants.{Idle};
 ghost use Rattle.slices.specs.Elements.{element_count};
 ghost use Rattle.slices.specs.Plans.{IsPlanOf, parted, choices_of};
 ghost use Rattle.slices.specs.Rules.{IsValid};
@@ -15,7 +15,7 @@ use crate::fault::Fault;
 use crate::inputs::refusal;
 use crate::instance::problem_at;
 use catalogue::problem::Problem;
-use cluster::ids::Choice;
+use cluster::choices::Choice;
 use judge::judge;
 use memory::Memory;
 use plan_io::Desk;

@@ -1,8 +1,9 @@
-//! Constraints, wishes, and why a constraint is refused.
+//! Constraints, and why one is refused.
 ghost use Rattle.std.specs.Prelude.{◌≡◌, IfOk};
 ghost use Rattle.catalogue.specs.Kinds.{is_continuous};
 
 use crate::lists::{Groups, Parts, Vms};
+use cluster::ids::VmId;
 use cluster::sets::NodeSet;
 use memory::Memory;
 use std::alloc::AllocError;
@@ -55,6 +56,16 @@ pub enum Constraint {
     },
     /// A member that runs at present is present on its host alone. It is continuous.
     Root {
+        machines: Vms,
+    },
+    /// The action of `before` has ended before that of `after` starts, where both have one. It is
+    /// continuous.
+    Precedence {
+        before: VmId,
+        after: VmId,
+    },
+    /// No two members act at the same instant. It is continuous.
+    Serialize {
         machines: Vms,
     },
     /// The demand of each member for the resource is at least the amount.
@@ -177,6 +188,13 @@ impl Constraint {
             Constraint::Root { machines } => Constraint::Root {
                 machines: machines.copy()?,
             },
+            Constraint::Precedence { before, after } => Constraint::Precedence {
+                before: *before,
+                after: *after,
+            },
+            Constraint::Serialize { machines } => Constraint::Serialize {
+                machines: machines.copy()?,
+            },
             Constraint::Preserve {
                 machines,
                 resource,
@@ -243,8 +261,8 @@ impl Constraint {
         })
     }
 
-    /// Whether it is to hold at each instant, and not at the horizon alone. `Root` and `Overbook`
-    /// are; `Preserve` and the six wishes are not.
+    /// Whether it is to hold at each instant, and not at the horizon only. `Root`, `Precedence`,
+    /// `Serialize` and `Overbook` are; `Preserve` and the six wishes are not.
     pub fn is_continuous(&self) -> bool
         ensures { result ≡ is_continuous self.now }
     {
@@ -259,7 +277,10 @@ impl Constraint {
             | Constraint::ResourceCapacity { continuous, .. }
             | Constraint::RunningCapacity { continuous, .. }
             | Constraint::MaxOnline { continuous, .. } => *continuous,
-            Constraint::Root { .. } | Constraint::Overbook { .. } => true,
+            Constraint::Root { .. }
+            | Constraint::Precedence { .. }
+            | Constraint::Serialize { .. }
+            | Constraint::Overbook { .. } => true,
             Constraint::Preserve { .. }
             | Constraint::Online { .. }
             | Constraint::Offline { .. }
@@ -280,7 +301,7 @@ pub enum RuleFault {
     /// A machine, a node or a resource is not listed.
     #[error("no such machine, node or resource")]
     NoSuch,
-    /// A machine stands twice in a list, or in the parts of a split.
+    /// A machine stands twice in a list or in the parts of a split, or before itself.
     #[error("a machine stands twice")]
     Twice,
     /// An amount is over 10^9, `num` or `den` is over 1,000, `den` is 0, there is no group, or
@@ -312,26 +333,4 @@ impl From<Memory> for RuleFault {
     fn from(_error: Memory) -> RuleFault {
         RuleFault::Memory
     }
-}
-
-/// A state that is wanted at the horizon.
-#[derive(Clone, Copy, Debug, PartialEq, Eq)]
-pub enum Target {
-    Online,
-    Offline,
-    Running,
-    Sleeping,
-    Ready,
-    Killed,
-}
-
-/// What is wanted of an element.
-#[derive(Clone, Copy, Debug, PartialEq, Eq)]
-pub enum Wish {
-    /// Nothing is said: a machine keeps its state, and a node may do either.
-    Keep,
-    /// One state is wanted, however often.
-    To(Target),
-    /// Two different states are wanted.
-    Clash,
 }

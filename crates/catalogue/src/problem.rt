@@ -4,13 +4,15 @@ ghost use Rattle.std.proofs.Props.{props};
 ghost use Rattle.catalogue.specs.Instance.{IsElement, IsInstance, inventory_of, rule_fault};
 ghost use Rattle.catalogue.specs.Values.{demand_of, capacity_of, wanted_of, applies_at};
 
-use crate::constraint::{Constraint, RuleFault, Wish};
+use crate::constraint::{Constraint, RuleFault};
 use crate::demands::preserved_at;
 use crate::faults::fault_of;
 use crate::limits::{limit_at, written};
 use crate::tables::Tables;
+use crate::targets::Wish;
 use crate::wishes::wish_at;
-use cluster::ids::{Element, Instant, NodeId, VmId};
+use cluster::choices::Instant;
+use cluster::ids::{Element, NodeId, VmId};
 use cluster::inventory::Cluster;
 use std::alloc::Global;
 use std::marker::Model;

@@ -3,9 +3,10 @@ ghost use Rattle.std.specs.Prelude.{◌≡◌, [], true, OnOk, OnErr};
 ghost use Rattle.catalogue.specs.Faults.{is_rule};
 ghost use Rattle.catalogue.specs.Noting.{HaveRows, Notes, SameRows};
 
-use crate::constraint::{Constraint, Target, Wish};
+use crate::constraint::Constraint;
 use crate::demands::note_preserve;
 use crate::limits::note_overbook;
+use crate::targets::{Target, Wish};
 use crate::wishes::{note_machines, note_nodes};
 use cluster::inventory::Cluster;
 use memory::Memory;

@@ -1,13 +1,17 @@
 //! What no clause says: that calls succeed where there is memory, and the faults as they were meant.
-use crate::constraint::{Constraint, RuleFault, Target, Wish};
+use crate::constraint::{Constraint, RuleFault};
 use crate::lists::{Groups, Parts, Vms};
 use crate::problem::Problem;
 use crate::seen::Seen;
-use cluster::ids::{Duration, Element, NodeId, State, VmId};
+use crate::targets::{Target, Wish};
+use cluster::durations::Duration;
+use cluster::ids::{Element, NodeId, VmId};
 use cluster::inventory::Cluster;
+use cluster::machines::Machine;
 use cluster::names::Name;
-use cluster::parts::{Machine, Node};
+use cluster::nodes::Node;
 use cluster::sets::NodeSet;
+use cluster::states::State;
 use std::alloc::Global;
 use std::test::Fail;
 

@@ -6,7 +6,7 @@ ghost use Rattle.catalogue.specs.Faults.{is_member};
 ghost use Rattle.catalogue.specs.Values.{joined, joined_where};
 ghost use Rattle.catalogue.specs.Cells.{HasRows, wish_cell};
 
-use crate::constraint::{Target, Wish};
+use crate::targets::{Target, Wish};
 use cluster::ids::{NodeId, VmId};
 use cluster::sets::NodeSet;
 use memory::Memory;

@@ -1,8 +1,8 @@
 -- What holds of hosts.
 use Rattle.std.proofs.Common.{◌≡◌, ℕ, zero, suc, ◌<◌, true, List, [], ◌∷◌, ◌++◌, length, arith, sym, true≢false}
-use Rattle.cluster.specs.declared.ids.State.{State}
-use Rattle.cluster.specs.declared.ids.State.TheVariants.{Init, Ready, Running, Sleeping, Gone}
-use Rattle.cluster.specs.declared.parts.Node.{Node}
+use Rattle.cluster.specs.declared.states.State.{State}
+use Rattle.cluster.specs.declared.states.State.TheVariants.{Init, Ready, Running, Sleeping, Gone}
+use Rattle.cluster.specs.declared.nodes.Node.{Node}
 use Rattle.cluster.specs.Inventory.{is_online, host_is_online}
 
 -- an online node is one of the list

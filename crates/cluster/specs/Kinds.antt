@@ -1,6 +1,6 @@
 use Rattle.std.specs.Prelude.{ℕ}
-use Rattle.cluster.specs.declared.ids.Kind.{Kind}
-use Rattle.cluster.specs.declared.ids.Kind.TheVariants.{Forge, Boot, Shutdown, Suspend, Resume, Migrate, Allocate, Kill, NodeBoot, NodeShutdown}
+use Rattle.cluster.specs.declared.kinds.Kind.{Kind}
+use Rattle.cluster.specs.declared.kinds.Kind.TheVariants.{Forge, Boot, Shutdown, Suspend, Resume, Migrate, Allocate, Kill, NodeBoot, NodeShutdown}
 
 -- the place of a kind in the order of the ten kinds: the machines' are the first eight
 abbrev pub kind_number : Kind → ℕ

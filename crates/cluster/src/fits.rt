@@ -3,8 +3,9 @@ ghost use Rattle.std.specs.Prelude.{◌≡◌, ◌≤◌, length, is_none, nat_l
 ghost use Rattle.std.specs.List.{list_all};
 ghost use Rattle.cluster.specs.Inventory.{duration_fits, own_fits, node_own_fits, machine_own_fits, amounts_fit, node_fits, machine_fits};
 
-use crate::ids::Duration;
-use crate::parts::{Machine, Node};
+use crate::durations::Duration;
+use crate::machines::Machine;
+use crate::nodes::Node;
 
 /// Whether each of a cluster's durations may stand there.
 pub fn are_durations(count: usize, durations: &[Duration]) -> bool

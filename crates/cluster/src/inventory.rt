@@ -6,10 +6,13 @@ ghost use Rattle.std.specs.Str.{bytes_eq};
 ghost use Rattle.cluster.specs.Names.{is_name};
 ghost use Rattle.cluster.specs.Inventory.{IsInventory, IsListed, element_named, resource_named, are_distinct, base_fault, node_fault, machine_fault, host_is_online, has_places};
 
+use crate::durations::Duration;
 use crate::fits::{are_durations, is_fitting_machine, is_fitting_node};
-use crate::ids::{Duration, Element, NodeId, State, VmId};
+use crate::ids::{Element, NodeId, VmId};
+use crate::machines::Machine;
 use crate::names::Name;
-use crate::parts::{Machine, Node};
+use crate::nodes::Node;
+use crate::states::State;
 use indexmap::IndexSet;
 use memory::Memory;
 use std::alloc::{AllocError, Global};

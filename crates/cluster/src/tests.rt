@@ -1,9 +1,13 @@
 //! Each public call once, and each refusal in its order.
-use crate::ids::{Duration, Element, KINDS, NodeId, State, VmId};
+use crate::durations::Duration;
+use crate::ids::{Element, NodeId, VmId};
 use crate::inventory::{AddFault, Cluster};
+use crate::kinds::KINDS;
+use crate::machines::Machine;
 use crate::names::Name;
-use crate::parts::{Machine, Node};
+use crate::nodes::Node;
 use crate::sets::NodeSet;
+use crate::states::State;
 use std::alloc::Global;
 use std::test::Fail;
 

@@ -12,8 +12,8 @@ use Rattle.json_walk.specs.declared.fault.FaultKind.TheVariants.{Missing, Unknow
 use Rattle.json_walk.specs.Path.{key_path}
 use Rattle.json_walk.specs.Walk.{Gives, optional, object_of, keys_of, only_of}
 use Rattle.json_walk.specs.Each.{each}
-use Rattle.cluster.specs.declared.ids.Kind.{Kind}
-use Rattle.cluster.specs.declared.ids.Duration.{Duration}
+use Rattle.cluster.specs.declared.kinds.Kind.{Kind}
+use Rattle.cluster.specs.declared.durations.Duration.{Duration}
 use Rattle.cluster.specs.Inventory.{resource_fits, duration_fits, own_fits, amounts_fit, machine_own_fits, node_own_fits}
 use Rattle.instance_json.specs.declared.fault.InstanceFault.{InstanceFault}
 use Rattle.instance_json.specs.declared.fault.InstanceFault.TheVariants.{NoSuch}

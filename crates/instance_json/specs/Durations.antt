@@ -8,8 +8,8 @@ use Rattle.json_walk.specs.declared.fault.FaultKind.TheVariants.{Missing, Unknow
 use Rattle.json_walk.specs.Path.{key_path}
 use Rattle.json_walk.specs.Walk.{◌>>=◌, ◌>>◌, wants, object_of, keys_of, only_of}
 use Rattle.json_walk.specs.Each.{each}
-use Rattle.cluster.specs.declared.ids.Kind.{Kind}
-use Rattle.cluster.specs.declared.ids.Duration.{Duration}
+use Rattle.cluster.specs.declared.kinds.Kind.{Kind}
+use Rattle.cluster.specs.declared.durations.Duration.{Duration}
 use Rattle.instance_json.specs.Walk.{Walk, Test, looked, bad, maybe, whole, whole_or}
 use Rattle.instance_json.specs.Keys.{duration_keys}
 use Rattle.instance_json.specs.Names.{listed_resource}

@@ -8,10 +8,10 @@ use Rattle.json_walk.specs.Path.{key_path, item_path}
 use Rattle.json_walk.specs.Walk.{◌>>=◌, ◌>>◌, wants, object_of, keys_of, text_field_of, list_of, only_of}
 use Rattle.json_walk.specs.Each.{each}
 use Rattle.cluster.specs.declared.ids.NodeId.{NodeId}
-use Rattle.cluster.specs.declared.ids.State.{State}
-use Rattle.cluster.specs.declared.ids.State.TheVariants.{Init, Ready, Running, Sleeping, Gone}
-use Rattle.cluster.specs.declared.parts.Node.{Node}
-use Rattle.cluster.specs.declared.parts.Machine.{Machine}
+use Rattle.cluster.specs.declared.states.State.{State}
+use Rattle.cluster.specs.declared.states.State.TheVariants.{Init, Ready, Running, Sleeping, Gone}
+use Rattle.cluster.specs.declared.nodes.Node.{Node}
+use Rattle.cluster.specs.declared.machines.Machine.{Machine}
 use Rattle.cluster.specs.Inventory.{Inventory, is_online}
 use Rattle.instance_json.specs.declared.fault.InstanceFault.TheVariants.{NoSuch, BadHost, Limit}
 use Rattle.instance_json.specs.Walk.{Walk, Test, looked, bad, needed, maybe, whole_or, flag_or}

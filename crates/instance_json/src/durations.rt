@@ -18,7 +18,8 @@ ghost use Rattle.instance_json.specs.Durations.{counted_of, duration_of, own_of,
 use crate::fault::InstanceFault;
 use crate::words::kind_word;
 use crate::{keys, names};
-use cluster::ids::{Duration, KINDS, Kind};
+use cluster::durations::Duration;
+use cluster::kinds::{KINDS, Kind};
 use cluster::names::Name;
 use json_walk::{FaultKind, PathRef};
 use serde_json::{Map, Value};

@@ -16,7 +16,7 @@ use crate::fault::InstanceFault;
 use crate::{keys, names};
 use cluster::inventory::{AddFault, Cluster};
 use cluster::names::Name;
-use cluster::parts::Node;
+use cluster::nodes::Node;
 use json_walk::PathRef;
 use memory::Memory;
 use serde_json::Value;

@@ -21,7 +21,7 @@ use crate::nodes::add_nodes;
 use crate::rules::add_constraints;
 use crate::{keys, names};
 use catalogue::problem::Problem;
-use cluster::ids::Duration;
+use cluster::durations::Duration;
 use cluster::inventory::{AddFault, Cluster};
 use cluster::names::Name;
 use json_walk::{PathRef, ReadFault};

@@ -3,7 +3,7 @@
 ghost use Rattle.std.specs.Prelude.{◌≡◌};
 ghost use Rattle.instance_json.specs.Words.{kind_word, rule_kind};
 
-use cluster::ids::Kind;
+use cluster::kinds::Kind;
 
 /// The kinds of constraints.
 #[derive(Clone, Copy, Debug, PartialEq, Eq)]

@@ -11,8 +11,8 @@ use Rattle.catalogue.specs.declared.constraint.Constraint.{Constraint}
 use Rattle.catalogue.specs.declared.constraint.Constraint.TheVariants.{Spread, Ban, Fence, Gather, Lonely, Among, Split, Root, ResourceCapacity, RunningCapacity, MaxOnline}
 use Rattle.catalogue.specs.Faults.{all_of, is_member}
 use Rattle.catalogue.specs.Instance.{Instance, IsElement}
-use Rattle.slices.specs.declared.table.Weight.{Weight}
-use Rattle.slices.specs.declared.table.Weight.TheVariants.{Amount, Presence, Image}
+use Rattle.slices.specs.declared.slice.Weight.{Weight}
+use Rattle.slices.specs.declared.slice.Weight.TheVariants.{Amount, Presence, Image}
 use Rattle.slices.specs.Actions.{lasts}
 use Rattle.slices.specs.Elements.{machine_count, node, vm}
 use Rattle.slices.specs.Parts.{IsQuiet}

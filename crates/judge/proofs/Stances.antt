@@ -3,7 +3,7 @@ use Rattle.std.proofs.Common.{◌≡◌, ◌↔◌, inl, inr, ℕ, ◌+◌, ◌<
 use Rattle.std.proofs.lemmas.Bool.{both_ways, and_from, and_parts, cases_Bool, cases_eq, eqb-true, or_cases, true_from_ne_false}
 use Rattle.cluster.specs.declared.ids.NodeId.{NodeId}
 use Rattle.catalogue.specs.Instance.{Instance}
-use Rattle.slices.specs.declared.table.Holding.{Holding}
+use Rattle.slices.specs.declared.holding.Holding.{Holding}
 use Rattle.slices.specs.Elements.{node_count}
 use Rattle.slices.specs.Holdings.{image_in, is_in, IsHeldWithin, IsHoldingOf, IsNodeWithin}
 use Rattle.slices.specs.Snapshots.{Snapshot, stands_on}

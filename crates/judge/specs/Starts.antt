@@ -1,7 +1,7 @@
 -- The next start after an instant.
 use Rattle.std.specs.Prelude.{◌≡◌, ◌⊎◌, ℕ, ◌<◌, ◌≤◌, List, Some, IsTrue}
 use Rattle.std.specs.Option.{ForSome}
-use Rattle.cluster.specs.declared.ids.Choice.{Choice}
+use Rattle.cluster.specs.declared.choices.Choice.{Choice}
 use Rattle.cluster.specs.declared.ids.Element.{Element}
 use Rattle.cluster.specs.declared.ids.Element.TheVariants.{Vm, Node as TheNode}
 use Rattle.cluster.specs.declared.ids.VmId.{VmId}

@@ -1,6 +1,6 @@
 -- Where a machine stands that holds something.
 use Rattle.std.specs.Prelude.{ℕ, Bool, ◌||◌, nat_lt}
-use Rattle.slices.specs.declared.table.Holding.{Holding}
+use Rattle.slices.specs.declared.holding.Holding.{Holding}
 use Rattle.slices.specs.Holdings.{image_in, is_in}
 use Rattle.slices.specs.Stages.{one}
 

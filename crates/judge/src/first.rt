@@ -13,12 +13,13 @@ ghost use Rattle.judge.specs.Where.{is_where};
 
 use crate::standing::{first_over, loads_at, machines_of, nodes_of, usable_nodes};
 use catalogue::problem::Problem;
-use cluster::ids::{Instant, NodeId, VmId};
+use cluster::choices::Instant;
+use cluster::ids::{NodeId, VmId};
 use placement_rules::holds;
 use slices::plan::Plan;
 use slices::rule::Rule;
 use slices::snapshot::holding_at;
-use slices::table::{Held, Holding};
+use slices::holding::{Held, Holding};
 
 /// Whether what is held is on the node.
 fn is_on(held: Option<Held>, n: NodeId) -> bool

@@ -4,12 +4,13 @@ ghost use Rattle.catalogue.specs.Cells.{cell};
 ghost use Rattle.catalogue.specs.Instance.{IsElement};
 ghost use Rattle.slices.specs.Holdings.{amount_in, IsHeldWithin};
 ghost use Rattle.slices.specs.Stages.{one, weight_of};
-ghost use Rattle.slices.specs.declared.table.Weight.TheVariants.{Amount};
+ghost use Rattle.slices.specs.declared.slice.Weight.TheVariants.{Amount};
 
 use catalogue::problem::Problem;
 use cluster::ids::{Element, VmId};
 use slices::holding::amount;
-use slices::table::{Held, Holding, What};
+use slices::holding::{Held, Holding};
+use slices::slice::What;
 
 /// The amounts of each resource, node by node, in the units of the resources.
 pub type Loads = [[u64; 8]; 512];

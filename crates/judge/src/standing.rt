@@ -11,10 +11,11 @@ ghost use Rattle.judge.specs.Where.{is_where};
 
 use crate::loads::{Loads, add_both, no_loads};
 use catalogue::problem::Problem;
-use cluster::ids::{Instant, NodeId, VmId};
+use cluster::choices::Instant;
+use cluster::ids::{NodeId, VmId};
 use slices::plan::Plan;
 use slices::snapshot::{holding_at, usable};
-use slices::table::{Held, Holding};
+use slices::holding::{Held, Holding};
 
 /// How many machines there are.
 pub(crate) fn machines_of(p: &Problem) -> usize

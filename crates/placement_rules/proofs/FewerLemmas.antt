@@ -3,7 +3,7 @@ use Rattle.std.proofs.Common.{◌≡◌, ◌≤◌, Bool, true, false, IsTrue, c
 use Rattle.std.proofs.lemmas.Bool.{false≢true, false_from_ne_true}
 use Rattle.cluster.specs.Sets.{has_node}
 use Rattle.catalogue.specs.declared.constraint.Constraint.TheVariants.{Spread, Ban, Fence, Gather, Lonely, Among, Split, Root, ResourceCapacity, RunningCapacity, MaxOnline}
-use Rattle.slices.specs.declared.table.Weight.TheVariants.{Amount, Presence}
+use Rattle.slices.specs.declared.slice.Weight.TheVariants.{Amount, Presence}
 use Rattle.slices.specs.Elements.{machine_count, node_count}
 use Rattle.sums.proofs.Sums.{sum_to-le}
 use Rattle.placement_rules.specs.Fewer.{LessHolds}

@@ -8,8 +8,8 @@ use Rattle.slices.specs.Snapshots.{Snapshot}
 use Rattle.slices.specs.Stages.{one}
 use Rattle.placement_rules.specs.Labels.{Labels, IsClaim, AreNoted, is_on, label_on}
 use Rattle.slices.specs.Holdings.{IsHoldingOf, IsHeldWithin, is_in}
-use Rattle.slices.specs.declared.table.Held.{Held}
-use Rattle.slices.specs.declared.table.Holding.{Holding}
+use Rattle.slices.specs.declared.holding.Held.{Held}
+use Rattle.slices.specs.declared.holding.Holding.{Holding}
 
 -- a table that repeats None has no label
 pub no_label : (k n : ℕ) → label_on (replicate k None) n ≡ None

@@ -5,8 +5,8 @@ use Rattle.cluster.specs.Sets.{has_node}
 use Rattle.catalogue.specs.declared.constraint.Constraint.{Constraint}
 use Rattle.catalogue.specs.declared.constraint.Constraint.TheVariants.{Spread, Ban, Fence, Gather, Lonely, Among, Split, Root, ResourceCapacity, RunningCapacity, MaxOnline}
 use Rattle.catalogue.specs.Instance.{Instance}
-use Rattle.slices.specs.declared.table.Weight.{Weight}
-use Rattle.slices.specs.declared.table.Weight.TheVariants.{Amount, Presence}
+use Rattle.slices.specs.declared.slice.Weight.{Weight}
+use Rattle.slices.specs.declared.slice.Weight.TheVariants.{Amount, Presence}
 use Rattle.slices.specs.Elements.{machine_count, node_count}
 use Rattle.slices.specs.Holds.{Holds, IsInPart, IsMember}
 use Rattle.slices.specs.Snapshots.{Snapshot}

@@ -5,7 +5,7 @@ use Rattle.catalogue.specs.Faults.{is_member}
 use Rattle.slices.specs.Snapshots.{Snapshot}
 use Rattle.slices.specs.Stages.{one}
 use Rattle.slices.specs.Holdings.{is_in}
-use Rattle.slices.specs.declared.table.Holding.{Holding}
+use Rattle.slices.specs.declared.holding.Holding.{Holding}
 
 -- which labels machines have, one or several each
 abbrev pub Labels : Type 0

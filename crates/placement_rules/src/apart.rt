@@ -16,10 +16,11 @@ use crate::counts::machines_of;
 use catalogue::lists::Vms;
 use catalogue::problem::Problem;
 use catalogue::seen::Seen;
-use cluster::ids::{Instant, VmId};
+use cluster::choices::Instant;
+use cluster::ids::VmId;
 use slices::plan::Plan;
 use slices::snapshot::holding_at;
-use slices::table::{Held, Holding};
+use slices::holding::{Held, Holding};
 
 /// A table of nodes without labels.
 fn no_labels() -> [Option<u32>; 512]

@@ -7,12 +7,13 @@ ghost use Rattle.slices.specs.Snapshots.{snapshot_at, load, presences, powered_n
 ghost use Rattle.slices.specs.Holdings.{amount_in, count_in};
 
 use catalogue::problem::Problem;
-use cluster::ids::{Instant, NodeId, VmId};
+use cluster::choices::Instant;
+use cluster::ids::{NodeId, VmId};
 use cluster::sets::NodeSet;
 use slices::holding::amount;
 use slices::plan::Plan;
 use slices::snapshot::{holding_at, powered};
-use slices::table::Held;
+use slices::holding::Held;
 
 /// How many machines there are.
 pub(crate) fn machines_of(p: &Problem) -> usize

@@ -12,11 +12,12 @@ ghost use Rattle.slices.specs.Holdings.{IsHeldWithin, is_in};
 
 use crate::counts::nodes_of;
 use catalogue::problem::Problem;
-use cluster::ids::{Instant, NodeId, VmId};
+use cluster::choices::Instant;
+use cluster::ids::{NodeId, VmId};
 use cluster::sets::NodeSet;
 use slices::plan::Plan;
 use slices::snapshot::holding_at;
-use slices::table::Held;
+use slices::holding::Held;
 
 /// Puts the node where something is held into the set.
 fn put(set: &mut NodeSet, held: Option<Held>)

@@ -13,7 +13,7 @@ use crate::groups::{are_among, are_together};
 use crate::places::are_allowed;
 use catalogue::constraint::Constraint;
 use catalogue::problem::Problem;
-use cluster::ids::Instant;
+use cluster::choices::Instant;
 use slices::plan::Plan;
 
 /// Whether what is where at an instant is as the constraint says.

@@ -12,10 +12,12 @@ ghost use Rattle.slices.specs.Holdings.{IsHeldWithin, is_in};
 
 use catalogue::constraint::Constraint;
 use catalogue::problem::Problem;
-use cluster::ids::{Instant, NodeId, State, VmId};
+use cluster::choices::Instant;
+use cluster::ids::{NodeId, VmId};
+use cluster::states::State;
 use slices::plan::Plan;
 use slices::snapshot::holding_at;
-use slices::table::Held;
+use slices::holding::Held;
 
 /// Whether a machine runs at present, on another node.
 fn runs_elsewhere(state: State, n: NodeId) -> bool

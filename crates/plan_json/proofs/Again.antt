@@ -6,22 +6,22 @@ use Rattle.std.proofs.lemmas.List.Elements.{All-head, All-tail}
 use Rattle.std.specs.List.{All}
 use Rattle.json_walk.specs.Path.{item_path}
 use Rattle.json_walk.specs.Walk.{optional, text_of, number_of as whole_of, number_field_of, field_of, only_of}
-use Rattle.cluster.specs.declared.ids.Choice.TheVariants.{Act}
+use Rattle.cluster.specs.declared.choices.Choice.TheVariants.{Act}
 use Rattle.cluster.specs.declared.ids.Element.{Element}
 use Rattle.cluster.specs.declared.ids.Element.TheVariants.{Vm, Node as TheNode}
-use Rattle.cluster.specs.declared.ids.Kind.{Kind}
-use Rattle.cluster.specs.declared.ids.Kind.TheVariants.{Forge, Boot, Shutdown, Suspend, Resume, Migrate, Allocate, Kill, NodeBoot, NodeShutdown}
+use Rattle.cluster.specs.declared.kinds.Kind.{Kind}
+use Rattle.cluster.specs.declared.kinds.Kind.TheVariants.{Forge, Boot, Shutdown, Suspend, Resume, Migrate, Allocate, Kill, NodeBoot, NodeShutdown}
 use Rattle.cluster.specs.declared.ids.NodeId.{NodeId}
-use Rattle.cluster.specs.declared.ids.Place.{Place}
-use Rattle.cluster.specs.declared.ids.Place.TheVariants.{Nowhere, At}
+use Rattle.cluster.specs.declared.choices.Place.{Place}
+use Rattle.cluster.specs.declared.choices.Place.TheVariants.{Nowhere, At}
 use Rattle.cluster.specs.Kinds.{kind_number}
 use Rattle.cluster.specs.Names.{is_name}
 use Rattle.cluster.specs.Inventory.{Inventory, IsInventory, IsListed, name_of, is_online}
 use Rattle.cluster.proofs.Finding.{element_named-name_of}
-use Rattle.catalogue.specs.declared.constraint.Target.{Target}
-use Rattle.catalogue.specs.declared.constraint.Target.TheVariants.{Online as ToOnline, Offline as ToOffline, Running as ToRunning, Sleeping as ToSleeping, Ready as ToReady, Killed as ToKilled}
-use Rattle.catalogue.specs.declared.constraint.Wish.{Wish}
-use Rattle.catalogue.specs.declared.constraint.Wish.TheVariants.{Keep, To, Clash}
+use Rattle.catalogue.specs.declared.targets.Target.{Target}
+use Rattle.catalogue.specs.declared.targets.Target.TheVariants.{Online as ToOnline, Offline as ToOffline, Running as ToRunning, Sleeping as ToSleeping, Ready as ToReady, Killed as ToKilled}
+use Rattle.catalogue.specs.declared.targets.Wish.{Wish}
+use Rattle.catalogue.specs.declared.targets.Wish.TheVariants.{Keep, To, Clash}
 use Rattle.catalogue.specs.Instance.{Instance, IsInstance, IsElement, inventory_of}
 use Rattle.catalogue.specs.Values.{wanted_of}
 use Rattle.slices.specs.Elements.{number_of, node_count, state_of}

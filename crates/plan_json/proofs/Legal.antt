@@ -4,8 +4,8 @@ use Rattle.std.proofs.lemmas.Bool.{cases_eq}
 use Rattle.std.specs.List.{find, range_with_len}
 use Rattle.std.proofs.lemmas.Grind.{common_steps}
 use Rattle.std.proofs.lemmas.List.{length-set, length-replicate, get_or-set_same, get_or-set_other, get_or-map, get_or-take, get_or-drop, length-take, length-drop, length-map}
-use Rattle.cluster.specs.declared.ids.Choice.{Choice}
-use Rattle.cluster.specs.declared.ids.Choice.TheVariants.{Idle}
+use Rattle.cluster.specs.declared.choices.Choice.{Choice}
+use Rattle.cluster.specs.declared.choices.Choice.TheVariants.{Idle}
 use Rattle.cluster.specs.declared.ids.Element.{Element}
 use Rattle.cluster.specs.declared.ids.Element.TheVariants.{Vm, Node as TheNode}
 use Rattle.catalogue.specs.Instance.{Instance, IsElement}

@@ -5,10 +5,10 @@ use Rattle.std.specs.List.{flat_map, range_with_len}
 use Rattle.serde_json.specs.Data.{Data}
 use Rattle.serde_json.specs.View.{items_of}
 use Rattle.serde_json.specs.Written.{has_float, items_have_float}
-use Rattle.cluster.specs.declared.ids.Choice.{Choice}
-use Rattle.cluster.specs.declared.ids.Choice.TheVariants.{Idle, Act}
+use Rattle.cluster.specs.declared.choices.Choice.{Choice}
+use Rattle.cluster.specs.declared.choices.Choice.TheVariants.{Idle, Act}
 use Rattle.cluster.specs.declared.ids.Element.{Element}
-use Rattle.cluster.specs.declared.ids.Place.TheVariants.{Nowhere, At}
+use Rattle.cluster.specs.declared.choices.Place.TheVariants.{Nowhere, At}
 use Rattle.catalogue.specs.Instance.{Instance}
 use Rattle.slices.specs.Elements.{element_count, element_at}
 use Rattle.slices.specs.Plans.{PlanChoices, choices_of}

@@ -13,10 +13,10 @@ use Rattle.json_walk.specs.Walk.{field_of, list_of, only_of}
 use Rattle.json_walk.specs.Json.{json_of}
 use Rattle.json_walk.specs.Each.{each}
 use Rattle.json_walk.proofs.Walks.{items_list-items_of}
-use Rattle.cluster.specs.declared.ids.Choice.{Choice}
-use Rattle.cluster.specs.declared.ids.Choice.TheVariants.{Idle, Act}
+use Rattle.cluster.specs.declared.choices.Choice.{Choice}
+use Rattle.cluster.specs.declared.choices.Choice.TheVariants.{Idle, Act}
 use Rattle.cluster.specs.declared.ids.Element.{Element}
-use Rattle.cluster.specs.declared.ids.Place.TheVariants.{Nowhere, At}
+use Rattle.cluster.specs.declared.choices.Place.TheVariants.{Nowhere, At}
 use Rattle.catalogue.specs.Instance.{Instance, IsInstance, IsElement}
 use Rattle.slices.specs.Elements.{element_count, machine_count, node_count, number_of, element_at, vm, node}
 use Rattle.slices.specs.Actions.{is_legal}

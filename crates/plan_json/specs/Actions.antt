@@ -7,9 +7,9 @@ use Rattle.json_walk.specs.Path.{key_path}
 use Rattle.json_walk.specs.Walk.{◌>>=◌, ◌>>◌, wants, optional, text_of, only_of, number_field_of}
 use Rattle.cluster.specs.declared.ids.Element.{Element}
 use Rattle.cluster.specs.declared.ids.Element.TheVariants.{Vm, Node}
-use Rattle.cluster.specs.declared.ids.Kind.{Kind}
-use Rattle.cluster.specs.declared.ids.Place.{Place}
-use Rattle.cluster.specs.declared.ids.Place.TheVariants.{Nowhere, At}
+use Rattle.cluster.specs.declared.kinds.Kind.{Kind}
+use Rattle.cluster.specs.declared.choices.Place.{Place}
+use Rattle.cluster.specs.declared.choices.Place.TheVariants.{Nowhere, At}
 use Rattle.cluster.specs.Names.{is_name}
 use Rattle.cluster.specs.Inventory.{Inventory, element_named}
 use Rattle.plan_json.specs.declared.fault.PlanFault.TheVariants.{NoSuch}

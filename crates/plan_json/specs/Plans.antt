@@ -9,10 +9,10 @@ use Rattle.json_walk.specs.Path.{root, key_path, item_path}
 use Rattle.json_walk.specs.Walk.{◌>>=◌, ◌>>◌, wants, list_of, only_of}
 use Rattle.json_walk.specs.Json.{json_of}
 use Rattle.json_walk.specs.Each.{each}
-use Rattle.cluster.specs.declared.ids.Choice.{Choice}
-use Rattle.cluster.specs.declared.ids.Choice.TheVariants.{Idle, Act}
+use Rattle.cluster.specs.declared.choices.Choice.{Choice}
+use Rattle.cluster.specs.declared.choices.Choice.TheVariants.{Idle, Act}
 use Rattle.cluster.specs.declared.ids.Element.{Element}
-use Rattle.cluster.specs.declared.ids.Kind.{Kind}
+use Rattle.cluster.specs.declared.kinds.Kind.{Kind}
 use Rattle.cluster.specs.Kinds.{kind_number}
 use Rattle.catalogue.specs.Instance.{Instance, inventory_of}
 use Rattle.slices.specs.Elements.{element_count, number_of, element_at}

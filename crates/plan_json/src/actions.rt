@@ -14,7 +14,9 @@ ghost use Rattle.plan_json.specs.Plans.{none_chosen, choice_in, IsChosen, is_kin
 use crate::fault::PlanFault;
 use crate::fields::{Action, one_action};
 use catalogue::problem::Problem;
-use cluster::ids::{Choice, Element, Kind};
+use cluster::choices::Choice;
+use cluster::ids::Element;
+use cluster::kinds::Kind;
 use json_walk::{FaultKind, PathRef};
 use memory::Memory;
 use serde_json::Value;

@@ -6,14 +6,16 @@ ghost use Rattle.serde_json.specs.View.{view};
 ghost use Rattle.json_walk.specs.Path.{key_path};
 ghost use Rattle.json_walk.specs.PathRef.{path_of};
 ghost use Rattle.json_walk.specs.Walk.{Gives, optional};
-ghost use Rattle.cluster.specs.declared.ids.Place.TheVariants.{Nowhere};
+ghost use Rattle.cluster.specs.declared.choices.Place.TheVariants.{Nowhere};
 ghost use Rattle.cluster.specs.Inventory.{IsListed};
 ghost use Rattle.plan_json.specs.Walk.{named, needed};
 ghost use Rattle.plan_json.specs.Actions.{named_element, named_place, named_kind, action_keys, action_of};
 
 use crate::fault::PlanFault;
 use crate::words::kind_named;
-use cluster::ids::{Element, Instant, Kind, Place};
+use cluster::choices::{Instant, Place};
+use cluster::ids::Element;
+use cluster::kinds::Kind;
 use cluster::inventory::Cluster;
 use cluster::names::is_name_text;
 use json_walk::{FaultKind, PathRef};

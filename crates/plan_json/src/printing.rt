@@ -12,7 +12,8 @@ ghost use Rattle.plan_json.specs.Print.{name_data, word_at, action_data, choice_
 
 use crate::words::{kind_word, name_of};
 use catalogue::problem::Problem;
-use cluster::ids::{Choice, Element, Instant, Place};
+use cluster::choices::{Choice, Instant, Place};
+use cluster::ids::Element;
 use json_text::{ListOut, ObjectOut, number, print, word};
 use memory::Memory;
 use serde_json::Value;

@@ -14,7 +14,7 @@ ghost use Rattle.plan_json.specs.Plans.{IsChosen, actions_of, completed, plan_ke
 use crate::actions::{actions, missing, or_idle};
 use crate::fault::PlanFault;
 use catalogue::problem::Problem;
-use cluster::ids::Choice;
+use cluster::choices::Choice;
 use json_walk::{PathRef, ReadFault, read_value};
 use serde_json::Value;
 use slices::plan::Plan;

@@ -6,7 +6,8 @@ ghost use Rattle.std.specs.Str.{bytes_eq};
 ghost use Rattle.cluster.specs.Inventory.{name_of as the_name_of};
 ghost use Rattle.plan_json.specs.Words.{kind_word, kind_named};
 
-use cluster::ids::{Element, KINDS, Kind};
+use cluster::ids::Element;
+use cluster::kinds::{KINDS, Kind};
 use cluster::inventory::Cluster;
 
 /// The word of a kind of action.

@@ -6,7 +6,8 @@ ghost use Rattle.slices.specs.Plans.{IsPlanOf, choices_of};
 ghost use Rattle.replay.specs.Events.{events, is_event, turns, turns_below};
 
 use catalogue::problem::Problem;
-use cluster::ids::{Choice, Element, Instant};
+use cluster::choices::{Choice, Instant};
+use cluster::ids::Element;
 use memory::Memory;
 use slices::elements::{count, element};
 use slices::plan::{Plan, end_in};

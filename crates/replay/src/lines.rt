@@ -7,7 +7,8 @@ ghost use Rattle.slices.specs.Rules.{InRange};
 ghost use Rattle.replay.specs.Lines.{at_line, broken_line, loads_text, machine_name, node_name, node_text, nodes_text, resource_name, rule_text, verdict_line};
 
 use catalogue::problem::Problem;
-use cluster::ids::{Instant, NodeId, VmId};
+use cluster::choices::Instant;
+use cluster::ids::{NodeId, VmId};
 use judge::{Broken, Loads, Rule, loads_at};
 use memory::Memory;
 use slices::plan::{Plan, cost};

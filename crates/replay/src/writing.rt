@@ -10,7 +10,7 @@ ghost use Rattle.replay.specs.Report.{IsFrontOfReport, IsVerdict, report_text};
 use crate::events::events;
 use crate::lines::{at_line, verdict_line};
 use catalogue::problem::Problem;
-use cluster::ids::Instant;
+use cluster::choices::Instant;
 use judge::{Broken, judge};
 use plan_io::{OutFault, Sink, write_text};
 use slices::plan::Plan;

@@ -2,19 +2,19 @@
 use Rattle.std.proofs.Common.{◌+◌, ◌&&◌, ◌≡◌, ℕ, zero, suc, ◌<◌, ◌≤◌, Bool, true, List, [], ◌∷◌, length, take, drop, Option, Some, None, is_none, is_some, nat_le, unwrap_or, slice_get, slice_index_or, get_or, inl, inr, refl, sym, true≢false, arith}
 use Rattle.std.specs.List.{list_all}
 use Rattle.std.specs.Option.{option_map_or}
-use Rattle.std.proofs.lemmas.Bool.{and_parts, false≢true, leb-true}
+use Rattle.std.proofs.lemmas.Bool.{and_parts, false≢true, le-leb, leb-true}
 use Rattle.std.proofs.lemmas.Option.{slice_get_cases}
-use Rattle.cluster.specs.declared.ids.Duration.{Duration}
+use Rattle.cluster.specs.declared.durations.Duration.{Duration}
 use Rattle.cluster.specs.declared.ids.Element.{Element}
 use Rattle.cluster.specs.declared.ids.Element.TheVariants.{Vm, Node as TheNode}
-use Rattle.cluster.specs.declared.ids.Kind.{Kind}
-use Rattle.cluster.specs.declared.ids.Kind.TheVariants.{Forge, Boot, Shutdown, Suspend, Resume, Migrate, Allocate, Kill, NodeBoot, NodeShutdown}
+use Rattle.cluster.specs.declared.kinds.Kind.{Kind}
+use Rattle.cluster.specs.declared.kinds.Kind.TheVariants.{Forge, Boot, Shutdown, Suspend, Resume, Migrate, Allocate, Kill, NodeBoot, NodeShutdown}
 use Rattle.cluster.specs.Inventory.{amounts_fit, duration_fits, machine_fits, machine_own_fits, node_fits, node_own_fits, own_fits}
 use Rattle.cluster.specs.Kinds.{kind_number}
 use Rattle.cluster.proofs.Durations.{IsDuration, IsDuration-fits, duration_at}
 use Rattle.catalogue.specs.Instance.{Instance, IsInstance, inventory_of}
-use Rattle.slices.specs.Actions.{common_of, duration_of, end_of, is_legal, kind_of, lasts, lasts_by, machine_own, node_own, own_of}
-use Rattle.slices.specs.Parts.{LegalActsLast}
+use Rattle.slices.specs.Actions.{action_duration, common_of, duration_of, end_of, is_legal, kind_duration, kind_of, machine_own, node_own, own_of}
+use Rattle.slices.specs.Legal.{DurationsLast, EndsByDuration, LegalActsLast, LegalEarlier}
 
 -- what is at a place of a list, from what holds where there is nothing, and of each item
 pub of_get : {X : Type 0} (P : Option X → Type 0) (xs : List X) (i : ℕ) → P None → ((x : X) → i < length xs → get_or xs i x ≡ x → P (Some x)) → P (slice_get xs i)
@@ -70,15 +70,27 @@ chosen p s e kind =
     (chosen-fits (length p.resources) (own_of p e kind) (common_of p kind) (own_of-fits p s e kind) (duration_at (inventory_of p) s.inventory (kind_number kind) _ (number_lt kind)))
 
 -- every duration is at least 1
-pub duration_of-least : (p : Instance) → IsInstance p → (e : Element) (kind : Kind) → 1 ≤ duration_of p e kind
+pub durations_last : DurationsLast
 unfolding duration_of
-duration_of-least p s e kind = let d = chosen p s e kind in omega (arith, d.some)
+durations_last p s e kind = let d = chosen p s e kind in omega (arith, d.some)
 
 -- the action of a legal choice has a kind, so it lasts, and it ends by the horizon
 pub legal_acts_last : LegalActsLast
-unfolding is_legal end_of lasts lasts_by
+unfolding is_legal end_of action_duration kind_duration
 legal_acts_last p s e place start legal = of (kind_of p e place) legal
   where
     of : (o : Option Kind) → (is_some o && nat_le (start + option_map_or (duration_of p e) o 0) p.horizon) ≡ true → (1 ≤ option_map_or (duration_of p e) o 0) × (start + option_map_or (duration_of p e) o 0 ≤ p.horizon)
     of None h = absurd (false≢true h)
-    of (Some kind) h = (duration_of-least p s e kind, leb-true (start + duration_of p e kind) p.horizon h)
+    of (Some kind) h = (durations_last p s e kind, leb-true (start + duration_of p e kind) p.horizon h)
+
+pub ends_by_duration : EndsByDuration
+unfolding end_of
+ends_by_duration p e place s = refl
+
+pub legal_earlier : LegalEarlier
+unfolding is_legal end_of
+legal_earlier p e place u s l legal = of (is_some (kind_of p e place)) legal
+  where
+    of : (b : Bool) → (b && nat_le (s + action_duration p e place) p.horizon) ≡ true → (b && nat_le (u + action_duration p e place) p.horizon) ≡ true
+    of true h = le-leb (u + action_duration p e place) p.horizon (omega (arith, leb-true (s + action_duration p e place) p.horizon h))
+    of false h = h

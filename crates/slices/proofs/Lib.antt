@@ -2,6 +2,7 @@ pub mod RangeLemmas
 pub mod DurationLemmas
 pub mod PlaceLemmas
 pub mod HoldingLemmas
+pub mod FewerLemmas
 pub mod PartLemmas
 pub mod StartLemmas
 pub mod FirstLemmas

@@ -7,13 +7,13 @@ use Rattle.sums.proofs.Sums.{sum_to-add, sum_to-none, sum_to-one, sum_to-same}
 use Rattle.catalogue.specs.Instance.{Instance, IsInstance}
 use Rattle.catalogue.specs.Values.{demand_of, use_of}
 use Rattle.catalogue.proofs.Facts.{demand_of_le, use_of_le}
-use Rattle.slices.specs.declared.table.Slice.{Slice}
-use Rattle.slices.specs.declared.table.Slices.{Slices}
-use Rattle.slices.specs.declared.table.Stage.{Stage}
-use Rattle.slices.specs.declared.table.Weight.{Weight}
-use Rattle.slices.specs.declared.table.Weight.TheVariants.{Amount, Presence, Image}
-use Rattle.slices.specs.declared.table.What.{What}
-use Rattle.slices.specs.declared.table.What.TheVariants.{Use, Demand, Raise, Image as OfImage}
+use Rattle.slices.specs.declared.slice.Slice.{Slice}
+use Rattle.slices.specs.declared.slice.Slices.{Slices}
+use Rattle.slices.specs.declared.stage.Stage.{Stage}
+use Rattle.slices.specs.declared.slice.Weight.{Weight}
+use Rattle.slices.specs.declared.slice.Weight.TheVariants.{Amount, Presence, Image}
+use Rattle.slices.specs.declared.slice.What.{What}
+use Rattle.slices.specs.declared.slice.What.TheVariants.{Use, Demand, Raise, Image as OfImage}
 use Rattle.slices.specs.Elements.{node_count, vm}
 use Rattle.slices.specs.Ends.{AbsentUsesNothing, HeldByNode, HeldIsSmall, HeldOnMore, PresentOnSet, PresentSomewhere}
 use Rattle.slices.specs.Snapshots.{held_at, held_by, stage_at}

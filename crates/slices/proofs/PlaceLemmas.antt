@@ -1,23 +1,23 @@
 -- The slices of a machine: on nodes of the instance, the source a use, the target a demand, or both an allocation.
 use Rattle.std.proofs.Common.{◌≡◌, ◌⊎◌, inl, inr, ℕ, ◌<◌, Bool, true, false, Option, Some, None, if◌then◌else◌, refl}
 use Rattle.std.proofs.lemmas.Bool.{ltb-true}
-use Rattle.cluster.specs.declared.ids.Choice.{Choice}
-use Rattle.cluster.specs.declared.ids.Choice.TheVariants.{Idle, Act}
-use Rattle.cluster.specs.declared.ids.Kind.{Kind}
-use Rattle.cluster.specs.declared.ids.Kind.TheVariants.{Boot, Shutdown, Suspend, Resume, Migrate, Allocate, Kill}
+use Rattle.cluster.specs.declared.choices.Choice.{Choice}
+use Rattle.cluster.specs.declared.choices.Choice.TheVariants.{Idle, Act}
+use Rattle.cluster.specs.declared.kinds.Kind.{Kind}
+use Rattle.cluster.specs.declared.kinds.Kind.TheVariants.{Boot, Shutdown, Suspend, Resume, Migrate, Allocate, Kill}
 use Rattle.cluster.specs.declared.ids.NodeId.{NodeId}
-use Rattle.cluster.specs.declared.ids.Place.{Place}
-use Rattle.cluster.specs.declared.ids.Place.TheVariants.{Nowhere, At}
-use Rattle.cluster.specs.declared.ids.State.{State}
-use Rattle.cluster.specs.declared.ids.State.TheVariants.{Init, Ready, Running, Sleeping, Gone}
+use Rattle.cluster.specs.declared.choices.Place.{Place}
+use Rattle.cluster.specs.declared.choices.Place.TheVariants.{Nowhere, At}
+use Rattle.cluster.specs.declared.states.State.{State}
+use Rattle.cluster.specs.declared.states.State.TheVariants.{Init, Ready, Running, Sleeping, Gone}
 use Rattle.cluster.specs.Inventory.{host_is_online}
 use Rattle.cluster.proofs.Hosts.{is_online-lt}
 use Rattle.catalogue.specs.Instance.{Instance, IsInstance}
-use Rattle.slices.specs.declared.table.Slice.{Slice}
-use Rattle.slices.specs.declared.table.Slices.{Slices}
-use Rattle.slices.specs.declared.table.Span.TheVariants.{Always, FromStart}
-use Rattle.slices.specs.declared.table.What.{What}
-use Rattle.slices.specs.declared.table.What.TheVariants.{Use, Demand, Raise, Image as OfImage}
+use Rattle.slices.specs.declared.slice.Slice.{Slice}
+use Rattle.slices.specs.declared.slice.Slices.{Slices}
+use Rattle.slices.specs.declared.slice.Span.TheVariants.{Always, FromStart}
+use Rattle.slices.specs.declared.slice.What.{What}
+use Rattle.slices.specs.declared.slice.What.TheVariants.{Use, Demand, Raise, Image as OfImage}
 use Rattle.slices.specs.Actions.{is_raised, kind_of, machine_kind, wanted_state}
 use Rattle.slices.specs.Elements.{is_place, node_count, state_in, state_of}
 use Rattle.slices.specs.Stages.{acting_slices, idle_slices, slice, slices_by, slices_of}

@@ -2,24 +2,24 @@
 use Rattle.std.specs.Prelude.{ℕ, ◌+◌, ◌*◌, Bool, true, false, not, ◌&&◌, ◌==◌, nat_le, length, Option, Some, None, is_some, unwrap_or, slice_get, slice_index_or, if◌then◌else◌}
 use Rattle.std.specs.List.{list_any, range_with_len}
 use Rattle.std.specs.Option.{option_map_or}
-use Rattle.cluster.specs.declared.ids.Choice.{Choice}
-use Rattle.cluster.specs.declared.ids.Choice.TheVariants.{Idle, Act}
-use Rattle.cluster.specs.declared.ids.Duration.{Duration}
+use Rattle.cluster.specs.declared.choices.Choice.{Choice}
+use Rattle.cluster.specs.declared.choices.Choice.TheVariants.{Idle, Act}
+use Rattle.cluster.specs.declared.durations.Duration.{Duration}
 use Rattle.cluster.specs.declared.ids.Element.{Element}
 use Rattle.cluster.specs.declared.ids.Element.TheVariants.{Vm, Node as TheNode}
-use Rattle.cluster.specs.declared.ids.Kind.{Kind}
-use Rattle.cluster.specs.declared.ids.Kind.TheVariants.{Forge, Boot, Shutdown, Suspend, Resume, Migrate, Allocate, Kill, NodeBoot, NodeShutdown}
-use Rattle.cluster.specs.declared.ids.Place.{Place}
-use Rattle.cluster.specs.declared.ids.Place.TheVariants.{Nowhere, At}
-use Rattle.cluster.specs.declared.ids.State.{State}
-use Rattle.cluster.specs.declared.ids.State.TheVariants.{Init, Ready, Running, Sleeping, Gone}
-use Rattle.cluster.specs.declared.parts.Machine.{Machine}
-use Rattle.cluster.specs.declared.parts.Node.{Node}
+use Rattle.cluster.specs.declared.kinds.Kind.{Kind}
+use Rattle.cluster.specs.declared.kinds.Kind.TheVariants.{Forge, Boot, Shutdown, Suspend, Resume, Migrate, Allocate, Kill, NodeBoot, NodeShutdown}
+use Rattle.cluster.specs.declared.choices.Place.{Place}
+use Rattle.cluster.specs.declared.choices.Place.TheVariants.{Nowhere, At}
+use Rattle.cluster.specs.declared.states.State.{State}
+use Rattle.cluster.specs.declared.states.State.TheVariants.{Init, Ready, Running, Sleeping, Gone}
+use Rattle.cluster.specs.declared.machines.Machine.{Machine}
+use Rattle.cluster.specs.declared.nodes.Node.{Node}
 use Rattle.cluster.specs.Inventory.{is_online}
 use Rattle.cluster.specs.Kinds.{kind_number}
-use Rattle.catalogue.specs.declared.constraint.Target.TheVariants.{Online as ToOnline, Offline as ToOffline, Running as ToRunning, Sleeping as ToSleeping, Ready as ToReady, Killed as ToKilled}
-use Rattle.catalogue.specs.declared.constraint.Wish.{Wish}
-use Rattle.catalogue.specs.declared.constraint.Wish.TheVariants.{Keep, To, Clash}
+use Rattle.catalogue.specs.declared.targets.Target.TheVariants.{Online as ToOnline, Offline as ToOffline, Running as ToRunning, Sleeping as ToSleeping, Ready as ToReady, Killed as ToKilled}
+use Rattle.catalogue.specs.declared.targets.Wish.{Wish}
+use Rattle.catalogue.specs.declared.targets.Wish.TheVariants.{Keep, To, Clash}
 use Rattle.catalogue.specs.Instance.{Instance}
 use Rattle.catalogue.specs.Values.{demand_of, use_of, wanted_of, written_of}
 use Rattle.slices.specs.Elements.{is_place, state_of, vm}
@@ -27,12 +27,12 @@ use Rattle.slices.specs.Elements.{is_place, state_of, vm}
 -- ---- which action
 
 -- what is wanted of a machine at the end: without a wish it keeps its state (which no wish says of Init)
-abbrev pub settled : State → Wish → Wish
-settled Ready Keep = To ToReady
-settled (Running h) Keep = To ToRunning
-settled (Sleeping h) Keep = To ToSleeping
-settled Gone Keep = To ToKilled
-settled state wish = wish
+abbrev pub end_wish : State → Wish → Wish
+end_wish Ready Keep = To ToReady
+end_wish (Running h) Keep = To ToRunning
+end_wish (Sleeping h) Keep = To ToSleeping
+end_wish Gone Keep = To ToKilled
+end_wish state wish = wish
 
 -- the kind of the action that takes a machine from its state to the wanted one, at a place; raised says whether its demand is
 abbrev pub machine_kind : State → Wish → Bool → Place → Option Kind
@@ -81,7 +81,7 @@ abbrev pub is_raised : Instance → ℕ → Bool
 is_raised p v = list_any (differs_in p v) (range_with_len 0 (length p.resources))
 
 abbrev pub wanted_state : Instance → ℕ → Wish
-wanted_state p v = settled (state_of p v) (wanted_of p (vm v))
+wanted_state p v = end_wish (state_of p v) (wanted_of p (vm v))
 
 -- the kind of an element's action at a place, if it has a legal one there
 unfoldable pub kind_of : Instance → Element → Place → Option Kind
@@ -114,9 +114,9 @@ abbrev pub common_of : Instance → Kind → Duration
 common_of p kind = slice_index_or p.durations (kind_number kind) (record { base = 1; per = 0; resource = None })
 
 -- the amounts that durations count: what a machine uses at present, the written capacity of a node
-abbrev pub counted_of : Instance → Element → ℕ → ℕ
-counted_of p (Vm v) r = use_of p.machines v.0 r
-counted_of p (TheNode n) r = written_of p.nodes n.0 r
+abbrev pub duration_amount : Instance → Element → ℕ → ℕ
+duration_amount p (Vm v) r = use_of p.machines v.0 r
+duration_amount p (TheNode n) r = written_of p.nodes n.0 r
 
 abbrev pub amount_at : Option ℕ → (ℕ → ℕ) → ℕ
 amount_at None amounts = 0
@@ -128,23 +128,27 @@ value_of d amounts = d.base + d.per * amount_at d.resource amounts
 
 -- how long an element's action of a kind lasts: by its own duration, or else by the cluster's
 unfoldable pub duration_of : Instance → Element → Kind → ℕ
-duration_of p e kind = value_of (unwrap_or (own_of p e kind) (common_of p kind)) (counted_of p e)
+duration_of p e kind = value_of (unwrap_or (own_of p e kind) (common_of p kind)) (duration_amount p e)
 
 -- ---- choices
 
 -- how long an action lasts, 0 where there is none
-unfoldable pub lasts_by : Instance → Element → Option Kind → ℕ
-lasts_by p e kind = option_map_or (duration_of p e) kind 0
+unfoldable pub kind_duration : Instance → Element → Option Kind → ℕ
+kind_duration p e kind = option_map_or (duration_of p e) kind 0
+
+-- how long an element's action at a place lasts, whenever it starts
+unfoldable pub action_duration : Instance → Element → Place → ℕ
+action_duration p e place = kind_duration p e (kind_of p e place)
 
 -- how long the action of a choice lasts
-unfoldable pub lasts : Instance → Element → Choice → ℕ
-lasts p e Idle = 0
-lasts p e (Act place start) = lasts_by p e (kind_of p e place)
+abbrev pub choice_duration : Instance → Element → Choice → ℕ
+choice_duration p e Idle = 0
+choice_duration p e (Act place start) = action_duration p e place
 
 -- when the action of a choice ends, 0 where there is none
 unfoldable pub end_of : Instance → Element → Choice → ℕ
 end_of p e Idle = 0
-end_of p e (Act place start) = start + lasts p e (Act place start)
+end_of p e (Act place start) = start + action_duration p e place
 
 -- a choice is legal where it is one of the table, and its action ends by the horizon
 unfoldable pub is_legal : Instance → Element → Choice → Bool

@@ -1,17 +1,17 @@
 -- What a machine holds at one moment, as the code tells it.
 use Rattle.std.specs.Prelude.{◌≡◌, ℕ, ◌+◌, ◌<◌, Bool, true, false, ◌||◌, Option, Some, None, if◌then◌else◌}
-use Rattle.cluster.specs.declared.ids.Choice.{Choice}
+use Rattle.cluster.specs.declared.choices.Choice.{Choice}
 use Rattle.cluster.specs.declared.ids.NodeId.{NodeId}
 use Rattle.catalogue.specs.Instance.{Instance}
-use Rattle.slices.specs.declared.table.Held.{Held}
-use Rattle.slices.specs.declared.table.Holding.{Holding}
-use Rattle.slices.specs.declared.table.Slice.{Slice}
-use Rattle.slices.specs.declared.table.Slices.{Slices}
-use Rattle.slices.specs.declared.table.Stage.{Stage}
-use Rattle.slices.specs.declared.table.Weight.{Weight}
-use Rattle.slices.specs.declared.table.Weight.TheVariants.{Amount, Presence, Image}
-use Rattle.slices.specs.declared.table.What.{What}
-use Rattle.slices.specs.declared.table.What.TheVariants.{Demand, Raise}
+use Rattle.slices.specs.declared.holding.Held.{Held}
+use Rattle.slices.specs.declared.holding.Holding.{Holding}
+use Rattle.slices.specs.declared.slice.Slice.{Slice}
+use Rattle.slices.specs.declared.slice.Slices.{Slices}
+use Rattle.slices.specs.declared.stage.Stage.{Stage}
+use Rattle.slices.specs.declared.slice.Weight.{Weight}
+use Rattle.slices.specs.declared.slice.Weight.TheVariants.{Amount, Presence, Image}
+use Rattle.slices.specs.declared.slice.What.{What}
+use Rattle.slices.specs.declared.slice.What.TheVariants.{Demand, Raise}
 use Rattle.slices.specs.Elements.{node_count}
 use Rattle.slices.specs.Snapshots.{Snapshot, held_at, present_at}
 use Rattle.slices.specs.Stages.{Nodes, covers, weight_of}
@@ -61,14 +61,14 @@ node_of None = None
 node_of (Some x) = Some x.node
 
 -- a raise joins the use to which it adds
-abbrev pub joined : Option Held → Option Held → Option NodeId → Holding
-joined source None image = record { source = source; target = None; image = image }
-joined source (Some x) image =
+abbrev pub with_raise : Option Held → Option Held → Option NodeId → Holding
+with_raise source None image = record { source = source; target = None; image = image }
+with_raise source (Some x) image =
     if is_raise x.what then record { source = Some (record { node = x.node; what = Demand }); target = None; image = image }
     else record { source = source; target = Some x; image = image }
 
 abbrev pub holding_of : Slices → Stage → Holding
-holding_of x g = joined (held_of x.source g) (held_of x.target g) (node_of (held_of x.image g))
+holding_of x g = with_raise (held_of x.source g) (held_of x.target g) (node_of (held_of x.image g))
 
 -- ---- what a holding says
 

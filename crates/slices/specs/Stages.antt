@@ -1,25 +1,27 @@
 -- Stages of actions, and what a machine holds at a stage.
 use Rattle.std.specs.Prelude.{ℕ, ◌+◌, ◌-◌, Bool, true, false, not, ◌&&◌, ◌==◌, nat_le, Option, Some, None, if◌then◌else◌}
-use Rattle.cluster.specs.declared.ids.Choice.{Choice}
-use Rattle.cluster.specs.declared.ids.Choice.TheVariants.{Idle, Act}
-use Rattle.cluster.specs.declared.ids.Kind.{Kind}
-use Rattle.cluster.specs.declared.ids.Kind.TheVariants.{Boot, Shutdown, Suspend, Resume, Migrate, Allocate, Kill}
+use Rattle.cluster.specs.declared.choices.Choice.{Choice}
+use Rattle.cluster.specs.declared.choices.Choice.TheVariants.{Idle, Act}
+use Rattle.cluster.specs.declared.kinds.Kind.{Kind}
+use Rattle.cluster.specs.declared.kinds.Kind.TheVariants.{Boot, Shutdown, Suspend, Resume, Migrate, Allocate, Kill}
 use Rattle.cluster.specs.declared.ids.NodeId.{NodeId}
-use Rattle.cluster.specs.declared.ids.Place.{Place}
-use Rattle.cluster.specs.declared.ids.Place.TheVariants.{At}
-use Rattle.cluster.specs.declared.ids.State.{State}
-use Rattle.cluster.specs.declared.ids.State.TheVariants.{Ready, Running, Sleeping}
+use Rattle.cluster.specs.declared.choices.Place.{Place}
+use Rattle.cluster.specs.declared.choices.Place.TheVariants.{At}
+use Rattle.cluster.specs.declared.states.State.{State}
+use Rattle.cluster.specs.declared.states.State.TheVariants.{Ready, Running, Sleeping}
 use Rattle.catalogue.specs.Instance.{Instance}
 use Rattle.catalogue.specs.Values.{demand_of, use_of}
-use Rattle.slices.specs.declared.table.Slice.{Slice}
-use Rattle.slices.specs.declared.table.Slices.{Slices}
-use Rattle.slices.specs.declared.table.Span.{Span}
-use Rattle.slices.specs.declared.table.Span.TheVariants.{Always, FromStart, BeforeEnd}
-use Rattle.slices.specs.declared.table.Stage.{Stage}
-use Rattle.slices.specs.declared.table.Weight.{Weight}
-use Rattle.slices.specs.declared.table.Weight.TheVariants.{Amount, Presence, Image}
-use Rattle.slices.specs.declared.table.What.{What}
-use Rattle.slices.specs.declared.table.What.TheVariants.{Use, Demand, Raise, Image as OfImage}
+use Rattle.slices.specs.declared.slice.Slice.{Slice}
+use Rattle.slices.specs.declared.slice.Slices.{Slices}
+use Rattle.slices.specs.declared.slice.Span.{Span}
+use Rattle.slices.specs.declared.slice.Span.TheVariants.{Always, FromStart, BeforeEnd}
+use Rattle.slices.specs.declared.stage.Stage.{Stage}
+use Rattle.slices.specs.declared.stage.Progress.{Progress}
+use Rattle.slices.specs.declared.stage.Progress.TheVariants.{Started, Unended, Acting}
+use Rattle.slices.specs.declared.slice.Weight.{Weight}
+use Rattle.slices.specs.declared.slice.Weight.TheVariants.{Amount, Presence, Image}
+use Rattle.slices.specs.declared.slice.What.{What}
+use Rattle.slices.specs.declared.slice.What.TheVariants.{Use, Demand, Raise, Image as OfImage}
 use Rattle.slices.specs.Elements.{state_of, vm}
 use Rattle.slices.specs.Actions.{kind_of}
 
@@ -41,6 +43,13 @@ stage_from start duration t = record { started = nat_le start t; ended = nat_le 
 abbrev pub stage_of : ℕ → Choice → ℕ → Stage
 stage_of duration Idle t = record { started = false; ended = false }
 stage_of duration (Act place start) t = stage_from start duration t
+
+-- how far the action of a choice is: it has started, it has not ended, or both; an idle element has none
+abbrev pub progress_of : Progress → Choice → Stage → Bool
+progress_of far Idle g = false
+progress_of Started (Act place start) g = g.started
+progress_of Unended (Act place start) g = not g.ended
+progress_of Acting (Act place start) g = g.started && not g.ended
 
 -- a source counts until its action's end, a destination from its start
 abbrev pub covers : Span → Stage → Bool

@@ -1,11 +1,13 @@
 //! Elements by number, machines first.
 ghost use Rattle.std.specs.Prelude.{◌≡◌, ◌<◌};
-ghost use Rattle.cluster.specs.Inventory.{is_online as is_the_online};
+ghost use Rattle.cluster.specs.Inventory.{is_online};
 ghost use Rattle.catalogue.specs.Instance.{IsElement};
-ghost use Rattle.slices.specs.Elements.{element_at, element_count, number_of, state_of as the_state_of, is_place as is_the_place};
+ghost use Rattle.slices.specs.Elements.{element_at, element_count, number_of, state_of, is_place};
 
 use catalogue::problem::Problem;
-use cluster::ids::{Element, NodeId, Place, State, VmId};
+use cluster::choices::Place;
+use cluster::ids::{Element, NodeId, VmId};
+use cluster::states::State;
 
 /// How many elements there are.
 pub fn count(p: &Problem) -> usize
@@ -44,14 +46,14 @@ pub fn number(p: &Problem, e: Element) -> usize
 /// The state of a machine at present.
 pub(crate) fn state_of(p: &Problem, v: VmId) -> State
     requires { IsElement p.now.given (Element.Vm v) }
-    ensures { result ≡ the_state_of p.now.given v.0 }
+    ensures { result ≡ state_of p.now.given v.0 }
 {
     p.cluster().machines()[v.0 as usize].state
 }
 
 /// Whether a place is one of the instance.
 pub(crate) fn is_place(p: &Problem, place: Place) -> bool
-    ensures { result ≡ is_the_place p.now.given place }
+    ensures { result ≡ is_place p.now.given place }
 {
     match place {
         Place::Nowhere => true,
@@ -62,7 +64,7 @@ pub(crate) fn is_place(p: &Problem, place: Place) -> bool
 /// Whether a node is online at present.
 pub(crate) fn is_online(p: &Problem, n: NodeId) -> bool
     requires { IsElement p.now.given (Element.Node n) }
-    ensures { result ≡ is_the_online p.now.given.nodes n.0 }
+    ensures { result ≡ is_online p.now.given.nodes n.0 }
 {
     p.cluster().nodes()[n.0 as usize].online
 }

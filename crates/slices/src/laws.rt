@@ -1,6 +1,14 @@
 //! Laws of the definitions: each is the contract of a function that does nothing.
+ghost use Rattle.slices.specs.Fewer.{LessHolds};
 ghost use Rattle.slices.specs.Parts.{PartsKeep, StagePartsArePart, ExecutionKeeps, HasLastStart, StartsSuffice, FirstIsOne, DurationsLast, LegalActsLast};
-ghost use Rattle.slices.specs.Ends.{IsPointwise, HeldAtEnds, UnusableAtEnds, PoweredAtEnds, HeldQuiet, UsableQuiet, PoweredQuiet, HeldByNode, HeldOnMore, PresentSomewhere, PresentOnSet, AbsentUsesNothing, HeldIsSmall};
+ghost use Rattle.slices.specs.Ends.{IsPointwise, HeldAtEnds, UnusableAtEnds, PoweredAtEnds, ActionAtEnds, HeldQuiet, UsableQuiet, PoweredQuiet, ActionQuiet, HeldByNode, HeldOnMore, PresentSomewhere, PresentOnSet, AbsentUsesNothing, HeldIsSmall};
+
+/// A constraint of each kind still holds where there is less of what it speaks of: presences of
+/// its machines, their amounts, their actions, powered nodes.
+#[tactic(auto, using(crate::proofs::FewerLemmas::less_holds))]
+pub fn less_holds()
+    ensures { LessHolds }
+{}
 
 /// Fewer presences, amounts, images and powered nodes, and more usable nodes, keep each rule that
 /// was kept, hence each constraint.
@@ -73,6 +81,12 @@ pub fn powered_at_ends()
     ensures { PoweredAtEnds }
 {}
 
+/// Over the starts at one place, how far a machine's action is counts least at an end.
+#[tactic(auto, using(crate::proofs::EndLemmas::action_at_ends))]
+pub fn action_at_ends()
+    ensures { ActionAtEnds }
+{}
+
 /// Until its next start, a choice holds no more.
 #[tactic(auto, using(crate::proofs::EndLemmas::held_quiet))]
 pub fn held_quiet()
@@ -89,6 +103,12 @@ pub fn usable_quiet()
 #[tactic(auto, using(crate::proofs::EndLemmas::powered_quiet))]
 pub fn powered_quiet()
     ensures { PoweredQuiet }
+{}
+
+/// Until its next start, a machine's action is so far only if it was.
+#[tactic(auto, using(crate::proofs::EndLemmas::action_quiet))]
+pub fn action_quiet()
+    ensures { ActionQuiet }
 {}
 
 /// What is held on a set of nodes is the sum over its nodes.

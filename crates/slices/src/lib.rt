@@ -2,12 +2,14 @@
 #![tactic(auto)]
 
 pub mod actions;
+pub mod choice;
 pub mod elements;
 pub mod holding;
 pub mod laws;
 pub mod plan;
 pub mod rule;
+pub mod slice;
 pub mod snapshot;
-pub mod table;
+pub mod stage;
 #[cfg(test)]
 mod tests;

@@ -1,14 +1,15 @@
 //! Plans: one legal choice for each element.
 ghost use Rattle.std.specs.Prelude.{◌≡◌, ◌↔◌, ◌≤◌, IsTrue};
 ghost use Rattle.catalogue.specs.Instance.{IsElement};
-ghost use Rattle.slices.specs.Actions.{end_of as the_end_of};
+ghost use Rattle.slices.specs.Actions.{end_of};
 ghost use Rattle.slices.specs.Plans.{choices_of, parted, HasElement, IsPlanOf};
 ghost use Rattle.slices.specs.Costs.{cost_of};
 
 use crate::actions::{end_of, is_legal};
 use crate::elements::{count, element};
 use catalogue::problem::Problem;
-use cluster::ids::{Choice, Element, Instant, NodeId, VmId};
+use cluster::choices::{Choice, Instant};
+use cluster::ids::{Element, NodeId, VmId};
 use std::marker::Model;
 
 /// One choice for each element.
@@ -88,7 +89,7 @@ pub fn is_plan(p: &Problem, choices: &[Choice]) -> bool
 pub fn end_in(p: &Problem, plan: &Plan, e: Element) -> Instant
     requires plan { IsPlanOf p.now.given plan.now }
     requires element { IsElement p.now.given e }
-    ensures end { result ≡ the_end_of p.now.given e (choices_of plan.now e) }
+    ensures end { result ≡ end_of p.now.given e (choices_of plan.now e) }
     ensures in_time { result ≤ p.now.given.horizon }
 {
     end_of(p, e, plan.choice(e))

@@ -9,11 +9,16 @@ use crate::snapshot::{image, powered, present, usable, used};
 use catalogue::constraint::Constraint;
 use catalogue::lists::Vms;
 use catalogue::problem::Problem;
-use cluster::ids::{Choice, Duration, Element, Instant, Kind, NodeId, Place, State, VmId};
+use cluster::choices::{Choice, Instant, Place};
+use cluster::durations::Duration;
+use cluster::ids::{Element, NodeId, VmId};
 use cluster::inventory::Cluster;
+use cluster::kinds::Kind;
+use cluster::machines::Machine;
 use cluster::names::Name;
-use cluster::parts::{Machine, Node};
+use cluster::nodes::Node;
 use cluster::sets::NodeSet;
+use cluster::states::State;
 use std::alloc::Global;
 use std::test::Fail;
 

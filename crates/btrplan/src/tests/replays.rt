@@ -1,8 +1,5 @@
 use crate::status::Status;
-use crate::tests::instances::{
-    APART_ALWAYS, APART_AT_THE_END, HALVED, OFFLINE, OVERBOOKED, RAISED, SHARED_ALWAYS,
-    SHARED_AT_THE_END, SWAP, TURNS, UNFENCED,
-};
+use crate::tests::instances::{APART_ALWAYS, APART_AT_THE_END, HALVED, OFFLINE, OVERBOOKED, RAISED, SHARED_ALWAYS, SHARED_AT_THE_END, SWAP, TURNS, UNFENCED};
 use crate::tests::{desk, holds, ran, says};
 use plan_io::{DeskMem, SinkMem};
 use std::alloc::Global;

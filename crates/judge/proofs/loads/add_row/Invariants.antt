@@ -1,6 +1,6 @@
 use Rattle.std.proofs.Common.{◌≡◌, ℕ, ◌+◌, ◌<◌, ◌≤◌, slice_index}
 use Rattle.slices.specs.Stages.{weight_of}
-use Rattle.slices.specs.declared.table.Weight.TheVariants.{Amount}
+use Rattle.slices.specs.declared.slice.Weight.TheVariants.{Amount}
 use Rattle.judge.proofs.loads.add_row.Given as goal
 
 abbrev pub invariant-loop-r : goal.invariant-loop-r

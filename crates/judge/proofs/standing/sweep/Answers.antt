@@ -1,5 +1,5 @@
 use Rattle.std.proofs.Common.{arith}
-use Rattle.slices.specs.declared.table.Weight.TheVariants.{Amount}
+use Rattle.slices.specs.declared.slice.Weight.TheVariants.{Amount}
 use Rattle.slices.specs.Plans.{choices_of}
 use Rattle.slices.specs.Snapshots.{snapshot_at}
 use Rattle.slices.specs.Stages.{one}

@@ -1,7 +1,7 @@
 use Rattle.std.proofs.Common.{◌≡◌, ◌*◌, ◌≤◌}
 use Rattle.cluster.specs.Sets.{has_node}
 use Rattle.sums.specs.Sums.{sum_to}
-use Rattle.slices.specs.declared.table.Weight.TheVariants.{Amount}
+use Rattle.slices.specs.declared.slice.Weight.TheVariants.{Amount}
 use Rattle.slices.specs.Plans.{choices_of}
 use Rattle.slices.specs.Snapshots.{snapshot_at}
 use Rattle.placement_rules.proofs.counts.use_on.Given as goal

@@ -1,5 +1,5 @@
 use Rattle.std.proofs.Common.{ℕ, ◌<◌, IsTrue, slice_index_or}
-use Rattle.cluster.specs.declared.ids.Choice.TheVariants.{Idle}
+use Rattle.cluster.specs.declared.choices.Choice.TheVariants.{Idle}
 use Rattle.slices.specs.Actions.{is_legal}
 use Rattle.slices.specs.Elements.{element_at}
 use Rattle.slices.proofs.plan.is_plan.Given as goal

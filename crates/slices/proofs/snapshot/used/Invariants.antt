@@ -1,6 +1,6 @@
 use Rattle.std.proofs.Common.{◌≡◌, ◌*◌, ◌≤◌}
 use Rattle.sums.specs.Sums.{sum_to}
-use Rattle.slices.specs.declared.table.Weight.TheVariants.{Amount}
+use Rattle.slices.specs.declared.slice.Weight.TheVariants.{Amount}
 use Rattle.slices.specs.Plans.{choices_of}
 use Rattle.slices.specs.Snapshots.{snapshot_at}
 use Rattle.slices.specs.Stages.{one}

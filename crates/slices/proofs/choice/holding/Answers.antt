@@ -1,12 +1,12 @@
 use Rattle.std.proofs.Common.{◌≡◌}
-use Rattle.cluster.specs.declared.ids.Choice.TheVariants.{Idle, Act}
-use Rattle.slices.specs.Actions.{lasts}
+use Rattle.cluster.specs.declared.choices.Choice.TheVariants.{Idle, Act}
+use Rattle.slices.specs.Actions.{action_duration}
 use Rattle.slices.specs.Elements.{vm}
 use Rattle.slices.specs.Holdings.{holding_of}
 use Rattle.slices.specs.Snapshots.{stage_at}
 use Rattle.slices.specs.Stages.{slices_of}
 use Rattle.slices.proofs.HoldingLemmas.{holding_of-is}
-use Rattle.slices.proofs.holding.holding.Goals as goal
+use Rattle.slices.proofs.choice.holding.Goals as goal
 
 pub returns-in-Idle : goal.returns-in-Idle
 unfolding slices_of stage_at
@@ -16,7 +16,7 @@ returns-in-Idle c =
     rw c.in-Idle.is (holding_of-is p c.args.p.now.sound c.args.v.0 Idle c.args.t c.holding_from.result same)
 
 pub returns-in-Act : goal.returns-in-Act
-unfolding slices_of stage_at lasts
+unfolding slices_of stage_at action_duration
 returns-in-Act c =
     let p = c.args.p.now.given in
     let choice = Act c.in-Act.place c.in-Act.start in

@@ -1,0 +1,15 @@
+//! Nodes.
+use crate::durations::Duration;
+use crate::names::Name;
+
+/// A node: a server that hosts machines.
+#[derive(Drop)]
+pub struct Node {
+    pub name: Name,
+    /// Whether it is online at present.
+    pub online: bool,
+    /// How much it has of each resource, at most 1,000,000,000, and 0 past the resources that the cluster lists.
+    pub capacity: [u64; 8],
+    /// Its own durations by kind, in place of the cluster's; it may have those of the two node kinds.
+    pub own: [Option<Duration>; 10],
+}
