@@ -1,9 +1,9 @@
 //! Where the machines of a list are all together.
-ghost use Rattle.std.specs.Prelude.{◌≡◌, ◌↔◌, ◌<◌, ◌≤◌, ◌||◌, ℕ, false, true, nat_lt, IsTrue, Any};
-ghost use Rattle.std.specs.List.{list_all};
+ghost use Rattle.std.specs.Prelude.{◌≡◌, ◌↔◌, ◌<◌, ◌≤◌, ◌||◌, ℕ, false, true, map, nat_lt, IsTrue, MatchOption};
+ghost use Rattle.std.specs.List.{list_all, range_with_len};
 ghost use Rattle.cluster.specs.Sets.{has_node};
-ghost use Rattle.slices.specs.Elements.{machine_count};
-ghost use Rattle.slices.specs.Holds.{AreTogether, AreWithin};
+ghost use Rattle.slices.specs.Elements.{machine_count, node_count};
+ghost use Rattle.slices.specs.Holds.{AreGrouped};
 ghost use Rattle.slices.specs.Plans.{IsPlanOf, choices_of};
 ghost use Rattle.slices.specs.Snapshots.{snapshot_at};
 ghost use Rattle.slices.specs.Stages.{one};
@@ -45,21 +45,28 @@ fn reached(p: &Problem, plan: &Plan, machines: &[VmId], t: Instant) -> NodeSet
     set
 }
 
-/// Whether the set has at most one of the first nodes.
-fn is_single(set: &NodeSet, count: usize) -> bool
+/// The first node of a set, of those below the count.
+fn first_node(set: &NodeSet, count: usize) -> Option<NodeId>
     requires { count ≤ 512 }
-    ensures { IsTrue result ↔ ((n m : ℕ) → n < count → m < count → IsTrue (has_node set.now n) → IsTrue (has_node set.now m) → n ≡ m) }
+    ensures { MatchOption result ((n : ℕ) → n < count → has_node set.now n ≡ false) (λ n. (n.0 < count) × IsTrue (has_node set.now n.0)) }
 {
-    let mut found = false;
-    for n in 0..count {
-        if set.has(NodeId(n as u32)) {
-            if found {
-                return false;
-            }
-            found = true;
+    for i in 0..count {
+        let n = NodeId(i as u32);
+        if set.has(n) {
+            return Some(n);
         }
     }
-    true
+    None
+}
+
+/// The set of one node.
+fn only(n: NodeId) -> NodeSet
+    requires { n.0 < 512 }
+    ensures { (m : ℕ) → has_node result m ≡ one n.0 m }
+{
+    let mut set = NodeSet::new();
+    set.insert(n);
+    set
 }
 
 /// Whether those of the first nodes that are in a set are in the other one.
@@ -76,17 +83,20 @@ fn is_inside(set: &NodeSet, other: &NodeSet, count: usize) -> bool
     true
 }
 
-/// Whether one node has all presences of the machines.
+/// Whether one node has all presences of the machines, or there is none.
 pub fn are_together(p: &Problem, plan: &Plan, machines: &[VmId], t: Instant) -> bool
     requires plan { IsPlanOf p.now.given plan.now }
     requires machines { list_all (λ x. nat_lt x.0 (machine_count p.now.given)) machines.now ≡ true }
-    ensures { IsTrue result ↔ AreTogether p.now.given (snapshot_at p.now.given (choices_of plan.now) t) machines.now }
+    ensures { IsTrue result ↔ AreGrouped p.now.given (snapshot_at p.now.given (choices_of plan.now) t) machines.now (map one (range_with_len 0 (node_count p.now.given))) }
 {
     let nodes = reached(p, plan, machines, t);
-    is_single(&nodes, nodes_of(p))
+    match first_node(&nodes, nodes_of(p)) {
+        Some(n) => is_inside(&nodes, &only(n), nodes_of(p)),
+        None => true,
+    }
 }
 
-/// Whether one of the groups has all nodes on which the machines are present.
+/// Whether one of the groups has all presences of the machines, or there is none.
 pub fn are_among(
     p: &Problem,
     plan: &Plan,
@@ -96,9 +106,12 @@ pub fn are_among(
 ) -> bool
     requires plan { IsPlanOf p.now.given plan.now }
     requires machines { list_all (λ x. nat_lt x.0 (machine_count p.now.given)) machines.now ≡ true }
-    ensures { IsTrue result ↔ Any (λ g. AreWithin p.now.given (snapshot_at p.now.given (choices_of plan.now) t) machines.now (has_node g)) groups.now }
+    ensures { IsTrue result ↔ AreGrouped p.now.given (snapshot_at p.now.given (choices_of plan.now) t) machines.now (map has_node groups.now) }
 {
     let nodes = reached(p, plan, machines, t);
+    if first_node(&nodes, nodes_of(p)).is_none() {
+        return true;
+    }
     for group in groups {
         if is_inside(&nodes, group, nodes_of(p)) {
             return true;
