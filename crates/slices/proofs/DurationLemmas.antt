@@ -1,5 +1,5 @@
 -- Durations fit, so each is at least 1.
-use Rattle.std.proofs.Common.{◌+◌, ◌&&◌, ◌≡◌, ℕ, zero, suc, ◌<◌, ◌≤◌, Bool, true, List, [], ◌∷◌, length, take, drop, Option, Some, None, is_none, is_some, nat_le, unwrap_or, slice_get, slice_index_or, get_or, inl, inr, refl, sym, true≢false, arith}
+use Rattle.std.proofs.Common.{◌+◌, ◌&&◌, ◌≡◌, ℕ, zero, suc, ◌<◌, ◌≤◌, Bool, true, false, List, [], ◌∷◌, length, take, drop, Option, Some, None, is_none, is_some, nat_le, unwrap_or, slice_get, slice_index_or, get_or, inl, inr, refl, sym, true≢false, arith}
 use Rattle.std.specs.List.{list_all}
 use Rattle.std.specs.Option.{option_map_or}
 use Rattle.std.proofs.lemmas.Bool.{and_parts, false≢true, le-leb, leb-true}
@@ -11,7 +11,7 @@ use Rattle.cluster.specs.declared.kinds.Kind.{Kind}
 use Rattle.cluster.specs.declared.kinds.Kind.TheVariants.{Forge, Boot, Shutdown, Suspend, Resume, Migrate, Allocate, Kill, NodeBoot, NodeShutdown}
 use Rattle.cluster.specs.Inventory.{amounts_fit, duration_fits, machine_fits, machine_own_fits, node_fits, node_own_fits, own_fits}
 use Rattle.cluster.specs.Kinds.{kind_number}
-use Rattle.cluster.proofs.Durations.{IsDuration, IsDuration-fits, duration_at}
+use Rattle.cluster.proofs.Fitting.{IsDuration, IsDuration-fits, duration_at}
 use Rattle.catalogue.specs.Instance.{Instance, IsInstance, inventory_of}
 use Rattle.slices.specs.Actions.{action_duration, common_of, duration_of, end_of, is_legal, kind_duration, kind_of, machine_own, node_own, own_of}
 use Rattle.slices.specs.Legal.{DurationsLast, EndsByDuration, LegalActsLast, LegalEarlier}

@@ -98,4 +98,3 @@ has_last_start p plan some t =
       is_start = b.is_start;
       quiet = λ e there. (rw (element_at-number_of p e there) at (b.quiet (number_of p e) (number_of-lt p e there)));
     }
-

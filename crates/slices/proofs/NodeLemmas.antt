@@ -15,7 +15,7 @@ use Rattle.slices.specs.declared.slice.Weight.TheVariants.{Amount, Presence, Ima
 use Rattle.slices.specs.declared.slice.What.{What}
 use Rattle.slices.specs.declared.slice.What.TheVariants.{Use, Demand, Raise, Image as OfImage}
 use Rattle.slices.specs.Elements.{node_count, vm}
-use Rattle.slices.specs.Ends.{AbsentUsesNothing, HeldByNode, HeldIsSmall, HeldOnMore, PresentOnSet, PresentSomewhere}
+use Rattle.slices.specs.ByNode.{AbsentUsesNothing, HeldByNode, HeldIsSmall, HeldOnMore, PresentOnSet, PresentSomewhere}
 use Rattle.slices.specs.Snapshots.{held_at, held_by, stage_at}
 use Rattle.slices.specs.Stages.{Nodes, covers, one, slices_of, weigh, weight_of}
 use Rattle.slices.proofs.HoldingLemmas.{no_weight}

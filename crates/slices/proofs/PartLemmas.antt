@@ -60,12 +60,7 @@ above-part a b l h = grind (arith, nat_tests)
 
 -- ---- a part keeps
 
-less_fboth-part : (a b c d : Bool) → (IsTrue a → IsTrue c) → (IsTrue b → IsTrue d) → IsTrue (a && b) → IsTrue (c && d)
-both-part true b true d f g x = g x
-both-part true b false d f g x = absurd (false≢true (f refl))
-both-part false b c d f g x = absurd (false≢true x)
-
-pub or-part : (p : Instance) (s big : Snapshot) → IsPartOf s big → (c : Constraint) → IsLessFor p c s big
+less_for-part : (p : Instance) (s big : Snapshot) → IsPartOf s big → (c : Constraint) → IsLessFor p c s big
 less_for-part p s big part (Spread vs b) = λ v i m. part.present v
 less_for-part p s big part (Ban vs ns b) = λ v i m. part.present v
 less_for-part p s big part (Fence vs ns b) = λ v i m. part.present v

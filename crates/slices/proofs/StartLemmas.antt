@@ -148,7 +148,7 @@ module _ (p : Instance) (plan : Choices) (u t : ℕ) (l : u ≤ t) where
   keeps-quiet q last (OfConstraint c) h = λ a k e. holds-quiet k (λ x m. q x) (h a k e)
 
 -- past the end, a plan's choices are Idle
-past-idle : (p : Instance) (plan : PlanChoices) → IsPlanOf p plan → (e : Element) → IsElement p e ⊎ (choices_of plan e ≡ Idle)
+pub past-idle : (p : Instance) (plan : PlanChoices) → IsPlanOf p plan → (e : Element) → IsElement p e ⊎ (choices_of plan e ≡ Idle)
 past-idle p plan is (Vm v) =
     elim (cases_lt v.0 (machine_count p)) [ inl below ↦ inl below | inr past ↦ inr (get_or_past plan.machines v.0 Idle (omega (arith, is.machines))) ]
 past-idle p plan is (TheNode n) =

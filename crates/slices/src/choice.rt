@@ -24,8 +24,11 @@ pub fn slices(p: &Problem, v: VmId, c: Choice) -> Slices
     let state = state_of(p, v);
     match c {
         Choice::Idle => idle_slices(state),
-        Choice::Act { place, start: _ } =>
-            slices_by(state, place, kind_of(p, Element::Vm(v), place)),
+        Choice::Act { place, start: _ } => slices_by(
+            state,
+            place,
+            kind_of(p, Element::Vm(v), place),
+        ),
     }
 }
 

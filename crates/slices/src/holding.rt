@@ -9,7 +9,7 @@ use crate::actions::usage;
 use crate::slice::{Slice, Slices, What, covers};
 use crate::stage::Stage;
 use catalogue::problem::Problem;
-use cluster::ids::{NodeId, VmId};
+use cluster::ids::{Element, NodeId, VmId};
 
 /// A node on which a machine is present, and whether it takes its present use or its demand there.
 #[derive(Clone, Copy)]
