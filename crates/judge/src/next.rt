@@ -6,7 +6,7 @@ ghost use Rattle.catalogue.specs.Faults.{is_rule};
 ghost use Rattle.catalogue.specs.Instance.{IsElement, inventory_of};
 ghost use Rattle.slices.specs.Elements.{machine_count, node, node_count};
 ghost use Rattle.slices.specs.Holds.{IsMember};
-ghost use Rattle.slices.specs.Parts.{start_of};
+ghost use Rattle.slices.specs.Starts.{start_of};
 ghost use Rattle.slices.specs.Plans.{IsPlanOf, choices_of};
 ghost use Rattle.judge.specs.Starts.{AreMachines, AreNodes, IsInSome, IsNext, Matters};
 

@@ -1,15 +1,16 @@
 -- The nodes that the machines of a list reach, and groups of nodes.
-use Rattle.std.proofs.Common.{◌≡◌, ◌↔◌, ◌⊎◌, inl, inr, ℕ, ◌+◌, ◌<◌, true, false, List, length, get_or, map, Any, IsTrue, nat_lt, refl, sym, ap, subst, ◌∙◌, arith}
+use Rattle.std.proofs.Common.{◌≡◌, ◌↔◌, inl, inr, ℕ, ◌+◌, ◌<◌, true, false, List, length, get_or, map, Any, IsTrue, nat_lt, sym, ap, subst, ◌∙◌, arith}
 use Rattle.std.specs.List.{list_all, range_with_len}
-use Rattle.std.proofs.lemmas.Bool.{both_ways, cases_eq, eq-eqb, eqb-true, false_from_ne_true}
+use Rattle.std.proofs.lemmas.Bool.{both_ways, cases_eq, eqb-true, false_from_ne_true}
 use Rattle.std.proofs.lemmas.List.{get_or-map, get_or_read, length-map}
+use Rattle.std.proofs.lemmas.Option.{slice_get_cases}
 use Rattle.std.proofs.lemmas.List.FromFn.{get_or-range_with_len, length-range_with_len}
 use Rattle.cluster.specs.declared.ids.VmId.{VmId}
 use Rattle.cluster.specs.declared.sets.NodeSet.{NodeSet}
 use Rattle.cluster.specs.Sets.{has_node}
 use Rattle.catalogue.specs.Instance.{Instance}
 use Rattle.slices.specs.Elements.{machine_count, node_count}
-use Rattle.slices.specs.Holds.{AreAbsent, AreGrouped, AreWithin, IsMember}
+use Rattle.slices.specs.Holds.{AreAbsent, AreGrouped, AreWithin}
 use Rattle.slices.specs.Snapshots.{Snapshot}
 use Rattle.slices.specs.Stages.{Nodes, one}
 use Rattle.placement_rules.specs.Places.{AreReached}
@@ -20,10 +21,12 @@ use Rattle.placement_rules.proofs.Members.{member_within}
 Any-map : {X Y : Type 0} (P : Y → Type 0) (f : X → Y) (xs : List X) → Any (λ x. P (f x)) xs → Any P (map f xs)
 Any-map P f xs w = (w.0, f w.1, omega (arith, w.2, length-map xs f), get_or-map f xs w.0 w.1 (f w.1) w.2 ∙ ap f w.3, w.4)
 
-Any-of_map : {X Y : Type 0} (P : Y → Type 0) (f : X → Y) (xs : List X) (d : X) → Any P (map f xs) → (i : ℕ) × (i < length xs) × P (f (get_or xs i d))
-Any-of_map P f xs d w =
-    let low : w.0 < length xs = omega (arith, w.2, length-map xs f) in
-    (w.0, low, subst P (sym w.3 ∙ get_or-map f xs w.0 d w.1 low) w.4)
+Any-of_map : {X Y : Type 0} (P : Y → Type 0) (f : X → Y) (xs : List X) → Any P (map f xs) → Any (λ x. P (f x)) xs
+Any-of_map P f xs w =
+    elim (slice_get_cases xs w.0).1 [
+      | inl x ↦ (w.0, x.0, x.1, x.3, subst P (sym w.3 ∙ get_or-map f xs w.0 x.0 w.1 x.1 ∙ ap f x.3) w.4)
+      | inr none ↦ absurd (omega (arith, w.2, length-map xs f, none.0))
+    ]
 
 -- ---- what is reached
 
@@ -49,25 +52,25 @@ module _ (p : Instance) (s : Snapshot) (vs : List VmId) (set : NodeSet) (all : l
   pub some_grouped : (groups : List Nodes) (n : ℕ) → n < node_count p → IsTrue (has_node set n) → AreGrouped p s vs groups → Any (AreWithin p s vs) groups
   some_grouped groups n j h grouped = elim grouped [ inl absent ↦ absurd (some_present n j h absent) | inr group ↦ group ]
 
-  -- by single nodes, where that is the only node that they reach
+  -- by single nodes, where they reach one alone
   pub together : (n : ℕ) → n < node_count p → IsTrue (has_node set n) → ((m : ℕ) → m < node_count p → IsTrue (has_node set m) → IsTrue (one n m)) ↔ AreGrouped p s vs (map one (range_with_len 0 (node_count p)))
   together n j h = (
     λ inside. inr (Any-map (AreWithin p s vs) one (range_with_len 0 (node_count p)) (n, n, omega (arith, length-range_with_len 0 (node_count p)), get_or-range_with_len 0 (node_count p) n n j ∙ omega arith, (inside_within (one n)).0 inside)),
     λ grouped.
-        let w = Any-of_map (AreWithin p s vs) one (range_with_len 0 (node_count p)) 0 (some_grouped (map one (range_with_len 0 (node_count p))) n j h grouped) in
-        let inside = (inside_within (one (get_or (range_with_len 0 (node_count p)) w.0 0))).1 w.2 in
-        let here : n ≡ get_or (range_with_len 0 (node_count p)) w.0 0 = eqb-true n _ (inside n j h) in
+        let w = Any-of_map (AreWithin p s vs) one (range_with_len 0 (node_count p)) (some_grouped (map one (range_with_len 0 (node_count p))) n j h grouped) in
+        let inside = (inside_within (one w.1)).1 w.4 in
+        let here : n ≡ w.1 = eqb-true n w.1 (inside n j h) in
         subst (λ k. (m : ℕ) → m < node_count p → IsTrue (has_node set m) → IsTrue (one k m)) (sym here) inside,
   )
 
-  pub among : (groups : List NodeSet) → Any (λ g. AreWithin p s vs (has_node g)) groups → AreGrouped p s vs (map has_node groups)
-  among groups group = inr (Any-map (AreWithin p s vs) has_node groups group)
-
-  -- no group has all of them, where they reach a node
-  pub among_none : (groups : List NodeSet) (n : ℕ) (d : NodeSet) → n < node_count p → IsTrue (has_node set n) → ((i : ℕ) (g : NodeSet) → i < length groups → get_or groups i g ≡ g → ¬ AreWithin p s vs (has_node g)) → ¬ AreGrouped p s vs (map has_node groups)
-  among_none groups n d j h none grouped =
-      let w = Any-of_map (AreWithin p s vs) has_node groups d (some_grouped (map has_node groups) n j h grouped) in
-      none w.0 (get_or groups w.0 d) w.1 ? w.2
+  -- by groups, where one of them has all nodes that they reach
+  pub among : (groups : List NodeSet) (n : ℕ) → n < node_count p → IsTrue (has_node set n) → Any (λ g. (m : ℕ) → m < node_count p → IsTrue (has_node set m) → IsTrue (has_node g m)) groups ↔ AreGrouped p s vs (map has_node groups)
+  among groups n j h = (
+    λ w. inr (Any-map (AreWithin p s vs) has_node groups (w.0, w.1, w.2, w.3, (inside_within (has_node w.1)).0 w.4)),
+    λ grouped.
+        let w = Any-of_map (AreWithin p s vs) has_node groups (some_grouped (map has_node groups) n j h grouped) in
+        (w.0, w.1, w.2, w.3, (inside_within (has_node w.1)).1 w.4),
+  )
 
 -- one group more does not have the property
 pub no_group_more : (P : NodeSet → Type 0) (groups : List NodeSet) (k : ℕ) (here : NodeSet) → k < length groups → here ≡ get_or groups k here → ((i : ℕ) (g : NodeSet) → i < k → get_or groups i g ≡ g → ¬ P g) → ¬ P here → (i : ℕ) (g : NodeSet) → i < k + 1 → get_or groups i g ≡ g → ¬ P g

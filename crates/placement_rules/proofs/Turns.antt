@@ -1,14 +1,14 @@
 -- Which machines act, one at a time.
-use Rattle.std.proofs.Common.{◌≡◌, ◌⊎◌, inl, inr, ℕ, ◌+◌, ◌<◌, Bool, true, false, List, [], length, take, get_or, Option, Some, None, IsTrue, nat_lt, refl, sym, ap, ◌∙◌, arith}
+use Rattle.std.proofs.Common.{◌≡◌, inl, inr, ℕ, ◌+◌, ◌<◌, true, false, List, [], length, take, get_or, Option, Some, None, IfSome, IsTrue, nat_lt, refl, sym, ap}
 use Rattle.std.specs.List.{list_all}
-use Rattle.std.proofs.lemmas.Bool.{both_ways, cases_eq, false_from_ne_true}
+use Rattle.std.proofs.lemmas.Bool.{both_ways, false_from_ne_true}
 use Rattle.cluster.specs.declared.ids.VmId.{VmId}
 use Rattle.catalogue.specs.Instance.{Instance}
 use Rattle.slices.specs.declared.stage.Progress.TheVariants.{Acting}
 use Rattle.slices.specs.Elements.{machine_count}
 use Rattle.slices.specs.Holds.{IsMember, TakeTurns}
 use Rattle.slices.specs.Snapshots.{Snapshot}
-use Rattle.placement_rules.proofs.Members.{member_here, member_kept, member_split, member_within}
+use Rattle.placement_rules.proofs.Members.{front_member, member_here, member_kept, member_split, member_within}
 
 -- what is noted is the one member that acts
 pub record IsAlone (s : Snapshot) (vs : List VmId) (acting : Option VmId) : Type 0 where
@@ -27,10 +27,13 @@ idle_more s vs i d acting low idle alone = record {
 }
 
 -- one member more, which acts, where no other does
-pub acting_more : (s : Snapshot) (vs : List VmId) (i : ℕ) (d : VmId) (acting : Option VmId) → i < length vs → IsTrue (s.action (get_or vs i d).0 Acting) → ((w : ℕ) → acting ≡ Some (record { 0 = w }) → w ≡ (get_or vs i d).0) → IsAlone s (take i vs) acting → IsAlone s (take (i + 1) vs) (Some (get_or vs i d))
+pub acting_more : (s : Snapshot) (vs : List VmId) (i : ℕ) (d : VmId) (acting : Option VmId) → i < length vs → IsTrue (s.action (get_or vs i d).0 Acting) → IfSome acting (λ w. w.0 ≡ (get_or vs i d).0) → IsAlone s (take i vs) acting → IsAlone s (take (i + 1) vs) (Some (get_or vs i d))
 acting_more s vs i d acting low acts same alone = record {
   others = λ v m x.
-      let here : v ≡ (get_or vs i d).0 = elim (member_split vs i d v low m) [ inl before ↦ same v (alone.others v before x) | inr e ↦ e ] in
+      let here : v ≡ (get_or vs i d).0 = elim (member_split vs i d v low m) [
+        | inl before ↦ rw (alone.others v before x) at same
+        | inr e ↦ e
+      ] in
       ap (λ (k : ℕ). let x : VmId = record { 0 = k } in Some x) (sym here);
   there = λ v e.
       let both : get_or vs i d ≡ record { 0 = v } = cc in
@@ -39,10 +42,19 @@ acting_more s vs i d acting low acts same alone = record {
 }
 
 -- two members that act do not take turns
-pub meet : (p : Instance) (s : Snapshot) (vs : List VmId) (i : ℕ) (d : VmId) (acting : Option VmId) → i < length vs → list_all (λ x. nat_lt x.0 (machine_count p)) vs ≡ true → IsTrue (s.action (get_or vs i d).0 Acting) → ¬ ((w : ℕ) → acting ≡ Some (record { 0 = w }) → w ≡ (get_or vs i d).0) → IsAlone s (take i vs) acting → ¬ TakeTurns p s vs
-meet p s vs i d acting low all acts other alone turns = ?
+pub meet : (p : Instance) (s : Snapshot) (vs : List VmId) (i : ℕ) (d : VmId) (acting : Option VmId) → i < length vs → list_all (λ x. nat_lt x.0 (machine_count p)) vs ≡ true → IsTrue (s.action (get_or vs i d).0 Acting) → ¬ IfSome acting (λ w. w.0 ≡ (get_or vs i d).0) → IsAlone s (take i vs) acting → ¬ TakeTurns p s vs
+meet p s vs i d None low all acts other alone turns = other tt
+meet p s vs i d (Some w) low all acts other alone turns =
+    let there = alone.there w.0 refl in
+    let before = front_member vs i w.0 there.0 in
+    let here = front_member vs (i + 1) (get_or vs i d).0 (member_here vs i d low) in
+    both_ways (s.action (get_or vs i d).0 Acting) (turns w.0 (get_or vs i d).0 (member_within vs (machine_count p) w.0 all before) (member_within vs (machine_count p) (get_or vs i d).0 all here) other before here there.1) acts
 
 -- all members have been met
 pub turns : (p : Instance) (s : Snapshot) (vs : List VmId) (acting : Option VmId) → IsAlone s vs acting → TakeTurns p s vs
 turns p s vs acting alone v w i j apart m k x =
-    false_from_ne_true (s.action w Acting) (λ y. let a = alone.others v m x in let b = alone.others w k y in apart ?)
+    false_from_ne_true (s.action w Acting) (λ y.
+    let first : acting ≡ Some (record { 0 = v }) = alone.others v m x in
+    let second : acting ≡ Some (record { 0 = w }) = alone.others w k y in
+    let both : (let z : VmId = record { 0 = v } in z) ≡ record { 0 = w } = cc in
+    apart (ap (λ (z : VmId). z.0) both))

@@ -1,5 +1,5 @@
 //! Which actions may overlap.
-ghost use Rattle.std.specs.Prelude.{◌≡◌, ◌↔◌, ◌<◌, ℕ, false, true, nat_lt, IsTrue};
+ghost use Rattle.std.specs.Prelude.{◌≡◌, ◌↔◌, ◌<◌, false, true, nat_lt, IfSome, IsTrue};
 ghost use Rattle.std.specs.List.{list_all};
 ghost use Rattle.slices.specs.declared.stage.Progress.TheVariants.{Started, Unended, Acting};
 ghost use Rattle.slices.specs.Elements.{machine_count};
@@ -28,7 +28,7 @@ pub fn is_in_order(p: &Problem, plan: &Plan, before: VmId, after: VmId, t: Insta
 
 /// Whether there is no machine, or this one.
 fn is_at_most(acting: Option<VmId>, v: VmId) -> bool
-    ensures { IsTrue result ↔ ((w : ℕ) → acting ≡ Some (record { 0 = w }) → w ≡ v.0) }
+    ensures { IsTrue result ↔ IfSome acting (λ w. w.0 ≡ v.0) }
 {
     match acting {
         Some(w) => w.0 == v.0,

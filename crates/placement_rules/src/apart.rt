@@ -3,7 +3,7 @@ ghost use Rattle.std.specs.Prelude.{◌≡◌, ◌↔◌, ◌⊎◌, ◌≢◌, 
 ghost use Rattle.std.specs.List.{list_all};
 ghost use Rattle.catalogue.specs.declared.constraint.Constraint.TheVariants.{Spread, Split, Lonely};
 ghost use Rattle.catalogue.specs.Faults.{is_member};
-ghost use Rattle.cluster.specs.Sets.{has_machine};
+ghost use Rattle.catalogue.specs.Seen.{has_seen};
 ghost use Rattle.slices.specs.Elements.{machine_count};
 ghost use Rattle.slices.specs.Holds.{AreApart};
 ghost use Rattle.slices.specs.Plans.{IsPlanOf, choices_of};
@@ -15,12 +15,12 @@ ghost use Rattle.slices.specs.Holdings.{IsHeldWithin, is_in};
 use crate::counts::machines_of;
 use catalogue::lists::Vms;
 use catalogue::problem::Problem;
+use catalogue::seen::Seen;
 use cluster::choices::Instant;
 use cluster::ids::VmId;
-use cluster::sets::MachineSet;
+use slices::holding::{Held, Holding};
 use slices::plan::Plan;
 use slices::snapshot::holding_at;
-use slices::holding::{Held, Holding};
 
 /// A table of nodes without labels.
 fn no_labels() -> [Option<u32>; 512]
@@ -121,13 +121,13 @@ pub fn is_split(p: &Problem, plan: &Plan, parts: &[Vms], t: Instant) -> bool
 }
 
 /// The machines of a list.
-fn members(p: &Problem, machines: &[VmId]) -> MachineSet
+fn members(p: &Problem, machines: &[VmId]) -> Seen
     requires machines { list_all (λ x. nat_lt x.0 (machine_count p.now.given)) machines.now ≡ true }
-    ensures { (v : ℕ) → has_machine result v ≡ is_member machines.now v }
+    ensures { (v : ℕ) → has_seen result v ≡ is_member machines.now v }
 {
-    let mut members = MachineSet::new();
+    let mut members = Seen::new();
     for v in machines {
-        members.insert(*v);
+        members.mark(*v);
     }
     members
 }

@@ -1,5 +1,5 @@
 //! Where the machines of a list are all together.
-ghost use Rattle.std.specs.Prelude.{◌≡◌, ◌↔◌, ◌<◌, ◌≤◌, ◌||◌, ℕ, false, true, map, nat_lt, IsTrue, MatchOption};
+ghost use Rattle.std.specs.Prelude.{◌≡◌, ◌↔◌, ◌<◌, ◌≤◌, ◌||◌, ℕ, false, true, map, nat_lt, Any, IsTrue, MatchOption};
 ghost use Rattle.std.specs.List.{list_all, range_with_len};
 ghost use Rattle.cluster.specs.Sets.{has_node};
 ghost use Rattle.slices.specs.Elements.{machine_count, node_count};
@@ -15,9 +15,9 @@ use catalogue::problem::Problem;
 use cluster::choices::Instant;
 use cluster::ids::{NodeId, VmId};
 use cluster::sets::NodeSet;
+use slices::holding::Held;
 use slices::plan::Plan;
 use slices::snapshot::holding_at;
-use slices::holding::Held;
 
 /// Puts the node where something is held into the set.
 fn put(set: &mut NodeSet, held: Option<Held>)
@@ -83,15 +83,30 @@ fn is_inside(set: &NodeSet, other: &NodeSet, count: usize) -> bool
     true
 }
 
+/// Whether one of the groups has those of the first nodes that are in a set.
+fn is_inside_some(set: &NodeSet, groups: &[NodeSet], count: usize) -> bool
+    requires { count ≤ 512 }
+    ensures { IsTrue result ↔ Any (λ g. (n : ℕ) → n < count → IsTrue (has_node set.now n) → IsTrue (has_node g n)) groups.now }
+{
+    for group in groups {
+        if is_inside(set, group, count) {
+            return true;
+        }
+    }
+    false
+}
+
 /// Whether one node has all presences of the machines, or there is none.
 pub fn are_together(p: &Problem, plan: &Plan, machines: &[VmId], t: Instant) -> bool
     requires plan { IsPlanOf p.now.given plan.now }
     requires machines { list_all (λ x. nat_lt x.0 (machine_count p.now.given)) machines.now ≡ true }
-    ensures { IsTrue result ↔ AreGrouped p.now.given (snapshot_at p.now.given (choices_of plan.now) t) machines.now (map one (range_with_len 0 (node_count p.now.given))) }
+    ensures { let single_nodes = map one (range_with_len 0 (node_count p.now.given)) in
+        IsTrue result ↔ AreGrouped p.now.given (snapshot_at p.now.given (choices_of plan.now) t) machines.now single_nodes }
 {
     let nodes = reached(p, plan, machines, t);
-    match first_node(&nodes, nodes_of(p)) {
-        Some(n) => is_inside(&nodes, &only(n), nodes_of(p)),
+    let count = nodes_of(p);
+    match first_node(&nodes, count) {
+        Some(n) => is_inside(&nodes, &only(n), count),
         None => true,
     }
 }
@@ -109,13 +124,9 @@ pub fn are_among(
     ensures { IsTrue result ↔ AreGrouped p.now.given (snapshot_at p.now.given (choices_of plan.now) t) machines.now (map has_node groups.now) }
 {
     let nodes = reached(p, plan, machines, t);
-    if first_node(&nodes, nodes_of(p)).is_none() {
-        return true;
+    let count = nodes_of(p);
+    match first_node(&nodes, count) {
+        Some(_) => is_inside_some(&nodes, groups, count),
+        None => true,
     }
-    for group in groups {
-        if is_inside(&nodes, group, nodes_of(p)) {
-            return true;
-        }
-    }
-    false
 }

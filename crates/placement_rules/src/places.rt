@@ -15,9 +15,9 @@ use catalogue::problem::Problem;
 use cluster::choices::Instant;
 use cluster::ids::{NodeId, VmId};
 use cluster::states::State;
+use slices::holding::Held;
 use slices::plan::Plan;
 use slices::snapshot::holding_at;
-use slices::holding::Held;
 
 /// Whether a machine runs at present, on another node.
 fn runs_elsewhere(state: State, n: NodeId) -> bool

@@ -1,6 +1,4 @@
-use Rattle.std.proofs.Common.{◌≡◌, ℕ, Some, take, IsTrue}
-use Rattle.slices.specs.declared.stage.Progress.TheVariants.{Acting}
-use Rattle.slices.specs.Holds.{IsMember}
+use Rattle.std.proofs.Common.{take}
 use Rattle.slices.specs.Plans.{choices_of}
 use Rattle.slices.specs.Snapshots.{snapshot_at}
 use Rattle.placement_rules.proofs.Turns.{IsAlone}
