@@ -6,7 +6,7 @@ use Rattle.sums.specs.Sums.{sum_to}
 use Rattle.sums.proofs.Sums.{sum_to-add, sum_to-none, sum_to-one, sum_to-same}
 use Rattle.catalogue.specs.Instance.{Instance, IsInstance}
 use Rattle.catalogue.specs.Values.{demand_of, use_of}
-use Rattle.catalogue.proofs.Facts.{demand_of_le, use_of_le}
+use Rattle.catalogue.proofs.Public.{demand_of_le, use_of_le}
 use Rattle.slices.specs.declared.slice.Slice.{Slice}
 use Rattle.slices.specs.declared.slice.Slices.{Slices}
 use Rattle.slices.specs.declared.stage.Stage.{Stage}

@@ -1,6 +1,6 @@
 //! Which action an element takes, how long it lasts, and which choices are legal.
 ghost use Rattle.std.specs.Prelude.{◌≡◌, ◌<◌, ◌≤◌, Bool, length, unwrap_or, IsTrue, IfSome};
-ghost use Rattle.cluster.proofs.Fitting.{IsDuration};
+ghost use Rattle.cluster.proofs.Public.{IsDuration};
 ghost use Rattle.catalogue.specs.Instance.{IsElement};
 ghost use Rattle.catalogue.specs.Values.{demand_of, use_of, wanted_of};
 ghost use Rattle.slices.specs.Elements.{state_of};

@@ -95,7 +95,7 @@ pub(crate) fn holding_from(slices: Slices, stage: Stage) -> Holding
 }
 
 /// The amount of a resource that a machine takes where it holds this.
-#[tactic(auto, using(catalogue::proofs::Facts::use_of_le))]
+#[tactic(auto, using(catalogue::proofs::Public::use_of_le))]
 pub fn amount(p: &Problem, v: VmId, what: What, r: u8) -> u64
     requires machine { IsElement p.now.given (Element.Vm v) }
     requires resource { r < length p.now.given.resources }

@@ -6,7 +6,6 @@ ghost use Rattle.slices.specs.Plans.{choices_of, parted, HasElement, IsPlanOf};
 ghost use Rattle.slices.specs.Costs.{cost_of};
 
 use crate::actions::{end_of, is_legal};
-use crate::elements::{count, element};
 use catalogue::problem::Problem;
 use cluster::choices::{Choice, Instant};
 use cluster::ids::{Element, NodeId, VmId};
@@ -74,11 +73,11 @@ impl Plan {
 pub fn is_plan(p: &Problem, choices: &[Choice]) -> bool
     ensures { IsTrue result ↔ IsPlanOf p.now.given (parted p.now.given choices.now) }
 {
-    if choices.len() != count(p) {
+    if choices.len() != p.cluster().element_count() {
         return false;
     }
     for x in 0..choices.len() {
-        if !is_legal(p, element(p, x), choices[x]) {
+        if !is_legal(p, p.cluster().element(x), choices[x]) {
             return false;
         }
     }

@@ -3,7 +3,6 @@ ghost use Rattle.std.specs.Prelude.{IfSome};
 ghost use Rattle.slices.specs.Plans.{IsPlanOf};
 
 use crate::actions::{duration, end_of, is_legal, kind_of, start};
-use crate::elements::{count, element};
 use crate::plan::{Plan, cost, is_plan};
 use crate::snapshot::{image, powered, present, usable, used};
 use catalogue::constraint::Constraint;
@@ -159,10 +158,10 @@ fn wishes(alloc: Global) -> Result<Problem, Fail> {
 /// Whether an element that is there may be idle, and the kinds of its actions nowhere, at node 0
 /// and at node 1.
 fn row(p: &Problem, x: usize) -> Option<(bool, [Option<Kind>; 3])> {
-    if x >= count(p) {
+    if x >= p.cluster().element_count() {
         return None;
     }
-    let e = element(p, x);
+    let e = p.cluster().element(x);
     let at = |n| kind_of(p, e, Place::At(NodeId(n)));
     Some((
         is_legal(p, e, Choice::Idle),
@@ -396,8 +395,8 @@ fn follows_actions_from_start_to_end(rt: HostRuntime) -> Result<(), Fail> {
 
 /// How long the action of a kind of an element that is there lasts.
 fn length(p: &Problem, x: usize, kind: Kind) -> Option<u64> {
-    if x < count(p) {
-        Some(duration(p, element(p, x), kind))
+    if x < p.cluster().element_count() {
+        Some(duration(p, p.cluster().element(x), kind))
     } else {
         None
     }
@@ -405,10 +404,10 @@ fn length(p: &Problem, x: usize, kind: Kind) -> Option<u64> {
 
 /// When a choice ends that an element has, if it is legal.
 fn ending(p: &Problem, x: usize, c: Choice) -> Option<Instant> {
-    if x >= count(p) {
+    if x >= p.cluster().element_count() {
         return None;
     }
-    let e = element(p, x);
+    let e = p.cluster().element(x);
     if is_legal(p, e, c) {
         Some(end_of(p, e, c))
     } else {
