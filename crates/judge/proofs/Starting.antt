@@ -10,13 +10,13 @@ use Rattle.cluster.specs.declared.ids.VmId.{VmId}
 use Rattle.catalogue.specs.declared.constraint.Constraint.{Constraint}
 use Rattle.catalogue.specs.declared.constraint.Constraint.TheVariants.{Split}
 use Rattle.catalogue.specs.Faults.{all_of, is_member}
-use Rattle.catalogue.specs.Instance.{Instance, IsElement}
-use Rattle.slices.specs.Elements.{machine_count, node, number_of, vm}
+use Rattle.cluster.specs.Elements.{element_number}
+use Rattle.catalogue.specs.Instance.{Instance, IsElement, inventory_of}
+use Rattle.slices.specs.Elements.{machine_count, vm}
 use Rattle.slices.specs.Holds.{IsInPart, IsMember}
 use Rattle.slices.specs.Plans.{Choices}
-use Rattle.placement_rules.proofs.Members.{member_here, member_kept, member_split, part_within}
+use Rattle.placement_rules.proofs.Public.{member_here, member_kept, member_split, part_within}
 use Rattle.judge.specs.Starts.{AreMachines, IsInSome, IsNext, Matters}
-use Rattle.judge.specs.Verdict.{matters}
 
 -- ---- sets of elements
 
@@ -85,7 +85,7 @@ parts_more parts k = record {
 
 -- the elements of the instance with the first k numbers
 abbrev pub AreNumbered : Instance → ℕ → Element → Type 0
-AreNumbered p k e = IsElement p e × (number_of p e < k)
+AreNumbered p k e = IsElement p e × (element_number (inventory_of p) e < k)
 
 -- ---- what matters to a constraint
 
@@ -113,7 +113,7 @@ in_part (vs ∷ parts) v h =
       | inr later ↦ let w = in_part parts v later in (suc w.0, omega (arith, w.1), w.2)
     ]
 
-pub of_part : (parts : List (List VmId)) (i v : ℕ) → IsInPart parts i v → IsTrue (is_member (all_of parts) v)
+of_part : (parts : List (List VmId)) (i v : ℕ) → IsInPart parts i v → IsTrue (is_member (all_of parts) v)
 of_part [] i v h = h
 of_part (vs ∷ parts) zero v h = list_any-append (λ x. x.0 == v) vs (all_of parts) ∙ or_left (is_member vs v) (is_member (all_of parts) v) h
 of_part (vs ∷ parts) (suc i) v h = list_any-append (λ x. x.0 == v) vs (all_of parts) ∙ or_right (is_member vs v) (is_member (all_of parts) v) (of_part parts i v h)

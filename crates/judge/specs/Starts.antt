@@ -8,9 +8,8 @@ use Rattle.cluster.specs.declared.ids.VmId.{VmId}
 use Rattle.catalogue.specs.declared.constraint.Constraint.{Constraint}
 use Rattle.catalogue.specs.Instance.{Instance, IsElement}
 use Rattle.slices.specs.Holds.{IsInPart}
-use Rattle.slices.specs.Starts.{start_of}
+use Rattle.slices.specs.Starts.{matters, start_of}
 use Rattle.slices.specs.Plans.{Choices}
-use Rattle.judge.specs.Verdict.{matters}
 
 -- ---- sets of elements
 

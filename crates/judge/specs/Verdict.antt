@@ -1,11 +1,5 @@
 -- The search for the least broken instant.
-use Rattle.std.specs.Prelude.{◌≡◌, ℕ, ◌+◌, ◌<◌, ◌≤◌, ◌==◌, Bool, true, false, length, slice_get, IsTrue}
-use Rattle.cluster.specs.declared.ids.Element.{Element}
-use Rattle.cluster.specs.declared.ids.Element.TheVariants.{Vm, Node as TheNode}
-use Rattle.cluster.specs.Sets.{has_node}
-use Rattle.catalogue.specs.declared.constraint.Constraint.{Constraint}
-use Rattle.catalogue.specs.declared.constraint.Constraint.TheVariants.{Spread, Ban, Fence, Gather, Lonely, Among, Split, Root, ResourceCapacity, RunningCapacity, MaxOnline}
-use Rattle.catalogue.specs.Faults.{is_member, machines_in}
+use Rattle.std.specs.Prelude.{◌≡◌, ℕ, ◌+◌, ◌<◌, ◌≤◌, ◌==◌, length, slice_get, IsTrue}
 use Rattle.catalogue.specs.Instance.{Instance}
 use Rattle.catalogue.specs.Values.{continuous_at}
 use Rattle.slices.specs.Plans.{Choices}
@@ -45,22 +39,6 @@ pub record IsFirstUnmet (p : Instance) (plan : Choices) (t c : ℕ) : Type 0 whe
   pub applied : IsTrue (applies p (t == p.horizon) c)
   pub broken : ¬ HoldsAt p plan t c
   pub earlier : ConstraintsHold p plan t c
-
--- the elements whose starts can break a constraint: the machines that it lists, where it speaks of presences of those alone; all machines
--- for a lonely and the two capacities; the nodes that it lists for a maxOnline
-abbrev pub matters : Constraint → Element → Bool
-matters (Spread vs b) (Vm v) = is_member vs v.0
-matters (Ban vs ns b) (Vm v) = is_member vs v.0
-matters (Fence vs ns b) (Vm v) = is_member vs v.0
-matters (Gather vs b) (Vm v) = is_member vs v.0
-matters (Lonely vs b) (Vm v) = true
-matters (Among vs gs b) (Vm v) = is_member vs v.0
-matters (Split parts b) (Vm v) = is_member (machines_in (Split parts b)) v.0
-matters (Root vs) (Vm v) = is_member vs v.0
-matters (ResourceCapacity ns r a b) (Vm v) = true
-matters (RunningCapacity ns a b) (Vm v) = true
-matters (MaxOnline ns a b) (TheNode n) = has_node ns n.0
-matters c e = false
 
 -- ---- what has been tried
 

@@ -17,7 +17,6 @@ use catalogue::problem::Problem;
 use cluster::choices::{Choice, Instant};
 use cluster::ids::{Element, NodeId, VmId};
 use cluster::sets::NodeSet;
-use slices::elements::{count, element};
 use slices::plan::Plan;
 
 /// The start of an element's action, if it has one.
@@ -138,7 +137,9 @@ pub(crate) fn next_that_matters(
         | Constraint::Fence { machines, .. }
         | Constraint::Gather { machines, .. }
         | Constraint::Among { machines, .. }
-        | Constraint::Root { machines } => next_member(p, plan, machines.items(), t, past),
+        | Constraint::Root { machines }
+        | Constraint::Serialize { machines } => next_member(p, plan, machines.items(), t, past),
+        Constraint::Precedence { after, .. } => sooner(p, plan, Element::Vm(*after), t, past),
         Constraint::Split { parts, .. } => next_in_parts(p, plan, parts.items(), t, past),
         Constraint::Lonely { .. }
         | Constraint::ResourceCapacity { .. }
@@ -162,8 +163,8 @@ pub(crate) fn next_start(p: &Problem, plan: &Plan, t: Instant) -> u32
     ensures { IsNext (choices_of plan.now) (IsElement p.now.given) t (p.now.given.horizon + 1) result }
 {
     let mut least = p.horizon() + 1;
-    for x in 0..count(p) {
-        least = sooner(p, plan, element(p, x), t, least);
+    for x in 0..p.cluster().element_count() {
+        least = sooner(p, plan, p.cluster().element(x), t, least);
     }
     least
 }

@@ -8,7 +8,7 @@ use Rattle.slices.specs.declared.stage.Progress.TheVariants.{Acting}
 use Rattle.slices.specs.Elements.{machine_count}
 use Rattle.slices.specs.Holds.{IsMember, TakeTurns}
 use Rattle.slices.specs.Snapshots.{Snapshot}
-use Rattle.placement_rules.proofs.Members.{front_member, member_here, member_kept, member_split, member_within}
+use Rattle.placement_rules.proofs.Members.{prefix_member, member_here, member_kept, member_split, member_within}
 
 -- what is noted is the one member that acts
 pub record IsAlone (s : Snapshot) (vs : List VmId) (acting : Option VmId) : Type 0 where
@@ -46,8 +46,8 @@ pub meet : (p : Instance) (s : Snapshot) (vs : List VmId) (i : ℕ) (d : VmId) (
 meet p s vs i d None low all acts other alone turns = other tt
 meet p s vs i d (Some w) low all acts other alone turns =
     let there = alone.there w.0 refl in
-    let before = front_member vs i w.0 there.0 in
-    let here = front_member vs (i + 1) (get_or vs i d).0 (member_here vs i d low) in
+    let before = prefix_member vs i w.0 there.0 in
+    let here = prefix_member vs (i + 1) (get_or vs i d).0 (member_here vs i d low) in
     both_ways (s.action (get_or vs i d).0 Acting) (turns w.0 (get_or vs i d).0 (member_within vs (machine_count p) w.0 all before) (member_within vs (machine_count p) (get_or vs i d).0 all here) other before here there.1) acts
 
 -- all members have been met

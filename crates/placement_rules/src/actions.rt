@@ -26,6 +26,15 @@ pub fn is_in_order(p: &Problem, plan: &Plan, before: VmId, after: VmId, t: Insta
         || !action_at(p, plan, before, Progress::Unended, t)
 }
 
+/// Whether the machine's action goes on.
+fn acts(p: &Problem, plan: &Plan, v: VmId, t: Instant) -> bool
+    requires plan { IsPlanOf p.now.given plan.now }
+    requires machine { v.0 < machine_count p.now.given }
+    ensures { result ≡ (snapshot_at p.now.given (choices_of plan.now) t).action v.0 Acting }
+{
+    action_at(p, plan, v, Progress::Acting, t)
+}
+
 /// Whether there is no machine, or this one.
 fn is_at_most(acting: Option<VmId>, v: VmId) -> bool
     ensures { IsTrue result ↔ IfSome acting (λ w. w.0 ≡ v.0) }
@@ -44,7 +53,7 @@ pub fn take_turns(p: &Problem, plan: &Plan, machines: &[VmId], t: Instant) -> bo
 {
     let mut acting = None;
     for v in machines {
-        if !action_at(p, plan, *v, Progress::Acting, t) {
+        if !acts(p, plan, *v, t) {
             continue;
         }
         if !is_at_most(acting, *v) {

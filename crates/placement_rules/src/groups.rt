@@ -1,6 +1,7 @@
 //! Where the machines of a list are all together.
 ghost use Rattle.std.specs.Prelude.{◌≡◌, ◌↔◌, ◌<◌, ◌≤◌, ◌||◌, ℕ, false, true, map, nat_lt, Any, IsTrue, MatchOption};
 ghost use Rattle.std.specs.List.{list_all, range_with_len};
+ghost use Rattle.cluster.specs.Limits.{max_nodes};
 ghost use Rattle.cluster.specs.Sets.{has_node};
 ghost use Rattle.slices.specs.Elements.{machine_count, node_count};
 ghost use Rattle.slices.specs.Holds.{AreGrouped};
@@ -21,7 +22,7 @@ use slices::snapshot::holding_at;
 
 /// Puts the node where something is held into the set.
 fn put(set: &mut NodeSet, held: Option<Held>)
-    requires within { IsHeldWithin 512 held }
+    requires within { IsHeldWithin max_nodes held }
     ensures { (n : ℕ) → has_node set.new n ≡ (is_in (one n) held || has_node set.old n) }
 {
     match held {
@@ -47,7 +48,7 @@ fn reached(p: &Problem, plan: &Plan, machines: &[VmId], t: Instant) -> NodeSet
 
 /// The first node of a set, of those below the count.
 fn first_node(set: &NodeSet, count: usize) -> Option<NodeId>
-    requires { count ≤ 512 }
+    requires { count ≤ max_nodes }
     ensures { MatchOption result ((n : ℕ) → n < count → has_node set.now n ≡ false) (λ n. (n.0 < count) × IsTrue (has_node set.now n.0)) }
 {
     for i in 0..count {
@@ -61,7 +62,7 @@ fn first_node(set: &NodeSet, count: usize) -> Option<NodeId>
 
 /// The set of one node.
 fn only(n: NodeId) -> NodeSet
-    requires { n.0 < 512 }
+    requires { n.0 < max_nodes }
     ensures { (m : ℕ) → has_node result m ≡ one n.0 m }
 {
     let mut set = NodeSet::new();
@@ -71,7 +72,7 @@ fn only(n: NodeId) -> NodeSet
 
 /// Whether those of the first nodes that are in a set are in the other one.
 fn is_inside(set: &NodeSet, other: &NodeSet, count: usize) -> bool
-    requires { count ≤ 512 }
+    requires { count ≤ max_nodes }
     ensures { IsTrue result ↔ ((n : ℕ) → n < count → IsTrue (has_node set.now n) → IsTrue (has_node other.now n)) }
 {
     for i in 0..count {
@@ -85,7 +86,7 @@ fn is_inside(set: &NodeSet, other: &NodeSet, count: usize) -> bool
 
 /// Whether one of the groups has those of the first nodes that are in a set.
 fn is_inside_some(set: &NodeSet, groups: &[NodeSet], count: usize) -> bool
-    requires { count ≤ 512 }
+    requires { count ≤ max_nodes }
     ensures { IsTrue result ↔ Any (λ g. (n : ℕ) → n < count → IsTrue (has_node set.now n) → IsTrue (has_node g n)) groups.now }
 {
     for group in groups {

@@ -13,5 +13,5 @@ loop-t-preserved c =
     let p = c.args.p.now.given in
     record {
       bounded = omega arith;
-      stands = stands_until p (choices_of c.args.plan.now) c.loop-t.t (p.horizon + 1) c.next_start-t.result c.loop-t.invariant.stands (c.stands.ensures.0 c.if-not-stands.false) c.next_start-t.ensures;
+      stands = stands_until p c.args.plan.now c.requires.plan c.loop-t.t (p.horizon + 1) c.next_start-t.result c.loop-t.invariant.stands (c.stands.ensures.0 c.if-not-stands.false) c.next_start-t.ensures;
     }

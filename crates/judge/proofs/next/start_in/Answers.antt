@@ -1,5 +1,5 @@
 use Rattle.std.proofs.Common.{sym, ◌∙◌, arith}
-use Rattle.slices.proofs.DurationLemmas.{legal_acts_last}
+use Rattle.slices.proofs.Public.{legal_acts_last}
 use Rattle.judge.proofs.next.start_in.Goals as goal
 
 pub returns-in-Act-clause-in_time : goal.returns-in-Act-clause-in_time
