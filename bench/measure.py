@@ -119,8 +119,8 @@ def stage(**change):
     yield json.dumps({**steady(512, 4096, 40), **change}, separators=(",", ":"))
 
 
-def moves(count, members):
-    """512 nodes, 4,096 machines that migrate at distinct starts, and so many fences of so many of them."""
+def moves(count, members, step=200):
+    """512 nodes, 4,096 machines that migrate, each so much later than the one before, and so many fences of so many of them."""
     resources = [f"r{r}" for r in range(8)]
     everywhere = [f"node-{n}" for n in range(512)]
     nodes = [{"name": n, "capacity": dict.fromkeys(resources, 1_000_000)} for n in everywhere]
@@ -131,18 +131,37 @@ def moves(count, members):
         {"kind": "fence", "machines": [f"vm-{(c + v) % 4096}" for v in range(members)], "nodes": everywhere, "continuous": True}
         for c in range(count)]
     actions = [
-        {"element": f"vm-{v}", "kind": "migrate", "place": everywhere[(v + 1) % 512], "start": v * 200} for v in range(4096)]
+        {"element": f"vm-{v}", "kind": "migrate", "place": everywhere[(v + 1) % 512], "start": v * step} for v in range(4096)]
     instance = {
         "horizon": 1_000_000, "resources": resources, "durations": {"migrate": {"base": 3}},
         "nodes": nodes, "machines": machines, "constraints": fences}
     return instance, {"actions": actions}
 
 
-# The plans that are replayed; each has 4,096 starts, hence a report of some 8,000 lines of 22 KB.
+def forges(kind, nodes, step):
+    """A constraint of 4,096 machines, of which 256 run on so many nodes and the others are forged, each so much later than the one before."""
+    names = [f"vm-{v}" for v in range(4096)]
+    running = [{"name": n, "state": "running", "node": f"node-{v % nodes}"} for v, n in enumerate(names[:256])]
+    instance = {
+        "horizon": 1_000_000, "resources": [], "durations": {"forge": {"base": 3}},
+        "nodes": [{"name": f"node-{n}"} for n in range(512)],
+        "machines": running + [{"name": n, "state": "init"} for n in names[256:]],
+        "constraints": [{"kind": "ready", "machines": names[256:]}, {"kind": kind, "machines": names, "continuous": True}]}
+    return instance, {"actions": [{"element": n, "kind": "forge", "start": v * step} for v, n in enumerate(names[256:])]}
+
+
+# The plans that are replayed. Where starts are distinct, a report has some 8,000 lines, of 22 KB each for the moves; where all
+# actions start at once, it has three or four lines.
 PLANS = {
     "moves": lambda: moves(0, 0),
     "moves-100x100": lambda: moves(100, 100),
     "moves-100x1000": lambda: moves(100, 1000),
+    "at-once": lambda: moves(0, 0, 0),
+    "at-once-100x1000": lambda: moves(100, 1000, 0),
+    "spread": lambda: forges("spread", 512, 200),
+    "spread-at-once": lambda: forges("spread", 512, 0),
+    "gather": lambda: forges("gather", 1, 200),
+    "gather-at-once": lambda: forges("gather", 1, 0),
 }
 
 MEASUREMENTS = {
@@ -208,7 +227,7 @@ def replay(folder, parts):
 def report(name, measured):
     size, status, seconds, used, line = measured
     cpu = used.ru_utime + used.ru_stime
-    print(f"{name:<14} {size:>10} {status:>6} {seconds:>8.2f} {cpu:>7.2f} {size / 1e6 / cpu:>7.1f} {used.ru_maxrss / 1024:>8.0f}  {line}", flush=True)
+    print(f"{name:<16} {size:>10} {status:>6} {seconds:>8.2f} {cpu:>7.2f} {size / 1e6 / cpu:>7.1f} {used.ru_maxrss / 1024:>8.0f}  {line}", flush=True)
 
 
 def main():
@@ -217,7 +236,7 @@ def main():
     if built.returncode > 7:
         return built.returncode
     wanted = tuple(sys.argv[1:])
-    print(f"{'measurement':<14} {'bytes':>10} {'status':>6} {'seconds':>8} {'cpu s':>7} {'MB/s':>7} {'peak MiB':>8}  line")
+    print(f"{'measurement':<16} {'bytes':>10} {'status':>6} {'seconds':>8} {'cpu s':>7} {'MB/s':>7} {'peak MiB':>8}  line")
     with tempfile.TemporaryDirectory(prefix="btrplan-bench-") as folder:
         for name, pieces in MEASUREMENTS.items():
             if not wanted or name.startswith(wanted):

@@ -1,4 +1,5 @@
-pub mod Tables
-pub mod Stances
-pub mod Quiet
-pub mod Lowering
+mod Tables
+mod Stances
+mod Starting
+mod Quiet
+mod Lowering

@@ -8,7 +8,7 @@ use Rattle.slices.specs.Elements.{node_count}
 use Rattle.slices.specs.Holdings.{image_in, is_in, IsHeldWithin, IsHoldingOf, IsNodeWithin}
 use Rattle.slices.specs.Snapshots.{Snapshot, stands_on}
 use Rattle.slices.specs.Stages.{one}
-use Rattle.placement_rules.proofs.Noting.{in_within}
+use Rattle.placement_rules.proofs.Public.{in_within}
 use Rattle.judge.specs.Standing.{AreUsable, AreUsableNodes, IsFirstOff, StandsBelow, StandsUsably}
 use Rattle.judge.specs.Where.{is_where}
 

@@ -1,3 +1,4 @@
 pub mod Standing
 pub mod Where
 pub mod Verdict
+pub mod Starts

@@ -1,14 +1,7 @@
 -- The search for the least broken instant.
-use Rattle.std.specs.Prelude.{◌≡◌, ℕ, ◌+◌, ◌<◌, ◌≤◌, ◌==◌, Bool, true, false, length, slice_get, Some, IsTrue}
-use Rattle.cluster.specs.declared.ids.Element.{Element}
-use Rattle.cluster.specs.declared.ids.Element.TheVariants.{Vm, Node as TheNode}
-use Rattle.cluster.specs.Sets.{has_node}
-use Rattle.catalogue.specs.declared.constraint.Constraint.{Constraint}
-use Rattle.catalogue.specs.declared.constraint.Constraint.TheVariants.{Spread, Ban, Fence, Gather, Lonely, Among, Split, Root, ResourceCapacity, RunningCapacity, MaxOnline}
-use Rattle.catalogue.specs.Faults.{is_member, machines_in}
+use Rattle.std.specs.Prelude.{◌≡◌, ℕ, ◌+◌, ◌<◌, ◌≤◌, ◌==◌, length, slice_get, IsTrue}
 use Rattle.catalogue.specs.Instance.{Instance}
 use Rattle.catalogue.specs.Values.{continuous_at}
-use Rattle.slices.specs.Parts.{start_of}
 use Rattle.slices.specs.Plans.{Choices}
 use Rattle.slices.specs.Rules.{KeepsAllAt, applies}
 use Rattle.slices.specs.Snapshots.{snapshot_at}
@@ -25,8 +18,8 @@ abbrev pub StandsAt : Instance → Choices → ℕ → Type 0
 StandsAt p plan t = Stands p (snapshot_at p plan t)
 
 -- the same at each instant before another
-unfoldable pub StandsBefore : Instance → Choices → ℕ → Type 0
-StandsBefore p plan b = (t : ℕ) → t < b → t ≤ p.horizon → StandsAt p plan t
+abbrev pub StandsBefore : Instance → Choices → ℕ → Type 0
+StandsBefore p plan b = (t : ℕ) → t < b → StandsAt p plan t
 
 -- the constraint of a number holds where it applies
 abbrev pub IsMetAt : Instance → Choices → ℕ → ℕ → Type 0
@@ -47,22 +40,6 @@ pub record IsFirstUnmet (p : Instance) (plan : Choices) (t c : ℕ) : Type 0 whe
   pub broken : ¬ HoldsAt p plan t c
   pub earlier : ConstraintsHold p plan t c
 
--- the elements whose starts can break a constraint: the machines that it lists, where it speaks of presences of those alone; all machines
--- for a lonely and the two capacities; the nodes that it lists for a maxOnline
-abbrev pub matters : Constraint → Element → Bool
-matters (Spread vs b) (Vm v) = is_member vs v.0
-matters (Ban vs ns b) (Vm v) = is_member vs v.0
-matters (Fence vs ns b) (Vm v) = is_member vs v.0
-matters (Gather vs b) (Vm v) = is_member vs v.0
-matters (Lonely vs b) (Vm v) = true
-matters (Among vs gs b) (Vm v) = is_member vs v.0
-matters (Split parts b) (Vm v) = is_member (machines_in (Split parts b)) v.0
-matters (Root vs) (Vm v) = is_member vs v.0
-matters (ResourceCapacity ns r a b) (Vm v) = true
-matters (RunningCapacity ns a b) (Vm v) = true
-matters (MaxOnline ns a b) (TheNode n) = has_node ns n.0
-matters c e = false
-
 -- ---- what has been tried
 
 -- a number of a constraint that is to hold at each instant
@@ -74,15 +51,3 @@ pub record IsContinuous (p : Instance) (c : ℕ) : Type 0 where
 pub record IsLower (p : Instance) (plan : Choices) (old new : ℕ) : Type 0 where
   pub suspect : IsSuspect p plan new
   pub lower : new ≤ old
-
--- the fact holds at the start of an element, if it has one, where that is before an instant
-unfoldable pub AtStart : (ℕ → Type 0) → Choices → ℕ → Element → Type 0
-AtStart P plan b e = (s : ℕ) → start_of (plan e) ≡ Some s → s < b → P s
-
--- so does the constraint of a number
-abbrev pub HoldsAtStart : Instance → Choices → ℕ → ℕ → Element → Type 0
-HoldsAtStart p plan b c e = AtStart (λ t. HoldsAt p plan t c) plan b e
-
--- all loads fit and all machines stand on usable nodes there
-abbrev pub StandsAtStart : Instance → Choices → ℕ → Element → Type 0
-StandsAtStart p plan b e = AtStart (StandsAt p plan) plan b e

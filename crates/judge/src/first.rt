@@ -1,5 +1,6 @@
 //! The first broken rule at an instant, by a plain search in the order of the rules.
 ghost use Rattle.std.specs.Prelude.{◌≡◌, ◌↔◌, ◌==◌, ◌<◌, false, length, nat_lt, slice_index_or, IsTrue, MatchOption};
+ghost use Rattle.cluster.specs.Limits.{max_nodes};
 ghost use Rattle.slices.specs.Elements.{machine_count};
 ghost use Rattle.slices.specs.Holdings.{image_in, is_in};
 ghost use Rattle.slices.specs.Stages.{one};
@@ -15,6 +16,7 @@ use crate::standing::{first_over, loads_at, machines_of, nodes_of, usable_nodes}
 use catalogue::problem::Problem;
 use cluster::choices::Instant;
 use cluster::ids::{NodeId, VmId};
+use cluster::limits::MAX_NODES;
 use placement_rules::holds;
 use slices::plan::Plan;
 use slices::rule::Rule;
@@ -49,15 +51,15 @@ fn stands_on(now: Holding, n: NodeId) -> bool
 }
 
 /// Whether a machine that holds this stands on the node, and that is not usable.
-fn is_off(nodes: &[bool; 512], now: Holding, n: NodeId) -> bool
-    requires { n.0 < 512 }
+fn is_off(nodes: &[bool; MAX_NODES], now: Holding, n: NodeId) -> bool
+    requires { n.0 < max_nodes }
     ensures { IsTrue result ↔ (IsTrue (is_where now n.0) × (slice_index_or nodes.now n.0 false ≡ false)) }
 {
     stands_on(now, n) && !nodes[n.0 as usize]
 }
 
 /// The first node where a machine stands that is not usable.
-fn first_off(p: &Problem, plan: &Plan, nodes: &[bool; 512], v: VmId, t: Instant) -> Option<NodeId>
+fn first_off(p: &Problem, plan: &Plan, nodes: &[bool; MAX_NODES], v: VmId, t: Instant) -> Option<NodeId>
     requires plan { IsPlanOf p.now.given plan.now }
     requires machine { v.0 < machine_count p.now.given }
     requires nodes { AreUsableNodes p.now.given (snapshot_at p.now.given (choices_of plan.now) t) nodes.now }

@@ -1,12 +1,13 @@
 //! The judge of plans: the least instant at which a rule is broken, and the first rule broken there.
 //!
-//! Only 0, the horizon and the starts of actions are tried, since between starts there is only less
-//! to be borne. A constraint is tried at the starts of the elements alone of which it speaks.
+//! Only 0, the horizon and the starts of actions are tried, each once, since between starts there is
+//! only less to be borne. A constraint is tried at the starts of the elements alone of which it speaks.
 #![tactic(auto)]
 
 mod first;
 mod least;
 mod loads;
+mod next;
 mod standing;
 #[cfg(test)]
 mod tests;

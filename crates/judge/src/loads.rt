@@ -1,5 +1,6 @@
 //! A table of the loads of all nodes.
 ghost use Rattle.std.specs.Prelude.{◌≡◌, ℕ, ◌+◌, ◌<◌, ◌≤◌, length, slice_index, slice_index_or};
+ghost use Rattle.cluster.specs.Limits.{max_amount, max_nodes};
 ghost use Rattle.catalogue.specs.Cells.{cell};
 ghost use Rattle.catalogue.specs.Instance.{IsElement};
 ghost use Rattle.slices.specs.Holdings.{amount_in, IsHeldWithin};
@@ -8,26 +9,27 @@ ghost use Rattle.slices.specs.declared.slice.Weight.TheVariants.{Amount};
 
 use catalogue::problem::Problem;
 use cluster::ids::{Element, VmId};
+use cluster::limits::{MAX_NODES, MAX_RESOURCES};
 use slices::holding::amount;
 use slices::holding::{Held, Holding};
 use slices::slice::What;
 
 /// The amounts of each resource, node by node, in the units of the resources.
-pub type Loads = [[u64; 8]; 512];
+pub type Loads = [[u64; MAX_RESOURCES]; MAX_NODES];
 
 /// A table of zeros.
 pub(crate) fn no_loads() -> Loads
     ensures { (n r : ℕ) → cell result n r ≡ 0 }
 {
-    [[0; 8]; 512]
+    [[0; MAX_RESOURCES]; MAX_NODES]
 }
 
 /// Adds what a machine takes to the row of its node.
-fn add_row(row: &mut [u64; 8], p: &Problem, v: VmId, what: What)
+fn add_row(row: &mut [u64; MAX_RESOURCES], p: &Problem, v: VmId, what: What)
     requires machine { IsElement p.now.given (Element.Vm v) }
     requires room { (r : ℕ) → slice_index row.old r ≤ 10_000_000_000_000 }
     ensures sums { (r : ℕ) → r < length p.now.given.resources → slice_index row.new r ≡ slice_index row.old r + weight_of p.now.given v.0 (Amount r) what }
-    ensures small { (r : ℕ) → slice_index row.new r ≤ slice_index row.old r + 1_000_000_000 }
+    ensures small { (r : ℕ) → slice_index row.new r ≤ slice_index row.old r + max_amount }
 {
     for r in 0..p.cluster().resources().len() {
         row[r] += amount(p, v, what, r as u8);
@@ -37,10 +39,10 @@ fn add_row(row: &mut [u64; 8], p: &Problem, v: VmId, what: What)
 /// Adds what a machine takes where it is held.
 fn add(table: &mut Loads, p: &Problem, v: VmId, held: Option<Held>)
     requires machine { IsElement p.now.given (Element.Vm v) }
-    requires within { IsHeldWithin 512 held }
+    requires within { IsHeldWithin max_nodes held }
     requires room { (n r : ℕ) → cell table.old n r ≤ 10_000_000_000_000 }
     ensures sums { (n r : ℕ) → r < length p.now.given.resources → cell table.new n r ≡ cell table.old n r + amount_in p.now.given v.0 r (one n) held }
-    ensures small { (n r : ℕ) → cell table.new n r ≤ cell table.old n r + 1_000_000_000 }
+    ensures small { (n r : ℕ) → cell table.new n r ≤ cell table.old n r + max_amount }
 {
     match held {
         Some(h) => add_row(&mut table[h.node.0 as usize], p, v, h.what),
@@ -51,12 +53,12 @@ fn add(table: &mut Loads, p: &Problem, v: VmId, held: Option<Held>)
 /// Adds all that a machine takes.
 pub(crate) fn add_both(table: &mut Loads, p: &Problem, v: VmId, now: Holding)
     requires machine { IsElement p.now.given (Element.Vm v) }
-    requires source { IsHeldWithin 512 now.source }
-    requires target { IsHeldWithin 512 now.target }
+    requires source { IsHeldWithin max_nodes now.source }
+    requires target { IsHeldWithin max_nodes now.target }
     requires room { (n r : ℕ) → cell table.old n r ≤ 9_000_000_000_000 }
     ensures sums { (n r : ℕ) → r < length p.now.given.resources → cell table.new n r ≡
         cell table.old n r + (amount_in p.now.given v.0 r (one n) now.source + amount_in p.now.given v.0 r (one n) now.target) }
-    ensures small { (n r : ℕ) → cell table.new n r ≤ cell table.old n r + 2_000_000_000 }
+    ensures small { (n r : ℕ) → cell table.new n r ≤ cell table.old n r + 2 * max_amount }
 {
     add(table, p, v, now.source);
     add(table, p, v, now.target);

@@ -1,5 +1,6 @@
 //! Whether all loads fit and all machines stand on usable nodes, at one instant.
 ghost use Rattle.std.specs.Prelude.{◌≡◌, ◌↔◌, ◌<◌, ℕ, false, slice_index_or, nat_lt, IsTrue, MatchOption, length};
+ghost use Rattle.cluster.specs.Limits.{max_nodes};
 ghost use Rattle.catalogue.specs.Cells.{cell};
 ghost use Rattle.slices.specs.Elements.{machine_count, node_count};
 ghost use Rattle.slices.specs.Holdings.{image_in, is_in, IsHeldWithin, IsNodeWithin};
@@ -13,6 +14,7 @@ use crate::loads::{Loads, add_both, no_loads};
 use catalogue::problem::Problem;
 use cluster::choices::Instant;
 use cluster::ids::{NodeId, VmId};
+use cluster::limits::MAX_NODES;
 use slices::plan::Plan;
 use slices::snapshot::{holding_at, usable};
 use slices::holding::{Held, Holding};
@@ -31,14 +33,15 @@ pub(crate) fn nodes_of(p: &Problem) -> usize
     p.cluster().nodes().len()
 }
 
-fn no_nodes() -> [bool; 512]
+/// A table of nodes of which none is marked.
+fn no_nodes() -> [bool; MAX_NODES]
     ensures { (n : ℕ) → slice_index_or result n false ≡ false }
 {
-    [false; 512]
+    [false; MAX_NODES]
 }
 
 /// Which nodes are usable.
-pub(crate) fn usable_nodes(p: &Problem, plan: &Plan, t: Instant) -> [bool; 512]
+pub(crate) fn usable_nodes(p: &Problem, plan: &Plan, t: Instant) -> [bool; MAX_NODES]
     requires plan { IsPlanOf p.now.given plan.now }
     ensures { AreUsableNodes p.now.given (snapshot_at p.now.given (choices_of plan.now) t) result }
 {
@@ -50,8 +53,8 @@ pub(crate) fn usable_nodes(p: &Problem, plan: &Plan, t: Instant) -> [bool; 512]
 }
 
 /// Whether the node where a machine is held, if there is one, is usable.
-fn is_held_usably(nodes: &[bool; 512], held: Option<Held>) -> bool
-    requires { IsHeldWithin 512 held }
+fn is_held_usably(nodes: &[bool; MAX_NODES], held: Option<Held>) -> bool
+    requires { IsHeldWithin max_nodes held }
     ensures { IsTrue result ↔ ((n : ℕ) → IsTrue (is_in (one n) held) → IsTrue (slice_index_or nodes.now n false)) }
 {
     match held {
@@ -61,8 +64,8 @@ fn is_held_usably(nodes: &[bool; 512], held: Option<Held>) -> bool
 }
 
 /// Whether the node of an image, if there is one, is usable.
-fn is_kept_usably(nodes: &[bool; 512], image: Option<NodeId>) -> bool
-    requires { IsNodeWithin 512 image }
+fn is_kept_usably(nodes: &[bool; MAX_NODES], image: Option<NodeId>) -> bool
+    requires { IsNodeWithin max_nodes image }
     ensures { IsTrue result ↔ ((n : ℕ) → IsTrue (nat_lt 0 (image_in (one n) image)) → IsTrue (slice_index_or nodes.now n false)) }
 {
     match image {
@@ -72,10 +75,10 @@ fn is_kept_usably(nodes: &[bool; 512], image: Option<NodeId>) -> bool
 }
 
 /// Whether a machine that holds this stands on usable nodes alone.
-fn stands_usably(nodes: &[bool; 512], now: Holding) -> bool
-    requires source { IsHeldWithin 512 now.source }
-    requires target { IsHeldWithin 512 now.target }
-    requires image { IsNodeWithin 512 now.image }
+fn stands_usably(nodes: &[bool; MAX_NODES], now: Holding) -> bool
+    requires source { IsHeldWithin max_nodes now.source }
+    requires target { IsHeldWithin max_nodes now.target }
+    requires image { IsNodeWithin max_nodes now.image }
     ensures { IsTrue result ↔ ((n : ℕ) → IsTrue (is_where now n) → IsTrue (slice_index_or nodes.now n false)) }
 {
     is_held_usably(nodes, now.source)

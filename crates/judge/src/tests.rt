@@ -107,6 +107,8 @@ enum Given {
     Among(&'static [u32], &'static [&'static [u32]], bool),
     Split(&'static [&'static [u32]], bool),
     Root(&'static [u32]),
+    Precedence(u32, u32),
+    Serialize(&'static [u32]),
     Preserve(&'static [u32], u64),
     UseAtMost(&'static [u32], u64, bool),
     RunAtMost(&'static [u32], u64, bool),
@@ -182,6 +184,13 @@ fn constraint(alloc: Global, given: Given) -> Result<Constraint, Fail> {
             continuous,
         },
         Given::Root(ids) => Constraint::Root {
+            machines: vms(alloc, ids)?,
+        },
+        Given::Precedence(before, after) => Constraint::Precedence {
+            before: VmId(before),
+            after: VmId(after),
+        },
+        Given::Serialize(ids) => Constraint::Serialize {
             machines: vms(alloc, ids)?,
         },
         Given::Preserve(ids, amount) => Constraint::Preserve {
@@ -343,7 +352,7 @@ static MEMBERS: [Case; 15] = cases! {
     [Given::Split(&[&[0, 1], &[2, 3]], true)] [(0, 1, 5)] [] [(5, true), (20, true)] Wanted::Valid;
 };
 
-static PLACES: [Case; 13] = cases! {
+static PLACES: [Case; 15] = cases! {
     [Given::Ban(&[0], &[1], true)] [(0, 1, 5)] [] [(4, true), (5, false)] Wanted::Rule(5, 0);
     [Given::Ban(&[0], &[1], false)] [(0, 1, 5)] [] [(4, true), (5, false)] Wanted::Rule(20, 0);
     [Given::Ban(&[0], &[2], true)] [(0, 1, 5)] [] [(5, true), (20, true)] Wanted::Valid;
@@ -358,6 +367,23 @@ static PLACES: [Case; 13] = cases! {
     [Given::Among(&[0, 1], &[&[0, 1], &[1, 2]], true)] [(0, 2, 5)] [] [(7, false), (8, true)] Wanted::Rule(5, 0);
     [Given::Among(&[0, 1], &[&[0, 1], &[1, 2]], false)] [(0, 2, 5)] [] [(7, false), (8, true)] Wanted::Valid;
     [Given::Among(&[2, 3], &[&[0]], true)] [] [] [(0, true), (20, true)] Wanted::Valid;
+    // without a group no presence is left
+    [Given::Among(&[2, 3], &[], true)] [] [] [(0, true), (20, true)] Wanted::Valid;
+    [Given::Among(&[0], &[], true)] [] [] [(0, false)] Wanted::Rule(0, 0);
+};
+
+/// A migration that starts at 5 is over at 8.
+static ACTIONS: [Case; 8] = cases! {
+    [Given::Precedence(0, 1)] [(0, 1, 5), (1, 2, 8)] [] [(7, true), (8, true)] Wanted::Valid;
+    [Given::Precedence(0, 1)] [(0, 1, 5), (1, 2, 7)] [] [(6, true), (7, false), (8, true)] Wanted::Rule(7, 0);
+    // v0 is to wait for v1
+    [Given::Precedence(1, 0)] [(0, 1, 5), (1, 2, 8)] [] [(4, true), (5, false)] Wanted::Rule(5, 0);
+    // one of the two stays
+    [Given::Precedence(0, 1)] [(1, 2, 5)] [] [(5, true), (20, true)] Wanted::Valid;
+    [Given::Precedence(1, 0)] [(1, 2, 5)] [] [(5, true), (20, true)] Wanted::Valid;
+    [Given::Serialize(&[0, 1])] [(0, 1, 5), (1, 2, 7)] [] [(6, true), (7, false), (8, true)] Wanted::Rule(7, 0);
+    [Given::Serialize(&[0, 1])] [(0, 1, 5), (1, 2, 8)] [] [(7, true), (8, true)] Wanted::Valid;
+    [Given::Serialize(&[0, 2])] [(0, 1, 5), (1, 2, 5)] [] [(5, true)] Wanted::Valid;
 };
 
 /// A node that starts to boot at 5 is powered from 5 on, and usable from 9 on.
@@ -399,6 +425,12 @@ fn members_share_nodes(rt: HostRuntime) -> Result<(), Fail> {
 #[test]
 fn members_are_at_places(rt: HostRuntime) -> Result<(), Fail> {
     assert_eq!(rt; wrong(rt.alloc(), &PLACES)?, None);
+    Ok(())
+}
+
+#[test]
+fn actions_are_in_order(rt: HostRuntime) -> Result<(), Fail> {
+    assert_eq!(rt; wrong(rt.alloc(), &ACTIONS)?, None);
     Ok(())
 }
 

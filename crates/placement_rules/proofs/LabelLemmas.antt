@@ -12,7 +12,7 @@ use Rattle.slices.specs.Holds.{AreApart}
 use Rattle.slices.specs.Snapshots.{Snapshot}
 use Rattle.slices.specs.Stages.{one}
 use Rattle.placement_rules.specs.Labels.{Labels, AreNoted, split_labels}
-use Rattle.placement_rules.proofs.Members.{member_split, member_kept, member_here, front_member, member_within, part_within, part_listed}
+use Rattle.placement_rules.proofs.Members.{member_split, member_kept, member_here, prefix_member, member_within, part_within, part_listed}
 use Rattle.placement_rules.proofs.Noting.{IsOneMore, Meets, noted_apart, noted_same}
 
 -- each of the first i members has its number
@@ -39,8 +39,8 @@ spread_apart p s vs i table all noted = λ n v w a b c f x.
 pub spread_meets : (p : Instance) (s : Snapshot) (vs : List VmId) (i : ℕ) (d : VmId) → i < length vs → list_all (λ x. nat_lt x.0 (machine_count p)) vs ≡ true → Meets s (spread_labels vs i) (node_count p) (get_or vs i d).0 (get_or vs i d).0 → ¬ AreApart p s (Spread vs true)
 spread_meets p s vs i d k all m apart =
     let parts = and_parts (is_member (take i vs) m.other) (m.label == m.other) m.labelled in
-    let other = front_member vs i m.other parts.0 in
-    let here = front_member vs (i + 1) (get_or vs i d).0 (member_here vs i d k) in
+    let other = prefix_member vs i m.other parts.0 in
+    let here = prefix_member vs (i + 1) (get_or vs i d).0 (member_here vs i d k) in
     both_ways (s.present (get_or vs i d).0 _) (apart m.at m.other (get_or vs i d).0 m.within (member_within vs (machine_count p) m.other all other) (member_within vs (machine_count p) _ all here) (other, here, λ e. m.apart (eqb-true m.label m.other parts.1 ∙ e)) m.present) m.here
 
 -- ---- split
@@ -114,7 +114,7 @@ split_meets p s parts i vs k d low is all m apart =
     elim (or_cases (split_labels parts i m.other m.label) ((m.label == i) && is_member (take k vs) m.other) m.labelled) [
       | inl a ↦
           let other = (and_parts (nat_lt m.label i) (is_member (slice_index_or parts m.label []) m.other) a).1 in
-          let here : IsTrue (is_member (slice_index_or parts i []) (get_or vs k d).0) = rw (← is) (front_member vs (k + 1) (get_or vs k d).0 (member_here vs k d low)) in
+          let here : IsTrue (is_member (slice_index_or parts i []) (get_or vs k d).0) = rw (← is) (prefix_member vs (k + 1) (get_or vs k d).0 (member_here vs k d low)) in
           both_ways (s.present (get_or vs k d).0 (one m.at)) (apart m.at m.other (get_or vs k d).0 m.within (part_within parts m.label m.other (machine_count p) all other) (part_within parts i (get_or vs k d).0 (machine_count p) all here) (m.label, i, m.apart, other, here) m.present) m.here
       | inr b ↦ absurd (m.apart (eqb-true m.label i (and_parts (m.label == i) (is_member (take k vs) m.other) b).0))
     ]

@@ -1,5 +1,6 @@
-pub mod FewerLemmas
-pub mod Members
-pub mod Noting
-pub mod LabelLemmas
-pub mod Reaching
+pub mod Public
+mod Members
+mod Noting
+mod LabelLemmas
+mod Reaching
+mod Turns

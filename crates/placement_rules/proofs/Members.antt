@@ -1,14 +1,14 @@
--- The machines of a list, and those of its front.
+-- The machines of a list, and those of a prefix of it.
 use Rattle.std.proofs.Common.{◌≡◌, ◌⊎◌, inl, inr, ℕ, zero, suc, ◌+◌, ◌<◌, Bool, true, false, ◌||◌, ◌==◌, List, [], ◌∷◌, length, take, IsTrue, refl, sym, ◌∙◌, arith, get_or, nat_lt, slice_index_or}
 use Rattle.std.specs.List.{list_all}
-use Rattle.std.proofs.lemmas.Bool.{both_ways, or_cases, or_left, or_right, and_parts, eqb-true, eq-eqb, ltb-true, cases_lt}
+use Rattle.std.proofs.lemmas.Bool.{both_ways, or_cases, or_left, or_right, and_from, and_parts, eqb-true, eq-eqb, ltb-true, cases_lt}
 use Rattle.std.proofs.lemmas.List.{get_or_past}
-use Rattle.std.proofs.lemmas.List.Folds.{list_any_more}
+use Rattle.std.proofs.lemmas.List.Folds.{list_all-append, list_any_more}
 use Rattle.std.proofs.lemmas.Bool.Decides.{nat_tests}
 use Rattle.cluster.specs.declared.ids.VmId.{VmId}
-use Rattle.catalogue.specs.Faults.{is_member}
+use Rattle.catalogue.specs.Faults.{all_of, is_member}
 
--- a machine of a front with one more is of the front, or is that one
+-- a machine of a prefix with one more is of the prefix, or is that one
 pub member_split : (vs : List VmId) (i : ℕ) (d : VmId) (w : ℕ) → i < length vs → IsTrue (is_member (take (i + 1) vs) w) → IsTrue (is_member (take i vs) w) ⊎ (w ≡ (get_or vs i d).0)
 member_split vs i d w k h =
     let e = list_any_more (λ x. x.0 == w) vs i d k in
@@ -21,13 +21,13 @@ pub member_here : (vs : List VmId) (i : ℕ) (d : VmId) → i < length vs → Is
 member_here vs i d k =
     list_any_more (λ x. x.0 == (get_or vs i d).0) vs i d k ∙ or_right (is_member (take i vs) (get_or vs i d).0) _ (eq-eqb (get_or vs i d).0 (get_or vs i d).0 refl)
 
--- a machine of a front is one of the list
-pub front_member : (vs : List VmId) (i w : ℕ) → IsTrue (is_member (take i vs) w) → IsTrue (is_member vs w)
-front_member [] zero w h = h
-front_member [] (suc i) w h = h
-front_member (x ∷ vs) zero w h = absurd (both_ways false refl h)
-front_member (x ∷ vs) (suc i) w h =
-    elim (or_cases (x.0 == w) (is_member (take i vs) w) h) [ inl here ↦ or_left (x.0 == w) (is_member vs w) here | inr later ↦ or_right (x.0 == w) (is_member vs w) (front_member vs i w later) ]
+-- a machine of a prefix is one of the list
+pub prefix_member : (vs : List VmId) (i w : ℕ) → IsTrue (is_member (take i vs) w) → IsTrue (is_member vs w)
+prefix_member [] zero w h = h
+prefix_member [] (suc i) w h = h
+prefix_member (x ∷ vs) zero w h = absurd (both_ways false refl h)
+prefix_member (x ∷ vs) (suc i) w h =
+    elim (or_cases (x.0 == w) (is_member (take i vs) w) h) [ inl here ↦ or_left (x.0 == w) (is_member vs w) here | inr later ↦ or_right (x.0 == w) (is_member vs w) (prefix_member vs i w later) ]
 
 -- each machine of a list is in range
 pub member_within : (vs : List VmId) (k w : ℕ) → list_all (λ x. nat_lt x.0 k) vs ≡ true → IsTrue (is_member vs w) → w < k
@@ -51,6 +51,13 @@ pub part_within : (parts : List (List VmId)) (i v k : ℕ) → list_all (list_al
 part_within [] i v k h m = absurd (omega (arith, part_listed [] i v m))
 part_within (vs ∷ parts) zero v k h m = member_within vs k v (and_parts (list_all (λ x. nat_lt x.0 k) vs) (list_all (list_all (λ x. nat_lt x.0 k)) parts) h).0 m
 part_within (vs ∷ parts) (suc i) v k h m = part_within parts i v k (and_parts (list_all (λ x. nat_lt x.0 k) vs) (list_all (list_all (λ x. nat_lt x.0 k)) parts) h).1 m
+
+-- where all machines of the parts are in range, those of each part are
+pub parts_below : (k : ℕ) (parts : List (List VmId)) → list_all (λ x. nat_lt x.0 k) (all_of parts) ≡ true → list_all (list_all (λ x. nat_lt x.0 k)) parts ≡ true
+parts_below k [] h = refl
+parts_below k (vs ∷ parts) h =
+    let both = and_parts (list_all (λ x. nat_lt x.0 k) vs) (list_all (λ x. nat_lt x.0 k) (all_of parts)) (sym (list_all-append (λ x. nat_lt x.0 k) vs (all_of parts)) ∙ h) in
+    and_from (list_all (λ x. nat_lt x.0 k) vs) (list_all (list_all (λ x. nat_lt x.0 k)) parts) both.0 (parts_below k parts both.1)
 
 -- ---- marks
 

@@ -1,7 +1,6 @@
 -- Labels that are noted on nodes.
-use Rattle.std.proofs.Common.{◌≡◌, ◌≢◌, ◌⊎◌, inl, inr, ℕ, ◌<◌, true, false, List, Option, Some, None, IsTrue, refl, sym, ◌∙◌, arith, replicate}
-use Rattle.std.proofs.lemmas.Bool.{both_ways, cases_Bool, cases_lt, or_cases, eqb-true, false_from_ne_true}
-use Rattle.std.proofs.lemmas.List.{get_or-replicate, get_or_past, length-replicate}
+use Rattle.std.proofs.Common.{◌≡◌, ◌≢◌, ◌⊎◌, inl, inr, ℕ, ◌<◌, true, false, List, Option, Some, None, IsTrue, refl, sym, ◌∙◌, arith}
+use Rattle.std.proofs.lemmas.Bool.{both_ways, cases_Bool, or_cases, eqb-true, false_from_ne_true}
 use Rattle.catalogue.specs.Instance.{Instance}
 use Rattle.slices.specs.Elements.{node_count}
 use Rattle.slices.specs.Snapshots.{Snapshot}
@@ -10,11 +9,6 @@ use Rattle.placement_rules.specs.Labels.{Labels, IsClaim, AreNoted, is_on, label
 use Rattle.slices.specs.Holdings.{IsHoldingOf, IsHeldWithin, is_in}
 use Rattle.slices.specs.declared.holding.Held.{Held}
 use Rattle.slices.specs.declared.holding.Holding.{Holding}
-
--- a table that repeats None has no label
-pub no_label : (k n : ℕ) → label_on (replicate k None) n ≡ None
-no_label k n =
-    elim (cases_lt n k) [ inl low ↦ get_or-replicate k n None None low | inr high ↦ get_or_past (replicate k None) n None (omega (arith, length-replicate {A = Option ℕ} k None)) ]
 
 -- the labels of machines with one more
 pub record IsOneMore (old new : Labels) (v l : ℕ) : Type 0 where

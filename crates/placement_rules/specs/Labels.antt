@@ -1,6 +1,7 @@
 -- Labels of machines, noted on the nodes on which they are present.
 use Rattle.std.specs.Prelude.{◌≡◌, ◌⊎◌, ◌≢◌, ℕ, ◌<◌, Bool, false, ◌||◌, ◌&&◌, nat_lt, List, [], Option, Some, None, slice_index_or, IsTrue}
 use Rattle.cluster.specs.declared.ids.VmId.{VmId}
+use Rattle.cluster.specs.Limits.{max_nodes}
 use Rattle.catalogue.specs.Faults.{is_member}
 use Rattle.slices.specs.Snapshots.{Snapshot}
 use Rattle.slices.specs.Stages.{one}
@@ -24,7 +25,7 @@ pub record IsClaim (h : Holding) (label : ℕ) (old new : List (Option ℕ)) (ok
   pub others : IsTrue ok → (n : ℕ) → is_on h n ≡ false → label_on new n ≡ label_on old n
   pub taken : IsTrue ok → (n : ℕ) → IsTrue (is_on h n) → label_on new n ≡ Some label
   pub free : IsTrue ok → (n : ℕ) → IsTrue (is_on h n) → (label_on old n ≡ None) ⊎ (label_on old n ≡ Some label)
-  pub refused : ok ≡ false → (n : ℕ) × (l : ℕ) × (n < 512) × IsTrue (is_on h n) × (label_on old n ≡ Some l) × (l ≢ label)
+  pub refused : ok ≡ false → (n : ℕ) × (l : ℕ) × (n < max_nodes) × IsTrue (is_on h n) × (label_on old n ≡ Some l) × (l ≢ label)
 
 -- the table has the label of each labelled machine on all nodes where that is present, and no label else
 pub record AreNoted (s : Snapshot) (labels : Labels) (table : List (Option ℕ)) : Type 0 where

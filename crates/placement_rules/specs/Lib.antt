@@ -1,4 +1,3 @@
 pub mod HoldsAt
-pub mod Fewer
 pub mod Labels
 pub mod Places

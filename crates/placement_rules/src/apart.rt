@@ -3,7 +3,9 @@ ghost use Rattle.std.specs.Prelude.{◌≡◌, ◌↔◌, ◌⊎◌, ◌≢◌, 
 ghost use Rattle.std.specs.List.{list_all};
 ghost use Rattle.catalogue.specs.declared.constraint.Constraint.TheVariants.{Spread, Split, Lonely};
 ghost use Rattle.catalogue.specs.Faults.{is_member};
-ghost use Rattle.catalogue.specs.Seen.{has_seen};
+ghost use Rattle.catalogue.specs.Limits.{max_parts};
+ghost use Rattle.cluster.specs.Limits.{max_nodes};
+ghost use Rattle.cluster.specs.Sets.{has_machine};
 ghost use Rattle.slices.specs.Elements.{machine_count};
 ghost use Rattle.slices.specs.Holds.{AreApart};
 ghost use Rattle.slices.specs.Plans.{IsPlanOf, choices_of};
@@ -15,27 +17,28 @@ ghost use Rattle.slices.specs.Holdings.{IsHeldWithin, is_in};
 use crate::counts::machines_of;
 use catalogue::lists::Vms;
 use catalogue::problem::Problem;
-use catalogue::seen::Seen;
 use cluster::choices::Instant;
 use cluster::ids::VmId;
+use cluster::limits::MAX_NODES;
+use cluster::sets::MachineSet;
+use slices::holding::{Held, Holding};
 use slices::plan::Plan;
 use slices::snapshot::holding_at;
-use slices::holding::{Held, Holding};
 
 /// A table of nodes without labels.
-fn no_labels() -> [Option<u32>; 512]
+fn no_labels() -> [Option<u32>; MAX_NODES]
     ensures { (n : ℕ) → label_on result n ≡ None }
 {
-    [None; 512]
+    [None; MAX_NODES]
 }
 
 /// Notes a label where something is held. False where another label is noted there.
-fn claim(table: &mut [Option<u32>; 512], held: Option<Held>, label: u32) -> bool
-    requires within { IsHeldWithin 512 held }
+fn claim(table: &mut [Option<u32>; MAX_NODES], held: Option<Held>, label: u32) -> bool
+    requires within { IsHeldWithin max_nodes held }
     ensures others { (n : ℕ) → is_in (one n) held ≡ false → label_on table.new n ≡ label_on table.old n }
     ensures taken { IsTrue result → (n : ℕ) → IsTrue (is_in (one n) held) → label_on table.new n ≡ Some label }
     ensures free { IsTrue result → (n : ℕ) → IsTrue (is_in (one n) held) → (label_on table.old n ≡ None) ⊎ (label_on table.old n ≡ Some label) }
-    ensures refused { result ≡ false → (n : ℕ) × (l : ℕ) × (n < 512) × IsTrue (is_in (one n) held) × (label_on table.old n ≡ Some l) × (l ≢ label) }
+    ensures refused { result ≡ false → (n : ℕ) × (l : ℕ) × (n < max_nodes) × IsTrue (is_in (one n) held) × (label_on table.old n ≡ Some l) × (l ≢ label) }
 {
     match held {
         Some(h) => {
@@ -53,9 +56,9 @@ fn claim(table: &mut [Option<u32>; 512], held: Option<Held>, label: u32) -> bool
 }
 
 /// Notes a label on the nodes of a machine. False where another label is noted on one of them.
-fn claim_both(table: &mut [Option<u32>; 512], now: Holding, label: u32) -> bool
-    requires source { IsHeldWithin 512 now.source }
-    requires target { IsHeldWithin 512 now.target }
+fn claim_both(table: &mut [Option<u32>; MAX_NODES], now: Holding, label: u32) -> bool
+    requires source { IsHeldWithin max_nodes now.source }
+    requires target { IsHeldWithin max_nodes now.target }
     ensures { IsClaim now label table.old table.new result }
 {
     claim(table, now.source, label) && claim(table, now.target, label)
@@ -80,7 +83,7 @@ pub fn is_spread(p: &Problem, plan: &Plan, machines: &[VmId], t: Instant) -> boo
 /// Notes the number of a part on the nodes of its machines. False where another number is noted
 /// on one of them.
 fn claim_part(
-    table: &mut [Option<u32>; 512],
+    table: &mut [Option<u32>; MAX_NODES],
     p: &Problem,
     plan: &Plan,
     parts: &[Vms],
@@ -90,7 +93,7 @@ fn claim_part(
     requires plan { IsPlanOf p.now.given plan.now }
     requires machines { list_all (list_all (λ x. nat_lt x.0 (machine_count p.now.given))) parts.now ≡ true }
     requires part { i < length parts.now }
-    requires few { length parts.now ≤ 4096 }
+    requires few { length parts.now ≤ max_parts }
     requires noted { AreNoted (snapshot_at p.now.given (choices_of plan.now) t) (split_labels parts.now i) table.old }
     ensures noted { IsTrue result → AreNoted (snapshot_at p.now.given (choices_of plan.now) t) (split_labels parts.now (i + 1)) table.new }
     ensures met { result ≡ false → ¬ AreApart p.now.given (snapshot_at p.now.given (choices_of plan.now) t) (Split parts.now true) }
@@ -108,7 +111,7 @@ fn claim_part(
 pub fn is_split(p: &Problem, plan: &Plan, parts: &[Vms], t: Instant) -> bool
     requires plan { IsPlanOf p.now.given plan.now }
     requires machines { list_all (list_all (λ x. nat_lt x.0 (machine_count p.now.given))) parts.now ≡ true }
-    requires few { length parts.now ≤ 4096 }
+    requires few { length parts.now ≤ max_parts }
     ensures { IsTrue result ↔ AreApart p.now.given (snapshot_at p.now.given (choices_of plan.now) t) (Split parts.now true) }
 {
     let mut table = no_labels();
@@ -121,13 +124,13 @@ pub fn is_split(p: &Problem, plan: &Plan, parts: &[Vms], t: Instant) -> bool
 }
 
 /// The machines of a list.
-fn members(p: &Problem, machines: &[VmId]) -> Seen
+fn members(p: &Problem, machines: &[VmId]) -> MachineSet
     requires machines { list_all (λ x. nat_lt x.0 (machine_count p.now.given)) machines.now ≡ true }
-    ensures { (v : ℕ) → has_seen result v ≡ is_member machines.now v }
+    ensures { (v : ℕ) → has_machine result v ≡ is_member machines.now v }
 {
-    let mut members = Seen::new();
+    let mut members = MachineSet::new();
     for v in machines {
-        members.mark(*v);
+        members.insert(*v);
     }
     members
 }

@@ -10,10 +10,9 @@ use catalogue::problem::Problem;
 use cluster::choices::Instant;
 use cluster::ids::{NodeId, VmId};
 use cluster::sets::NodeSet;
-use slices::holding::amount;
+use slices::holding::{Held, amount};
 use slices::plan::Plan;
 use slices::snapshot::{holding_at, powered};
-use slices::holding::Held;
 
 /// How many machines there are.
 pub(crate) fn machines_of(p: &Problem) -> usize

@@ -1,9 +1,10 @@
 //! Where the machines of a list are all together.
-ghost use Rattle.std.specs.Prelude.{◌≡◌, ◌↔◌, ◌<◌, ◌≤◌, ◌||◌, ℕ, false, true, nat_lt, IsTrue, Any};
-ghost use Rattle.std.specs.List.{list_all};
+ghost use Rattle.std.specs.Prelude.{◌≡◌, ◌↔◌, ◌<◌, ◌≤◌, ◌||◌, ℕ, false, true, map, nat_lt, Any, IsTrue, MatchOption};
+ghost use Rattle.std.specs.List.{list_all, range_with_len};
+ghost use Rattle.cluster.specs.Limits.{max_nodes};
 ghost use Rattle.cluster.specs.Sets.{has_node};
-ghost use Rattle.slices.specs.Elements.{machine_count};
-ghost use Rattle.slices.specs.Holds.{AreTogether, AreWithin};
+ghost use Rattle.slices.specs.Elements.{machine_count, node_count};
+ghost use Rattle.slices.specs.Holds.{AreGrouped};
 ghost use Rattle.slices.specs.Plans.{IsPlanOf, choices_of};
 ghost use Rattle.slices.specs.Snapshots.{snapshot_at};
 ghost use Rattle.slices.specs.Stages.{one};
@@ -15,13 +16,13 @@ use catalogue::problem::Problem;
 use cluster::choices::Instant;
 use cluster::ids::{NodeId, VmId};
 use cluster::sets::NodeSet;
+use slices::holding::Held;
 use slices::plan::Plan;
 use slices::snapshot::holding_at;
-use slices::holding::Held;
 
 /// Puts the node where something is held into the set.
 fn put(set: &mut NodeSet, held: Option<Held>)
-    requires within { IsHeldWithin 512 held }
+    requires within { IsHeldWithin max_nodes held }
     ensures { (n : ℕ) → has_node set.new n ≡ (is_in (one n) held || has_node set.old n) }
 {
     match held {
@@ -45,26 +46,33 @@ fn reached(p: &Problem, plan: &Plan, machines: &[VmId], t: Instant) -> NodeSet
     set
 }
 
-/// Whether the set has at most one of the first nodes.
-fn is_single(set: &NodeSet, count: usize) -> bool
-    requires { count ≤ 512 }
-    ensures { IsTrue result ↔ ((n m : ℕ) → n < count → m < count → IsTrue (has_node set.now n) → IsTrue (has_node set.now m) → n ≡ m) }
+/// The first node of a set, of those below the count.
+fn first_node(set: &NodeSet, count: usize) -> Option<NodeId>
+    requires { count ≤ max_nodes }
+    ensures { MatchOption result ((n : ℕ) → n < count → has_node set.now n ≡ false) (λ n. (n.0 < count) × IsTrue (has_node set.now n.0)) }
 {
-    let mut found = false;
-    for n in 0..count {
-        if set.has(NodeId(n as u32)) {
-            if found {
-                return false;
-            }
-            found = true;
+    for i in 0..count {
+        let n = NodeId(i as u32);
+        if set.has(n) {
+            return Some(n);
         }
     }
-    true
+    None
+}
+
+/// The set of one node.
+fn only(n: NodeId) -> NodeSet
+    requires { n.0 < max_nodes }
+    ensures { (m : ℕ) → has_node result m ≡ one n.0 m }
+{
+    let mut set = NodeSet::new();
+    set.insert(n);
+    set
 }
 
 /// Whether those of the first nodes that are in a set are in the other one.
 fn is_inside(set: &NodeSet, other: &NodeSet, count: usize) -> bool
-    requires { count ≤ 512 }
+    requires { count ≤ max_nodes }
     ensures { IsTrue result ↔ ((n : ℕ) → n < count → IsTrue (has_node set.now n) → IsTrue (has_node other.now n)) }
 {
     for i in 0..count {
@@ -76,17 +84,35 @@ fn is_inside(set: &NodeSet, other: &NodeSet, count: usize) -> bool
     true
 }
 
-/// Whether one node has all presences of the machines.
+/// Whether one of the groups has those of the first nodes that are in a set.
+fn is_inside_some(set: &NodeSet, groups: &[NodeSet], count: usize) -> bool
+    requires { count ≤ max_nodes }
+    ensures { IsTrue result ↔ Any (λ g. (n : ℕ) → n < count → IsTrue (has_node set.now n) → IsTrue (has_node g n)) groups.now }
+{
+    for group in groups {
+        if is_inside(set, group, count) {
+            return true;
+        }
+    }
+    false
+}
+
+/// Whether one node has all presences of the machines, or there is none.
 pub fn are_together(p: &Problem, plan: &Plan, machines: &[VmId], t: Instant) -> bool
     requires plan { IsPlanOf p.now.given plan.now }
     requires machines { list_all (λ x. nat_lt x.0 (machine_count p.now.given)) machines.now ≡ true }
-    ensures { IsTrue result ↔ AreTogether p.now.given (snapshot_at p.now.given (choices_of plan.now) t) machines.now }
+    ensures { let single_nodes = map one (range_with_len 0 (node_count p.now.given)) in
+        IsTrue result ↔ AreGrouped p.now.given (snapshot_at p.now.given (choices_of plan.now) t) machines.now single_nodes }
 {
     let nodes = reached(p, plan, machines, t);
-    is_single(&nodes, nodes_of(p))
+    let count = nodes_of(p);
+    match first_node(&nodes, count) {
+        Some(n) => is_inside(&nodes, &only(n), count),
+        None => true,
+    }
 }
 
-/// Whether one of the groups has all nodes on which the machines are present.
+/// Whether one of the groups has all presences of the machines, or there is none.
 pub fn are_among(
     p: &Problem,
     plan: &Plan,
@@ -96,13 +122,12 @@ pub fn are_among(
 ) -> bool
     requires plan { IsPlanOf p.now.given plan.now }
     requires machines { list_all (λ x. nat_lt x.0 (machine_count p.now.given)) machines.now ≡ true }
-    ensures { IsTrue result ↔ Any (λ g. AreWithin p.now.given (snapshot_at p.now.given (choices_of plan.now) t) machines.now (has_node g)) groups.now }
+    ensures { IsTrue result ↔ AreGrouped p.now.given (snapshot_at p.now.given (choices_of plan.now) t) machines.now (map has_node groups.now) }
 {
     let nodes = reached(p, plan, machines, t);
-    for group in groups {
-        if is_inside(&nodes, group, nodes_of(p)) {
-            return true;
-        }
+    let count = nodes_of(p);
+    match first_node(&nodes, count) {
+        Some(_) => is_inside_some(&nodes, groups, count),
+        None => true,
     }
-    false
 }

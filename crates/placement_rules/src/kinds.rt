@@ -7,6 +7,7 @@ ghost use Rattle.slices.specs.Plans.{IsPlanOf, choices_of};
 ghost use Rattle.slices.specs.Snapshots.{snapshot_at};
 ghost use Rattle.placement_rules.specs.HoldsAt.{HoldsAt};
 
+use crate::actions::{is_in_order, take_turns};
 use crate::apart::{is_lonely, is_split, is_spread};
 use crate::counts::{powered_in, presences_on, use_on};
 use crate::groups::{are_among, are_together};
@@ -35,6 +36,8 @@ fn is_kept(p: &Problem, plan: &Plan, constraint: &Constraint, t: Instant) -> boo
             ..
         } => are_among(p, plan, machines.items(), groups.items(), t),
         Constraint::Split { parts, .. } => is_split(p, plan, parts.items(), t),
+        Constraint::Precedence { before, after } => is_in_order(p, plan, *before, *after, t),
+        Constraint::Serialize { machines } => take_turns(p, plan, machines.items(), t),
         Constraint::ResourceCapacity {
             nodes,
             resource,

@@ -15,9 +15,9 @@ use catalogue::problem::Problem;
 use cluster::choices::Instant;
 use cluster::ids::{NodeId, VmId};
 use cluster::states::State;
+use slices::holding::Held;
 use slices::plan::Plan;
 use slices::snapshot::holding_at;
-use slices::holding::Held;
 
 /// Whether a machine runs at present, on another node.
 fn runs_elsewhere(state: State, n: NodeId) -> bool
@@ -25,7 +25,7 @@ fn runs_elsewhere(state: State, n: NodeId) -> bool
 {
     match state {
         State::Running(h) => h.0 != n.0,
-        _ => false,
+        State::Init | State::Ready | State::Sleeping(_) | State::Gone => false,
     }
 }
 
@@ -39,7 +39,24 @@ fn forbids(p: &Problem, constraint: &Constraint, v: VmId, n: NodeId) -> bool
         Constraint::Ban { nodes, .. } => nodes.has(n),
         Constraint::Fence { nodes, .. } => !nodes.has(n),
         Constraint::Root { .. } => { runs_elsewhere(p.cluster().machines()[v.0 as usize].state, n) }
-        _ => false,
+        Constraint::Spread { .. }
+        | Constraint::Gather { .. }
+        | Constraint::Lonely { .. }
+        | Constraint::Among { .. }
+        | Constraint::Split { .. }
+        | Constraint::Precedence { .. }
+        | Constraint::Serialize { .. }
+        | Constraint::Preserve { .. }
+        | Constraint::ResourceCapacity { .. }
+        | Constraint::RunningCapacity { .. }
+        | Constraint::MaxOnline { .. }
+        | Constraint::Overbook { .. }
+        | Constraint::Online { .. }
+        | Constraint::Offline { .. }
+        | Constraint::Running { .. }
+        | Constraint::Sleeping { .. }
+        | Constraint::Ready { .. }
+        | Constraint::Killed { .. } => false,
     }
 }
 

@@ -11,7 +11,7 @@ use Rattle.cluster.specs.declared.ids.Element.{Element}
 use Rattle.cluster.specs.declared.choices.Place.{Place}
 use Rattle.catalogue.specs.Instance.{Instance}
 use Rattle.slices.specs.Actions.{end_of}
-use Rattle.judge.proofs.Tables.{mark_none}
+use Rattle.sums.proofs.Lists.{copies_at}
 use Rattle.replay.specs.Events.{turns}
 
 -- one mark more
@@ -43,9 +43,9 @@ turns_marked p e c place start end t b is ends = rw (ends, is) refl
 pub ends_marked : (marks : List Bool) (horizon t : ℕ) → marks ≡ replicate (horizon + 1) false → slice_index_or (slice_set (slice_set marks 0 true) horizon true) t false ≡ ((t == 0) || (t == horizon))
 ends_marked marks horizon t is =
     let size : length marks ≡ horizon + 1 = rw is (length-replicate {A = Bool} (horizon + 1) false) in
-    let none : slice_index_or marks t false ≡ false = rw is (mark_none (horizon + 1) t) in
+    let none : slice_index_or marks t false ≡ false = rw is (copies_at (horizon + 1) t false) in
     both_marked marks 0 horizon t (omega arith) (omega arith) ∙ ap (λ (b : Bool). b || ((t == 0) || (t == horizon))) none
 
--- the front of a list is its first part
-pub front_is : (n : ℕ) (marks rest : List Bool) → length marks ≡ n → take n (marks ++ rest) ≡ marks
-front_is n marks rest size = rw (sym size) (take-append_seam marks rest)
+-- so many items of a list are its first part
+pub prefix_is : (n : ℕ) (marks rest : List Bool) → length marks ≡ n → take n (marks ++ rest) ≡ marks
+prefix_is n marks rest size = rw (sym size) (take-append_seam marks rest)

@@ -4,9 +4,9 @@ use Rattle.std.specs.List.{filter, list_any, range_with_len}
 use Rattle.cluster.specs.declared.choices.Choice.{Choice}
 use Rattle.cluster.specs.declared.choices.Choice.TheVariants.{Idle, Act}
 use Rattle.cluster.specs.declared.ids.Element.{Element}
-use Rattle.catalogue.specs.Instance.{Instance}
+use Rattle.cluster.specs.Elements.{element_at, element_count}
+use Rattle.catalogue.specs.Instance.{Instance, inventory_of}
 use Rattle.slices.specs.Actions.{end_of}
-use Rattle.slices.specs.Elements.{element_at, element_count}
 use Rattle.slices.specs.Plans.{Choices}
 
 -- whether an element's action, if its choice is one, starts or ends at an instant
@@ -16,11 +16,11 @@ turns p e (Act place start) t = (t == start) || (t == end_of p e (Act place star
 
 -- whether the action of one of the first k elements starts or ends at an instant
 abbrev pub turns_below : Instance → Choices → ℕ → ℕ → Bool
-turns_below p plan k t = list_any (λ x. turns p (element_at p x) (plan (element_at p x)) t) (range_with_len 0 k)
+turns_below p plan k t = list_any (λ x. let e = element_at (inventory_of p) x in turns p e (plan e) t) (range_with_len 0 k)
 
 -- whether an instant is 0, the horizon, or the start or the end of an action
 unfoldable pub is_event : Instance → Choices → ℕ → Bool
-is_event p plan t = (t == 0) || (t == p.horizon) || turns_below p plan (element_count p) t
+is_event p plan t = (t == 0) || (t == p.horizon) || turns_below p plan (element_count (inventory_of p)) t
 
 -- the event instants, ascending
 unfoldable pub events : Instance → Choices → List ℕ

@@ -2,6 +2,7 @@
 use Rattle.std.specs.Prelude.{ℕ, List, [], ◌++◌, length, slice_index_or, Option, Some, None, codes}
 use Rattle.std.specs.Fmt.{decimal}
 use Rattle.std.specs.List.{flat_map, range_with_len}
+use Rattle.cluster.specs.declared.ids.Element.{Element}
 use Rattle.cluster.specs.Inventory.{name_of}
 use Rattle.catalogue.specs.Instance.{Instance, inventory_of}
 use Rattle.slices.specs.declared.rule.Broken.{Broken}
@@ -13,15 +14,12 @@ use Rattle.slices.specs.Plans.{Choices}
 use Rattle.slices.specs.Snapshots.{snapshot_at}
 use Rattle.judge.specs.Standing.{Loads, loads_of}
 
--- a word behind a blank
+-- a word after a blank
 abbrev pub spaced : List ℕ → List ℕ
 spaced word = codes " " ++ word
 
-abbrev pub machine_name : Instance → ℕ → List ℕ
-machine_name p v = name_of (inventory_of p) (vm v)
-
-abbrev pub node_name : Instance → ℕ → List ℕ
-node_name p n = name_of (inventory_of p) (node n)
+abbrev pub element_name : Instance → Element → List ℕ
+element_name p e = name_of (inventory_of p) e
 
 abbrev pub resource_name : Instance → ℕ → List ℕ
 resource_name p r = slice_index_or p.resources r []
@@ -32,7 +30,7 @@ loads_text p loads n = flat_map (λ r. spaced (decimal (loads n r))) (range_with
 
 -- a node's name and its loads
 unfoldable pub node_text : Instance → Loads → ℕ → List ℕ
-node_text p loads n = spaced (node_name p n) ++ loads_text p loads n
+node_text p loads n = spaced (element_name p (node n)) ++ loads_text p loads n
 
 -- each node in order
 abbrev pub nodes_text : Instance → Loads → List ℕ
@@ -44,8 +42,8 @@ at_line p plan t = codes "at " ++ decimal t ++ nodes_text p (loads_of p (snapsho
 
 -- a rule: the load of a node for a resource, a machine on a node that is to be usable, or a constraint by its number
 abbrev pub rule_text : Instance → Rule → List ℕ
-rule_text p (Load n r) = codes "load " ++ node_name p n.0 ++ spaced (resource_name p r)
-rule_text p (Usable v n) = codes "usable " ++ machine_name p v.0 ++ spaced (node_name p n.0)
+rule_text p (Load n r) = codes "load " ++ element_name p (node n.0) ++ spaced (resource_name p r)
+rule_text p (Usable v n) = codes "usable " ++ element_name p (vm v.0) ++ spaced (element_name p (node n.0))
 rule_text p (Constraint c) = codes "rule " ++ decimal c
 
 -- the instant and the rule that are broken

@@ -18,8 +18,8 @@ pub record IsVerdict (p : Instance) (plan : Choices) (answer : Option Broken) : 
 unfoldable pub report_text : Instance → Choices → Option Broken → List ℕ
 report_text p plan answer = flat_map (at_line p plan) (events p plan) ++ verdict_line p plan answer
 
--- what was written before, and a front of the report behind it
-pub record IsFrontOfReport (p : Instance) (plan : Choices) (before after : List ℕ) : Type 0 where
+-- what was written before, and after it a prefix of the report
+pub record IsPrefixOfReport (p : Instance) (plan : Choices) (before after : List ℕ) : Type 0 where
   pub answer : Option Broken
   pub verdict : IsVerdict p plan answer
-  pub front : StartsWith (before ++ report_text p plan answer) after
+  pub prefix : StartsWith (before ++ report_text p plan answer) after

@@ -1,7 +1,7 @@
 //! The instants at which something happens: 0, each start and each end of an action, and the horizon.
 ghost use Rattle.std.specs.Prelude.{◌≡◌, ◌+◌, ◌||◌, ℕ, false, length, slice_index_or, IfOk};
-ghost use Rattle.catalogue.specs.Instance.{IsElement};
-ghost use Rattle.slices.specs.Elements.{element_count};
+ghost use Rattle.cluster.specs.Elements.{element_count};
+ghost use Rattle.catalogue.specs.Instance.{IsElement, inventory_of};
 ghost use Rattle.slices.specs.Plans.{IsPlanOf, choices_of};
 ghost use Rattle.replay.specs.Events.{events, is_event, turns, turns_below};
 
@@ -9,7 +9,6 @@ use catalogue::problem::Problem;
 use cluster::choices::{Choice, Instant};
 use cluster::ids::Element;
 use memory::Memory;
-use slices::elements::{count, element};
 use slices::plan::{Plan, end_in};
 use std::alloc::Global;
 
@@ -31,14 +30,14 @@ fn mark_element(marks: &mut [bool], p: &Problem, plan: &Plan, e: Element)
 }
 
 /// Marks the starts and the ends of all actions.
-#[tactic(auto, using(crate::proofs::Ranges::any_more))]
+#[tactic(auto, using(sums::proofs::Ranges::any_more))]
 fn mark_elements(marks: &mut [bool], p: &Problem, plan: &Plan)
     requires plan { IsPlanOf p.now.given plan.now }
     requires room { length marks.old ≡ p.now.given.horizon + 1 }
-    ensures { (t : ℕ) → slice_index_or marks.new t false ≡ (slice_index_or marks.old t false || turns_below p.now.given (choices_of plan.now) (element_count p.now.given) t) }
+    ensures { (t : ℕ) → slice_index_or marks.new t false ≡ (slice_index_or marks.old t false || turns_below p.now.given (choices_of plan.now) (element_count (inventory_of p.now.given)) t) }
 {
-    for x in 0..count(p) {
-        mark_element(marks, p, plan, element(p, x));
+    for x in 0..p.cluster().element_count() {
+        mark_element(marks, p, plan, p.cluster().element(x));
     }
 }
 
@@ -58,7 +57,7 @@ fn marks(alloc: Global, p: &Problem, plan: &Plan) -> Result<Vec<bool>, Memory>
 }
 
 /// The event instants, ascending and without repeats.
-#[tactic(auto, using(crate::proofs::Ranges::passes_more, crate::proofs::Ranges::fails_more), unfolding(crate::specs::Events::events))]
+#[tactic(auto, using(sums::proofs::Ranges::passes_more, sums::proofs::Ranges::fails_more), unfolding(crate::specs::Events::events))]
 pub(crate) fn events(alloc: Global, p: &Problem, plan: &Plan) -> Result<Vec<Instant>, Memory>
     requires { IsPlanOf p.now.given plan.now }
     ensures events { IfOk result (λ instants. instants.items ≡ events p.now.given (choices_of plan.now)) }

@@ -1,34 +1,18 @@
 //! The lines of a report.
 ghost use Rattle.std.specs.Prelude.{◌≡◌, ◌++◌, ◌<◌, length, IfOk, IfSome, OnOk, string_bytes};
 ghost use Rattle.catalogue.specs.Cells.{cell};
-ghost use Rattle.slices.specs.Elements.{machine_count, node_count};
+ghost use Rattle.slices.specs.Elements.{node_count};
 ghost use Rattle.slices.specs.Plans.{IsPlanOf, choices_of};
 ghost use Rattle.slices.specs.Rules.{InRange};
-ghost use Rattle.replay.specs.Lines.{at_line, broken_line, loads_text, machine_name, node_name, node_text, nodes_text, resource_name, rule_text, verdict_line};
+ghost use Rattle.replay.specs.Lines.{at_line, broken_line, loads_text, node_text, nodes_text, resource_name, rule_text, verdict_line};
 
 use catalogue::problem::Problem;
 use cluster::choices::Instant;
-use cluster::ids::{NodeId, VmId};
+use cluster::ids::{Element, NodeId};
 use judge::{Broken, Loads, Rule, loads_at};
 use memory::Memory;
 use slices::plan::{Plan, cost};
 use std::alloc::Global;
-
-// ---- names
-
-fn machine_name(p: &Problem, v: VmId) -> &str
-    requires { v.0 < machine_count p.now.given }
-    ensures { result.now ≡ machine_name p.now.given v.0 }
-{
-    p.cluster().machines()[v.0 as usize].name.as_text()
-}
-
-fn node_name(p: &Problem, n: NodeId) -> &str
-    requires { n.0 < node_count p.now.given }
-    ensures { result.now ≡ node_name p.now.given n.0 }
-{
-    p.cluster().nodes()[n.0 as usize].name.as_text()
-}
 
 fn resource_name(p: &Problem, r: u8) -> &str
     requires { r < length p.now.given.resources }
@@ -40,7 +24,7 @@ fn resource_name(p: &Problem, r: u8) -> &str
 // ---- an instant
 
 /// Adds the loads of a node, one for each resource in order.
-#[tactic(auto, using(crate::proofs::Ranges::text_more))]
+#[tactic(auto, using(sums::proofs::Ranges::text_more))]
 fn push_loads(line: &mut String, p: &Problem, table: &Loads, n: NodeId) -> Result<(), Memory>
     requires { n.0 < node_count p.now.given }
     ensures { OnOk result (string_bytes line.new ≡ string_bytes line.old ++ loads_text p.now.given (cell table.now) n.0) }
@@ -58,13 +42,13 @@ fn push_node(line: &mut String, p: &Problem, table: &Loads, n: NodeId) -> Result
     requires { n.0 < node_count p.now.given }
     ensures { OnOk result (string_bytes line.new ≡ string_bytes line.old ++ node_text p.now.given (cell table.now) n.0) }
 {
-    let name = node_name(p, n);
+    let name = p.cluster().name(Element::Node(n));
     write!(line, " {name}")?;
     push_loads(line, p, table, n)
 }
 
 /// Adds each node in order.
-#[tactic(auto, using(crate::proofs::Ranges::text_more))]
+#[tactic(auto, using(sums::proofs::Ranges::text_more))]
 fn push_nodes(line: &mut String, p: &Problem, table: &Loads) -> Result<(), Memory>
     ensures { OnOk result (string_bytes line.new ≡ string_bytes line.old ++ nodes_text p.now.given (cell table.now)) }
 {
@@ -74,7 +58,7 @@ fn push_nodes(line: &mut String, p: &Problem, table: &Loads) -> Result<(), Memor
     Ok(())
 }
 
-/// The line of an instant: each node in order, and behind it its load of each resource in order.
+/// The line of an instant: each node in order, and after it its load of each resource in order.
 #[tactic(auto, using(crate::proofs::Texts::same_loads), unfolding(crate::specs::Lines::at_line))]
 pub(crate) fn at_line(alloc: Global, p: &Problem, plan: &Plan, t: Instant) -> Result<String, Memory>
     requires { IsPlanOf p.now.given plan.now }
@@ -88,25 +72,29 @@ pub(crate) fn at_line(alloc: Global, p: &Problem, plan: &Plan, t: Instant) -> Re
 
 // ---- the verdict
 
-/// A rule, by the names of what it speaks of.
+/// A rule, by the names of what it speaks of: `load NODE RESOURCE`, `usable MACHINE NODE` or
+/// `rule C`, with a constraint's number.
 fn rule_text(alloc: Global, p: &Problem, rule: Rule) -> Result<String, Memory>
     requires { InRange p.now.given rule }
     ensures { IfOk result (λ text. string_bytes text ≡ rule_text p.now.given rule) }
 {
     let text = match rule {
-        Rule::Load(n, r) => format!(in alloc; "load {} {}", node_name(p, n), resource_name(p, r))?,
+        Rule::Load(n, r) => format!(in alloc;
+            "load {} {}",
+            p.cluster().name(Element::Node(n)),
+            resource_name(p, r)
+        )?,
         Rule::Usable(v, n) => format!(in alloc;
             "usable {} {}",
-            machine_name(p, v),
-            node_name(p, n)
+            p.cluster().name(Element::Vm(v)),
+            p.cluster().name(Element::Node(n))
         )?,
         Rule::Constraint(c) => format!(in alloc; "rule {c}")?,
     };
     Ok(text)
 }
 
-/// The line `broken T RULE`, of a rule that is broken at an instant. RULE is `load NODE RESOURCE`,
-/// `usable MACHINE NODE` or `rule C`, with a constraint's number.
+/// The line `broken T RULE`, of a rule that is broken at an instant.
 #[tactic(auto, unfolding(crate::specs::Lines::broken_line))]
 pub fn broken_line(alloc: Global, p: &Problem, broken: Broken) -> Result<String, Memory>
     requires { InRange p.now.given broken.rule }

@@ -5,7 +5,7 @@ ghost use Rattle.std.specs.List.{flat_map};
 ghost use Rattle.plan_io.specs.Causes.{CountsWrites};
 ghost use Rattle.slices.specs.Plans.{IsPlanOf, choices_of};
 ghost use Rattle.replay.specs.Lines.{at_line};
-ghost use Rattle.replay.specs.Report.{IsFrontOfReport, IsVerdict, report_text};
+ghost use Rattle.replay.specs.Report.{IsPrefixOfReport, IsVerdict, report_text};
 
 use crate::events::events;
 use crate::lines::{at_line, verdict_line};
@@ -17,7 +17,7 @@ use slices::plan::Plan;
 use std::alloc::Global;
 
 /// Writes a line for each of some instants.
-#[tactic(auto, using(crate::proofs::Texts::piece_front))]
+#[tactic(auto, using(crate::proofs::Texts::piece_prefix))]
 fn write_instants<O: Sink>(
     alloc: Global,
     p: &Problem,
@@ -41,13 +41,13 @@ fn write_instants<O: Sink>(
 /// Writes the report on a plan, line by line, and gives what is broken first, if anything is.
 ///
 /// For 0, each start and each end of an action and the horizon, in ascending order and each once,
-/// there is a line `at T`, and behind it for each node in order its name and its load of each
+/// there is a line `at T`, and after it for each node in order its name and its load of each
 /// resource in order. The last line is `valid C` with the plan's cost, or `broken T RULE`. Each line
 /// is offered to the sink whole.
 ///
-/// After a refusal the sink has got a front of the report. `Failed` comes only where the sink's
+/// After a refusal the sink has got a prefix of the report. `Failed` comes only where the sink's
 /// count of faults rose.
-#[tactic(auto, using(sums::proofs::Fronts::longer, sums::proofs::Fronts::longer_text, sums::proofs::Fronts::further), unfolding(crate::specs::Report::report_text))]
+#[tactic(auto, using(sums::proofs::Prefixes::longer, sums::proofs::Prefixes::longer_text, sums::proofs::Prefixes::further), unfolding(crate::specs::Report::report_text))]
 pub fn report<O: Sink>(
     alloc: Global,
     p: &Problem,
@@ -57,7 +57,7 @@ pub fn report<O: Sink>(
     requires { IsPlanOf p.now.given plan.now }
     ensures verdict { IfOk result (IsVerdict p.now.given (choices_of plan.now)) }
     ensures written { IsTrue O.tells → IfOk result (λ answer. O.written out.new ≡ O.written out.old ++ report_text p.now.given (choices_of plan.now) answer) }
-    ensures cut { IsTrue O.tells → IsFrontOfReport p.now.given (choices_of plan.now) (O.written out.old) (O.written out.new) }
+    ensures cut { IsTrue O.tells → IsPrefixOfReport p.now.given (choices_of plan.now) (O.written out.old) (O.written out.new) }
     ensures stays { IsTrue O.tells → StartsWith (O.written out.new) (O.written out.old) }
     ensures cause { CountsWrites (O.faults out.old) (O.faults out.new) result }
 {

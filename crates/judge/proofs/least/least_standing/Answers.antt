@@ -1,22 +1,17 @@
-use Rattle.std.proofs.Common.{arith}
-use Rattle.slices.specs.Elements.{element_at, number_of}
+use Rattle.std.proofs.Common.{◌+◌, arith}
+use Rattle.std.proofs.lemmas.Bool.{iff_false}
 use Rattle.slices.specs.Plans.{choices_of}
-use Rattle.slices.proofs.StartLemmas.{element_at-number_of, number_of-lt}
-use Rattle.judge.specs.Verdict.{StandsAt}
-use Rattle.judge.proofs.Lowering.{lower_trans, numbers_more, stands_before}
-use Rattle.judge.proofs.Quiet.{starts_stand}
+use Rattle.judge.proofs.Lowering.{suspect_standing}
+use Rattle.judge.proofs.Quiet.{stands_until}
 use Rattle.judge.proofs.least.least_standing.Goals as goal
 
-pub loop-x-preserved : goal.loop-x-preserved
-loop-x-preserved c =
-    let plan = choices_of c.args.plan.now in
-    record {
-      lower = lower_trans c.args.p.now.given plan c.args.best c.loop-x.least c.try_standing-least.result c.loop-x.invariant.lower c.try_standing-least.ensures.lower;
-      first = λ low. c.loop-x.invariant.first (omega (arith, c.try_standing-least.ensures.lower.lower));
-      tried = numbers_more (StandsAt c.args.p.now.given plan) plan (element_at c.args.p.now.given) c.loop-x.least c.try_standing-least.result c.loop-x.x c.try_standing-least.ensures.lower.lower c.loop-x.invariant.tried (rw c.element.ensures.element at c.try_standing-least.ensures.tried);
-    }
+pub returns-then-not-stands-clause-suspect : goal.returns-then-not-stands-clause-suspect
+returns-then-not-stands-clause-suspect c = suspect_standing c.args.p.now.given (choices_of c.args.plan.now) c.loop-t.t (omega arith) (iff_false c.stands.ensures c.if-not-stands.true)
 
-pub returns-clause-stands : goal.returns-clause-stands
-returns-clause-stands c =
+pub loop-t-preserved : goal.loop-t-preserved
+loop-t-preserved c =
     let p = c.args.p.now.given in
-    stands_before p (choices_of c.args.plan.now) c.loop-x.least (starts_stand p (choices_of c.args.plan.now) c.loop-x.least c.loop-x.invariant.first (λ e there. rw (element_at-number_of p e there) at (c.loop-x.invariant.tried (number_of p e) (omega (arith, number_of-lt p e there)))))
+    record {
+      bounded = omega arith;
+      stands = stands_until p c.args.plan.now c.requires.plan c.loop-t.t (p.horizon + 1) c.next_start-t.result c.loop-t.invariant.stands (c.stands.ensures.0 c.if-not-stands.false) c.next_start-t.ensures;
+    }

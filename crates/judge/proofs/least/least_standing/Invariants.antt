@@ -1,12 +1,13 @@
-use Rattle.std.proofs.Common.{ℕ, ◌<◌}
-use Rattle.slices.specs.Elements.{element_at}
+use Rattle.std.proofs.Common.{ℕ, ◌+◌, ◌-◌, ◌<◌, ◌≤◌}
 use Rattle.slices.specs.Plans.{choices_of}
-use Rattle.judge.specs.Verdict.{IsLower, StandsAt, StandsAtStart}
+use Rattle.judge.specs.Verdict.{StandsAt}
 use Rattle.judge.proofs.least.least_standing.Given as goal
 
-abbrev pub invariant-loop-x : goal.invariant-loop-x
-invariant-loop-x l = record {
-  lower : IsLower l.p.given (choices_of l.plan) l.best l.least;
-  first : 0 < l.least → StandsAt l.p.given (choices_of l.plan) 0;
-  tried : (x : ℕ) → x < l.x → StandsAtStart l.p.given (choices_of l.plan) l.least (element_at l.p.given x);
+abbrev pub invariant-loop-t : goal.invariant-loop-t
+invariant-loop-t l = record {
+  bounded : l.t ≤ l.p.given.horizon + 1;
+  stands : (u : ℕ) → u < l.t → StandsAt l.p.given (choices_of l.plan) u;
 }
+
+abbrev pub decreases-loop-t : goal.decreases-loop-t
+decreases-loop-t l = l.p.given.horizon + 1 - l.t

@@ -1,5 +1,7 @@
-use Rattle.judge.proofs.Tables.{mark_none}
+use Rattle.std.proofs.Common.{false}
+use Rattle.cluster.specs.Limits.{max_nodes}
+use Rattle.sums.proofs.Lists.{copies_at}
 use Rattle.judge.proofs.standing.no_nodes.Goals as goal
 
 pub returns : goal.returns
-returns c = mark_none 512
+returns c = λ n. copies_at max_nodes n false

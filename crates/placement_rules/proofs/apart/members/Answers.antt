@@ -3,4 +3,4 @@ use Rattle.placement_rules.proofs.Members.{mark_more}
 use Rattle.placement_rules.proofs.apart.members.Goals as goal
 
 pub loop-v-preserved : goal.loop-v-preserved
-loop-v-preserved c = λ v. c.mark.ensures v ∙ mark_more c.args.machines.now c.loop-v.v-index _ v _ (omega arith) (c.loop-v.invariant v)
+loop-v-preserved c = λ v. c.insert.ensures v ∙ mark_more c.args.machines.now c.loop-v.v-index _ v _ (omega arith) (c.loop-v.invariant v)

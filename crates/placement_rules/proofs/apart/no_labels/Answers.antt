@@ -1,5 +1,7 @@
-use Rattle.placement_rules.proofs.Noting.{no_label}
+use Rattle.cluster.specs.Limits.{max_nodes}
+use Rattle.std.proofs.Common.{None}
+use Rattle.sums.proofs.Lists.{copies_at}
 use Rattle.placement_rules.proofs.apart.no_labels.Goals as goal
 
 pub returns : goal.returns
-returns c = no_label 512
+returns c = λ n. copies_at max_nodes n None

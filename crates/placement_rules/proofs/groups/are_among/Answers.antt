@@ -1,20 +1,17 @@
-use Rattle.std.proofs.Common.{refl, sym, arith}
-use Rattle.std.proofs.lemmas.Bool.{iff_false}
-use Rattle.cluster.specs.Sets.{has_node}
-use Rattle.slices.specs.Holds.{AreWithin}
+use Rattle.std.proofs.Common.{inl, refl}
 use Rattle.slices.specs.Plans.{choices_of}
 use Rattle.slices.specs.Snapshots.{snapshot_at}
-use Rattle.placement_rules.proofs.Reaching.{inside_within, no_group_more}
+use Rattle.placement_rules.proofs.Reaching.{among, none_absent}
 use Rattle.placement_rules.proofs.groups.are_among.Goals as goal
 
-pub returns-then-is_inside : goal.returns-then-is_inside
-returns-then-is_inside c =
-    let inside = rw c.nodes_of.ensures at (c.is_inside.ensures.0 c.if-is_inside.true) in
-    let within = (inside_within c.args.p.now.given _ c.args.machines.now c.reached-nodes.result c.requires.machines c.reached-nodes.ensures c.group-item.result).0 inside in
-    (λ _. (c.loop-group.group-index, c.group-item.result, omega arith, sym c.group-item.is, within), λ _. refl)
+pub returns-in-Some : goal.returns-in-Some
+returns-in-Some c =
+    let p = c.args.p.now.given in
+    let same = among p (snapshot_at p (choices_of c.args.plan.now) c.args.t) c.args.machines.now c.reached-nodes.result c.requires.machines c.reached-nodes.ensures c.args.groups.now c.in-Some.field-0.0 (rw c.nodes_of-count.ensures at c.in-Some.ensures.0) c.in-Some.ensures.1 in
+    let inside = rw c.nodes_of-count.ensures at c.is_inside_some.ensures in
+    (λ b. same.0 (inside.0 b), λ grouped. inside.1 (same.1 grouped))
 
-pub loop-group-preserved : goal.loop-group-preserved
-loop-group-preserved c =
-    let outside = rw c.nodes_of.ensures at (iff_false c.is_inside.ensures c.if-is_inside.false) in
-    let here = λ (within : AreWithin c.args.p.now.given (snapshot_at c.args.p.now.given (choices_of c.args.plan.now) c.args.t) c.args.machines.now (has_node c.group-item.result)). outside ((inside_within c.args.p.now.given _ c.args.machines.now c.reached-nodes.result c.requires.machines c.reached-nodes.ensures c.group-item.result).1 within) in
-    no_group_more (λ g. AreWithin c.args.p.now.given (snapshot_at c.args.p.now.given (choices_of c.args.plan.now) c.args.t) c.args.machines.now (has_node g)) c.args.groups.now c.loop-group.group-index c.group-item.result (omega arith) c.group-item.is c.loop-group.invariant here
+pub returns-in-None : goal.returns-in-None
+returns-in-None c =
+    let p = c.args.p.now.given in
+    (λ _. inl (none_absent p (snapshot_at p (choices_of c.args.plan.now) c.args.t) c.args.machines.now c.reached-nodes.result c.requires.machines c.reached-nodes.ensures (rw c.nodes_of-count.ensures at c.in-None.ensures)), λ _. refl)

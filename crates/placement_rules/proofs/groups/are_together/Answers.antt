@@ -1,8 +1,17 @@
-use Rattle.placement_rules.proofs.Reaching.{single_together}
+use Rattle.std.proofs.Common.{◌∙◌, inl, refl, sym}
+use Rattle.slices.specs.Plans.{choices_of}
+use Rattle.slices.specs.Snapshots.{snapshot_at}
+use Rattle.placement_rules.proofs.Reaching.{none_absent, together}
 use Rattle.placement_rules.proofs.groups.are_together.Goals as goal
 
-pub returns : goal.returns
-returns c =
-    let same = single_together c.args.p.now.given _ c.args.machines.now c.reached-nodes.result c.requires.machines c.reached-nodes.ensures in
-    let single = rw c.nodes_of.ensures at c.is_single.ensures in
-    (λ b. same.0 (single.0 b), λ together. single.1 (same.1 together))
+pub returns-in-Some : goal.returns-in-Some
+returns-in-Some c =
+    let p = c.args.p.now.given in
+    let same = together p (snapshot_at p (choices_of c.args.plan.now) c.args.t) c.args.machines.now c.reached-nodes.result c.requires.machines c.reached-nodes.ensures c.in-Some.n.0 (rw c.nodes_of-count.ensures at c.in-Some.ensures.0) c.in-Some.ensures.1 in
+    let inside = rw c.nodes_of-count.ensures at c.is_inside.ensures in
+    (λ b. same.0 (λ m low h. sym (c.only.ensures m) ∙ inside.0 b m low h), λ grouped. inside.1 (λ m low h. c.only.ensures m ∙ same.1 grouped m low h))
+
+pub returns-in-None : goal.returns-in-None
+returns-in-None c =
+    let p = c.args.p.now.given in
+    (λ _. inl (none_absent p (snapshot_at p (choices_of c.args.plan.now) c.args.t) c.args.machines.now c.reached-nodes.result c.requires.machines c.reached-nodes.ensures (rw c.nodes_of-count.ensures at c.in-None.ensures)), λ _. refl)

@@ -1,5 +1,5 @@
 use Rattle.std.proofs.Common.{◌<◌, false, length, slice_index_or, sym, ◌∙◌, arith}
-use Rattle.slices.proofs.DurationLemmas.{legal_acts_last}
+use Rattle.slices.proofs.Public.{legal_acts_last}
 use Rattle.slices.specs.Plans.{choices_of}
 use Rattle.replay.proofs.Marks.{both_marked, turns_marked}
 use Rattle.replay.proofs.events.mark_element.Goals as goal

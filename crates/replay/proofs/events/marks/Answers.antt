@@ -1,7 +1,8 @@
 use Rattle.std.proofs.Common.{◌||◌, ◌==◌, Bool, List, false, slice_index_or, ◌∙◌, ap, arith}
-use Rattle.slices.specs.Elements.{element_count}
+use Rattle.cluster.specs.Elements.{element_count}
+use Rattle.catalogue.specs.Instance.{inventory_of}
 use Rattle.slices.specs.Plans.{choices_of}
-use Rattle.replay.proofs.Marks.{ends_marked, front_is}
+use Rattle.replay.proofs.Marks.{ends_marked, prefix_is}
 use Rattle.replay.specs.Events.{is_event, turns_below}
 use Rattle.replay.proofs.events.marks.Goals as goal
 
@@ -9,10 +10,10 @@ pub returns-clause-marks : goal.returns-clause-marks
 unfolding is_event
 returns-clause-marks c = λ t.
     let p = c.args.p.now.given in
-    let later = λ (b : Bool). b || turns_below p (choices_of c.args.plan.now) (element_count p) t in
+    let later = λ (b : Bool). b || turns_below p (choices_of c.args.plan.now) (element_count (inventory_of p)) t in
     let ends = ends_marked c.in_ok-marks.marks.items c.horizon-horizon.result t (c.in_ok-marks.ensures.items_if_clones_equal (λ y h. h)) in
-    ap (λ (l : List Bool). slice_index_or l t false) (front_is c.in_ok-marks.marks.len c.mark_elements.new.marks _ (grind arith))
+    ap (λ (l : List Bool). slice_index_or l t false) (prefix_is c.in_ok-marks.marks.len c.mark_elements.new.marks _ (grind arith))
     ∙ c.mark_elements.ensures t
     ∙ ap (λ (l : List Bool). later (slice_index_or l t false)) c.deref_mut.ensures.value
     ∙ ap later ends
-    ∙ ap (λ h. (t == 0) || (t == h) || turns_below p (choices_of c.args.plan.now) (element_count p) t) c.horizon-horizon.ensures.horizon
+    ∙ ap (λ h. (t == 0) || (t == h) || turns_below p (choices_of c.args.plan.now) (element_count (inventory_of p)) t) c.horizon-horizon.ensures.horizon

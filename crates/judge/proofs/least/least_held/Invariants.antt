@@ -1,0 +1,10 @@
+use Rattle.std.proofs.Common.{ℕ, ◌-◌, ◌<◌}
+use Rattle.slices.specs.Plans.{choices_of}
+use Rattle.placement_rules.specs.HoldsAt.{HoldsAt}
+use Rattle.judge.proofs.least.least_held.Given as goal
+
+abbrev pub invariant-loop-at : goal.invariant-loop-at
+invariant-loop-at l = (u : ℕ) → u < l.at → HoldsAt l.p.given (choices_of l.plan) u l.c
+
+abbrev pub decreases-loop-at : goal.decreases-loop-at
+decreases-loop-at l = l.best - l.at

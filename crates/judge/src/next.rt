@@ -1,0 +1,170 @@
+//! The next start after an instant: of all elements, or of those alone that matter to a constraint.
+ghost use Rattle.std.specs.Prelude.{◌≡◌, ◌+◌, ◌<◌, ◌≤◌, true, length, nat_lt, IfSome, IsTrue};
+ghost use Rattle.std.specs.List.{list_all};
+ghost use Rattle.cluster.specs.Sets.{has_node};
+ghost use Rattle.catalogue.specs.Faults.{is_rule};
+ghost use Rattle.catalogue.specs.Instance.{IsElement, inventory_of};
+ghost use Rattle.slices.specs.Elements.{machine_count, node, node_count};
+ghost use Rattle.slices.specs.Holds.{IsMember};
+ghost use Rattle.slices.specs.Starts.{start_of};
+ghost use Rattle.slices.specs.Plans.{IsPlanOf, choices_of};
+ghost use Rattle.judge.specs.Starts.{AreMachines, AreNodes, IsInSome, IsNext, Matters};
+
+use crate::standing::{machines_of, nodes_of};
+use catalogue::constraint::Constraint;
+use catalogue::lists::Vms;
+use catalogue::problem::Problem;
+use cluster::choices::{Choice, Instant};
+use cluster::ids::{Element, NodeId, VmId};
+use cluster::sets::NodeSet;
+use slices::plan::Plan;
+
+/// The start of an element's action, if it has one.
+fn start_in(p: &Problem, plan: &Plan, e: Element) -> Option<Instant>
+    requires plan { IsPlanOf p.now.given plan.now }
+    requires element { IsElement p.now.given e }
+    ensures start { result ≡ start_of (choices_of plan.now e) }
+    ensures in_time { IfSome result (λ s. s ≤ p.now.given.horizon) }
+{
+    match plan.choice(e) {
+        Choice::Idle => None,
+        Choice::Act { place: _, start } => Some(start),
+    }
+}
+
+/// The start of an element's action, where that is after t and before next, or else next.
+fn sooner(p: &Problem, plan: &Plan, e: Element, t: Instant, next: u32) -> u32
+    requires plan { IsPlanOf p.now.given plan.now }
+    requires element { IsElement p.now.given e }
+    requires later { t < next }
+    ensures { IsNext (choices_of plan.now) (λ x. x ≡ e) t next result }
+{
+    match start_in(p, plan, e) {
+        Some(start) => if t < start && start < next {
+            start
+        } else {
+            next
+        },
+        None => next,
+    }
+}
+
+/// The same of the machines of a list.
+fn next_member(p: &Problem, plan: &Plan, machines: &[VmId], t: Instant, next: u32) -> u32
+    requires plan { IsPlanOf p.now.given plan.now }
+    requires machines { list_all (λ x. nat_lt x.0 (machine_count p.now.given)) machines.now ≡ true }
+    requires later { t < next }
+    ensures { IsNext (choices_of plan.now) (AreMachines (IsMember machines.now)) t next result }
+{
+    let mut least = next;
+    for v in machines {
+        least = sooner(p, plan, Element::Vm(*v), t, least);
+    }
+    least
+}
+
+/// The same of the machines of some parts.
+fn next_in_parts(p: &Problem, plan: &Plan, parts: &[Vms], t: Instant, next: u32) -> u32
+    requires plan { IsPlanOf p.now.given plan.now }
+    requires machines { list_all (list_all (λ x. nat_lt x.0 (machine_count p.now.given))) parts.now ≡ true }
+    requires later { t < next }
+    ensures { IsNext (choices_of plan.now) (AreMachines (IsInSome parts.now (length parts.now))) t next result }
+{
+    let mut least = next;
+    for i in 0..parts.len() {
+        least = next_member(p, plan, parts[i].items(), t, least);
+    }
+    least
+}
+
+/// The same of all machines.
+fn next_machine(p: &Problem, plan: &Plan, t: Instant, next: u32) -> u32
+    requires plan { IsPlanOf p.now.given plan.now }
+    requires later { t < next }
+    ensures { IsNext (choices_of plan.now) (AreMachines (λ v. v < machine_count p.now.given)) t next result }
+{
+    let mut least = next;
+    for v in 0..machines_of(p) {
+        least = sooner(p, plan, Element::Vm(VmId(v as u32)), t, least);
+    }
+    least
+}
+
+/// The same of a node, if it is in the set.
+fn sooner_in(p: &Problem, plan: &Plan, nodes: &NodeSet, n: NodeId, t: Instant, next: u32) -> u32
+    requires plan { IsPlanOf p.now.given plan.now }
+    requires node { n.0 < node_count p.now.given }
+    requires later { t < next }
+    ensures { IsNext (choices_of plan.now) (λ x. (x ≡ node n.0) × IsTrue (has_node nodes.now n.0)) t next result }
+{
+    if nodes.has(n) {
+        sooner(p, plan, Element::Node(n), t, next)
+    } else {
+        next
+    }
+}
+
+/// The same of the nodes of a set.
+fn next_node(p: &Problem, plan: &Plan, nodes: &NodeSet, t: Instant, next: u32) -> u32
+    requires plan { IsPlanOf p.now.given plan.now }
+    requires later { t < next }
+    ensures { IsNext (choices_of plan.now) (AreNodes (λ n. (n < node_count p.now.given) × IsTrue (has_node nodes.now n))) t next result }
+{
+    let mut least = next;
+    for i in 0..nodes_of(p) {
+        least = sooner_in(p, plan, nodes, NodeId(i as u32), t, least);
+    }
+    least
+}
+
+/// The least start after t of an element that matters to the constraint, or one past the horizon
+/// where there is none.
+pub(crate) fn next_that_matters(
+    p: &Problem,
+    plan: &Plan,
+    constraint: &Constraint,
+    t: Instant,
+) -> u32
+    requires plan { IsPlanOf p.now.given plan.now }
+    requires rule { is_rule (inventory_of p.now.given) constraint.now ≡ true }
+    requires in_time { t ≤ p.now.given.horizon }
+    ensures { IsNext (choices_of plan.now) (Matters p.now.given constraint.now) t (p.now.given.horizon + 1) result }
+{
+    let past = p.horizon() + 1;
+    match constraint {
+        Constraint::Spread { machines, .. }
+        | Constraint::Ban { machines, .. }
+        | Constraint::Fence { machines, .. }
+        | Constraint::Gather { machines, .. }
+        | Constraint::Among { machines, .. }
+        | Constraint::Root { machines }
+        | Constraint::Serialize { machines } => next_member(p, plan, machines.items(), t, past),
+        Constraint::Precedence { after, .. } => sooner(p, plan, Element::Vm(*after), t, past),
+        Constraint::Split { parts, .. } => next_in_parts(p, plan, parts.items(), t, past),
+        Constraint::Lonely { .. }
+        | Constraint::ResourceCapacity { .. }
+        | Constraint::RunningCapacity { .. } => next_machine(p, plan, t, past),
+        Constraint::MaxOnline { nodes, .. } => next_node(p, plan, nodes, t, past),
+        Constraint::Preserve { .. }
+        | Constraint::Overbook { .. }
+        | Constraint::Online { .. }
+        | Constraint::Offline { .. }
+        | Constraint::Running { .. }
+        | Constraint::Sleeping { .. }
+        | Constraint::Ready { .. }
+        | Constraint::Killed { .. } => past,
+    }
+}
+
+/// The least start after t of any element, or one past the horizon where there is none.
+pub(crate) fn next_start(p: &Problem, plan: &Plan, t: Instant) -> u32
+    requires plan { IsPlanOf p.now.given plan.now }
+    requires in_time { t ≤ p.now.given.horizon }
+    ensures { IsNext (choices_of plan.now) (IsElement p.now.given) t (p.now.given.horizon + 1) result }
+{
+    let mut least = p.horizon() + 1;
+    for x in 0..p.cluster().element_count() {
+        least = sooner(p, plan, p.cluster().element(x), t, least);
+    }
+    least
+}
