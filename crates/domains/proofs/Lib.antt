@@ -1,3 +1,4 @@
+pub mod Public
 pub mod StartLemmas
 pub mod RowLemmas
 pub mod PartLemmas
@@ -6,3 +7,4 @@ pub mod SizeLemmas
 pub mod ListingLemmas
 pub mod RegionLemmas
 pub mod MeasureLemmas
+pub mod SplitLemmas

@@ -7,3 +7,5 @@ pub mod Sets
 pub mod Sizes
 pub mod Views
 pub mod Measures
+pub mod Laws
+pub mod Tests

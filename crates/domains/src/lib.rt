@@ -4,6 +4,7 @@
 #![tactic(auto)]
 
 pub mod domain;
+pub mod laws;
 mod listing;
 pub mod measure;
 pub mod parts;
@@ -11,3 +12,5 @@ pub mod region;
 mod rows;
 pub mod undo;
 pub mod view;
+#[cfg(test)]
+mod tests;
