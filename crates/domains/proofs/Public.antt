@@ -1,0 +1,186 @@
+-- What other crates may cite.
+use Rattle.std.proofs.Common.{◌≡◌, ◌≢◌, ◌⊎◌, inl, inr, ℕ, ◌≤◌, ◌<◌, ◌==◌, ◌&&◌, ◌||◌, nat_lt, min, not, Bool, true, false, cond, Option, Some, None, List, [], ◌∷◌, length, refl, sym, ap, ◌∙◌, arith}
+use Rattle.std.specs.List.{filter, Contains}
+use Rattle.std.proofs.lemmas.Bool.Decides.{nat_tests, Decides-eqb}
+use Rattle.sums.specs.Least.{lower, lowest, least}
+use Rattle.cluster.specs.declared.ids.Element.{Element}
+use Rattle.cluster.specs.declared.ids.Element.TheVariants.{Vm, Node}
+use Rattle.cluster.specs.declared.choices.Choice.{Choice}
+use Rattle.domains.specs.declared.parts.Part.{Part}
+use Rattle.domains.specs.Parts.{in_part, out_of_part}
+use Rattle.domains.specs.Sets.{Sets, keeping, same_element, surely, may, IsIn}
+use Rattle.domains.specs.Sizes.{size, IsOneOf}
+use Rattle.domains.specs.Laws.{PartsCover, PartsAreDisjoint, PlanSplits, PlanStays, SplitAddsUp, SizeFalls, SizeIsPositive, OpenHasTwo, CountFalls, CountFallsBelow, LeastOfEach, SurelyEach, MayEach, AreFewer, FilterIsFewer, SurelyStays, MayStays, LeastGrows, SurelyByLeast, MayByLeast, is_above_none, is_nought}
+use Rattle.domains.proofs.SplitLemmas.{contains_none, contains_cases, contains_here, contains_later, contains_filter, filter_contains, size-split, size-le, size-positive, size-two, count-le, count-lt}
+
+-- a test is true or false
+either : (b : Bool) → (b ≡ true) ⊎ (not b ≡ true)
+either true = inl refl
+either false = inr refl
+
+pub parts_cover : PartsCover
+parts_cover part cs c h = by (either (in_part part c))
+  where
+    by : (in_part part c ≡ true) ⊎ (not (in_part part c) ≡ true) → Contains (filter (in_part part) cs) c ⊎ Contains (filter (out_of_part part) cs) c
+    by (inl t) = inl (contains_filter (in_part part) cs c h t)
+    by (inr t) = inr (contains_filter (out_of_part part) cs c h t)
+
+pub parts_are_disjoint : PartsAreDisjoint
+parts_are_disjoint part cs c inside outside =
+    let a : in_part part c ≡ true = (filter_contains (in_part part) cs c inside).1 in
+    let b : not (in_part part c) ≡ true = (filter_contains (out_of_part part) cs c outside).1 in
+    let f : not true ≡ true = rw a at b in
+    cc
+
+-- a plan whose choice of x passes a test is in the region that keeps what passes
+plan-keeps : (s : Sets) (plan : Element → Choice) (x : Element) (test : Choice → Bool) → IsIn s plan → ((e : Element) → same_element e x ≡ true → test (plan e) ≡ true) → IsIn (keeping x test s) plan
+plan-keeps s plan x test h t e = by (same_element e x) refl
+  where
+    by : (b : Bool) → same_element e x ≡ b → Contains (cond b (filter test (s e)) (s e)) (plan e)
+    by true same = contains_filter test (s e) (plan e) (h e) (t e same)
+    by false other = h e
+
+-- elements that pass the test of being the same are equal
+pub same_is : (e x : Element) → same_element e x ≡ true → e ≡ x
+same_is (Vm v) (Vm w) t = ap (λ (n : ℕ). let e : Element = Vm (record { 0 = n }) in e) ((Decides-eqb v.0 w.0).0 t)
+same_is (Vm v) (Node n) t = cc
+same_is (Node m) (Vm w) t = cc
+same_is (Node m) (Node n) t = ap (λ (k : ℕ). let e : Element = Node (record { 0 = k }) in e) ((Decides-eqb m.0 n.0).0 t)
+
+same_plan : (plan : Element → Choice) (e x : Element) → same_element e x ≡ true → plan e ≡ plan x
+same_plan plan e x t = ap plan (same_is e x t)
+
+pub plan_splits : PlanSplits
+plan_splits s plan x part h = by (either (in_part part (plan x)))
+  where
+    by : (in_part part (plan x) ≡ true) ⊎ (not (in_part part (plan x)) ≡ true) → IsIn (keeping x (in_part part) s) plan ⊎ IsIn (keeping x (out_of_part part) s) plan
+    by (inl t) = inl (plan-keeps s plan x (in_part part) h (λ e same. ap (in_part part) (same_plan plan e x same) ∙ t))
+    by (inr t) = inr (plan-keeps s plan x (out_of_part part) h (λ e same. ap (out_of_part part) (same_plan plan e x same) ∙ t))
+
+pub plan_stays : PlanStays
+plan_stays s plan x test h e = by (same_element e x) (h e)
+  where
+    by : (b : Bool) → Contains (cond b (filter test (s e)) (s e)) (plan e) → Contains (s e) (plan e)
+    by true k = (filter_contains test (s e) (plan e) k).0
+    by false k = k
+
+pub split_adds_up : SplitAddsUp
+split_adds_up machines nodes s x part h = size-split machines nodes s x (in_part part) (out_of_part part) (λ c. refl) h
+
+pub size_falls : SizeFalls
+size_falls machines nodes s x test = size-le machines nodes s x test
+
+pub size_is_positive : SizeIsPositive
+size_is_positive machines nodes s some = size-positive machines nodes s some
+
+pub open_has_two : OpenHasTwo
+open_has_two machines nodes s some unfixed = by (size-two machines nodes s some)
+  where
+    by : ((x : Element) → IsOneOf machines nodes x → length (s x) ≡ 1) ⊎ (2 ≤ size machines nodes s) → 2 ≤ size machines nodes s
+    by (inl fixed) = absurd (unfixed fixed)
+    by (inr two) = two
+
+pub count_falls : CountFalls
+count_falls machines nodes s x test = count-le machines nodes s x test
+
+pub count_falls_below : CountFallsBelow
+count_falls_below machines nodes s x test c l h f = count-lt machines nodes s x test c l h f
+
+-- ---- each choice of a set
+
+lower-le : (a : ℕ) (o : Option ℕ) → lower a o ≤ a
+lower-le a None = omega arith
+lower-le a (Some b) = omega arith
+
+pub least_of_each : LeastOfEach
+least_of_each f [] c h = absurd (contains_none c h)
+least_of_each f (x ∷ []) c h = by (contains_cases x [] c h)
+  where
+    by : (x ≡ c) ⊎ Contains [] c → f x ≤ f c
+    by (inl same) = rw same (omega arith)
+    by (inr later) = absurd (contains_none c later)
+least_of_each f (x ∷ y ∷ ys) c h = by (contains_cases x (y ∷ ys) c h) (λ l. least_of_each f (y ∷ ys) c l)
+  where
+    by : (x ≡ c) ⊎ Contains (y ∷ ys) c → (Contains (y ∷ ys) c → lower (f y) (lowest f ys) ≤ f c) → min (f x) (lower (f y) (lowest f ys)) ≤ f c
+    by (inl same) rest = let e : f x ≡ f c = ap f same in omega arith
+    by (inr later) rest = let l = rest later in omega arith
+
+two_of : (a b : Bool) → (a && b) ≡ true → (a ≡ true) × (b ≡ true)
+two_of true b e = (refl, e)
+two_of false b e = cc
+
+one_of : (a b : Bool) → (a || b) ≡ true → (a ≡ true) ⊎ (b ≡ true)
+one_of true b e = inl refl
+one_of false b e = inr e
+
+or_first : (a b : Bool) → a ≡ true → (a || b) ≡ true
+or_first a b e = rw e refl
+
+or_second : (a b : Bool) → b ≡ true → (a || b) ≡ true
+or_second true b e = refl
+or_second false b e = e
+
+pub surely_each : SurelyEach
+surely_each test [] c h t = absurd (contains_none c h)
+surely_each test (x ∷ xs) c h t = by (contains_cases x xs c h) (λ l. surely_each test xs c l (two_of (test x) (surely test xs) t).1)
+  where
+    by : (x ≡ c) ⊎ Contains xs c → (Contains xs c → test c ≡ true) → test c ≡ true
+    by (inl same) rest = rw (← same) (two_of (test x) (surely test xs) t).0
+    by (inr later) rest = rest later
+
+pub may_each : MayEach
+may_each test [] c h t = absurd (contains_none c h)
+may_each test (x ∷ xs) c h t = by (contains_cases x xs c h) (λ l. may_each test xs c l t)
+  where
+    by : (x ≡ c) ⊎ Contains xs c → (Contains xs c → may test xs ≡ true) → (test x || may test xs) ≡ true
+    by (inl same) rest = or_first (test x) (may test xs) (ap test same ∙ t)
+    by (inr later) rest = or_second (test x) (may test xs) (rest later)
+
+-- ---- fewer choices
+
+pub filter_is_fewer : FilterIsFewer
+filter_is_fewer test cs c h = (filter_contains test cs c h).0
+
+pub surely_stays : SurelyStays
+surely_stays test [] cs fewer t = refl
+surely_stays test (x ∷ xs) cs fewer t =
+    let first : test x ≡ true = surely_each test cs x (fewer x (contains_here x xs)) t in
+    rw (first, surely_stays test xs cs (λ c h. fewer c (contains_later x xs c h)) t) refl
+
+pub may_stays : MayStays
+may_stays test [] cs fewer t = cc
+may_stays test (x ∷ xs) cs fewer t = by (one_of (test x) (may test xs) t) (λ u. may_stays test xs cs (λ c h. fewer c (contains_later x xs c h)) u)
+  where
+    by : (test x ≡ true) ⊎ (may test xs ≡ true) → (may test xs ≡ true → may test cs ≡ true) → may test cs ≡ true
+    by (inl first) rest = may_each test cs x (fewer x (contains_here x xs)) first
+    by (inr later) rest = rest later
+
+pub least_grows : LeastGrows
+least_grows f [] cs fewer ne = absurd (ne refl)
+least_grows f (x ∷ []) cs fewer ne = least_of_each f cs x (fewer x (contains_here x []))
+least_grows f (x ∷ y ∷ ys) cs fewer ne =
+    let first = least_of_each f cs x (fewer x (contains_here x (y ∷ ys))) in
+    let rest = least_grows f (y ∷ ys) cs (λ c h. fewer c (contains_later x (y ∷ ys) c h)) (λ e. cc) in
+    omega arith
+
+-- ---- by the least of a measure
+
+pub surely_by_least : SurelyByLeast
+surely_by_least test [] = refl
+surely_by_least test (c ∷ cs) = rw (surely_by_least test cs) (step (test c) (lowest (λ d. cond (test d) 1 0) cs))
+  where
+    step : (b : Bool) (o : Option ℕ) → (b && is_above_none o) ≡ nat_lt 0 (lower (cond b 1 0) o)
+    step true None = refl
+    step false None = refl
+    step true (Some n) = grind (arith, nat_tests)
+    step false (Some n) = grind (arith, nat_tests)
+
+pub may_by_least : MayByLeast
+may_by_least test [] = refl
+may_by_least test (c ∷ cs) = rw (may_by_least test cs) (step (test c) (lowest (λ d. cond (test d) 0 1) cs))
+  where
+    step : (b : Bool) (o : Option ℕ) → (b || is_nought o) ≡ (lower (cond b 0 1) o == 0)
+    step true None = refl
+    step false None = refl
+    step true (Some n) = grind (arith, nat_tests)
+    step false (Some n) = grind (arith, nat_tests)

@@ -1,0 +1,79 @@
+-- Rows whose places climb.
+use Rattle.std.proofs.Common.{◌≡◌, ◌⊎◌, inl, inr, ℕ, zero, suc, ◌+◌, ◌<◌, ◌≤◌, List, [], ◌∷◌, ◌++◌, arith, length, get_or, set}
+use Rattle.std.proofs.lemmas.List.{get_or_default}
+use Rattle.std.specs.List.{All, remove}
+use Rattle.std.proofs.lemmas.List.Elements.{All-head, All-tail}
+use Rattle.cluster.specs.declared.choices.Place.TheVariants.{Nowhere}
+use Rattle.domains.specs.declared.parts.Row.{Row}
+use Rattle.domains.specs.Choices.{place_index, Climbs}
+
+-- what a place of a list is read as where it has no row
+abbrev pub blank : Row
+blank = record { place = Nowhere; lo = 0; hi = 0 }
+
+-- rows that climb from an index on do so from a lower one
+pub Climbs-lower : (low from : ℕ) (rows : List Row) → low ≤ from → Climbs from rows → Climbs low rows
+Climbs-lower low from [] l c = tt
+Climbs-lower low from (r ∷ rs) l c = (omega arith, c.1, c.2)
+
+-- each row comes from there on, and is not empty
+pub Climbs-at : (from : ℕ) (rows : List Row) (i : ℕ) (d : Row) → Climbs from rows → i < length rows → (from ≤ place_index (get_or rows i d).place) × ((get_or rows i d).lo ≤ (get_or rows i d).hi)
+Climbs-at from [] i d c h = absurd (omega arith)
+Climbs-at from (r ∷ rs) zero d c h = (c.0, c.1)
+Climbs-at from (r ∷ rs) (suc i) d c h =
+    let rest = Climbs-at (place_index r.place + 1) rs i d c.2 (omega arith) in
+    let from_here : from ≤ place_index r.place = c.0 in
+    (omega arith, rest.1)
+
+-- a later row is at a later place
+pub Climbs-less : (from : ℕ) (rows : List Row) (i j : ℕ) (d : Row) → Climbs from rows → i < j → j < length rows → place_index (get_or rows i d).place < place_index (get_or rows j d).place
+Climbs-less from [] i j d c l h = absurd (omega arith)
+Climbs-less from (r ∷ rs) i zero d c l h = absurd (omega arith)
+Climbs-less from (r ∷ rs) zero (suc j) d c l h =
+    let there = Climbs-at (place_index r.place + 1) rs j d c.2 (omega arith) in
+    omega (arith, there.0)
+Climbs-less from (r ∷ rs) (suc i) (suc j) d c l h = Climbs-less (place_index r.place + 1) rs i j d c.2 (omega arith) (omega arith)
+
+-- one row more, after all others
+pub Climbs-push : (from : ℕ) (rows : List Row) (r : Row) → Climbs from rows → from ≤ place_index r.place → r.lo ≤ r.hi → All (λ q. place_index q.place < place_index r.place) rows → Climbs from (rows ++ r ∷ [])
+Climbs-push from [] r c l h a = (l, h, tt)
+Climbs-push from (q ∷ rows) r c l h a =
+    let below : place_index q.place < place_index r.place = All-head (λ x. place_index x.place < place_index r.place) q rows a in
+    (c.0, c.1, Climbs-push (place_index q.place + 1) rows r c.2 (omega arith) h (All-tail (λ x. place_index x.place < place_index r.place) q rows a))
+
+-- rows up to one at a lower place are at lower places
+pub rows_below : (rows : List Row) (m key : ℕ) (d : Row) → Climbs 0 rows → m < length rows → place_index (get_or rows m d).place < key → (k : ℕ) (e : Row) → k < m + 1 → place_index (get_or rows k e).place < key
+rows_below rows m key d c h l k e u =
+    let here : place_index (get_or rows m e).place < key = rw (get_or_default rows m e d h) l in
+    let split : (k ≡ m) ⊎ (k < m) = grind arith in
+    elim split [
+      | inl same ↦ rw same here
+      | inr before ↦ let less = Climbs-less 0 rows k m e c before h in omega arith
+    ]
+
+-- rows from one at a higher place on are at higher places
+pub rows_above : (rows : List Row) (m key : ℕ) (d : Row) → Climbs 0 rows → key < place_index (get_or rows m d).place → (k : ℕ) (e : Row) → m ≤ k → k < length rows → key < place_index (get_or rows k e).place
+rows_above rows m key d c l k e u h =
+    let in' : m < length rows = omega arith in
+    let here : key < place_index (get_or rows m e).place = rw (get_or_default rows m e d in') l in
+    let split : (k ≡ m) ⊎ (m < k) = grind arith in
+    elim split [
+      | inl same ↦ rw same here
+      | inr later ↦ let less = Climbs-less 0 rows m k e c later h in omega arith
+    ]
+
+-- a row in the place of another at the same place
+pub Climbs-set : (from : ℕ) (rows : List Row) (i : ℕ) (d left : Row) → Climbs from rows → i < length rows → place_index left.place ≡ place_index (get_or rows i d).place → left.lo ≤ left.hi → Climbs from (set rows i left)
+Climbs-set from [] i d left c h at le = absurd (omega arith)
+Climbs-set from (r ∷ rs) zero d left c h at le = (omega arith, le, rw at c.2)
+Climbs-set from (r ∷ rs) (suc i) d left c h at le = (c.0, c.1, Climbs-set (place_index r.place + 1) rs i d left c.2 (omega arith) at le)
+
+-- rows without one of them
+pub Climbs-remove : (from : ℕ) (rows : List Row) (i : ℕ) → Climbs from rows → Climbs from (remove rows i)
+Climbs-remove from [] i c = Climbs-nil from i
+  where
+    Climbs-nil : (from i : ℕ) → Climbs from (remove [] i)
+    Climbs-nil from zero = tt
+    Climbs-nil from (suc i) = tt
+Climbs-remove from (r ∷ rs) zero c = let below : from ≤ place_index r.place = c.0 in Climbs-lower from (place_index r.place + 1) rs (omega arith) c.2
+Climbs-remove from (r ∷ rs) (suc i) c = (c.0, c.1, Climbs-remove (place_index r.place + 1) rs i c.2)

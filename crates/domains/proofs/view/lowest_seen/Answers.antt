@@ -1,0 +1,19 @@
+use Rattle.std.proofs.Common.{ap, sym, ◌∙◌}
+use Rattle.sums.specs.Least.{lowest as lowest_of}
+use Rattle.domains.specs.Choices.{choices}
+use Rattle.domains.specs.Parts.{in_part}
+use Rattle.std.specs.List.{filter}
+use Rattle.domains.proofs.MeasureLemmas.{filter_true}
+use Rattle.domains.proofs.view.lowest_seen.Goals as goal
+
+pub returns-in-All : goal.returns-in-All
+returns-in-All g c =
+    c.lowest.ensures
+    ∙ ap (lowest_of (g.M.Measure.value_of c.args.m.now))
+    (filter_true (choices c.domain-domain.result.now) ∙ ap choices c.domain-domain.ensures.domain ∙ sym (c.in-All.ensures c.args.view.now.region.now))
+
+pub returns-in-In : goal.returns-in-In
+returns-in-In g c =
+    c.lowest-in-In-2.ensures
+    ∙ ap (lowest_of (g.M.Measure.value_of c.args.m.now))
+    (filter_true (choices c.inside.result) ∙ c.inside.ensures.set ∙ ap (λ d. filter (in_part c.in-In.part) (choices d)) c.domain-domain.ensures.domain ∙ sym (c.in-In.ensures c.args.view.now.region.now))

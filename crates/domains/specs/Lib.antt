@@ -1,0 +1,11 @@
+pub mod Choices
+pub mod Parts
+pub mod Rows
+pub mod Kept
+pub mod Undo
+pub mod Sets
+pub mod Sizes
+pub mod Views
+pub mod Measures
+pub mod Laws
+pub mod Tests

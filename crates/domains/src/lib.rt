@@ -1,0 +1,16 @@
+//! Sets of choices: domains, parts of them, and regions of one domain for each element, which are narrowed in place.
+//!
+//! Contracts see a domain as its idle flag and its rows, and state every change on the set of choices that these are.
+#![tactic(auto)]
+
+pub mod domain;
+pub mod laws;
+mod listing;
+pub mod measure;
+pub mod parts;
+pub mod region;
+mod rows;
+pub mod undo;
+pub mod view;
+#[cfg(test)]
+mod tests;

@@ -1,0 +1,83 @@
+//! What is kept of one change, and how it is undone.
+ghost use Rattle.std.specs.Prelude.{◌≡◌, ◌++◌, ◌∷◌, [], OnOk, OnErr, length};
+ghost use Rattle.cluster.specs.declared.ids.Element.{Element as AnyElement};
+ghost use Rattle.domains.specs.Parts.{in_part, out_of_part};
+ghost use Rattle.domains.specs.Sets.{HasElement, sets, keeping};
+ghost use Rattle.trail.specs.Logs.{undone, CanUndo, HasKept};
+
+use cluster::ids::Element;
+use domains::domain::Domain;
+use domains::parts::Part;
+use domains::region::Region;
+use domains::undo::Lost;
+use memory::Memory;
+
+/// One entry of the log.
+#[derive(Drop)]
+pub enum Entry {
+    /// A mark was made.
+    Mark,
+    /// The element had this domain.
+    Whole(Element, Box<Domain>),
+    /// The element has lost this.
+    Lost(Element, Lost),
+}
+
+/// Undoes what an entry tells of.
+pub fn undo(region: &mut Region, entry: Entry)
+    requires { CanUndo entry region.old }
+    ensures { region.new ≡ undone entry region.old }
+{
+    match entry {
+        Entry::Mark => (),
+        Entry::Whole(e, old) => drop(region.set(e, Box::into_inner(old))),
+        Entry::Lost(e, lost) => region.restore(e, lost),
+    }
+}
+
+/// Keeps of an element the choices that are in a part, and its old domain in the log.
+pub fn keep(region: &mut Region, log: &mut Vec<Entry>, e: Element, part: Part) -> Result<(), Memory>
+    requires { HasElement region.old e }
+    ensures machines { length region.new.machines ≡ length region.old.machines }
+    ensures nodes { length region.new.nodes ≡ length region.old.nodes }
+    ensures sets { OnOk result ((x : AnyElement) → sets region.new x ≡ keeping e (in_part part) (sets region.old) x) }
+    ensures kept { OnOk result (HasKept region.old region.new log.old.items log.new.items) }
+    ensures err { OnErr result ((region.new ≡ region.old) × (log.new.items ≡ log.old.items)) }
+{
+    let old = region.keep(e, part);
+    match Box::new(*log.allocator(), old) {
+        Ok(old) => write(region, log, Entry::Whole(e, old)),
+        Err(failed) => {
+            drop(region.set(e, failed.value));
+            Err(Memory)
+        }
+    }
+}
+
+/// Takes from an element the choices that are in a part, and keeps what it has lost in the log.
+pub fn cut(region: &mut Region, log: &mut Vec<Entry>, e: Element, part: Part) -> Result<(), Memory>
+    requires { HasElement region.old e }
+    ensures machines { length region.new.machines ≡ length region.old.machines }
+    ensures nodes { length region.new.nodes ≡ length region.old.nodes }
+    ensures sets { OnOk result ((x : AnyElement) → sets region.new x ≡ keeping e (out_of_part part) (sets region.old) x) }
+    ensures kept { OnOk result (HasKept region.old region.new log.old.items log.new.items) }
+    ensures err { OnErr result ((region.new ≡ region.old) × (log.new.items ≡ log.old.items)) }
+{
+    let lost = region.cut(e, part);
+    write(region, log, Entry::Lost(e, lost))
+}
+
+// writes an entry, or undoes it where there is no memory
+fn write(region: &mut Region, log: &mut Vec<Entry>, entry: Entry) -> Result<(), Memory>
+    requires { CanUndo entry region.old }
+    ensures ok { OnOk result ((region.new ≡ region.old) × (log.new.items ≡ log.old.items ++ entry ∷ [])) }
+    ensures err { OnErr result ((region.new ≡ undone entry region.old) × (log.new.items ≡ log.old.items)) }
+{
+    match log.push(entry) {
+        Ok(()) => Ok(()),
+        Err(failed) => {
+            undo(region, failed.value);
+            Err(Memory)
+        }
+    }
+}
