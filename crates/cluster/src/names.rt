@@ -3,6 +3,7 @@ ghost use Rattle.std.specs.Prelude.{◌≡◌, IsTrue, IfOk, IfErr, OnOk, string
 ghost use Rattle.cluster.specs.Names.{is_name, starts_name, goes_on_name};
 ghost use Rattle.std.specs.List.{list_all};
 
+use crate::limits::MAX_NAME_BYTES;
 use memory::Memory;
 use std::alloc::{AllocError, Global};
 use std::marker::Model;
@@ -71,7 +72,7 @@ fn all_follow(bytes: &[u8]) -> bool
 pub fn is_name_text(bytes: &[u8]) -> bool
     ensures { result ≡ is_name bytes.now }
 {
-    let shaped = 0 < bytes.len() && bytes.len() <= 64;
+    let shaped = 0 < bytes.len() && bytes.len() <= MAX_NAME_BYTES;
     shaped && may_start(bytes[0]) && all_follow(bytes)
 }
 

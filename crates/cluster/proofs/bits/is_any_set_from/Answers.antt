@@ -1,7 +1,7 @@
 use Rattle.std.proofs.Common.{◌≡◌, ◌/◌, ◌^◌, arith}
 use Rattle.std.proofs.lemmas.Grind.{common_steps}
-use Rattle.cluster.proofs.SetLemmas.{shr-past}
-use Rattle.cluster.proofs.sets.has_bit_from.Goals as goal
+use Rattle.cluster.proofs.BitLemmas.{shr-past}
+use Rattle.cluster.proofs.bits.is_any_set_from.Goals as goal
 
 pub returns-else-first-lt64 : goal.returns-else-first-lt64
 returns-else-first-lt64 c =
