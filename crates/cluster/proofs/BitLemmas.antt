@@ -5,17 +5,20 @@ use Rattle.std.proofs.Math.Nat.{lt-div-mul-add, div-eq_of_lt}
 use Rattle.std.proofs.Math.Pow.{pow-lt}
 use Rattle.std.proofs.lemmas.Bool.{cases_eq}
 use Rattle.std.proofs.lemmas.Grind.{common_steps}
-use Rattle.std.proofs.lemmas.List.{ext_get_or}
+use Rattle.std.proofs.lemmas.List.{ext_get_or, get_or_past}
 use Rattle.std.proofs.lemmas.Nat.{shr-shr, pow_pos}
 use Rattle.std.proofs.lemmas.Nat.Bits.{bit_at_set_same, bit_at_set_other, same_from_bits, same_from_bits_below, bit_at-lt, bit_at-zero, bit_at_above}
 use Rattle.cluster.specs.Bits.{has_bit, with_bit, IsBits}
 
--- the word that the code shifts
-pub shifted-one : (n : ℕ) → 1 * 2 ^ (n % 64) % 2 ^ 64 ≡ 2 ^ (n % 64)
-shifted-one n =
-    let small : n % 64 < 64 = omega arith in
-    let below : 2 ^ (n % 64) < 2 ^ 64 = pow-lt small in
-    omega arith
+-- a bit shifted within a word, as code and std's lemmas on bits write it
+shifted : (k : ℕ) → k < 64 → 1 * 2 ^ k % 2 ^ 64 ≡ 2 ^ k
+shifted k lt = let below : 2 ^ k < 2 ^ 64 = pow-lt lt in omega arith
+
+pub shifted-once : (n : ℕ) → 1 * 2 ^ (n % 64) % 2 ^ 64 ≡ 2 ^ (n % 64)
+shifted-once n = shifted (n % 64) (omega arith)
+
+pub shifted-twice : (n : ℕ) → 1 * (1 * 2 ^ (n % 64) % 2 ^ 64) % 2 ^ 64 ≡ 2 ^ (n % 64)
+shifted-twice n = ap (λ b. 1 * b % 2 ^ 64) (shifted-once n) ∙ shifted-once n
 
 -- no bit is set in words of 0
 none-at : (count i : ℕ) → slice_index (replicate count 0) i ≡ 0
@@ -26,11 +29,15 @@ none-at (suc count) (suc i) = none-at count i
 pub has_bit-zero : (count n : ℕ) → has_bit (replicate count 0) n ≡ false
 has_bit-zero count n = rw (none-at count (n / 64)) (grind (arith, common_steps))
 
+-- and none past the words
+pub has_bit-past : (words : List ℕ) (n : ℕ) → length words ≤ n / 64 → has_bit words n ≡ false
+has_bit-past words n le = ap (λ w. bit_at w (n % 64) == 1) (get_or_past words (n / 64) 0 le) ∙ ap (λ b. b == 1) (bit_at-zero (n % 64))
+
 -- the bits of the words after one is set
 pub has_bit-with_bit : (words : List ℕ) (n m : ℕ) → n / 64 < length words → has_bit (with_bit words n) m ≡ ((m == n) || has_bit words m)
 has_bit-with_bit words n m within =
     let small : n % 64 < 64 = omega arith in
-    rw (← shifted-one n) (⊎_elim
+    rw (← shifted-once n) (⊎_elim
     (λ (same : m / 64 ≡ n / 64). ⊎_elim
     (λ (here : m % 64 ≡ n % 64).
     let one : m ≡ n = omega arith in

@@ -6,7 +6,7 @@ use Rattle.std.proofs.Common.{◌∙◌, ◌≤◌, lit<, subst, sym, ⊎_elim}
 use Rattle.std.proofs.Math.Nat.{mod-lt}
 use Rattle.std.proofs.Math.Pow.{pow-lt}
 use Rattle.std.proofs.lemmas.Bool.{cases_lt}
-use Rattle.std.proofs.lemmas.List.{length-set, get_or_past}
+use Rattle.std.proofs.lemmas.List.{length-set, length-replicate, get_or_past}
 use Rattle.std.proofs.lemmas.List.Elements.{All-set, All-replicate}
 use Rattle.std.proofs.lemmas.Nat.{or_lt}
 
@@ -23,8 +23,8 @@ pub record IsBits (count : ℕ) (words : List ℕ) : Type 0 where
   pub long : length words ≡ count
   pub fit : All (λ w. w < 2 ^ 64) words
 
-pub IsBits-zero : (count : ℕ) → length (replicate count 0) ≡ count → IsBits count (replicate count 0)
-IsBits-zero count long = record { long = long; fit = All-replicate (λ w. w < 2 ^ 64) count 0 (lit< tt) }
+pub IsBits-zero : (count : ℕ) → IsBits count (replicate count 0)
+IsBits-zero count = record { long = length-replicate {A = ℕ} count 0; fit = All-replicate (λ w. w < 2 ^ 64) count 0 (lit< tt) }
 
 word-lt : (count i : ℕ) (words : List ℕ) → IsBits count words → slice_index words i < 2 ^ 64
 word-lt count i words h = ⊎_elim

@@ -1,6 +1,6 @@
 -- The ten kinds of actions: their order and their words.
-use Rattle.std.specs.Prelude.{ℕ, List, [], ◌∷◌, Option, codes, slice_index_or}
-use Rattle.std.specs.List.{find}
+use Rattle.std.specs.Prelude.{ℕ, List, [], ◌∷◌, Option, codes, option_and_then, slice_get, slice_index_or}
+use Rattle.std.specs.List.{position}
 use Rattle.std.specs.Str.{bytes_eq}
 use Rattle.cluster.specs.declared.kinds.Kind.{Kind}
 use Rattle.cluster.specs.declared.kinds.Kind.TheVariants.{Forge, Boot, Shutdown, Suspend, Resume, Migrate, Allocate, Kill, NodeBoot, NodeShutdown}
@@ -39,4 +39,4 @@ kind_word kind = slice_index_or kind_words (kind_number kind) []
 
 -- the kind of a word
 unfoldable pub kind_of_word : List ℕ → Option Kind
-kind_of_word word = find (λ kind. bytes_eq word (kind_word kind)) kinds
+kind_of_word word = option_and_then (λ place. slice_get kinds place) (position (bytes_eq word) kind_words)

@@ -2,6 +2,8 @@
 ghost use Rattle.std.specs.Prelude.{◌≡◌, ◌<◌, slice_get};
 ghost use Rattle.cluster.specs.Kinds.{kind_count, kind_number, kind_of_word, kind_word};
 
+use crate::words::{place_of_word, word_at};
+
 /// The kinds of actions: eight of machines, then two of nodes.
 #[derive(Clone, Copy, Debug, PartialEq, Eq)]
 pub enum Kind {
@@ -56,14 +58,15 @@ impl Kind {
     pub fn word(self) -> &'static str
         ensures { result.now ≡ kind_word self }
     {
-        KIND_WORDS[self.number()]
+        word_at(&KIND_WORDS, self.number())
     }
 
     /// The kind of a word; `None` exactly where no kind has it.
     pub fn of_word(word: &str) -> Option<Kind>
         ensures { result ≡ kind_of_word word.now }
     {
-        KINDS.iter().copied().find(|kind| word == kind.word())
+        let place = place_of_word(&KIND_WORDS, word)?;
+        KINDS.get(place).copied()
     }
 
     /// The place of a kind in the order of the ten, from 0 to 9. A machine's kind is below 8.

@@ -3,6 +3,7 @@ ghost use Rattle.std.specs.Prelude.{◌≡◌};
 ghost use Rattle.cluster.specs.States.{state_number, state_word};
 
 use crate::ids::NodeId;
+use crate::words::word_at;
 
 /// The present state of a machine, as in BtrPlace's life cycle of a virtual machine:
 /// not forged yet, ready to boot, running or suspended on a node, or killed.
@@ -23,7 +24,7 @@ impl State {
     pub fn word(self) -> &'static str
         ensures { result.now ≡ state_word self }
     {
-        STATE_WORDS[self.number()]
+        word_at(&STATE_WORDS, self.number())
     }
 
     // the place of its word

@@ -1,6 +1,6 @@
-use Rattle.std.proofs.Common.{◌≡◌, ℕ, false, sym, true≢false, arith, ◌∙◌, ap, nat_lt}
+use Rattle.std.proofs.Common.{refl, ◌≡◌, ℕ, false, sym, true≢false, arith, ◌∙◌, ap, nat_lt}
 use Rattle.std.proofs.lemmas.Grind.{common_steps}
-use Rattle.cluster.proofs.SetLemmas.{shr-within, within-next}
+use Rattle.cluster.proofs.SetLemmas.{shr-within, within-next, within-end}
 use Rattle.cluster.proofs.sets.NodeSet.is_within.Goals as goal
 
 zero_of : (n : ℕ) → nat_lt 0 n ≡ false → n ≡ 0
@@ -17,3 +17,6 @@ returns-then-is_any_set_from c = (
 pub loop-place-preserved : goal.loop-place-preserved
 loop-place-preserved c =
     within-next c.args.self.now c.args.count c.loop-place.place (rw (← c.saturating_sub.ensures) (zero_of _ (sym c.is_any_set_from.ensures ∙ c.if-is_any_set_from.false))) c.loop-place.invariant
+
+pub returns : goal.returns
+returns c = (λ _. within-end c.args.self.now c.args.count (λ m le lt. c.loop-place.invariant m le (omega (arith, lt))), λ _. refl)
