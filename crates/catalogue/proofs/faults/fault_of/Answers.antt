@@ -1,7 +1,8 @@
 use Rattle.std.proofs.Common.{arith}
 use Rattle.std.proofs.lemmas.Grind.{common_steps}
-use Rattle.catalogue.proofs.Seeing.{are_numbered-more}
+use Rattle.catalogue.proofs.Seeing.{small_numbers}
+use Rattle.catalogue.specs.Faults.{machines_in}
 use Rattle.catalogue.proofs.faults.fault_of.Goals as goal
 
 pub names_each_once-requires : goal.names_each_once-requires
-names_each_once-requires c = are_numbered-more _ c.args.constraint.now c.args.cluster.now.sound.few_machines (grind (arith, common_steps))
+names_each_once-requires c = small_numbers _ (machines_in c.args.constraint.now) c.args.cluster.now.sound.few_machines (grind (arith, common_steps))
