@@ -3,10 +3,11 @@
 ghost use Rattle.std.specs.Prelude.{◌≡◌, ◌<◌, ◌≤◌, ◌+◌, ◌++◌, ◌∷◌, [], IfOk, OnOk, codes, length, map, true, false};
 ghost use Rattle.serde_json.specs.View.{view};
 ghost use Rattle.json_walk.specs.PathRef.{path_of};
-ghost use Rattle.json_walk.specs.Walk.{Gives, only_of};
+ghost use Rattle.json_walk.specs.Walk.{Gives};
 ghost use Rattle.json_walk.specs.Each.{each};
 ghost use Rattle.cluster.specs.Inventory.{is_taken, node_fits};
-ghost use Rattle.instance_json.specs.Walk.{instance_fault_of, looked, field_by};
+ghost use Rattle.cluster.specs.Limits.{max_nodes};
+ghost use Rattle.instance_json.specs.Walk.{instance_fault_of, field_by};
 ghost use Rattle.instance_json.specs.Names.{new_name_from};
 ghost use Rattle.instance_json.specs.Elements.{node_from, node_step, nodes_from};
 
@@ -16,6 +17,7 @@ use crate::fault::InstanceFault;
 use crate::keys::NODE_KEYS;
 use crate::names;
 use cluster::inventory::{AddFault, Cluster};
+use cluster::limits::MAX_NODES;
 use cluster::names::Name;
 use cluster::nodes::Node;
 use json_walk::PathRef;

@@ -1,0 +1,252 @@
+//! Constraints.
+
+ghost use Rattle.std.specs.Prelude.{◌≡◌, ◌<◌, ◌≤◌, ◌+◌, ◌++◌, ◌∷◌, [], Bool, List, IfOk, OnOk, codes, length, map, nat_le, true};
+ghost use Rattle.serde_json.specs.View.{view};
+ghost use Rattle.json_walk.specs.PathRef.{path_of};
+ghost use Rattle.json_walk.specs.Walk.{Gives};
+ghost use Rattle.json_walk.specs.Each.{each};
+ghost use Rattle.catalogue.specs.Faults.{are_machines, are_nodes, differ, is_resource, is_rule};
+ghost use Rattle.catalogue.specs.Instance.{inventory_of};
+ghost use Rattle.instance_json.specs.Walk.{instance_fault_of, field_by, word_field};
+ghost use Rattle.instance_json.specs.Names.{listed_resource};
+ghost use Rattle.instance_json.specs.Rules.{machines_fields, flagged_machines_fields, both_fields, among_from, split_from, preserve_from, resource_capacity_from, node_count_fields, overbook_from, nodes_fields, constraint_by, constraint_from, constraint_step, constraints_from};
+
+use crate::amounts::MAX_AMOUNT;
+use crate::fault::InstanceFault;
+use crate::lists::{groups_at, machines_at, nodes_at, parts_at};
+use crate::words::{ConstraintKind, rule_kind};
+use crate::{keys, names};
+use catalogue::constraint::{Constraint, RuleFault};
+use catalogue::lists::Vms;
+use catalogue::problem::Problem;
+use cluster::inventory::Cluster;
+use cluster::sets::NodeSet;
+use json_walk::{FaultKind, PathRef};
+use memory::Memory;
+use serde_json::Value;
+use std::alloc::Global;
+
+/// The member `resource`, which must be there.
+fn resource_at(
+    alloc: Global,
+    cluster: &Cluster,
+    value: &Value,
+    path: &PathRef,
+) -> Result<u8, InstanceFault>
+    ensures gives { Gives instance_fault_of (λ r. r) result
+        (field_by (listed_resource cluster.now.given.resources) (view value.now) (path_of path.now) (codes "resource")) }
+    ensures listed { IfOk result (λ r. is_resource cluster.now.given r ≡ true) }
+{
+    let found = json_walk::field_at(alloc, value, path, "resource")?;
+    names::resource(alloc, cluster.resources(), found, &path.key("resource"))
+}
+
+/// The fields of a constraint on machines alone.
+#[tactic(auto, unfolding(crate::specs::Rules::machines_fields))]
+fn machines_fields(
+    alloc: Global,
+    cluster: &Cluster,
+    value: &Value,
+    path: &PathRef,
+) -> Result<Vms, InstanceFault>
+    ensures gives { Gives instance_fault_of (λ vs. vs) result
+        (machines_fields cluster.now.given (view value.now) (path_of path.now)) }
+    ensures listed { IfOk result (λ vs. are_machines cluster.now.given vs ≡ true) }
+    ensures apart { IfOk result (λ vs. differ vs ≡ true) }
+{
+    let machines = machines_at(alloc, cluster, value, path)?;
+    json_walk::only_at(alloc, value, path, &MACHINES_KEYS)?;
+    Ok(machines)
+}
+
+/// The fields of a constraint on machines that may be continuous.
+#[tactic(auto, unfolding(crate::specs::Rules::flagged_machines_fields))]
+fn flagged_machines_fields(
+    alloc: Global,
+    cluster: &Cluster,
+    value: &Value,
+    path: &PathRef,
+) -> Result<(Vms, bool), InstanceFault>
+    ensures gives { Gives instance_fault_of (λ x. (x.0, x.1)) result
+        (flagged_machines_fields cluster.now.given (view value.now) (path_of path.now)) }
+    ensures listed { IfOk result (λ x. are_machines cluster.now.given x.0 ≡ true) }
+    ensures apart { IfOk result (λ x. differ x.0 ≡ true) }
+{
+    let machines = machines_at(alloc, cluster, value, path)?;
+    let continuous = json_walk::optional_flag(alloc, value, path, "continuous", false)?;
+    json_walk::only_at(alloc, value, path, &FLAGGED_MACHINES_KEYS)?;
+    Ok((machines, continuous))
+}
+
+/// The fields of a constraint on machines and nodes.
+#[tactic(auto, unfolding(crate::specs::Rules::both_fields))]
+fn both_fields(
+    alloc: Global,
+    cluster: &Cluster,
+    value: &Value,
+    path: &PathRef,
+) -> Result<(Vms, NodeSet, bool), InstanceFault>
+    ensures gives { Gives instance_fault_of (λ x. (x.0, x.1, x.2)) result
+        (both_fields cluster.now.given (view value.now) (path_of path.now)) }
+    ensures machines { IfOk result (λ x. are_machines cluster.now.given x.0 ≡ true) }
+    ensures nodes { IfOk result (λ x. are_nodes cluster.now.given x.1 ≡ true) }
+    ensures apart { IfOk result (λ x. differ x.0 ≡ true) }
+{
+    let machines = machines_at(alloc, cluster, value, path)?;
+    let nodes = nodes_at(alloc, cluster, value, path)?;
+    let continuous = json_walk::optional_flag(alloc, value, path, "continuous", false)?;
+    json_walk::only_at(alloc, value, path, &BOTH_KEYS)?;
+    Ok((machines, nodes, continuous))
+}
+
+/// A constraint `among`.
+#[tactic(auto, unfolding(crate::specs::Rules::among_from))]
+fn among(
+    alloc: Global,
+    cluster: &Cluster,
+    value: &Value,
+    path: &PathRef,
+) -> Result<Constraint, InstanceFault>
+    ensures gives { Gives instance_fault_of (λ c. c) result
+        (among_from cluster.now.given (view value.now) (path_of path.now)) }
+    ensures rule { IfOk result (λ c. is_rule cluster.now.given c ≡ true) }
+{
+    let machines = machines_at(alloc, cluster, value, path)?;
+    let groups = groups_at(alloc, cluster, value, path)?;
+    let continuous = json_walk::optional_flag(alloc, value, path, "continuous", false)?;
+    json_walk::only_at(alloc, value, path, &AMONG_KEYS)?;
+    Ok(Constraint::Among {
+        machines,
+        groups,
+        continuous,
+    })
+}
+
+/// A constraint `split`.
+#[tactic(auto, unfolding(crate::specs::Rules::split_from))]
+fn split(
+    alloc: Global,
+    cluster: &Cluster,
+    value: &Value,
+    path: &PathRef,
+) -> Result<Constraint, InstanceFault>
+    ensures gives { Gives instance_fault_of (λ c. c) result
+        (split_from cluster.now.given (view value.now) (path_of path.now)) }
+    ensures rule { IfOk result (λ c. is_rule cluster.now.given c ≡ true) }
+{
+    let parts = parts_at(alloc, cluster, value, path)?;
+    let continuous = json_walk::optional_flag(alloc, value, path, "continuous", false)?;
+    json_walk::only_at(alloc, value, path, &SPLIT_KEYS)?;
+    Ok(Constraint::Split { parts, continuous })
+}
+
+/// A constraint `preserve`.
+#[tactic(auto, unfolding(crate::specs::Rules::preserve_from))]
+fn preserve(
+    alloc: Global,
+    cluster: &Cluster,
+    value: &Value,
+    path: &PathRef,
+) -> Result<Constraint, InstanceFault>
+    ensures gives { Gives instance_fault_of (λ c. c) result
+        (preserve_from cluster.now.given (view value.now) (path_of path.now)) }
+    ensures rule { IfOk result (λ c. is_rule cluster.now.given c ≡ true) }
+{
+    let machines = machines_at(alloc, cluster, value, path)?;
+    let resource = resource_at(alloc, cluster, value, path)?;
+    let amount = json_walk::number_field(alloc, value, path, "amount", 0, MAX_AMOUNT)?;
+    json_walk::only_at(alloc, value, path, &PRESERVE_KEYS)?;
+    Ok(Constraint::Preserve {
+        machines,
+        resource,
+        amount,
+    })
+}
+
+/// A constraint `resourceCapacity`.
+#[tactic(auto, unfolding(crate::specs::Rules::resource_capacity_from))]
+fn resource_capacity(
+    alloc: Global,
+    cluster: &Cluster,
+    value: &Value,
+    path: &PathRef,
+) -> Result<Constraint, InstanceFault>
+    ensures gives { Gives instance_fault_of (λ c. c) result
+        (resource_capacity_from cluster.now.given (view value.now) (path_of path.now)) }
+    ensures rule { IfOk result (λ c. is_rule cluster.now.given c ≡ true) }
+{
+    let nodes = nodes_at(alloc, cluster, value, path)?;
+    let resource = resource_at(alloc, cluster, value, path)?;
+    let amount = json_walk::number_field(alloc, value, path, "amount", 0, MAX_AMOUNT)?;
+    let continuous = json_walk::optional_flag(alloc, value, path, "continuous", false)?;
+    json_walk::only_at(alloc, value, path, &RESOURCE_CAPACITY_KEYS)?;
+    Ok(Constraint::ResourceCapacity {
+        nodes,
+        resource,
+        amount,
+        continuous,
+    })
+}
+
+/// The fields of a constraint that counts on nodes.
+#[tactic(auto, unfolding(crate::specs::Rules::node_count_fields))]
+fn node_count_fields(
+    alloc: Global,
+    cluster: &Cluster,
+    value: &Value,
+    path: &PathRef,
+) -> Result<(NodeSet, u64, bool), InstanceFault>
+    ensures gives { Gives instance_fault_of (λ x. (x.0, x.1, x.2)) result
+        (node_count_fields cluster.now.given (view value.now) (path_of path.now)) }
+    ensures nodes { IfOk result (λ x. are_nodes cluster.now.given x.0 ≡ true) }
+    ensures most { IfOk result (λ x. nat_le x.1 max_amount ≡ true) }
+{
+    let nodes = nodes_at(alloc, cluster, value, path)?;
+    let amount = json_walk::number_field(alloc, value, path, "amount", 0, MAX_AMOUNT)?;
+    let continuous = json_walk::optional_flag(alloc, value, path, "continuous", false)?;
+    json_walk::only_at(alloc, value, path, &NODE_COUNT_KEYS)?;
+    Ok((nodes, amount, continuous))
+}
+
+/// A constraint `overbook`.
+#[tactic(auto, unfolding(crate::specs::Rules::overbook_from))]
+fn overbook(
+    alloc: Global,
+    cluster: &Cluster,
+    value: &Value,
+    path: &PathRef,
+) -> Result<Constraint, InstanceFault>
+    ensures gives { Gives instance_fault_of (λ c. c) result
+        (overbook_from cluster.now.given (view value.now) (path_of path.now)) }
+    ensures rule { IfOk result (λ c. is_rule cluster.now.given c ≡ true) }
+{
+    let nodes = nodes_at(alloc, cluster, value, path)?;
+    let resource = resource_at(alloc, cluster, value, path)?;
+    let num = json_walk::number_field(alloc, value, path, "num", 0, MAX_SCALE)?;
+    let den = json_walk::number_field(alloc, value, path, "den", 1, MAX_SCALE)?;
+    json_walk::only_at(alloc, value, path, &OVERBOOK_KEYS)?;
+    Ok(Constraint::Overbook {
+        nodes,
+        resource,
+        num,
+        den,
+    })
+}
+
+/// The fields of a constraint on nodes alone.
+#[tactic(auto, unfolding(crate::specs::Rules::nodes_fields))]
+fn nodes_fields(
+    alloc: Global,
+    cluster: &Cluster,
+    value: &Value,
+    path: &PathRef,
+) -> Result<NodeSet, InstanceFault>
+    ensures gives { Gives instance_fault_of (λ s. s) result
+        (nodes_fields cluster.now.given (view value.now) (path_of path.now)) }
+    ensures listed { IfOk result (λ s. are_nodes cluster.now.given s ≡ true) }
+{
+    let nodes = nodes_at(alloc, cluster, value, path)?;
+    json_walk::only_at(alloc, value, path, &NODES_KEYS)?;
+    Ok(nodes)
+}
+
