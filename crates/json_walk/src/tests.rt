@@ -29,8 +29,8 @@ fn line(alloc: Global, answer: Result<u64, WalkFault>) -> Result<String, AllocEr
 /// The line of a text that is one number.
 fn number_line(alloc: Global, bytes: &[u8]) -> Result<String, AllocError> {
     match read_value(alloc, bytes) {
-        Err(ReadFault::Memory) => String::from_str(alloc, "memory"),
-        Err(ReadFault::NotJson) => String::from_str(alloc, "not json"),
+        Err(JsonFault::Memory) => String::from_str(alloc, "memory"),
+        Err(JsonFault::NotJson) => String::from_str(alloc, "not json"),
         Ok(value) => {
             let root = PathText::root(alloc);
             line(alloc, number(alloc, &value, &root, 0, u64::MAX))
@@ -160,7 +160,7 @@ fn by_lent(alloc: Global, value: &Value) -> Result<u64, WalkFault> {
     Ok(length)
 }
 
-fn read(alloc: Global, text: &str) -> Result<Value, ReadFault> {
+fn read(alloc: Global, text: &str) -> Result<Value, JsonFault> {
     read_value(alloc, text.as_bytes())
 }
 
