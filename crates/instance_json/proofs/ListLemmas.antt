@@ -7,14 +7,13 @@ use Rattle.std.proofs.lemmas.List.Folds.{list_all-append, list_any-append}
 use Rattle.std.specs.List.{list_all, range_with_len}
 use Rattle.cluster.specs.declared.ids.VmId.{VmId}
 use Rattle.cluster.specs.declared.sets.NodeSet.{NodeSet}
-use Rattle.cluster.specs.Sets.{has_node}
+use Rattle.cluster.specs.declared.sets.MachineSet.{MachineSet}
+use Rattle.cluster.specs.Limits.{max_nodes}
+use Rattle.cluster.specs.Sets.{has_machine, has_node, no_nodes, with_node}
+use Rattle.cluster.proofs.Public.{has_node-no_nodes, has_node-with_node}
 use Rattle.cluster.specs.Inventory.{Inventory}
-use Rattle.catalogue.specs.declared.seen.Seen.{Seen}
-use Rattle.catalogue.specs.Seen.{has_seen}
-use Rattle.catalogue.specs.Faults.{is_member, differ, all_of}
+use Rattle.catalogue.specs.Faults.{is_member, differ, all_of, are_nodes}
 use Rattle.instance_json.specs.Listed.{AreMarked}
-use Rattle.instance_json.specs.NodeSets.{no_nodes, with_node, is_listed_set, are_listed_sets}
-use Rattle.instance_json.proofs.NodeLemmas.{has_node-no_nodes, has_node-with_node}
 
 -- one more item that passes
 pub list_all_more : {X : Type 0} (p : X → Bool) (xs : List X) (x : X) → list_all p xs ≡ true → p x ≡ true → list_all p (xs ++ x ∷ []) ≡ true
@@ -50,15 +49,15 @@ differ-more (x ∷ xs) v all new =
     fresh a b h k = rw h k
 
 -- one more machine is marked
-pub AreMarked-push : (s t : Seen) (vs ws : List VmId) (v : VmId) → AreMarked s (vs ++ ws) → is_member (vs ++ ws) v.0 ≡ false
-    → ((m : ℕ) → has_seen t m ≡ ((m == v.0) || has_seen s m)) → AreMarked t (vs ++ (ws ++ v ∷ []))
+pub AreMarked-push : (s t : MachineSet) (vs ws : List VmId) (v : VmId) → AreMarked s (vs ++ ws) → is_member (vs ++ ws) v.0 ≡ false
+    → ((m : ℕ) → has_machine t m ≡ ((m == v.0) || has_machine s m)) → AreMarked t (vs ++ (ws ++ v ∷ []))
 AreMarked-push s t vs ws v old new marks = rw (← append_assoc vs ws (v ∷ [])) (record {
-  marked = λ m. marks m ∙ ap (λ b. (m == v.0) || b) (old.marked m) ∙ sym (member-more (vs ++ ws) v m);
+  same = λ m. marks m ∙ ap (λ b. (m == v.0) || b) (old.same m) ∙ sym (member-more (vs ++ ws) v m);
   apart = differ-more (vs ++ ws) v old.apart new;
 })
 
 -- a list is done
-pub AreMarked-close : (s : Seen) (ps : List (List VmId)) (vs : List VmId) → AreMarked s (all_of ps ++ vs) → AreMarked s (all_of (ps ++ vs ∷ []) ++ [])
+pub AreMarked-close : (s : MachineSet) (ps : List (List VmId)) (vs : List VmId) → AreMarked s (all_of ps ++ vs) → AreMarked s (all_of (ps ++ vs ∷ []) ++ [])
 AreMarked-close s ps vs old = rw (append-nil (all_of (ps ++ vs ∷ [])), all_of-more ps vs) old
 
 -- ---- nodes
@@ -67,11 +66,10 @@ none-in-empty : (a n : ℕ) → list_all (λ m. not (has_node no_nodes m)) (rang
 none-in-empty a zero = refl
 none-in-empty a (suc n) = and_from _ _ (ap not (has_node-no_nodes a)) (none-in-empty (a + 1) n)
 
-pub no_nodes_listed : (k : Inventory) → is_listed_set k no_nodes ≡ true
-unfolding is_listed_set
-no_nodes_listed k = none-in-empty (length k.nodes) _
+pub are_nodes-none : (k : Inventory) → are_nodes k no_nodes ≡ true
+are_nodes-none k = none-in-empty (length k.nodes) _
 
-none-in-with : (s : NodeSet) (x a n : ℕ) → x < 512 → x < a → list_all (λ m. not (has_node s m)) (range_with_len a n) ≡ true
+none-in-with : (s : NodeSet) (x a n : ℕ) → x < max_nodes → x < a → list_all (λ m. not (has_node s m)) (range_with_len a n) ≡ true
     → list_all (λ m. not (has_node (with_node s x) m)) (range_with_len a n) ≡ true
 none-in-with s x a zero small below old = refl
 none-in-with s x a (suc n) small below old =
@@ -79,10 +77,7 @@ none-in-with s x a (suc n) small below old =
     let parts = and_parts (not (has_node s a)) _ old in
     and_from _ _ (ap not (has_node-with_node s x a small) ∙ ap (λ b. not (b || has_node s a)) apart ∙ parts.0) (none-in-with s x (a + 1) n small (omega arith) parts.1)
 
-pub is_listed_set_with : (k : Inventory) (s : NodeSet) (n : ℕ) → n < 512 → n < length k.nodes → is_listed_set k s ≡ true → is_listed_set k (with_node s n) ≡ true
-unfolding is_listed_set
-is_listed_set_with k s n small below old = none-in-with s n (length k.nodes) _ small below old
+pub are_nodes-with : (k : Inventory) (s : NodeSet) (n : ℕ) → n < max_nodes → n < length k.nodes → are_nodes k s ≡ true → are_nodes k (with_node s n) ≡ true
+are_nodes-with k s n small below old = none-in-with s n (length k.nodes) _ small below old
 
-pub no_sets_listed : (k : Inventory) → are_listed_sets k [] ≡ true
-unfolding are_listed_sets
-no_sets_listed k = refl
+pub ruleset set_rules = (are_nodes-none, are_nodes-with)

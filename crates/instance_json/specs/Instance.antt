@@ -4,10 +4,11 @@ use Rattle.std.specs.Option.{ok_or}
 use Rattle.serde_json.specs.Data.{Data}
 use Rattle.json_walk.specs.Path.{root}
 use Rattle.json_walk.specs.Walk.{◌>>=◌, ◌>>◌, wants}
-use Rattle.json_walk.specs.Json.{json_of, max_text_bytes}
+use Rattle.json_walk.specs.Json.{json_of}
+use Rattle.json_walk.specs.declared.reading.TheConstants.{MAX_TEXT_BYTES}
 use Rattle.cluster.specs.Inventory.{Inventory}
 use Rattle.catalogue.specs.Instance.{Instance}
-use Rattle.catalogue.specs.Limits.{max_horizon}
+use Rattle.instance_json.specs.Soon.{max_horizon}
 use Rattle.instance_json.specs.declared.keys.TheConstants.{ROOT_KEYS}
 use Rattle.instance_json.specs.declared.fault.InstanceFault.TheVariants.{TooLong, NotJson}
 use Rattle.instance_json.specs.Walk.{Walk, Test, only_keys, field_by, number_field}
@@ -51,6 +52,6 @@ walk d = do
 -- not too many bytes, which are JSON, and its walk
 unfoldable pub instance_of : List ℕ → Walk Instance
 instance_of bytes = do
-  wants (nat_le (length bytes) max_text_bytes) TooLong
+  wants (nat_le (length bytes) MAX_TEXT_BYTES) TooLong
   d ← ok_or (json_of bytes) NotJson
   walk d

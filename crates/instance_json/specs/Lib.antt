@@ -1,3 +1,4 @@
+pub mod Soon
 pub mod Walk
 pub mod Texts
 pub mod Names

@@ -11,8 +11,8 @@ use Rattle.cluster.specs.Limits.{max_amount}
 use Rattle.catalogue.specs.declared.constraint.Constraint.{Constraint}
 use Rattle.catalogue.specs.declared.constraint.Constraint.TheVariants as constraint
 use Rattle.catalogue.specs.Instance.{Instance, inventory_of}
-use Rattle.catalogue.specs.Limits.{max_constraints, max_scale}
-use Rattle.catalogue.specs.Words.{constraint_words}
+use Rattle.instance_json.specs.Soon.{max_constraints, max_scale}
+use Rattle.instance_json.specs.Soon.{constraint_words}
 use Rattle.instance_json.specs.declared.constraint_kind.ConstraintKind.{ConstraintKind}
 use Rattle.instance_json.specs.declared.constraint_kind.ConstraintKind.TheVariants.{Spread, Ban, Fence, Gather, Lonely, Among, Split, Root, Precedence, Serialize, Preserve, ResourceCapacity, RunningCapacity, MaxOnline, Overbook, Online, Offline, Running, Sleeping, Ready, Killed}
 use Rattle.instance_json.specs.declared.constraint_kind.TheConstants.{CONSTRAINT_KINDS}

@@ -61,7 +61,7 @@ fn are_resources(members: &Map<String, Value>, resources: &[Name]) -> bool
 }
 
 /// An object of amounts, and of no key that is no resource.
-#[tactic(auto, using(json_walk::proofs::Walks::known_rules), unfolding(crate::specs::Elements::amounts_from))]
+#[tactic(auto, using(json_walk::proofs::Public::known_rules), unfolding(crate::specs::Elements::amounts_from))]
 fn amounts(
     alloc: Global,
     resources: &[Name],

@@ -176,7 +176,7 @@ fn are_kind_keys(owner: Owner, members: &Map<String, Value>) -> bool
 }
 
 /// An object of durations by kind.
-#[tactic(auto, using(json_walk::proofs::Walks::known_rules), unfolding(crate::specs::Durations::durations_from))]
+#[tactic(auto, using(json_walk::proofs::Public::known_rules), unfolding(crate::specs::Durations::durations_from))]
 fn durations(
     alloc: Global,
     resources: &[Name],

@@ -1,28 +1,30 @@
-//! Constraints.
+//! The fields of constraints.
 
-ghost use Rattle.std.specs.Prelude.{◌≡◌, ◌<◌, ◌≤◌, ◌+◌, ◌++◌, ◌∷◌, [], Bool, List, IfOk, OnOk, codes, length, map, nat_le, true};
+ghost use Rattle.std.specs.Prelude.{◌≡◌, ◌<◌, Bool, List, IfOk, codes, length, nat_le, true};
 ghost use Rattle.serde_json.specs.View.{view};
 ghost use Rattle.json_walk.specs.PathRef.{path_of};
 ghost use Rattle.json_walk.specs.Walk.{Gives};
-ghost use Rattle.json_walk.specs.Each.{each};
+ghost use Rattle.cluster.specs.Limits.{max_amount};
 ghost use Rattle.catalogue.specs.Faults.{are_machines, are_nodes, differ, is_resource, is_rule};
-ghost use Rattle.catalogue.specs.Instance.{inventory_of};
-ghost use Rattle.instance_json.specs.Walk.{instance_fault_of, field_by, word_field};
-ghost use Rattle.instance_json.specs.Names.{listed_resource};
-ghost use Rattle.instance_json.specs.Rules.{machines_fields, flagged_machines_fields, both_fields, among_from, split_from, preserve_from, resource_capacity_from, node_count_fields, overbook_from, nodes_fields, constraint_by, constraint_from, constraint_step, constraints_from};
+ghost use Rattle.instance_json.specs.Walk.{instance_fault_of, field_by};
+ghost use Rattle.instance_json.specs.Names.{listed_machine, listed_resource};
+ghost use Rattle.instance_json.specs.Rules.{machines_fields, flagged_machines_fields, both_fields, among_from, split_from, precedence_from, preserve_from, resource_capacity_from, node_count_fields, overbook_from, nodes_fields};
 
-use crate::amounts::MAX_AMOUNT;
 use crate::fault::InstanceFault;
+use crate::keys::{
+    AMONG_KEYS, BOTH_KEYS, FLAGGED_MACHINES_KEYS, MACHINES_KEYS, NODE_COUNT_KEYS, NODES_KEYS,
+    OVERBOOK_KEYS, PRECEDENCE_KEYS, PRESERVE_KEYS, RESOURCE_CAPACITY_KEYS, SPLIT_KEYS,
+};
 use crate::lists::{groups_at, machines_at, nodes_at, parts_at};
-use crate::words::{ConstraintKind, rule_kind};
-use crate::{keys, names};
-use catalogue::constraint::{Constraint, RuleFault};
+use crate::names;
+use crate::soon::MAX_SCALE;
+use catalogue::constraint::Constraint;
 use catalogue::lists::Vms;
-use catalogue::problem::Problem;
+use cluster::ids::VmId;
 use cluster::inventory::Cluster;
+use cluster::limits::MAX_AMOUNT;
 use cluster::sets::NodeSet;
-use json_walk::{FaultKind, PathRef};
-use memory::Memory;
+use json_walk::PathRef;
 use serde_json::Value;
 use std::alloc::Global;
 
@@ -41,9 +43,25 @@ fn resource_at(
     names::resource(alloc, cluster.resources(), found, &path.key("resource"))
 }
 
+/// A member that is one machine, which must be there.
+fn machine_at(
+    alloc: Global,
+    cluster: &Cluster,
+    value: &Value,
+    path: &PathRef,
+    key: &str,
+) -> Result<VmId, InstanceFault>
+    ensures gives { Gives instance_fault_of (λ v. v) result
+        (field_by (listed_machine cluster.now.given) (view value.now) (path_of path.now) key.now) }
+    ensures listed { IfOk result (λ v. v.0 < length cluster.now.given.machines) }
+{
+    let found = json_walk::field_at(alloc, value, path, key)?;
+    names::machine(alloc, cluster, found, &path.key(key))
+}
+
 /// The fields of a constraint on machines alone.
 #[tactic(auto, unfolding(crate::specs::Rules::machines_fields))]
-fn machines_fields(
+pub(crate) fn machines_fields(
     alloc: Global,
     cluster: &Cluster,
     value: &Value,
@@ -61,7 +79,7 @@ fn machines_fields(
 
 /// The fields of a constraint on machines that may be continuous.
 #[tactic(auto, unfolding(crate::specs::Rules::flagged_machines_fields))]
-fn flagged_machines_fields(
+pub(crate) fn flagged_machines_fields(
     alloc: Global,
     cluster: &Cluster,
     value: &Value,
@@ -80,7 +98,7 @@ fn flagged_machines_fields(
 
 /// The fields of a constraint on machines and nodes.
 #[tactic(auto, unfolding(crate::specs::Rules::both_fields))]
-fn both_fields(
+pub(crate) fn both_fields(
     alloc: Global,
     cluster: &Cluster,
     value: &Value,
@@ -101,7 +119,7 @@ fn both_fields(
 
 /// A constraint `among`.
 #[tactic(auto, unfolding(crate::specs::Rules::among_from))]
-fn among(
+pub(crate) fn among(
     alloc: Global,
     cluster: &Cluster,
     value: &Value,
@@ -124,7 +142,7 @@ fn among(
 
 /// A constraint `split`.
 #[tactic(auto, unfolding(crate::specs::Rules::split_from))]
-fn split(
+pub(crate) fn split(
     alloc: Global,
     cluster: &Cluster,
     value: &Value,
@@ -140,9 +158,30 @@ fn split(
     Ok(Constraint::Split { parts, continuous })
 }
 
+/// A constraint `precedence`.
+#[tactic(auto, unfolding(crate::specs::Rules::precedence_from))]
+pub(crate) fn precedence(
+    alloc: Global,
+    cluster: &Cluster,
+    value: &Value,
+    path: &PathRef,
+) -> Result<Constraint, InstanceFault>
+    ensures gives { Gives instance_fault_of (λ c. c) result
+        (precedence_from cluster.now.given (view value.now) (path_of path.now)) }
+    ensures rule { IfOk result (λ c. is_rule cluster.now.given c ≡ true) }
+{
+    let before = machine_at(alloc, cluster, value, path, "before")?;
+    let after = machine_at(alloc, cluster, value, path, "after")?;
+    if before.0 == after.0 {
+        return Err(InstanceFault::Twice(path.key("after").to_text(alloc)?));
+    }
+    json_walk::only_at(alloc, value, path, &PRECEDENCE_KEYS)?;
+    Ok(Constraint::Precedence { before, after })
+}
+
 /// A constraint `preserve`.
 #[tactic(auto, unfolding(crate::specs::Rules::preserve_from))]
-fn preserve(
+pub(crate) fn preserve(
     alloc: Global,
     cluster: &Cluster,
     value: &Value,
@@ -165,7 +204,7 @@ fn preserve(
 
 /// A constraint `resourceCapacity`.
 #[tactic(auto, unfolding(crate::specs::Rules::resource_capacity_from))]
-fn resource_capacity(
+pub(crate) fn resource_capacity(
     alloc: Global,
     cluster: &Cluster,
     value: &Value,
@@ -190,7 +229,7 @@ fn resource_capacity(
 
 /// The fields of a constraint that counts on nodes.
 #[tactic(auto, unfolding(crate::specs::Rules::node_count_fields))]
-fn node_count_fields(
+pub(crate) fn node_count_fields(
     alloc: Global,
     cluster: &Cluster,
     value: &Value,
@@ -210,7 +249,7 @@ fn node_count_fields(
 
 /// A constraint `overbook`.
 #[tactic(auto, unfolding(crate::specs::Rules::overbook_from))]
-fn overbook(
+pub(crate) fn overbook(
     alloc: Global,
     cluster: &Cluster,
     value: &Value,
@@ -235,7 +274,7 @@ fn overbook(
 
 /// The fields of a constraint on nodes alone.
 #[tactic(auto, unfolding(crate::specs::Rules::nodes_fields))]
-fn nodes_fields(
+pub(crate) fn nodes_fields(
     alloc: Global,
     cluster: &Cluster,
     value: &Value,
@@ -249,4 +288,3 @@ fn nodes_fields(
     json_walk::only_at(alloc, value, path, &NODES_KEYS)?;
     Ok(nodes)
 }
-

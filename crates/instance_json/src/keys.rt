@@ -38,8 +38,13 @@ pub(crate) const PRECEDENCE_KEYS: [&str; 3] = ["kind", "before", "after"];
 
 pub(crate) const PRESERVE_KEYS: [&str; 4] = ["kind", "machines", "resource", "amount"];
 
-pub(crate) const RESOURCE_CAPACITY_KEYS: [&str; 5] =
-    ["kind", "nodes", "resource", "amount", "continuous"];
+pub(crate) const RESOURCE_CAPACITY_KEYS: [&str; 5] = [
+    "kind",
+    "nodes",
+    "resource",
+    "amount",
+    "continuous",
+];
 
 pub(crate) const NODE_COUNT_KEYS: [&str; 4] = ["kind", "nodes", "amount", "continuous"];
 

@@ -9,13 +9,13 @@ ghost use Rattle.json_walk.specs.Each.{each};
 ghost use Rattle.catalogue.specs.Faults.{are_machines, are_nodes, differ, all_of};
 ghost use Rattle.instance_json.specs.Walk.{instance_fault_of, field_by};
 ghost use Rattle.cluster.specs.Sets.{no_nodes};
-ghost use Rattle.catalogue.specs.Limits.{max_groups, max_parts};
+ghost use Rattle.instance_json.specs.Soon.{max_groups, max_parts};
 ghost use Rattle.instance_json.specs.Lists.{machine_item, machines_after, machine_list, part_step, parts_from, node_item, node_set, group_step, groups_from};
 
 use crate::fault::InstanceFault;
 use crate::listing::Listing;
 use crate::names;
-use catalogue::limits::{MAX_GROUPS, MAX_PARTS};
+use crate::soon::{MAX_GROUPS, MAX_PARTS};
 use catalogue::lists::{Groups, Parts, Vms};
 use cluster::inventory::Cluster;
 use cluster::sets::NodeSet;
@@ -47,7 +47,7 @@ fn push_machine(
     Ok(())
 }
 
-#[tactic(auto, using(json_walk::proofs::Each::loop_rules))]
+#[tactic(auto, using(json_walk::proofs::Public::loop_rules))]
 fn machines_from(
     alloc: Global,
     cluster: &Cluster,
@@ -125,7 +125,7 @@ fn push_part(
     Ok(())
 }
 
-#[tactic(auto, using(json_walk::proofs::Each::loop_rules))]
+#[tactic(auto, using(json_walk::proofs::Public::loop_rules))]
 fn parts_from(
     alloc: Global,
     cluster: &Cluster,
@@ -206,7 +206,7 @@ fn push_node(
     Ok(())
 }
 
-#[tactic(auto, using(json_walk::proofs::Each::loop_rules, crate::proofs::ListLemmas::set_rules))]
+#[tactic(auto, using(json_walk::proofs::Public::loop_rules, crate::proofs::ListLemmas::set_rules))]
 fn nodes_from(
     alloc: Global,
     cluster: &Cluster,
@@ -275,7 +275,7 @@ fn push_group(
     Ok(())
 }
 
-#[tactic(auto, using(json_walk::proofs::Each::loop_rules))]
+#[tactic(auto, using(json_walk::proofs::Public::loop_rules))]
 fn groups_from(
     alloc: Global,
     cluster: &Cluster,

@@ -14,9 +14,9 @@ ghost use Rattle.instance_json.specs.Elements.{host_from, state_by, state_from, 
 use crate::amounts::amounts_at;
 use crate::durations::{Owner, own_durations};
 use crate::fault::InstanceFault;
-use crate::nodes::element_name;
 use crate::keys::{HOSTED_KEYS, MACHINE_KEYS};
 use crate::names;
+use crate::nodes::element_name;
 use crate::states::{STATES, StateWord};
 use cluster::ids::NodeId;
 use cluster::inventory::{AddFault, Cluster};
@@ -189,7 +189,7 @@ fn push_machine(
     Ok(())
 }
 
-#[tactic(auto, using(json_walk::proofs::Each::loop_rules))]
+#[tactic(auto, using(json_walk::proofs::Public::loop_rules))]
 fn machines_in(
     alloc: Global,
     cluster: &mut Cluster,

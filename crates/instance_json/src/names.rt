@@ -99,7 +99,7 @@ fn push_resource(
     Ok(())
 }
 
-#[tactic(auto, using(json_walk::proofs::Each::loop_rules))]
+#[tactic(auto, using(json_walk::proofs::Public::loop_rules))]
 fn resources_in(alloc: Global, values: &[Value], path: &PathRef) -> Result<Vec<Name>, InstanceFault>
     ensures gives { Gives instance_fault_of (λ v. v.items) result
         (each (resource_step (path_of path.now)) 0 [] (map view values.now)) }

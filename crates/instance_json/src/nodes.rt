@@ -98,7 +98,7 @@ fn push_node(
     Ok(())
 }
 
-#[tactic(auto, using(json_walk::proofs::Each::loop_rules))]
+#[tactic(auto, using(json_walk::proofs::Public::loop_rules))]
 fn nodes_in(
     alloc: Global,
     cluster: &mut Cluster,

@@ -1,6 +1,41 @@
+//! Constraints.
+
+ghost use Rattle.std.specs.Prelude.{◌≡◌, ◌<◌, ◌≤◌, ◌+◌, ◌++◌, ◌∷◌, [], IfOk, OnOk, codes, length, map, true};
+ghost use Rattle.serde_json.specs.View.{view};
+ghost use Rattle.json_walk.specs.PathRef.{path_of};
+ghost use Rattle.json_walk.specs.Walk.{Gives};
+ghost use Rattle.json_walk.specs.Each.{each};
+ghost use Rattle.catalogue.specs.Faults.{is_rule};
+ghost use Rattle.catalogue.specs.Instance.{inventory_of};
+ghost use Rattle.instance_json.specs.Soon.{constraint_words, max_constraints};
+ghost use Rattle.instance_json.specs.Walk.{instance_fault_of, word_field};
+ghost use Rattle.instance_json.specs.Rules.{constraint_by, constraint_from, constraint_step, constraints_from};
+
+use crate::constraint_kind::{CONSTRAINT_KINDS, ConstraintKind};
+use crate::fault::InstanceFault;
+use crate::fields;
+use crate::soon::{CONSTRAINT_WORDS, MAX_CONSTRAINTS};
+use catalogue::constraint::{Constraint, RuleFault};
+use catalogue::problem::Problem;
+use cluster::inventory::Cluster;
+use json_walk::PathRef;
+use memory::Memory;
+use serde_json::Value;
+use std::alloc::Global;
+
+/// The kind of a constraint, by its word.
+#[tactic(auto, unfolding(crate::specs::Walk::word_field, crate::specs::Soon::constraint_words))]
+fn kind(alloc: Global, value: &Value, path: &PathRef) -> Result<ConstraintKind, InstanceFault>
+    ensures { Gives instance_fault_of (λ kind. kind) result
+        (word_field constraint_words CONSTRAINT_KINDS (view value.now) (path_of path.now) (codes "kind")) }
+{
+    let place = json_walk::word_field(alloc, value, path, "kind", &CONSTRAINT_WORDS)?;
+    Ok(CONSTRAINT_KINDS[place])
+}
+
 /// A constraint of that kind.
 #[tactic(auto, unfolding(crate::specs::Rules::constraint_by))]
-fn rule(
+fn constraint_by(
     alloc: Global,
     cluster: &Cluster,
     kind: ConstraintKind,
@@ -13,28 +48,34 @@ fn rule(
 {
     match kind {
         ConstraintKind::Spread => {
-            let (machines, continuous) = flagged_machines_fields(alloc, cluster, value, path)?;
+            let (machines, continuous) = fields::flagged_machines_fields(
+                alloc, cluster, value, path,
+            )?;
             Ok(Constraint::Spread {
                 machines,
                 continuous,
             })
         }
         ConstraintKind::Gather => {
-            let (machines, continuous) = flagged_machines_fields(alloc, cluster, value, path)?;
+            let (machines, continuous) = fields::flagged_machines_fields(
+                alloc, cluster, value, path,
+            )?;
             Ok(Constraint::Gather {
                 machines,
                 continuous,
             })
         }
         ConstraintKind::Lonely => {
-            let (machines, continuous) = flagged_machines_fields(alloc, cluster, value, path)?;
+            let (machines, continuous) = fields::flagged_machines_fields(
+                alloc, cluster, value, path,
+            )?;
             Ok(Constraint::Lonely {
                 machines,
                 continuous,
             })
         }
         ConstraintKind::Ban => {
-            let (machines, nodes, continuous) = both_fields(alloc, cluster, value, path)?;
+            let (machines, nodes, continuous) = fields::both_fields(alloc, cluster, value, path)?;
             Ok(Constraint::Ban {
                 machines,
                 nodes,
@@ -42,22 +83,28 @@ fn rule(
             })
         }
         ConstraintKind::Fence => {
-            let (machines, nodes, continuous) = both_fields(alloc, cluster, value, path)?;
+            let (machines, nodes, continuous) = fields::both_fields(alloc, cluster, value, path)?;
             Ok(Constraint::Fence {
                 machines,
                 nodes,
                 continuous,
             })
         }
-        ConstraintKind::Among => among(alloc, cluster, value, path),
-        ConstraintKind::Split => split(alloc, cluster, value, path),
+        ConstraintKind::Among => fields::among(alloc, cluster, value, path),
+        ConstraintKind::Split => fields::split(alloc, cluster, value, path),
         ConstraintKind::Root => Ok(Constraint::Root {
-            machines: machines_fields(alloc, cluster, value, path)?,
+            machines: fields::machines_fields(alloc, cluster, value, path)?,
         }),
-        ConstraintKind::Preserve => preserve(alloc, cluster, value, path),
-        ConstraintKind::ResourceCapacity => resource_capacity(alloc, cluster, value, path),
+        ConstraintKind::Precedence => fields::precedence(alloc, cluster, value, path),
+        ConstraintKind::Serialize => Ok(Constraint::Serialize {
+            machines: fields::machines_fields(alloc, cluster, value, path)?,
+        }),
+        ConstraintKind::Preserve => fields::preserve(alloc, cluster, value, path),
+        ConstraintKind::ResourceCapacity => fields::resource_capacity(alloc, cluster, value, path),
         ConstraintKind::RunningCapacity => {
-            let (nodes, amount, continuous) = node_count_fields(alloc, cluster, value, path)?;
+            let (nodes, amount, continuous) = fields::node_count_fields(
+                alloc, cluster, value, path,
+            )?;
             Ok(Constraint::RunningCapacity {
                 nodes,
                 amount,
@@ -65,31 +112,33 @@ fn rule(
             })
         }
         ConstraintKind::MaxOnline => {
-            let (nodes, amount, continuous) = node_count_fields(alloc, cluster, value, path)?;
+            let (nodes, amount, continuous) = fields::node_count_fields(
+                alloc, cluster, value, path,
+            )?;
             Ok(Constraint::MaxOnline {
                 nodes,
                 amount,
                 continuous,
             })
         }
-        ConstraintKind::Overbook => overbook(alloc, cluster, value, path),
+        ConstraintKind::Overbook => fields::overbook(alloc, cluster, value, path),
         ConstraintKind::Online => Ok(Constraint::Online {
-            nodes: nodes_fields(alloc, cluster, value, path)?,
+            nodes: fields::nodes_fields(alloc, cluster, value, path)?,
         }),
         ConstraintKind::Offline => Ok(Constraint::Offline {
-            nodes: nodes_fields(alloc, cluster, value, path)?,
+            nodes: fields::nodes_fields(alloc, cluster, value, path)?,
         }),
         ConstraintKind::Running => Ok(Constraint::Running {
-            machines: machines_fields(alloc, cluster, value, path)?,
+            machines: fields::machines_fields(alloc, cluster, value, path)?,
         }),
         ConstraintKind::Sleeping => Ok(Constraint::Sleeping {
-            machines: machines_fields(alloc, cluster, value, path)?,
+            machines: fields::machines_fields(alloc, cluster, value, path)?,
         }),
         ConstraintKind::Ready => Ok(Constraint::Ready {
-            machines: machines_fields(alloc, cluster, value, path)?,
+            machines: fields::machines_fields(alloc, cluster, value, path)?,
         }),
         ConstraintKind::Killed => Ok(Constraint::Killed {
-            machines: machines_fields(alloc, cluster, value, path)?,
+            machines: fields::machines_fields(alloc, cluster, value, path)?,
         }),
     }
 }
@@ -106,11 +155,8 @@ fn constraint(
         (constraint_from cluster.now.given (view value.now) (path_of path.now)) }
     ensures rule { IfOk result (λ c. is_rule cluster.now.given c ≡ true) }
 {
-    let word = json_walk::text_field(alloc, value, path, "kind")?;
-    let Some(kind) = rule_kind(word) else {
-        return Err(json_walk::fault_at(alloc, &path.key("kind"), FaultKind::Unknown).into());
-    };
-    rule(alloc, cluster, kind, value, path)
+    let kind = kind(alloc, value, path)?;
+    constraint_by(alloc, cluster, kind, value, path)
 }
 
 /// Adds a constraint that has no fault.
@@ -145,7 +191,7 @@ fn push_constraint(
     Ok(())
 }
 
-#[tactic(auto, using(json_walk::proofs::Each::loop_rules))]
+#[tactic(auto, using(json_walk::proofs::Public::loop_rules))]
 fn constraints_in(
     alloc: Global,
     problem: &mut Problem,
