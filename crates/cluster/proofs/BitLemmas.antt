@@ -1,5 +1,5 @@
 -- The bits of words.
-use Rattle.std.proofs.Common.{pow_mono, ap, ◌+◌, ◌-◌, ◌≤◌, ◌≡◌, ◌≢◌, ℕ, ◌<◌, ◌/◌, ◌%◌, ◌*◌, ◌^◌, ◌||◌, ◌==◌, ◌∙◌, zero, suc, false, List, length, replicate, slice_index, slice_set, get_or-set_same, get_or-set_other, bit_or, refl, sym, arith, ⊎_elim}
+use Rattle.std.proofs.Common.{pow_mono, ap, ◌+◌, ◌≤◌, ◌≡◌, ◌≢◌, ℕ, ◌<◌, ◌/◌, ◌%◌, ◌*◌, ◌^◌, ◌||◌, ◌==◌, ◌∙◌, zero, suc, false, List, length, replicate, slice_index, get_or-set_same, get_or-set_other, refl, sym, arith, ⊎_elim}
 use Rattle.std.specs.Int.{bit_at, w64}
 use Rattle.std.proofs.Math.Nat.{lt-div-mul-add, div-eq_of_lt}
 use Rattle.std.proofs.Math.Pow.{pow-lt}

@@ -1,7 +1,9 @@
 -- Words are read back as what they were printed of.
-use Rattle.std.proofs.Common.{◌≡◌, ℕ, ◌<◌, ◌×◌, List, [], length, Some, slice_get, slice_index_or, option_and_then, Option, None, refl, sym, arith, ◌∙◌}
+use Rattle.std.proofs.Common.{◌≡◌, ℕ, ◌<◌, List, [], Some, slice_get, slice_index_or, ap, option_map, option_and_then, Option, None, refl, sym, arith, ◌∙◌}
 use Rattle.std.specs.List.{position}
 use Rattle.std.specs.Str.{bytes_eq}
+use Rattle.std.proofs.lemmas.Option.{slice_get-map, get_or_from_slice_get}
+use Rattle.std.proofs.lemmas.List.Quantifiers.{position-Some}
 use Rattle.std.proofs.lemmas.Slice.Eq.{bytes_eq-Decides}
 use Rattle.cluster.specs.declared.kinds.Kind.{Kind}
 use Rattle.cluster.specs.declared.kinds.Kind.TheVariants.{Forge, Boot, Shutdown, Suspend, Resume, Migrate, Allocate, Kill, NodeBoot, NodeShutdown}
@@ -10,7 +12,10 @@ use Rattle.cluster.specs.declared.states.State.{State}
 use Rattle.cluster.specs.declared.states.State.TheVariants.{Init, Ready, Running, Sleeping, Gone}
 use Rattle.cluster.specs.Kinds.{kind_count, kind_number, kinds, kind_words, kind_word, kind_of_word}
 use Rattle.cluster.specs.States.{state_number, state_words, state_word}
-use Rattle.cluster.proofs.Finding.{position-Some}
+
+-- what stands at the place of a word is the word
+pub word-at_place : (words : List (List ℕ)) (word : List ℕ) (i : ℕ) → position (bytes_eq word) words ≡ Some i → slice_index_or words i [] ≡ word
+word-at_place words word i is = let at = position-Some (bytes_eq word) words i [] is in sym ((bytes_eq-Decides word _).0 at.1)
 
 -- the list of the kinds is that of the code
 pub kinds-KINDS : kinds ≡ KINDS
@@ -57,6 +62,17 @@ kind_of_word-kind_word Kill = refl
 kind_of_word-kind_word NodeBoot = refl
 kind_of_word-kind_word NodeShutdown = refl
 
+-- and what a word is read as has the word
+pub kind_word-kind_of_word : (word : List ℕ) (kind : Kind) → kind_of_word word ≡ Some kind → kind_word kind ≡ word
+unfolding kind_of_word kind_word kind_words kinds
+kind_word-kind_of_word word kind is = by (position (bytes_eq word) kind_words) refl is
+  where
+    by : (o : Option ℕ) → position (bytes_eq word) kind_words ≡ o → option_and_then (slice_get kinds) o ≡ Some kind → kind_word kind ≡ word
+    by None _ none = absurd (cc)
+    by (Some i) place found =
+        let listed : slice_get kind_words i ≡ Some (kind_word kind) = slice_get-map kind_word kinds i ∙ ap (option_map kind_word) found in
+        sym (get_or_from_slice_get kind_words i (kind_word kind) [] listed) ∙ word-at_place kind_words word i place
+
 -- the word of a state stands at the state's number
 pub place-state_word : (state : State) → position (bytes_eq (state_word state)) state_words ≡ Some (state_number state)
 unfolding state_word state_words
@@ -65,7 +81,3 @@ place-state_word Ready = refl
 place-state_word (Running host) = refl
 place-state_word (Sleeping host) = refl
 place-state_word Gone = refl
-
--- what stands at the place of a word is the word
-pub word-at_place : (words : List (List ℕ)) (word : List ℕ) (i : ℕ) → position (bytes_eq word) words ≡ Some i → slice_index_or words i [] ≡ word
-word-at_place words word i is = let at = position-Some (bytes_eq word) words i [] is in sym ((bytes_eq-Decides word _).0 at.1)

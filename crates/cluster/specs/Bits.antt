@@ -1,5 +1,5 @@
 -- Helping only: words of 64 bits, in which a set keeps its numbers.
-use Rattle.std.specs.Prelude.{◌≡◌, ℕ, ◌^◌, ◌<◌, ◌/◌, ◌%◌, ◌==◌, Bool, List, length, replicate, slice_index, slice_set, bit_or, refl}
+use Rattle.std.specs.Prelude.{◌≡◌, ℕ, ◌^◌, ◌<◌, ◌/◌, ◌%◌, ◌==◌, Bool, List, length, replicate, slice_index, slice_set, bit_or}
 use Rattle.std.specs.Int.{bit_at}
 use Rattle.std.specs.List.{All}
 use Rattle.std.proofs.Common.{◌∙◌, ◌≤◌, lit<, subst, sym, ⊎_elim}

@@ -1,4 +1,4 @@
-use Rattle.std.proofs.Common.{◌≡◌, ◌/◌, ap, slice_index, slice_set, bit_or}
+use Rattle.std.proofs.Common.{◌/◌, ap, slice_index, slice_set, bit_or}
 use Rattle.cluster.proofs.BitLemmas.{shifted-once}
 use Rattle.cluster.proofs.bits.set_bit.Goals as goal
 

@@ -1,4 +1,4 @@
-use Rattle.std.proofs.Common.{◌≡◌, ◌<◌, ◌/◌, ap, sym, subst, arith, length, ◌∙◌}
+use Rattle.std.proofs.Common.{◌<◌, ◌/◌, ap, sym, subst, arith, length, ◌∙◌}
 use Rattle.cluster.specs.Bits.{IsBits, IsBits-with_bit, has_bit}
 use Rattle.cluster.specs.Sets.{has_machine}
 use Rattle.cluster.proofs.BitLemmas.{has_bit-with_bit}
