@@ -2,7 +2,6 @@
 use crate::constraint::{Constraint, RuleFault};
 use crate::lists::{Groups, Parts, Vms};
 use crate::problem::Problem;
-use crate::seen::Seen;
 use crate::targets::{Target, Wish};
 use cluster::durations::Duration;
 use cluster::ids::{Element, NodeId, VmId};
@@ -320,11 +319,4 @@ fn copies(rt: HostRuntime) -> Result<(), Fail> {
         assert_eq!(rt; has_continuous_copy(rt.alloc(), case)?, want);
     }
     Ok(())
-}
-
-#[test]
-fn marks_machines(rt: HostRuntime) {
-    let mut seen = Seen::new();
-    seen.mark(VmId(4095));
-    assert!(rt; seen.has(VmId(4095)) && !seen.has(VmId(4094)));
 }
