@@ -1,7 +1,7 @@
 -- Amounts and durations that are read place by place are within the limits of a cluster.
-use Rattle.std.proofs.Common.{◌≡◌, ℕ, zero, suc, ◌+◌, ◌-◌, ◌<◌, ◌≤◌, ◌==◌, Bool, true, false, List, [], ◌∷◌, ◌++◌, length, map, replicate, take, drop, slice_set, get_or, Option, Some, None, is_none, unwrap_or, nat_lt, nat_le, refl, sym, ap, ap₂, subst, ◌∙◌, arith, if◌then◌else◌, ⊎_elim}
+use Rattle.std.proofs.Common.{◌≡◌, ℕ, zero, suc, ◌+◌, ◌-◌, ◌<◌, ◌≤◌, ◌==◌, ◌&&◌, Bool, true, false, List, [], ◌∷◌, ◌++◌, length, map, replicate, take, drop, slice_set, get_or, Option, Some, None, is_none, unwrap_or, nat_lt, nat_le, refl, sym, ap, ap₂, subst, ◌∙◌, arith, if◌then◌else◌, ⊎_elim, zero-add}
 use Rattle.std.proofs.lemmas.Bool.{and_from, and_parts, cases_lt, lt-ltb, le-ltb, le-leb, lt-leb}
-use Rattle.std.proofs.lemmas.List.{drop-replicate, drop-set-lt, drop-set-add, take-set-le, take-append-drop, get_or-map}
+use Rattle.std.proofs.lemmas.List.{length-set, drop-replicate, drop-set-lt, drop-set-add, take-set-le, get_or-map, get_or_default}
 use Rattle.std.proofs.lemmas.List.FromFn.{get_or-range_with_len}
 use Rattle.std.proofs.Math.Seq.{take-set-lt}
 use Rattle.std.specs.List.{list_all, range_with_len}
@@ -31,11 +31,12 @@ is_zero a = a == 0
 
 -- so many amounts that are small, and zeros at the places past them
 pub record AreAmounts (place : ℕ) (amounts : List ℕ) : Type 0 where
+  pub long : length amounts ≡ max_resources
   pub small : list_all (λ a. nat_le a max_amount) amounts ≡ true
   pub rest : drop place amounts ≡ replicate (max_resources - place) 0
 
 pub amounts_begun : AreAmounts 0 (replicate max_resources 0)
-amounts_begun = record { small = refl; rest = refl }
+amounts_begun = record { long = refl; small = refl; rest = refl }
 
 drop-more : {X : Type 0} (xs ys : List X) (i : ℕ) → drop i xs ≡ drop i ys → drop (suc i) xs ≡ drop (suc i) ys
 drop-more xs ys i same = one xs i ∙ ap (drop 1) same ∙ sym (one ys i)
@@ -48,6 +49,7 @@ drop-more xs ys i same = one xs i ∙ ap (drop 1) same ∙ sym (one ys i)
 
 pub amounts_more : (i : ℕ) (amounts : List ℕ) (n : ℕ) → AreAmounts i amounts → nat_le n max_amount ≡ true → AreAmounts (i + 1) (slice_set amounts i n)
 amounts_more i amounts n old small = rw add (record {
+  long = length-set amounts i n ∙ old.long;
   small = list_all-set is_small amounts i n old.small small;
   rest =
       drop-set-lt (suc i) amounts i n (omega arith)
@@ -66,7 +68,7 @@ pub amounts_all : (i : ℕ) (amounts : List ℕ) → AreAmounts i amounts → am
 amounts_all i amounts is = and_from _ _ is.small (rw is.rest (none_of (max_resources - i)))
 
 pub no_amounts_fit : (count : ℕ) → amounts_fit count (replicate max_resources 0) ≡ true
-no_amounts_fit count = rw (drop-replicate count max_resources 0) (none_of (max_resources - count))
+no_amounts_fit count = ap (list_all is_zero) (drop-replicate {X = ℕ} count max_resources 0) ∙ none_of (max_resources - count)
 
 -- ---- durations
 
@@ -78,7 +80,7 @@ none_fit count Either = refl
 -- the kind at a place has the place's number
 number_at : (i : ℕ) (kind : Kind) → i < kind_count → kind ≡ get_or KINDS i kind → kind_number kind ≡ i
 number_at i kind lt is =
-    ap kind_number is ∙ sym (get_or-map kind_number KINDS i kind 0 lt) ∙ get_or-range_with_len 0 10 i 0 lt
+    ap kind_number is ∙ sym (get_or-map kind_number KINDS i kind 0 lt) ∙ get_or-range_with_len 0 kind_count i 0 lt ∙ zero-add i
 
 -- one more duration, by a test of those before a bound and by one of those from the bound on
 sides_more : (p q : Option Duration → Bool) (bound : ℕ) (ds : List (Option Duration)) (i : ℕ) (d : Option Duration)
@@ -105,7 +107,7 @@ if_true b x y z is h = rw is at h
 if_false : {A : Type 0} (b : Bool) (x y z : A) → b ≡ false → (if b then x else y) ≡ z → y ≡ z
 if_false b x y z is h = rw is at h
 
-pub owner_more : (count : ℕ) (owner : Owner) (ds : List (Option Duration)) (i : ℕ) (kind : Kind) (d : Option Duration) → i < kind_count → kind ≡ get_or KINDS i kind
+owner_more : (count : ℕ) (owner : Owner) (ds : List (Option Duration)) (i : ℕ) (kind : Kind) (d : Option Duration) → i < kind_count → kind ≡ get_or KINDS i kind
     → owner_fits count owner ds ≡ true → kind_fits count owner kind d ≡ true → owner_fits count owner (slice_set ds i d) ≡ true
 owner_more count Machine ds i kind d lt is old fits =
     let number = number_at i kind lt is in
@@ -116,7 +118,7 @@ owner_more count Machine ds i kind d lt is old fits =
 owner_more count Node ds i kind d lt is old fits =
     let number = number_at i kind lt is in
     sides_more is_none (own_fits count) machine_kind_count ds i d
-    (λ below. if_false (nat_le machine_kind_count (kind_number kind)) (own_fits count d) (is_none d) true (rw number (lt-leb i machine_kind_count below)) fits)
+    (λ below. if_false (nat_le machine_kind_count (kind_number kind)) (own_fits count d) (is_none d) true (rw number (lt-leb machine_kind_count i below)) fits)
     (λ above. if_true (nat_le machine_kind_count (kind_number kind)) (own_fits count d) (is_none d) true (rw number (le-leb machine_kind_count i above)) fits)
     old
 owner_more count Either ds i kind d lt is old fits = list_all-set (own_fits count) ds i d old fits
@@ -129,3 +131,7 @@ all_durations_fit count (d ∷ ds) fits =
     one : (d : Option Duration) → own_fits count d ≡ true → duration_fits count (unwrap_or d one_instant) ≡ true
     one None fits = refl
     one (Some x) fits = fits
+
+pub owner_more_at : (count : ℕ) (owner : Owner) (ds : List (Option Duration)) (i : ℕ) (k : Kind) (d : Option Duration) → i < kind_count
+    → owner_fits count owner ds ≡ true → kind_fits count owner (get_or KINDS i k) d ≡ true → owner_fits count owner (slice_set ds i d) ≡ true
+owner_more_at count owner ds i k d lt old fits = owner_more count owner ds i (get_or KINDS i k) d lt (get_or_default KINDS i k (get_or KINDS i k) lt) old fits

@@ -3,7 +3,7 @@ use Rattle.std.proofs.Common.{◌≡◌, ◌<◌, ◌&&◌, Bool, true, false, n
 use Rattle.std.proofs.lemmas.Grind.{common_steps}
 use Rattle.catalogue.specs.declared.constraint.Constraint.{Constraint}
 use Rattle.catalogue.specs.declared.constraint.RuleFault.TheVariants.{TooMany, NoSuch, Twice, TooGreat}
-use Rattle.instance_json.specs.Soon.{max_constraints}
+use Rattle.catalogue.specs.Limits.{max_constraints}
 use Rattle.catalogue.specs.Instance.{Instance, inventory_of, rule_fault}
 use Rattle.catalogue.specs.Faults.{are_named_machines, are_named_nodes, is_named_resource, differ, machines_in, is_fitting, is_rule, constraint_fault}
 

@@ -30,7 +30,7 @@ duration_from resources d path = do
   base ← number_field 1 max_duration d path (codes "base")
   per ← optional_number max_duration d path (codes "per")
   resource ← unit_from resources per (get (codes "resource") d) (key_path path (codes "resource"))
-  only_keys DURATION_KEYS d path
+  only_keys (map (λ key. key.now) DURATION_KEYS) d path
   Ok (record { base = base; per = per; resource = resource })
 
 -- ---- durations by kind
@@ -48,8 +48,8 @@ given_duration resources d path = do
   Ok (Some duration)
 
 -- the duration that an object has of a kind, if it has one
-unfoldable pub kind_duration : List (List ℕ) → Owner → Data → List ℕ → Kind → Walk (Option Duration)
-kind_duration resources owner d path kind =
+unfoldable pub duration_by_kind : List (List ℕ) → Owner → Data → List ℕ → Kind → Walk (Option Duration)
+duration_by_kind resources owner d path kind =
     if has_kind owner kind then optional_by None (given_duration resources) d path (kind_word kind) else Ok None
 
 -- whether the key is the word of a kind of which the object may have a duration
@@ -60,7 +60,7 @@ is_kind_key owner key = list_any (λ kind. has_kind owner kind && bytes_eq key (
 unfoldable pub durations_from : List (List ℕ) → Owner → Test (List (Option Duration))
 durations_from resources owner d path = do
   members ← as_walk (object_of d path)
-  durations ← map_walk (kind_duration resources owner d path) kinds
+  durations ← map_walk (duration_by_kind resources owner d path) kinds
   wants (list_all (is_kind_key owner) (keys_of members)) (field_fault path Unknown)
   Ok durations
 

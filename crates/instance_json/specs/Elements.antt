@@ -1,5 +1,5 @@
 -- Nodes and machines.
-use Rattle.std.specs.Prelude.{ℕ, ◌-◌, List, [], ◌∷◌, ◌++◌, length, replicate, true, nat_le, Ok, codes, Bor}
+use Rattle.std.specs.Prelude.{ℕ, ◌-◌, List, [], ◌∷◌, ◌++◌, length, map, replicate, true, nat_le, Ok, codes}
 use Rattle.std.specs.List.{list_any, list_all}
 use Rattle.std.specs.Str.{bytes_eq}
 use Rattle.serde_json.specs.Data.{Data}
@@ -53,7 +53,7 @@ node_from k d path = do
   online ← optional_flag true d path (codes "online")
   capacity ← amounts_in k.resources d path (codes "capacity")
   own ← own_durations k.resources owners.Node d path
-  only_keys NODE_KEYS d path
+  only_keys (map (λ key. key.now) NODE_KEYS) d path
   Ok (record { name = name; online = online; capacity = capacity; own = own })
 
 -- one more node
@@ -92,12 +92,12 @@ state_from k d path = do
   state_by k word d path
 
 -- only a machine that has a host names a node
-abbrev pub machine_keys : State → List (Bor (List ℕ))
-machine_keys (Running host) = HOSTED_KEYS
-machine_keys (Sleeping host) = HOSTED_KEYS
-machine_keys Init = MACHINE_KEYS
-machine_keys Ready = MACHINE_KEYS
-machine_keys Gone = MACHINE_KEYS
+abbrev pub machine_keys : State → List (List ℕ)
+machine_keys (Running host) = map (λ key. key.now) HOSTED_KEYS
+machine_keys (Sleeping host) = map (λ key. key.now) HOSTED_KEYS
+machine_keys Init = map (λ key. key.now) MACHINE_KEYS
+machine_keys Ready = map (λ key. key.now) MACHINE_KEYS
+machine_keys Gone = map (λ key. key.now) MACHINE_KEYS
 
 -- a machine
 unfoldable pub machine_from : Inventory → Test Machine

@@ -1,5 +1,5 @@
 -- The instance that bytes have, or their first fault.
-use Rattle.std.specs.Prelude.{ℕ, List, [], length, nat_le, Ok, codes}
+use Rattle.std.specs.Prelude.{ℕ, List, [], length, map, nat_le, Ok, codes}
 use Rattle.std.specs.Option.{ok_or}
 use Rattle.serde_json.specs.Data.{Data}
 use Rattle.json_walk.specs.Path.{root}
@@ -8,7 +8,7 @@ use Rattle.json_walk.specs.Json.{json_of}
 use Rattle.json_walk.specs.declared.reading.TheConstants.{MAX_TEXT_BYTES}
 use Rattle.cluster.specs.Inventory.{Inventory}
 use Rattle.catalogue.specs.Instance.{Instance}
-use Rattle.instance_json.specs.Soon.{max_horizon}
+use Rattle.catalogue.specs.Limits.{max_horizon}
 use Rattle.instance_json.specs.declared.keys.TheConstants.{ROOT_KEYS}
 use Rattle.instance_json.specs.declared.fault.InstanceFault.TheVariants.{TooLong, NotJson}
 use Rattle.instance_json.specs.Walk.{Walk, Test, only_keys, field_by, number_field}
@@ -46,7 +46,7 @@ problem_from d path = do
 unfoldable pub walk : Data → Walk Instance
 walk d = do
   p ← problem_from d root
-  only_keys ROOT_KEYS d root
+  only_keys (map (λ key. key.now) ROOT_KEYS) d root
   Ok p
 
 -- not too many bytes, which are JSON, and its walk

@@ -1,4 +1,3 @@
-pub mod Soon
 pub mod Walk
 pub mod Texts
 pub mod Names

@@ -10,7 +10,7 @@ use Rattle.cluster.specs.declared.sets.NodeSet.{NodeSet}
 use Rattle.cluster.specs.Sets.{has_node, no_nodes, with_node}
 use Rattle.cluster.specs.Inventory.{Inventory}
 use Rattle.catalogue.specs.Faults.{is_member, all_of}
-use Rattle.instance_json.specs.Soon.{max_groups, max_parts}
+use Rattle.catalogue.specs.Limits.{max_groups, max_parts}
 use Rattle.instance_json.specs.declared.fault.InstanceFault.TheVariants.{Twice, Limit}
 use Rattle.instance_json.specs.Walk.{Walk, Test, as_walk, field_fault}
 use Rattle.instance_json.specs.Names.{listed_machine, listed_node}

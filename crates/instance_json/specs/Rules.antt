@@ -1,5 +1,5 @@
 -- Constraints.
-use Rattle.std.specs.Prelude.{ℕ, Bool, false, not, ◌==◌, List, [], ◌∷◌, ◌++◌, length, nat_le, Ok, codes}
+use Rattle.std.specs.Prelude.{ℕ, Bool, false, not, ◌==◌, List, [], ◌∷◌, ◌++◌, length, map, nat_le, Ok, codes}
 use Rattle.serde_json.specs.Data.{Data}
 use Rattle.json_walk.specs.Path.{key_path, item_path}
 use Rattle.json_walk.specs.Walk.{◌>>=◌, ◌>>◌, wants, list_of}
@@ -11,8 +11,8 @@ use Rattle.cluster.specs.Limits.{max_amount}
 use Rattle.catalogue.specs.declared.constraint.Constraint.{Constraint}
 use Rattle.catalogue.specs.declared.constraint.Constraint.TheVariants as constraint
 use Rattle.catalogue.specs.Instance.{Instance, inventory_of}
-use Rattle.instance_json.specs.Soon.{max_constraints, max_scale}
-use Rattle.instance_json.specs.Soon.{constraint_words}
+use Rattle.catalogue.specs.Limits.{max_constraints, max_scale}
+use Rattle.catalogue.specs.Words.{constraint_words}
 use Rattle.instance_json.specs.declared.constraint_kind.ConstraintKind.{ConstraintKind}
 use Rattle.instance_json.specs.declared.constraint_kind.ConstraintKind.TheVariants.{Spread, Ban, Fence, Gather, Lonely, Among, Split, Root, Precedence, Serialize, Preserve, ResourceCapacity, RunningCapacity, MaxOnline, Overbook, Online, Offline, Running, Sleeping, Ready, Killed}
 use Rattle.instance_json.specs.declared.constraint_kind.TheConstants.{CONSTRAINT_KINDS}
@@ -45,7 +45,7 @@ continuous_flag d path = optional_flag false d path (codes "continuous")
 unfoldable pub machines_fields : Inventory → Test (List VmId)
 machines_fields k d path = do
   machines ← machines_field k d path
-  only_keys MACHINES_KEYS d path
+  only_keys (map (λ key. key.now) MACHINES_KEYS) d path
   Ok machines
 
 -- spread, gather, lonely
@@ -53,7 +53,7 @@ unfoldable pub flagged_machines_fields : Inventory → Test (List VmId × Bool)
 flagged_machines_fields k d path = do
   machines ← machines_field k d path
   continuous ← continuous_flag d path
-  only_keys FLAGGED_MACHINES_KEYS d path
+  only_keys (map (λ key. key.now) FLAGGED_MACHINES_KEYS) d path
   Ok (machines, continuous)
 
 -- ban, fence
@@ -62,7 +62,7 @@ both_fields k d path = do
   machines ← machines_field k d path
   nodes ← nodes_field k d path
   continuous ← continuous_flag d path
-  only_keys BOTH_KEYS d path
+  only_keys (map (λ key. key.now) BOTH_KEYS) d path
   Ok (machines, nodes, continuous)
 
 unfoldable pub among_from : Inventory → Test Constraint
@@ -70,14 +70,14 @@ among_from k d path = do
   machines ← machines_field k d path
   groups ← field_by (groups_from k) d path (codes "groups")
   continuous ← continuous_flag d path
-  only_keys AMONG_KEYS d path
+  only_keys (map (λ key. key.now) AMONG_KEYS) d path
   Ok (constraint.Among machines groups continuous)
 
 unfoldable pub split_from : Inventory → Test Constraint
 split_from k d path = do
   parts ← field_by (parts_from k) d path (codes "parts")
   continuous ← continuous_flag d path
-  only_keys SPLIT_KEYS d path
+  only_keys (map (λ key. key.now) SPLIT_KEYS) d path
   Ok (constraint.Split parts continuous)
 
 -- the first machine's action before that of another one
@@ -86,7 +86,7 @@ precedence_from k d path = do
   before ← field_by (listed_machine k) d path (codes "before")
   after ← field_by (listed_machine k) d path (codes "after")
   wants (not (before.0 == after.0)) (Twice (key_path path (codes "after")))
-  only_keys PRECEDENCE_KEYS d path
+  only_keys (map (λ key. key.now) PRECEDENCE_KEYS) d path
   Ok (constraint.Precedence before after)
 
 unfoldable pub preserve_from : Inventory → Test Constraint
@@ -94,7 +94,7 @@ preserve_from k d path = do
   machines ← machines_field k d path
   resource ← resource_field k d path
   amount ← amount_field d path
-  only_keys PRESERVE_KEYS d path
+  only_keys (map (λ key. key.now) PRESERVE_KEYS) d path
   Ok (constraint.Preserve machines resource amount)
 
 unfoldable pub resource_capacity_from : Inventory → Test Constraint
@@ -103,7 +103,7 @@ resource_capacity_from k d path = do
   resource ← resource_field k d path
   amount ← amount_field d path
   continuous ← continuous_flag d path
-  only_keys RESOURCE_CAPACITY_KEYS d path
+  only_keys (map (λ key. key.now) RESOURCE_CAPACITY_KEYS) d path
   Ok (constraint.ResourceCapacity nodes resource amount continuous)
 
 -- runningCapacity, maxOnline
@@ -112,7 +112,7 @@ node_count_fields k d path = do
   nodes ← nodes_field k d path
   amount ← amount_field d path
   continuous ← continuous_flag d path
-  only_keys NODE_COUNT_KEYS d path
+  only_keys (map (λ key. key.now) NODE_COUNT_KEYS) d path
   Ok (nodes, amount, continuous)
 
 unfoldable pub overbook_from : Inventory → Test Constraint
@@ -121,14 +121,14 @@ overbook_from k d path = do
   resource ← resource_field k d path
   num ← number_field 0 max_scale d path (codes "num")
   den ← number_field 1 max_scale d path (codes "den")
-  only_keys OVERBOOK_KEYS d path
+  only_keys (map (λ key. key.now) OVERBOOK_KEYS) d path
   Ok (constraint.Overbook nodes resource num den)
 
 -- online, offline
 unfoldable pub nodes_fields : Inventory → Test NodeSet
 nodes_fields k d path = do
   nodes ← nodes_field k d path
-  only_keys NODES_KEYS d path
+  only_keys (map (λ key. key.now) NODES_KEYS) d path
   Ok nodes
 
 -- ---- constraints

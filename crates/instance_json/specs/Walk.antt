@@ -1,5 +1,5 @@
 -- The walk of an instance: what a test gives, or the first fault.
-use Rattle.std.specs.Prelude.{ℕ, Bool, List, [], ◌∷◌, map, Option, Some, None, Result, Ok, Err, Bor, slice_get}
+use Rattle.std.specs.Prelude.{ℕ, Bool, List, [], ◌∷◌, Option, Some, None, Result, Ok, Err, slice_get}
 use Rattle.std.specs.Option.{ok_or}
 use Rattle.serde_json.specs.Data.{Data}
 use Rattle.serde_json.specs.Find.{get}
@@ -50,8 +50,8 @@ field_fault path kind = Field (fault_at path kind)
 -- ---- members
 
 -- an object without keys beside these
-abbrev pub only_keys : List (Bor (List ℕ)) → Test (Unit {0})
-only_keys keys d path = as_walk (only_of d path (map (λ key. key.now) keys))
+abbrev pub only_keys : List (List ℕ) → Test (Unit {0})
+only_keys keys d path = as_walk (only_of d path keys)
 
 -- a member that must be there, by its test
 abbrev pub field_by : {A : Type 0} → Test A → Data → List ℕ → List ℕ → Walk A

@@ -82,7 +82,7 @@ fn amounts(
 }
 
 /// A member that may be absent, an object of amounts.
-#[tactic(auto, unfolding(json_walk::specs::Walk::optional))]
+#[tactic(auto, using(crate::proofs::Fitting::no_amounts_fit), unfolding(json_walk::specs::Walk::optional))]
 pub(crate) fn amounts_at(
     alloc: Global,
     resources: &[Name],

@@ -14,7 +14,7 @@ ghost use Rattle.cluster.specs.Kinds.{kind_word, kinds};
 ghost use Rattle.cluster.specs.Limits.{max_resources};
 ghost use Rattle.instance_json.specs.Walk.{instance_fault_of, optional_by, map_walk};
 ghost use Rattle.instance_json.specs.Fitting.{kind_fits, owner_fits};
-ghost use Rattle.instance_json.specs.Durations.{unit_from, duration_from, given_duration, has_kind, kind_duration, is_kind_key, durations_from, own_durations, one_instant, base_durations};
+ghost use Rattle.instance_json.specs.Durations.{unit_from, duration_from, given_duration, has_kind, duration_by_kind, is_kind_key, durations_from, own_durations, one_instant, base_durations};
 
 use crate::fault::InstanceFault;
 use crate::keys::DURATION_KEYS;
@@ -26,6 +26,9 @@ use cluster::names::Name;
 use json_walk::{FaultKind, PathRef};
 use serde_json::{Map, Value};
 use std::alloc::Global;
+
+/// The greatest base and amount per unit.
+const LONGEST: u64 = MAX_DURATION as u64;
 
 /// Whose durations an object has.
 #[derive(Clone, Copy, Debug, PartialEq, Eq)]
@@ -72,9 +75,8 @@ fn duration(
         (duration_from resources.now (view value.now) (path_of path.now)) }
     ensures fits { IfOk result (λ d. duration_fits (length resources.now) d ≡ true) }
 {
-    let most = u64::from(MAX_DURATION);
-    let base = json_walk::number_field(alloc, value, path, "base", 1, most)?;
-    let per = json_walk::optional_number(alloc, value, path, "per", 0, 0, most)?;
+    let base = json_walk::number_field(alloc, value, path, "base", 1, LONGEST)?;
+    let per = json_walk::optional_number(alloc, value, path, "per", 0, 0, LONGEST)?;
     let resource = unit(alloc, resources, per, value, path)?;
     json_walk::only_at(alloc, value, path, &DURATION_KEYS)?;
     Ok(Duration {
@@ -118,8 +120,8 @@ fn optional_duration(
 }
 
 /// The duration that an object has of a kind.
-#[tactic(auto, unfolding(crate::specs::Durations::kind_duration))]
-fn kind_duration(
+#[tactic(auto, unfolding(crate::specs::Durations::duration_by_kind))]
+fn duration_by_kind(
     alloc: Global,
     resources: &[Name],
     owner: Owner,
@@ -129,7 +131,7 @@ fn kind_duration(
 ) -> Result<Option<Duration>, InstanceFault>
     requires { length resources.now ≤ max_resources }
     ensures gives { Gives instance_fault_of (λ o. o) result
-        (kind_duration resources.now owner (view value.now) (path_of path.now) kind) }
+        (duration_by_kind resources.now owner (view value.now) (path_of path.now) kind) }
     ensures fits { IfOk result (λ o. kind_fits (length resources.now) owner kind o ≡ true) }
 {
     if has_kind(owner, kind) {
@@ -140,7 +142,6 @@ fn kind_duration(
 }
 
 /// The durations of an object in the order of the ten kinds.
-#[tactic(auto, using(crate::proofs::Loops::fill_rules))]
 fn kind_durations(
     alloc: Global,
     resources: &[Name],
@@ -150,12 +151,12 @@ fn kind_durations(
 ) -> Result<[Option<Duration>; KIND_COUNT], InstanceFault>
     requires { length resources.now ≤ max_resources }
     ensures gives { Gives instance_fault_of (λ ds. ds) result
-        (map_walk (kind_duration resources.now owner (view value.now) (path_of path.now)) kinds) }
+        (map_walk (duration_by_kind resources.now owner (view value.now) (path_of path.now)) kinds) }
     ensures fit { IfOk result (λ ds. owner_fits (length resources.now) owner ds ≡ true) }
 {
     let mut durations = [None; KIND_COUNT];
     for (i, kind) in KINDS.iter().enumerate() {
-        durations[i] = kind_duration(alloc, resources, owner, value, path, *kind)?;
+        durations[i] = duration_by_kind(alloc, resources, owner, value, path, *kind)?;
     }
     Ok(durations)
 }

@@ -17,8 +17,8 @@ use crate::keys::{
 };
 use crate::lists::{groups_at, machines_at, nodes_at, parts_at};
 use crate::names;
-use crate::soon::MAX_SCALE;
 use catalogue::constraint::Constraint;
+use catalogue::limits::MAX_SCALE;
 use catalogue::lists::Vms;
 use cluster::ids::VmId;
 use cluster::inventory::Cluster;

@@ -14,7 +14,6 @@ mod names;
 mod nodes;
 mod read;
 mod rules;
-mod soon;
 mod states;
 
 pub use fault::InstanceFault;

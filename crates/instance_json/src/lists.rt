@@ -9,13 +9,13 @@ ghost use Rattle.json_walk.specs.Each.{each};
 ghost use Rattle.catalogue.specs.Faults.{are_machines, are_nodes, differ, all_of};
 ghost use Rattle.instance_json.specs.Walk.{instance_fault_of, field_by};
 ghost use Rattle.cluster.specs.Sets.{no_nodes};
-ghost use Rattle.instance_json.specs.Soon.{max_groups, max_parts};
+ghost use Rattle.catalogue.specs.Limits.{max_groups, max_parts};
 ghost use Rattle.instance_json.specs.Lists.{machine_item, machines_after, machine_list, part_step, parts_from, node_item, node_set, group_step, groups_from};
 
 use crate::fault::InstanceFault;
 use crate::listing::Listing;
 use crate::names;
-use crate::soon::{MAX_GROUPS, MAX_PARTS};
+use catalogue::limits::{MAX_GROUPS, MAX_PARTS};
 use catalogue::lists::{Groups, Parts, Vms};
 use cluster::inventory::Cluster;
 use cluster::sets::NodeSet;
@@ -104,7 +104,7 @@ pub(crate) fn machines_at(
     Ok(listing.into_list())
 }
 
-#[tactic(auto, using(crate::proofs::ListLemmas::list_all_more), unfolding(crate::specs::Lists::part_step))]
+#[tactic(auto, using(crate::proofs::ListLemmas::part_rules), unfolding(crate::specs::Lists::part_step))]
 fn push_part(
     alloc: Global,
     cluster: &Cluster,
@@ -117,7 +117,7 @@ fn push_part(
     ensures gives { Gives instance_fault_of (λ _. listing.new.before) result
         (part_step cluster.now.given (path_of path.now) place listing.old.before (view value.now)) }
     ensures ended { OnOk result (listing.new.current ≡ []) }
-    ensures listed { OnOk result (list_all (are_machines cluster.now.given) listing.old.before ≡ true → list_all (are_machines cluster.now.given) listing.new.before ≡ true) }
+    ensures listed { OnOk result (are_machines cluster.now.given (all_of listing.old.before) ≡ true → are_machines cluster.now.given (all_of listing.new.before) ≡ true) }
     ensures longer { OnOk result (length listing.new.before ≡ length listing.old.before + 1) }
 {
     read_list(alloc, cluster, listing, value, &path.item(place))?;
@@ -135,7 +135,7 @@ fn parts_from(
     ensures gives { Gives instance_fault_of (λ l. l.before) result
         (each (part_step cluster.now.given (path_of path.now)) 0 [] (map view values.now)) }
     ensures ended { IfOk result (λ l. l.current ≡ []) }
-    ensures listed { IfOk result (λ l. list_all (are_machines cluster.now.given) l.before ≡ true) }
+    ensures listed { IfOk result (λ l. are_machines cluster.now.given (all_of l.before) ≡ true) }
     ensures as_many { IfOk result (λ l. length l.before ≡ length values.now) }
 {
     let mut listing = Listing::new(alloc);
@@ -154,7 +154,7 @@ fn parts(
 ) -> Result<Parts, InstanceFault>
     ensures gives { Gives instance_fault_of (λ ps. ps) result
         (parts_from cluster.now.given (view value.now) (path_of path.now)) }
-    ensures listed { IfOk result (λ ps. list_all (are_machines cluster.now.given) ps ≡ true) }
+    ensures listed { IfOk result (λ ps. are_machines cluster.now.given (all_of ps) ≡ true) }
     ensures apart { IfOk result (λ ps. differ (all_of ps) ≡ true) }
     ensures few { IfOk result (λ ps. nat_le (length ps) max_parts ≡ true) }
 {
@@ -175,7 +175,7 @@ pub(crate) fn parts_at(
 ) -> Result<Parts, InstanceFault>
     ensures gives { Gives instance_fault_of (λ ps. ps) result
         (field_by (parts_from cluster.now.given) (view value.now) (path_of path.now) (codes "parts")) }
-    ensures listed { IfOk result (λ ps. list_all (are_machines cluster.now.given) ps ≡ true) }
+    ensures listed { IfOk result (λ ps. are_machines cluster.now.given (all_of ps) ≡ true) }
     ensures apart { IfOk result (λ ps. differ (all_of ps) ≡ true) }
     ensures few { IfOk result (λ ps. nat_le (length ps) max_parts ≡ true) }
 {

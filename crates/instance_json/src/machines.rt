@@ -63,7 +63,7 @@ fn host_at(
 }
 
 /// The word of a machine's state.
-#[tactic(auto, unfolding(crate::specs::Walk::word_field))]
+#[tactic(auto, unfolding(crate::specs::Walk::word_field, cluster::specs::States::state_words))]
 fn state_word(alloc: Global, value: &Value, path: &PathRef) -> Result<StateWord, InstanceFault>
     ensures { Gives instance_fault_of (λ w. w) result
         (word_field state_words STATES (view value.now) (path_of path.now) (codes "state")) }

@@ -22,7 +22,7 @@ use crate::machines::add_machines;
 use crate::names;
 use crate::nodes::add_nodes;
 use crate::rules::add_constraints;
-use crate::soon::MAX_HORIZON;
+use catalogue::limits::MAX_HORIZON;
 use catalogue::problem::Problem;
 use cluster::durations::Duration;
 use cluster::inventory::{AddFault, Cluster};
@@ -32,6 +32,9 @@ use json_walk::{JsonFault, MAX_TEXT_BYTES, PathRef};
 use memory::Memory;
 use serde_json::Value;
 use std::alloc::Global;
+
+/// The greatest horizon.
+const LAST_INSTANT: u64 = MAX_HORIZON as u64;
 
 /// A cluster without nodes and machines.
 fn empty_cluster(
@@ -98,14 +101,7 @@ fn constraints(
 fn problem(alloc: Global, value: &Value, path: &PathRef) -> Result<Problem, InstanceFault>
     ensures { Gives instance_fault_of (λ p. p.given) result (problem_from (view value.now) (path_of path.now)) }
 {
-    let horizon = json_walk::number_field(
-        alloc,
-        value,
-        path,
-        "horizon",
-        0,
-        u64::from(MAX_HORIZON),
-    )?;
+    let horizon = json_walk::number_field(alloc, value, path, "horizon", 0, LAST_INSTANT)?;
     let cluster = cluster(alloc, value, path)?;
     let mut problem = Problem::new(alloc, cluster, horizon as u32);
     constraints(alloc, &mut problem, value, path)?;

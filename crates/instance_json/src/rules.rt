@@ -1,36 +1,53 @@
 //! Constraints.
 
-ghost use Rattle.std.specs.Prelude.{◌≡◌, ◌<◌, ◌≤◌, ◌+◌, ◌++◌, ◌∷◌, [], IfOk, OnOk, codes, length, map, true};
+ghost use Rattle.std.specs.Prelude.{◌≡◌, ◌<◌, ◌≤◌, ◌+◌, ◌++◌, ◌∷◌, [], IfOk, OnOk, Some, codes, length, map, slice_get, true};
 ghost use Rattle.serde_json.specs.View.{view};
 ghost use Rattle.json_walk.specs.PathRef.{path_of};
-ghost use Rattle.json_walk.specs.Walk.{Gives};
+ghost use Rattle.json_walk.specs.Walk.{Gives, fault_of, word_field_of};
 ghost use Rattle.json_walk.specs.Each.{each};
 ghost use Rattle.catalogue.specs.Faults.{is_rule};
 ghost use Rattle.catalogue.specs.Instance.{inventory_of};
-ghost use Rattle.instance_json.specs.Soon.{constraint_words, max_constraints};
+ghost use Rattle.catalogue.specs.Limits.{max_constraints};
+ghost use Rattle.catalogue.specs.Words.{constraint_words};
 ghost use Rattle.instance_json.specs.Walk.{instance_fault_of, word_field};
 ghost use Rattle.instance_json.specs.Rules.{constraint_by, constraint_from, constraint_step, constraints_from};
 
 use crate::constraint_kind::{CONSTRAINT_KINDS, ConstraintKind};
 use crate::fault::InstanceFault;
 use crate::fields;
-use crate::soon::{CONSTRAINT_WORDS, MAX_CONSTRAINTS};
-use catalogue::constraint::{Constraint, RuleFault};
+use catalogue::constraint::{CONSTRAINT_WORDS, Constraint, RuleFault};
+use catalogue::limits::MAX_CONSTRAINTS;
 use catalogue::problem::Problem;
 use cluster::inventory::Cluster;
-use json_walk::PathRef;
+use json_walk::{PathRef, WalkFault};
 use memory::Memory;
 use serde_json::Value;
 use std::alloc::Global;
 
+fn kind_at(kinds: &[ConstraintKind], place: usize) -> ConstraintKind
+    requires { place < length kinds.now }
+    ensures { slice_get kinds.now place ≡ Some result }
+{
+    kinds[place]
+}
+
+/// The place of the word of a constraint's kind.
+fn kind_place(alloc: Global, value: &Value, path: &PathRef) -> Result<usize, WalkFault>
+    ensures gives { Gives fault_of (λ place. place) result
+        (word_field_of (view value.now) (path_of path.now) (codes "kind") constraint_words) }
+    ensures in_table { IfOk result (λ place. place < 21) }
+{
+    json_walk::word_field(alloc, value, path, "kind", &CONSTRAINT_WORDS)
+}
+
 /// The kind of a constraint, by its word.
-#[tactic(auto, unfolding(crate::specs::Walk::word_field, crate::specs::Soon::constraint_words))]
+#[tactic(auto, unfolding(crate::specs::Walk::word_field))]
 fn kind(alloc: Global, value: &Value, path: &PathRef) -> Result<ConstraintKind, InstanceFault>
     ensures { Gives instance_fault_of (λ kind. kind) result
         (word_field constraint_words CONSTRAINT_KINDS (view value.now) (path_of path.now) (codes "kind")) }
 {
-    let place = json_walk::word_field(alloc, value, path, "kind", &CONSTRAINT_WORDS)?;
-    Ok(CONSTRAINT_KINDS[place])
+    let place = kind_place(alloc, value, path)?;
+    Ok(kind_at(&CONSTRAINT_KINDS, place))
 }
 
 /// A constraint of that kind.
