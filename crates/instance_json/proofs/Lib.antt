@@ -1,7 +1,5 @@
-pub mod Steps
 pub mod Loops
-pub mod Fits
+pub mod Fitting
 pub mod NameLemmas
-pub mod NodeLemmas
 pub mod ListLemmas
 pub mod RuleLemmas

@@ -10,7 +10,7 @@ use std::alloc::{AllocFailed, Global};
 /// The first fault of an instance, with the path at which it stands.
 #[derive(Drop)]
 pub enum InstanceFault {
-    /// More than 67,108,864 bytes.
+    /// More than `json_walk::MAX_TEXT_BYTES` bytes.
     TooLong,
     /// The bytes have no value that `serde_json` reads.
     NotJson,
@@ -30,9 +30,9 @@ pub enum InstanceFault {
 
 impl From<WalkFault> for InstanceFault {
     ghost use Rattle.std.specs.Prelude.{◌≡◌};
-    ghost use Rattle.instance_json.specs.Walk.{lifted};
+    ghost use Rattle.instance_json.specs.Walk.{as_instance_fault};
 
-    ghost from_gives = { λ w e. e ≡ lifted w };
+    ghost from_gives = { λ w e. e ≡ as_instance_fault w };
 
     fn from(fault: WalkFault) -> InstanceFault {
         match fault {
