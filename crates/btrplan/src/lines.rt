@@ -12,8 +12,10 @@ use plan_io::{Desk, OutFault};
 #[tactic(auto, using(sums::proofs::Fronts::longer_text))]
 pub fn write_lines<D: Desk>(desk: &mut D, name: &str, lines: &[&str]) -> Result<(), OutFault>
     requires { IsTrue (D.writes name.now) }
-    ensures written { IsTrue D.tells → OnOk result (D.files desk.new name.now ≡ Some (flat_map (λ line. line.now) lines.now)) }
-    ensures cut { IsTrue D.tells → IsCut (D.files desk.old name.now) (flat_map (λ line. line.now) lines.now) (D.files desk.new name.now) }
+    ensures written { let text = flat_map (λ line. line.now) lines.now in
+        IsTrue D.tells → OnOk result (D.files desk.new name.now ≡ Some text) }
+    ensures cut { let text = flat_map (λ line. line.now) lines.now in
+        IsTrue D.tells → IsCut (D.files desk.old name.now) text (D.files desk.new name.now) }
     ensures others { IsTrue D.tells → OthersStay name.now (D.files desk.old) (D.files desk.new) }
     ensures cause { CountsWrites (D.write_faults desk.old) (D.write_faults desk.new) result }
     ensures reads_kept { D.read_faults desk.new ≡ D.read_faults desk.old }
