@@ -1,5 +1,5 @@
 -- What the words of the command line ask for.
-use Rattle.std.specs.Prelude.{◌&&◌, Bool, true, not, ℕ, List, [], ◌∷◌, length, nat_le, Option, Some, None, IsTrue, if◌then◌else◌, map, codes, String, string_bytes, bytes_eq}
+use Rattle.std.specs.Prelude.{◌&&◌, Bool, true, not, ℕ, List, [], ◌∷◌, length, nat_le, Option, Some, None, if◌then◌else◌, map, codes, String, string_bytes, bytes_eq}
 use Rattle.std.specs.List.{list_all}
 use Rattle.std.specs.declared.alloc.Global.{Global}
 
@@ -28,9 +28,3 @@ command_of _ = None
 -- The command that the words of the command line ask for.
 abbrev pub asked : List (String Global) → Option Command
 asked words = command_of (map string_bytes words)
-
--- The desk reads the files that the command reads, and writes those that it creates.
-abbrev pub MayRun : (List ℕ → Bool) → (List ℕ → Bool) → Option Command → Type 0
-MayRun reads writes None = Unit {0}
-MayRun reads writes (Some (plan instance plan_file certificate)) = IsTrue (reads instance) × IsTrue (writes plan_file) × IsTrue (writes certificate)
-MayRun reads writes (Some (replay instance plan_file)) = IsTrue (reads instance) × IsTrue (reads plan_file)
