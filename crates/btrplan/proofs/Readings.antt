@@ -14,7 +14,7 @@ use Rattle.plan_json.specs.Texts.{fault_text as plan_fault_text}
 use Rattle.plan_json.specs.Walk.{named as plan_named}
 use Rattle.plan_json.specs.declared.fault.PlanFault.{PlanFault}
 use Rattle.plan_json.specs.declared.fault.PlanFault.TheVariants as of_plan
-use Rattle.btrplan.specs.declared.inputs.TheConstants.{MOST_BYTES}
+use Rattle.json_walk.specs.declared.reading.TheConstants.{MAX_TEXT_BYTES}
 use Rattle.btrplan.specs.Inputs.{input_line, whole_of}
 use Rattle.btrplan.specs.Inputs.Instance.{reading_of, instance_line, lined}
 use Rattle.btrplan.specs.Inputs.Plan.{plan_reading_of, plan_line, plan_lined}
@@ -22,28 +22,28 @@ use Rattle.btrplan.specs.Inputs.Plan.{plan_reading_of, plan_line, plan_lined}
 -- ---- all bytes of an input
 
 -- more bytes than an input may have
-pub long_input : (input bytes : List ℕ) → MOST_BYTES < length bytes → whole_of input bytes ≡ Err (input_line input (codes "too long"))
+pub long_input : (input bytes : List ℕ) → MAX_TEXT_BYTES < length bytes → whole_of input bytes ≡ Err (input_line input (codes "too long"))
 unfolding whole_of
 long_input input bytes long =
-    let past : nat_le (length bytes) MOST_BYTES ≡ false = grind (arith, nat_tests) in
+    let past : nat_le (length bytes) MAX_TEXT_BYTES ≡ false = grind (arith, nat_tests) in
     rw past refl
 
 -- no more bytes than an input may have
-pub short_input : (input bytes : List ℕ) → length bytes ≤ MOST_BYTES → whole_of input bytes ≡ Ok bytes
+pub short_input : (input bytes : List ℕ) → length bytes ≤ MAX_TEXT_BYTES → whole_of input bytes ≡ Ok bytes
 unfolding whole_of
 short_input input bytes short =
-    let within : nat_le (length bytes) MOST_BYTES ≡ true = grind (arith, nat_tests) in
+    let within : nat_le (length bytes) MAX_TEXT_BYTES ≡ true = grind (arith, nat_tests) in
     rw within refl
 
 -- a line that refuses the bytes of an input says that they are too many, and so they are
 abbrev pub IsLong : (input bytes line : List ℕ) → Type 0
-IsLong input bytes line = (nat_le (length bytes) MOST_BYTES ≡ false) × (line ≡ input_line input (codes "too long"))
+IsLong input bytes line = (nat_le (length bytes) MAX_TEXT_BYTES ≡ false) × (line ≡ input_line input (codes "too long"))
 
 long_line : (input bytes line : List ℕ) → whole_of input bytes ≡ Err line → IsLong input bytes line
 unfolding whole_of
-long_line input bytes line = by_size (nat_le (length bytes) MOST_BYTES) refl
+long_line input bytes line = by_size (nat_le (length bytes) MAX_TEXT_BYTES) refl
   where
-    by_size : (within : Bool) → nat_le (length bytes) MOST_BYTES ≡ within → (if within then Ok bytes else Err (input_line input (codes "too long"))) ≡ Err line → IsLong input bytes line
+    by_size : (within : Bool) → nat_le (length bytes) MAX_TEXT_BYTES ≡ within → (if within then Ok bytes else Err (input_line input (codes "too long"))) ≡ Err line → IsLong input bytes line
     by_size true is e = absurd (cc)
     by_size false is e = (is, cc)
 

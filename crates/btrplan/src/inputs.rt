@@ -7,14 +7,12 @@ ghost use Rattle.btrplan.specs.Causes.{ReadCauses};
 ghost use Rattle.btrplan.specs.Endings.{Reads, IsRefusal, IsOfReading};
 
 use crate::fault::Fault;
+use json_walk::MAX_TEXT_BYTES;
 use plan_io::{Desk, WholeFault, read_whole};
 use std::alloc::Global;
 
 pub mod instance;
 pub mod plan;
-
-/// The most bytes of an input: 64 MiB.
-pub const MOST_BYTES: u64 = 67_108_864;
 
 /// The fault with the line `input INPUT TEXT`.
 pub fn refusal(alloc: Global, input: &str, text: &str) -> Fault
@@ -45,7 +43,7 @@ pub fn bytes_at<D: Desk>(
     ensures writes_kept { D.write_faults desk.new ≡ D.write_faults desk.old }
     ensures kind { IfErr result IsOfReading }
 {
-    match read_whole(alloc, desk, name, MOST_BYTES) {
+    match read_whole(alloc, desk, name, MAX_TEXT_BYTES as u64) {
         Ok(bytes) => Ok(bytes),
         Err(WholeFault::TooLong) => Err(refusal(alloc, input, "too long")),
         Err(WholeFault::ReadFault) => Err(Fault::ReadFault),
