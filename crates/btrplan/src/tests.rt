@@ -5,6 +5,7 @@ use std::alloc::Global;
 use std::process::Abort;
 use std::test::Fail;
 
+mod acting;
 mod instances;
 mod planning;
 mod replaying;

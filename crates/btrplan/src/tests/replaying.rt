@@ -1,5 +1,8 @@
 use crate::status::Status;
-use crate::tests::instances::{APART_ALWAYS, APART_AT_THE_END, HALVED, OFFLINE, OVERBOOKED, RAISED, SHARED_ALWAYS, SHARED_AT_THE_END, SWAP, TURNS, UNFENCED};
+use crate::tests::instances::{
+    APART_ALWAYS, APART_AT_THE_END, HALVED, OFFLINE, OVERBOOKED, RAISED, SHARED_ALWAYS,
+    SHARED_AT_THE_END, SWAP, TURNS, UNFENCED,
+};
 use crate::tests::{Given, Left, OLD_CERTIFICATE, runs};
 use std::alloc::Global;
 use std::process::Abort;
