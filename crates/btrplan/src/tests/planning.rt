@@ -12,11 +12,11 @@ const PLAN: &[u8] = b"{\"actions\":[]}\n";
 const OPTIMAL: &[u8] = b"optimal 0\n";
 
 /// Plans an instance, and sees the status, what is printed, and the two files.
-fn plans(
+fn plans<'a>(
     rt: &impl Abort,
     alloc: Global,
-    (instance, failing): (&[u8], (Option<u64>, Option<u64>)),
-    (status, printed, certificate, plan): (Status, &[u8], &[u8], &[u8]),
+    (instance, failing): (&'a [u8], (Option<u64>, Option<u64>)),
+    (status, printed, certificate, plan): (Status, &'a [u8], &'a [u8], &'a [u8]),
     at: usize,
 ) -> Result<(), Fail> {
     let given = Given {

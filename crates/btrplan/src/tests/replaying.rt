@@ -24,11 +24,11 @@ const REPORT: &[u8] =
     b"at 0 n0 3 n1 3 n2 3\nat 3 n0 3 n1 3 n2 3\nat 6 n0 0 n1 3 n2 3\nat 20 n0 0 n1 3 n2 3\nvalid 9\n";
 
 /// Replays a plan, if its file is there, and sees the status, what is printed, and that no file has changed.
-fn replays(
+fn replays<'a>(
     rt: &impl Abort,
     alloc: Global,
-    (instance, plan, failing): (&[u8], Option<&[u8]>, (Option<u64>, Option<u64>)),
-    (status, printed): (Status, &[u8]),
+    (instance, plan, failing): (&'a [u8], Option<&'a [u8]>, (Option<u64>, Option<u64>)),
+    (status, printed): (Status, &'a [u8]),
     at: usize,
 ) -> Result<(), Fail> {
     let given = Given {
