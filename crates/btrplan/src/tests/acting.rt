@@ -37,11 +37,11 @@ const NO_ACTIONS: &[u8] = br#"{"actions":[]}"#;
 
 /// Replays a plan of the cluster with some constraints and one more, and sees the status and what is
 /// printed.
-fn replays(
+fn replays<'a>(
     rt: &impl Abort,
     alloc: Global,
-    (fences, constraint, plan): (&[u8], &[u8], &[u8]),
-    (status, printed): (Status, &[u8]),
+    (fences, constraint, plan): (&'a [u8], &'a [u8], &'a [u8]),
+    (status, printed): (Status, &'a [u8]),
     at: usize,
 ) -> Result<(), Fail> {
     let mut instance = Vec::new(alloc);
