@@ -35,22 +35,26 @@ const SECOND_LEAVES: &[u8] =
 
 const NO_ACTIONS: &[u8] = br#"{"actions":[]}"#;
 
-/// Replays a plan of the cluster with some constraints and one more, and sees the status and what is
-/// printed.
-fn replays<'a>(
-    rt: &impl Abort,
-    alloc: Global,
-    (fences, constraint, plan): (&'a [u8], &'a [u8], &'a [u8]),
-    (status, printed): (Status, &'a [u8]),
-    at: usize,
-) -> Result<(), Fail> {
+/// The instance with some constraints and one more.
+fn instance_of(alloc: Global, fences: &[u8], constraint: &[u8]) -> Result<Vec<u8>, Fail> {
     let mut instance = Vec::new(alloc);
     for piece in [CLUSTER, fences, constraint, ONLINE] {
         instance.extend_from_slice(piece)?;
     }
+    Ok(instance)
+}
+
+/// Replays a plan, and sees the status and what is printed.
+fn replays<'a>(
+    rt: &impl Abort,
+    alloc: Global,
+    (instance, plan): (&'a [u8], &'a [u8]),
+    (status, printed): (Status, &'a [u8]),
+    at: usize,
+) -> Result<(), Fail> {
     let given = Given {
         line: "replay i p",
-        instance: &instance,
+        instance,
         plan: Some(plan),
         failing: (None, None),
     };
@@ -173,10 +177,11 @@ fn refused_constraints(rt: HostRuntime) -> Result<(), Fail> {
         ),
     ];
     for (at, (constraint, printed)) in table.into_iter().enumerate() {
+        let instance = instance_of(alloc, FENCES, constraint)?;
         replays(
             &rt,
             alloc,
-            (FENCES, constraint, NO_ACTIONS),
+            (&instance, NO_ACTIONS),
             (Status::Input, printed),
             at,
         )?;
