@@ -116,13 +116,8 @@ fn actions_in_order(rt: HostRuntime) -> Result<(), Fail> {
         ),
     ];
     for (at, (fences, constraint, plan, status, printed)) in table.into_iter().enumerate() {
-        replays(
-            &rt,
-            alloc,
-            (fences, constraint, plan),
-            (status, printed),
-            at,
-        )?;
+        let instance = instance_of(alloc, fences, constraint)?;
+        replays(&rt, alloc, (&instance, plan), (status, printed), at)?;
     }
     Ok(())
 }
