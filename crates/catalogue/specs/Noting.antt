@@ -1,5 +1,6 @@
 use Rattle.std.specs.Prelude.{◌≡◌, ℕ, ◌<◌, length}
 use Rattle.cluster.specs.Inventory.{Inventory}
+use Rattle.cluster.specs.Limits.{max_resources}
 use Rattle.catalogue.specs.declared.constraint.Constraint.{Constraint}
 use Rattle.catalogue.specs.declared.tables.Tables.{Tables}
 use Rattle.catalogue.specs.Values.{preserved_with, limit_with, written_of, machine_wish_with, node_wish_with}
@@ -14,8 +15,8 @@ pub record HaveRows (k : Inventory) (t : Tables) : Type 0 where
 
 -- the new tables say of each element what the old ones and one more constraint say
 pub record Notes (k : Inventory) (old new : Tables) (c : Constraint) : Type 0 where
-  pub preserved : (v r : ℕ) → v < length k.machines → r < 8 → cell new.preserved.items v r ≡ preserved_with v r (cell old.preserved.items v r) c
-  pub limits : (n r : ℕ) → n < length k.nodes → r < 8 → limit_cell new.limits.items n r ≡ limit_with n r (written_of k.nodes n r) (limit_cell old.limits.items n r) c
+  pub preserved : (v r : ℕ) → v < length k.machines → r < max_resources → cell new.preserved.items v r ≡ preserved_with v r (cell old.preserved.items v r) c
+  pub limits : (n r : ℕ) → n < length k.nodes → r < max_resources → limit_cell new.limits.items n r ≡ limit_with n r (written_of k.nodes n r) (limit_cell old.limits.items n r) c
   pub machine_wishes : (v : ℕ) → v < length k.machines → wish_cell new.machine_wishes.items v ≡ machine_wish_with v (wish_cell old.machine_wishes.items v) c
   pub node_wishes : (n : ℕ) → n < length k.nodes → wish_cell new.node_wishes.items n ≡ node_wish_with n (wish_cell old.node_wishes.items n) c
 

@@ -1,10 +1,12 @@
 //! Constraints, and why one is refused.
 ghost use Rattle.std.specs.Prelude.{◌≡◌, IfOk};
 ghost use Rattle.catalogue.specs.Kinds.{is_continuous};
+ghost use Rattle.catalogue.specs.Words.{constraint_number, constraint_word};
 
 use crate::lists::{Groups, Parts, Vms};
 use cluster::ids::VmId;
 use cluster::sets::NodeSet;
+use cluster::words::word_at;
 use memory::Memory;
 use std::alloc::AllocError;
 use thiserror::Error;
@@ -127,138 +129,108 @@ pub enum Constraint {
     },
 }
 
+/// The words of the 21 kinds, in the order in which they are declared.
+pub const CONSTRAINT_WORDS: [&str; 21] = [
+    "spread",
+    "ban",
+    "fence",
+    "gather",
+    "lonely",
+    "among",
+    "split",
+    "root",
+    "precedence",
+    "serialize",
+    "preserve",
+    "resourceCapacity",
+    "runningCapacity",
+    "maxOnline",
+    "overbook",
+    "online",
+    "offline",
+    "running",
+    "sleeping",
+    "ready",
+    "killed",
+];
+
+/// The constraint of the same kind with equal fields: for each kind its lists, which are copied, and
+/// then its plain fields.
+macro_rules! copied {
+    ($constraint:expr; $($kind:ident { $($list:ident),*; $($plain:ident),* })*) => {
+        match $constraint {
+            $(Constraint::$kind { $($list,)* $($plain,)* } => Constraint::$kind {
+                $($list: $list.copy()?,)*
+                $($plain: *$plain,)*
+            },)*
+        }
+    };
+}
+
 impl Constraint {
     /// An equal constraint, made with the allocators of the lists; the only error is want of memory.
     pub fn copy(&self) -> Result<Constraint, Memory>
         ensures { IfOk result (λ c. c ≡ self.now) }
     {
-        Ok(match self {
-            Constraint::Spread {
-                machines,
-                continuous,
-            } => Constraint::Spread {
-                machines: machines.copy()?,
-                continuous: *continuous,
-            },
-            Constraint::Ban {
-                machines,
-                nodes,
-                continuous,
-            } => Constraint::Ban {
-                machines: machines.copy()?,
-                nodes: *nodes,
-                continuous: *continuous,
-            },
-            Constraint::Fence {
-                machines,
-                nodes,
-                continuous,
-            } => Constraint::Fence {
-                machines: machines.copy()?,
-                nodes: *nodes,
-                continuous: *continuous,
-            },
-            Constraint::Gather {
-                machines,
-                continuous,
-            } => Constraint::Gather {
-                machines: machines.copy()?,
-                continuous: *continuous,
-            },
-            Constraint::Lonely {
-                machines,
-                continuous,
-            } => Constraint::Lonely {
-                machines: machines.copy()?,
-                continuous: *continuous,
-            },
-            Constraint::Among {
-                machines,
-                groups,
-                continuous,
-            } => Constraint::Among {
-                machines: machines.copy()?,
-                groups: groups.copy()?,
-                continuous: *continuous,
-            },
-            Constraint::Split { parts, continuous } => Constraint::Split {
-                parts: parts.copy()?,
-                continuous: *continuous,
-            },
-            Constraint::Root { machines } => Constraint::Root {
-                machines: machines.copy()?,
-            },
-            Constraint::Precedence { before, after } => Constraint::Precedence {
-                before: *before,
-                after: *after,
-            },
-            Constraint::Serialize { machines } => Constraint::Serialize {
-                machines: machines.copy()?,
-            },
-            Constraint::Preserve {
-                machines,
-                resource,
-                amount,
-            } => Constraint::Preserve {
-                machines: machines.copy()?,
-                resource: *resource,
-                amount: *amount,
-            },
-            Constraint::ResourceCapacity {
-                nodes,
-                resource,
-                amount,
-                continuous,
-            } => Constraint::ResourceCapacity {
-                nodes: *nodes,
-                resource: *resource,
-                amount: *amount,
-                continuous: *continuous,
-            },
-            Constraint::RunningCapacity {
-                nodes,
-                amount,
-                continuous,
-            } => Constraint::RunningCapacity {
-                nodes: *nodes,
-                amount: *amount,
-                continuous: *continuous,
-            },
-            Constraint::MaxOnline {
-                nodes,
-                amount,
-                continuous,
-            } => Constraint::MaxOnline {
-                nodes: *nodes,
-                amount: *amount,
-                continuous: *continuous,
-            },
-            Constraint::Overbook {
-                nodes,
-                resource,
-                num,
-                den,
-            } => Constraint::Overbook {
-                nodes: *nodes,
-                resource: *resource,
-                num: *num,
-                den: *den,
-            },
-            Constraint::Online { nodes } => Constraint::Online { nodes: *nodes },
-            Constraint::Offline { nodes } => Constraint::Offline { nodes: *nodes },
-            Constraint::Running { machines } => Constraint::Running {
-                machines: machines.copy()?,
-            },
-            Constraint::Sleeping { machines } => Constraint::Sleeping {
-                machines: machines.copy()?,
-            },
-            Constraint::Ready { machines } => Constraint::Ready {
-                machines: machines.copy()?,
-            },
-            Constraint::Killed { machines } => Constraint::Killed {
-                machines: machines.copy()?,
-            },
+        Ok(copied! { self;
+            Spread { machines; continuous }
+            Ban { machines; nodes, continuous }
+            Fence { machines; nodes, continuous }
+            Gather { machines; continuous }
+            Lonely { machines; continuous }
+            Among { machines, groups; continuous }
+            Split { parts; continuous }
+            Root { machines; }
+            Precedence { ; before, after }
+            Serialize { machines; }
+            Preserve { machines; resource, amount }
+            ResourceCapacity { ; nodes, resource, amount, continuous }
+            RunningCapacity { ; nodes, amount, continuous }
+            MaxOnline { ; nodes, amount, continuous }
+            Overbook { ; nodes, resource, num, den }
+            Online { ; nodes }
+            Offline { ; nodes }
+            Running { machines; }
+            Sleeping { machines; }
+            Ready { machines; }
+            Killed { machines; }
         })
+    }
+
+    /// The word of its kind.
+    pub fn word(&self) -> &'static str
+        ensures { result.now ≡ constraint_word self.now }
+    {
+        word_at(&CONSTRAINT_WORDS, self.number())
+    }
+
+    // the place of its word
+    fn number(&self) -> usize
+        ensures { result ≡ constraint_number self.now }
+    {
+        match self {
+            Constraint::Spread { .. } => 0,
+            Constraint::Ban { .. } => 1,
+            Constraint::Fence { .. } => 2,
+            Constraint::Gather { .. } => 3,
+            Constraint::Lonely { .. } => 4,
+            Constraint::Among { .. } => 5,
+            Constraint::Split { .. } => 6,
+            Constraint::Root { .. } => 7,
+            Constraint::Precedence { .. } => 8,
+            Constraint::Serialize { .. } => 9,
+            Constraint::Preserve { .. } => 10,
+            Constraint::ResourceCapacity { .. } => 11,
+            Constraint::RunningCapacity { .. } => 12,
+            Constraint::MaxOnline { .. } => 13,
+            Constraint::Overbook { .. } => 14,
+            Constraint::Online { .. } => 15,
+            Constraint::Offline { .. } => 16,
+            Constraint::Running { .. } => 17,
+            Constraint::Sleeping { .. } => 18,
+            Constraint::Ready { .. } => 19,
+            Constraint::Killed { .. } => 20,
+        }
     }
 
     /// Whether it is to hold at each instant, and not at the horizon only. `Root`, `Precedence`,
@@ -295,7 +267,7 @@ impl Constraint {
 /// Why a constraint was refused. The first fault in the order of the variants is answered.
 #[derive(Clone, Copy, Debug, PartialEq, Eq, Error)]
 pub enum RuleFault {
-    /// The problem has 4,096 constraints.
+    /// The problem has `MAX_CONSTRAINTS` constraints.
     #[error("too many constraints")]
     TooMany,
     /// A machine, a node or a resource is not listed.
@@ -304,8 +276,8 @@ pub enum RuleFault {
     /// A machine stands twice in a list or in the parts of a split, or before itself.
     #[error("a machine stands twice")]
     Twice,
-    /// An amount is over 10^9, `num` or `den` is over 1,000, `den` is 0, there is no group, or
-    /// there are over 512 groups or over 4,096 parts.
+    /// An amount is over `MAX_AMOUNT`, `num` or `den` is over `MAX_SCALE`, `den` is 0, there is no
+    /// group, or there are over `MAX_GROUPS` groups or over `MAX_PARTS` parts.
     #[error("a number or a count is out of range")]
     TooGreat,
     /// Want of memory.

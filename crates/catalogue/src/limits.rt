@@ -1,106 +1,16 @@
-//! The table of the limits that overbooking sets, one for each node and resource.
-ghost use Rattle.std.specs.Prelude.{◌≡◌, ℕ, ◌<◌, ◌≤◌, ◌&&◌, ◌==◌, ◌*◌, ◌/◌, length, None, Some, slice_index_or, if◌then◌else◌, OnOk, OnErr};
-ghost use Rattle.cluster.specs.Sets.{has_node};
-ghost use Rattle.catalogue.specs.Values.{least, limit_with, written_of};
-ghost use Rattle.catalogue.specs.Cells.{HasRows, limit_cell};
-ghost use Rattle.catalogue.specs.declared.constraint.Constraint.TheVariants.{Overbook};
+//! How much a problem takes, and how great its numbers may be.
 
-use cluster::ids::NodeId;
-use cluster::inventory::Cluster;
-use cluster::sets::NodeSet;
-use memory::Memory;
+/// Constraints of a problem, at most.
+pub const MAX_CONSTRAINTS: usize = 4_096;
 
-/// Notes that nodes may be used up to `num / den` of their written capacity, rounded down: the
-/// lesser of this and the noted limit stays.
-pub fn note_overbook(
-    cluster: &Cluster,
-    table: &mut Vec<[Option<u64>; 8]>,
-    nodes: &NodeSet,
-    r: u8,
-    num: u64,
-    den: u64,
-) -> Result<(), Memory>
-    requires rows { HasRows (length cluster.now.given.nodes) table.old.items }
-    requires resource { r < 8 }
-    requires num { num ≤ 1000 }
-    requires den { 0 < den }
-    ensures rows { HasRows (length cluster.now.given.nodes) table.new.items }
-    ensures noted { OnOk result ((n q : ℕ) → n < length cluster.now.given.nodes → q < 8 →
-        limit_cell table.new.items n q ≡ limit_with n q (written_of cluster.now.given.nodes n q) (limit_cell table.old.items n q) (Overbook nodes.now r num den)) }
-    ensures kept { OnErr result (table.new.items ≡ table.old.items) }
-{
-    fill(table, cluster.nodes().len())?;
-    lower(cluster, table, nodes, r, num, den);
-    Ok(())
-}
+/// The greatest last instant.
+pub const MAX_HORIZON: u32 = 1_000_000;
 
-/// Gives the table a row for each node, where it has none yet.
-fn fill(table: &mut Vec<[Option<u64>; 8]>, count: usize) -> Result<(), Memory>
-    requires { HasRows count table.old.items }
-    ensures full { OnOk result (length table.new.items ≡ count) }
-    ensures same { (n r : ℕ) → limit_cell table.new.items n r ≡ limit_cell table.old.items n r }
-    ensures kept { OnErr result (table.new.items ≡ table.old.items) }
-{
-    if table.is_empty() {
-        table.resize(count, [None; 8])?;
-    }
-    Ok(())
-}
+/// Groups of an `Among`, at most.
+pub const MAX_GROUPS: usize = 512;
 
-/// Lowers the limits of the nodes of a set.
-fn lower(
-    cluster: &Cluster,
-    table: &mut Vec<[Option<u64>; 8]>,
-    nodes: &NodeSet,
-    r: u8,
-    num: u64,
-    den: u64,
-)
-    requires rows { length table.old.items ≡ length cluster.now.given.nodes }
-    requires resource { r < 8 }
-    requires num { num ≤ 1000 }
-    requires den { 0 < den }
-    ensures rows { length table.new.items ≡ length table.old.items }
-    ensures cells { (n q : ℕ) → n < length cluster.now.given.nodes → q < 8 →
-        limit_cell table.new.items n q ≡ limit_with n q (written_of cluster.now.given.nodes n q) (limit_cell table.old.items n q) (Overbook nodes.now r num den) }
-{
-    for i in 0..cluster.nodes().len() {
-        let n = NodeId(i as u32);
-        if nodes.has(n) {
-            lower_one(&mut table[i], r, written(cluster, n, r) * num / den);
-        }
-    }
-}
+/// Parts of a `Split`, at most.
+pub const MAX_PARTS: usize = 4_096;
 
-/// Lowers one limit of a row.
-fn lower_one(row: &mut [Option<u64>; 8], r: u8, amount: u64)
-    requires { r < 8 }
-    ensures { (q : ℕ) → q < 8 → slice_index_or row.new q None ≡ (if r == q then Some (least (slice_index_or row.old q None) amount) else slice_index_or row.old q None) }
-{
-    row[r as usize] = match row[r as usize] {
-        Some(limit) => Some(if limit < amount { limit } else { amount }),
-        None => Some(amount),
-    };
-}
-
-/// The written capacity of a node for a resource.
-#[tactic(auto, using(crate::proofs::Facts::written_of_le))]
-pub fn written(cluster: &Cluster, n: NodeId, r: u8) -> u64
-    requires node { n.0 < length cluster.now.given.nodes }
-    requires resource { r < 8 }
-    ensures written { result ≡ written_of cluster.now.given.nodes n.0 r }
-    ensures small { result ≤ 1000000000 }
-{
-    cluster.nodes()[n.0 as usize].capacity[r as usize]
-}
-
-/// The noted limit, none where there is no row.
-pub fn limit_at(table: &[[Option<u64>; 8]], n: NodeId, r: u8) -> Option<u64>
-    requires { r < 8 }
-    ensures { result ≡ limit_cell table.now n.0 r }
-{
-    match table.get(n.0 as usize) {
-        Some(row) => row[r as usize],
-        None => None,
-    }
-}
+/// `num` and `den` of an `Overbook`, at most.
+pub const MAX_SCALE: u64 = 1_000;

@@ -1,13 +1,16 @@
 //! Problems.
 ghost use Rattle.std.specs.Prelude.{◌≡◌, ◌++◌, ◌∷◌, [], ◌<◌, ◌≤◌, length, IfErr, OnOk, OnErr, unwrap_or};
 ghost use Rattle.std.proofs.Props.{props};
+ghost use Rattle.cluster.specs.Limits.{max_amount};
+ghost use Rattle.catalogue.specs.Limits.{max_capacity, max_horizon};
 ghost use Rattle.catalogue.specs.Instance.{IsElement, IsInstance, inventory_of, rule_fault};
 ghost use Rattle.catalogue.specs.Values.{demand_of, capacity_of, wanted_of, applies_at};
 
 use crate::constraint::{Constraint, RuleFault};
 use crate::demands::preserved_at;
 use crate::faults::fault_of;
-use crate::limits::{limit_at, written};
+use crate::limits::MAX_CONSTRAINTS;
+use crate::overbooking::{limit_at, written};
 use crate::tables::Tables;
 use crate::targets::Wish;
 use crate::wishes::wish_at;
@@ -46,7 +49,7 @@ impl Model for Problem {
 impl Problem {
     /// A problem without constraints, made without memory.
     pub fn new(alloc: Global, cluster: Cluster, horizon: Instant) -> Problem
-        requires { horizon ≤ 1000000 }
+        requires { horizon ≤ max_horizon }
         ensures { result.given ≡ record { resources = cluster.given.resources; durations = cluster.given.durations; nodes = cluster.given.nodes; machines = cluster.given.machines; horizon = horizon; constraints = [] } }
     {
         Problem {
@@ -85,7 +88,7 @@ impl Problem {
         requires machine { v.0 < length self.now.given.machines }
         requires resource { r < length self.now.given.resources }
         ensures demand { result ≡ demand_of self.now.given v.0 r }
-        ensures small { result ≤ 1000000000 }
+        ensures small { result ≤ max_amount }
     {
         let used = self.cluster.machines()[v.0 as usize].usage[r as usize];
         used.max(preserved_at(&self.tables.preserved, v, r))
@@ -98,7 +101,7 @@ impl Problem {
         requires node { n.0 < length self.now.given.nodes }
         requires resource { r < length self.now.given.resources }
         ensures capacity { result ≡ capacity_of self.now.given n.0 r }
-        ensures small { result ≤ 1000000000000 }
+        ensures small { result ≤ max_capacity }
     {
         limit_at(&self.tables.limits, n, r).unwrap_or(written(&self.cluster, n, r))
     }
@@ -128,7 +131,7 @@ impl Problem {
     fn fault_of_rule(&self, constraint: &Constraint) -> Option<RuleFault>
         ensures { result ≡ rule_fault self.now.given constraint.now }
     {
-        if self.constraints.len() >= 4096 {
+        if self.constraints.len() >= MAX_CONSTRAINTS {
             return Some(RuleFault::TooMany);
         }
         fault_of(&self.cluster, constraint)

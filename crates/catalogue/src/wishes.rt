@@ -1,9 +1,9 @@
 //! The tables of what is wanted of each machine and each node.
-ghost use Rattle.std.specs.Prelude.{◌≡◌, ℕ, ◌<◌, ◌≤◌, length, nat_lt, true, OnOk, OnErr};
-ghost use Rattle.std.specs.List.{list_all};
+ghost use Rattle.std.specs.Prelude.{◌≡◌, ℕ, ◌<◌, ◌≤◌, length, true, OnOk, OnErr};
+ghost use Rattle.cluster.specs.Limits.{max_nodes};
 ghost use Rattle.cluster.specs.Sets.{has_node};
-ghost use Rattle.catalogue.specs.Faults.{is_member};
-ghost use Rattle.catalogue.specs.Values.{joined, joined_where};
+ghost use Rattle.catalogue.specs.Faults.{are_below, is_member};
+ghost use Rattle.catalogue.specs.Values.{wish_with, wish_where};
 ghost use Rattle.catalogue.specs.Cells.{HasRows, wish_cell};
 
 use crate::targets::{Target, Wish};
@@ -19,10 +19,10 @@ pub fn note_machines(
     target: Target,
 ) -> Result<(), Memory>
     requires rows { HasRows count table.old.items }
-    requires machines { list_all (λ x. nat_lt x.0 count) machines.now ≡ true }
+    requires machines { are_below count machines.now ≡ true }
     ensures rows { HasRows count table.new.items }
     ensures noted { OnOk result ((v : ℕ) → v < count →
-        wish_cell table.new.items v ≡ joined_where (is_member machines.now v) (wish_cell table.old.items v) target) }
+        wish_cell table.new.items v ≡ wish_where (is_member machines.now v) (wish_cell table.old.items v) target) }
     ensures kept { OnErr result (table.new.items ≡ table.old.items) }
 {
     fill(table, count)?;
@@ -38,10 +38,10 @@ pub fn note_nodes(
     target: Target,
 ) -> Result<(), Memory>
     requires rows { HasRows count table.old.items }
-    requires few { count ≤ 512 }
+    requires few { count ≤ max_nodes }
     ensures rows { HasRows count table.new.items }
     ensures noted { OnOk result ((n : ℕ) → n < count →
-        wish_cell table.new.items n ≡ joined_where (has_node nodes.now n) (wish_cell table.old.items n) target) }
+        wish_cell table.new.items n ≡ wish_where (has_node nodes.now n) (wish_cell table.old.items n) target) }
     ensures kept { OnErr result (table.new.items ≡ table.old.items) }
 {
     fill(table, count)?;
@@ -62,34 +62,34 @@ fn fill(table: &mut Vec<Wish>, count: usize) -> Result<(), Memory>
     Ok(())
 }
 
-/// Joins a target to the wishes for machines.
+/// Adds a target to the wishes for machines.
 fn wish_machines(table: &mut [Wish], machines: &[VmId], target: Target)
-    requires { list_all (λ x. nat_lt x.0 (length table.old)) machines.now ≡ true }
+    requires { are_below (length table.old) machines.now ≡ true }
     ensures { (v : ℕ) → v < length table.old →
-        wish_cell table.new v ≡ joined_where (is_member machines.now v) (wish_cell table.old v) target }
+        wish_cell table.new v ≡ wish_where (is_member machines.now v) (wish_cell table.old v) target }
 {
     for id in machines {
         let place = id.0 as usize;
-        table[place] = join(table[place], target);
+        table[place] = with_target(table[place], target);
     }
 }
 
-/// Joins a target to the wishes for the nodes of a set.
+/// Adds a target to the wishes for the nodes of a set.
 fn wish_nodes(table: &mut [Wish], nodes: &NodeSet, target: Target)
-    requires { length table.old ≤ 512 }
+    requires { length table.old ≤ max_nodes }
     ensures { (n : ℕ) → n < length table.old →
-        wish_cell table.new n ≡ joined_where (has_node nodes.now n) (wish_cell table.old n) target }
+        wish_cell table.new n ≡ wish_where (has_node nodes.now n) (wish_cell table.old n) target }
 {
     for i in 0..table.len() {
         if nodes.has(NodeId(i as u32)) {
-            table[i] = join(table[i], target);
+            table[i] = with_target(table[i], target);
         }
     }
 }
 
 /// A wish with one more target.
-fn join(wish: Wish, target: Target) -> Wish
-    ensures { result ≡ joined wish target }
+fn with_target(wish: Wish, target: Target) -> Wish
+    ensures { result ≡ wish_with wish target }
 {
     match wish {
         Wish::Keep => Wish::To(target),

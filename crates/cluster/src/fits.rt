@@ -1,9 +1,13 @@
 //! Tests of amounts and durations, in a cluster of so many resources.
 ghost use Rattle.std.specs.Prelude.{◌≡◌, ◌≤◌, length, is_none, nat_le, ◌==◌};
 ghost use Rattle.std.specs.List.{list_all};
+ghost use Rattle.cluster.specs.Kinds.{kind_count};
+ghost use Rattle.cluster.specs.Limits.{max_amount, max_resources};
 ghost use Rattle.cluster.specs.Inventory.{duration_fits, own_fits, node_own_fits, machine_own_fits, amounts_fit, node_fits, machine_fits};
 
 use crate::durations::Duration;
+use crate::kinds::MACHINE_KIND_COUNT;
+use crate::limits::{MAX_AMOUNT, MAX_DURATION};
 use crate::machines::Machine;
 use crate::nodes::Node;
 
@@ -16,7 +20,7 @@ pub fn are_durations(count: usize, durations: &[Duration]) -> bool
 
 /// Whether a node's capacity and its own durations may stand in the cluster.
 pub fn is_fitting_node(count: usize, node: &Node) -> bool
-    requires { count ≤ 8 }
+    requires { count ≤ max_resources }
     ensures { result ≡ node_fits count node.now }
 {
     are_amounts(count, &node.capacity) && are_node_durations(count, &node.own)
@@ -24,7 +28,7 @@ pub fn is_fitting_node(count: usize, node: &Node) -> bool
 
 /// Whether a machine's use and its own durations may stand in the cluster.
 pub fn is_fitting_machine(count: usize, machine: &Machine) -> bool
-    requires { count ≤ 8 }
+    requires { count ≤ max_resources }
     ensures { result ≡ machine_fits count machine.now }
 {
     are_amounts(count, &machine.usage) && are_machine_durations(count, &machine.own)
@@ -37,7 +41,7 @@ fn is_duration(count: usize, duration: Duration) -> bool
         Some(r) => (r as usize) < count,
         None => duration.per == 0,
     };
-    1 <= duration.base && duration.base <= 1_000_000 && duration.per <= 1_000_000 && known
+    1 <= duration.base && duration.base <= MAX_DURATION && duration.per <= MAX_DURATION && known
 }
 
 fn is_own_duration(count: usize, own: Option<Duration>) -> bool
@@ -62,17 +66,17 @@ fn are_none(own: &[Option<Duration>]) -> bool
 }
 
 fn are_node_durations(count: usize, own: &[Option<Duration>]) -> bool
-    requires { length own.now ≡ 10 }
+    requires { length own.now ≡ kind_count }
     ensures { result ≡ node_own_fits count own.now }
 {
-    are_none(&own[..8]) && are_own_durations(count, &own[8..])
+    are_none(&own[..MACHINE_KIND_COUNT]) && are_own_durations(count, &own[MACHINE_KIND_COUNT..])
 }
 
 fn are_machine_durations(count: usize, own: &[Option<Duration>]) -> bool
-    requires { length own.now ≡ 10 }
+    requires { length own.now ≡ kind_count }
     ensures { result ≡ machine_own_fits count own.now }
 {
-    are_own_durations(count, &own[..8]) && are_none(&own[8..])
+    are_own_durations(count, &own[..MACHINE_KIND_COUNT]) && are_none(&own[MACHINE_KIND_COUNT..])
 }
 
 fn are_amounts(count: usize, amounts: &[u64]) -> bool
@@ -83,9 +87,9 @@ fn are_amounts(count: usize, amounts: &[u64]) -> bool
 }
 
 fn are_small(amounts: &[u64]) -> bool
-    ensures { result ≡ list_all (λ a. nat_le a 1000000000) amounts.now }
+    ensures { result ≡ list_all (λ a. nat_le a max_amount) amounts.now }
 {
-    amounts.iter().all(|a| *a <= 1_000_000_000)
+    amounts.iter().all(|a| *a <= MAX_AMOUNT)
 }
 
 fn are_zero(amounts: &[u64]) -> bool

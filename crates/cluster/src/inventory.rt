@@ -4,11 +4,14 @@ ghost use Rattle.std.proofs.Props.{props};
 ghost use Rattle.std.specs.List.{position, list_any, All};
 ghost use Rattle.std.specs.Str.{bytes_eq};
 ghost use Rattle.cluster.specs.Names.{is_name};
-ghost use Rattle.cluster.specs.Inventory.{IsInventory, IsListed, element_named, resource_named, are_distinct, base_fault, node_fault, machine_fault, host_is_online, has_places};
+ghost use Rattle.cluster.specs.Inventory.{IsInventory, IsListed, element_named, name_of, resource_named, are_distinct, base_fault, node_fault, machine_fault, host_is_online, has_places};
+ghost use Rattle.cluster.specs.Elements.{element_at, element_count, element_number};
 
 use crate::durations::Duration;
 use crate::fits::{are_durations, is_fitting_machine, is_fitting_node};
 use crate::ids::{Element, NodeId, VmId};
+use crate::kinds::KIND_COUNT;
+use crate::limits::{MAX_MACHINES, MAX_NODES, MAX_RESOURCES};
 use crate::machines::Machine;
 use crate::names::Name;
 use crate::nodes::Node;
@@ -22,7 +25,7 @@ use thiserror::Error;
 /// Why a cluster, a node or a machine was refused. Where several hold, the first in this order is the answer.
 #[derive(Clone, Copy, Debug, PartialEq, Eq, Error)]
 pub enum AddFault {
-    /// There would be more than 8 resources, 512 nodes or 4,096 machines.
+    /// There would be more than `MAX_RESOURCES`, `MAX_NODES` or `MAX_MACHINES`.
     #[error("too many")]
     TooMany,
     /// The name is there: among the resources, or among the nodes and machines together.
@@ -31,8 +34,8 @@ pub enum AddFault {
     /// The machine's host is not an online node of the cluster.
     #[error("the host is not online")]
     BadHost,
-    /// An amount is above 1,000,000,000, or above 0 at a place past the listed resources;
-    /// or a duration has a `base` that is not 1 to 1,000,000, a `per` above 1,000,000, a `per` above 0 without a resource,
+    /// An amount is above `MAX_AMOUNT`, or above 0 at a place past the listed resources;
+    /// or a duration has a `base` that is 0 or above `MAX_DURATION`, a `per` above that, a `per` above 0 without a resource,
     /// a resource that is not listed, or is of a kind of the other sort of element.
     #[error("too great")]
     TooGreat,
@@ -68,7 +71,7 @@ impl From<Memory> for AddFault {
 #[derive(Drop)]
 pub struct Cluster {
     resources: Vec<Name>,
-    durations: [Duration; 10],
+    durations: [Duration; KIND_COUNT],
     nodes: Vec<Node>,
     machines: Vec<Machine>,
     node_names: IndexSet<Vec<u8>>,
@@ -94,16 +97,15 @@ impl Cluster {
     pub fn new(
         alloc: Global,
         resources: Vec<Name>,
-        durations: [Duration; 10],
+        durations: [Duration; KIND_COUNT],
     ) -> Result<Cluster, AddFault>
         ensures fault { IfErr result (λ e. e ≡ unwrap_or (base_fault resources.items durations) AddFault.Memory) }
         ensures good { OnOk result (base_fault resources.items durations ≡ None) }
         ensures made { base_fault resources.items durations ≡ None → IsOk result }
         ensures cluster { IfOk result (λ k. k.given ≡ record { resources = resources.items; durations = durations; nodes = []; machines = [] }) }
     {
-        match fault_of_base(&resources, &durations) {
-            Some(fault) => return Err(fault),
-            None => {}
+        if let Some(fault) = fault_of_base(&resources, &durations) {
+            return Err(fault);
         }
         Ok(Cluster {
             resources,
@@ -123,7 +125,7 @@ impl Cluster {
     }
 
     /// The durations of the ten kinds, for elements without one of their own.
-    pub fn durations(&self) -> &[Duration; 10]
+    pub fn durations(&self) -> &[Duration; KIND_COUNT]
         ensures durations { result.now ≡ self.now.given.durations }
     {
         &self.durations
@@ -168,6 +170,51 @@ impl Cluster {
         }
     }
 
+    /// How many elements there are: machines and nodes.
+    pub fn element_count(&self) -> usize
+        ensures count { result ≡ element_count self.now.given }
+    {
+        self.machines.len() + self.nodes.len()
+    }
+
+    /// The element of a number: the machines come first, and then the nodes.
+    pub fn element(&self, x: usize) -> Element
+        requires { x < element_count self.now.given }
+        ensures element { result ≡ element_at self.now.given x }
+        ensures listed { IsListed self.now.given result }
+        ensures number { element_number self.now.given result ≡ x }
+    {
+        let machines = self.machines.len();
+        if x < machines {
+            Element::Vm(VmId(x as u32))
+        } else {
+            Element::Node(NodeId((x - machines) as u32))
+        }
+    }
+
+    /// The number of an element.
+    pub fn number(&self, e: Element) -> usize
+        requires { IsListed self.now.given e }
+        ensures number { result ≡ element_number self.now.given e }
+        ensures within { result < element_count self.now.given }
+    {
+        match e {
+            Element::Vm(v) => v.0 as usize,
+            Element::Node(n) => self.machines.len() + n.0 as usize,
+        }
+    }
+
+    /// The name of an element.
+    pub fn name(&self, e: Element) -> &str
+        requires { IsListed self.now.given e }
+        ensures name { result.now ≡ name_of self.now.given e }
+    {
+        match e {
+            Element::Vm(v) => self.machines[v.0 as usize].name.as_text(),
+            Element::Node(n) => self.nodes[n.0 as usize].name.as_text(),
+        }
+    }
+
     // what is wrong with one more node
     fn fault_of_node(&self, node: &Node) -> Option<AddFault>
         ensures fault { result ≡ node_fault self.now.given node.now }
@@ -175,7 +222,7 @@ impl Cluster {
         ensures places { IsTrue (has_places node.now.capacity node.now.own) }
     {
         let name = node.name.as_text();
-        if self.nodes.len() >= 512 {
+        if self.nodes.len() >= MAX_NODES {
             return Some(AddFault::TooMany);
         }
         if self.find(name.as_bytes()).is_some() {
@@ -194,7 +241,7 @@ impl Cluster {
         ensures places { IsTrue (has_places machine.now.usage machine.now.own) }
     {
         let name = machine.name.as_text();
-        if self.machines.len() >= 4096 {
+        if self.machines.len() >= MAX_MACHINES {
             return Some(AddFault::TooMany);
         }
         if self.find(name.as_bytes()).is_some() {
@@ -217,9 +264,8 @@ impl Cluster {
         ensures added { OnOk result (self.new.given ≡ record self.old.given { nodes = self.old.given.nodes ++ node ∷ [] }) }
         ensures kept { OnErr result (self.new.given ≡ self.old.given) }
     {
-        match self.fault_of_node(&node) {
-            Some(fault) => return Err(fault),
-            None => {}
+        if let Some(fault) = self.fault_of_node(&node) {
+            return Err(fault);
         }
         let id = NodeId(self.nodes.len() as u32);
         self.nodes.reserve(1)?;
@@ -236,9 +282,8 @@ impl Cluster {
         ensures added { OnOk result (self.new.given ≡ record self.old.given { machines = self.old.given.machines ++ machine ∷ [] }) }
         ensures kept { OnErr result (self.new.given ≡ self.old.given) }
     {
-        match self.fault_of_machine(&machine) {
-            Some(fault) => return Err(fault),
-            None => {}
+        if let Some(fault) = self.fault_of_machine(&machine) {
+            return Err(fault);
         }
         let id = VmId(self.machines.len() as u32);
         self.machines.reserve(1)?;
@@ -280,7 +325,7 @@ fn fault_of_base(resources: &[Name], durations: &[Duration]) -> Option<AddFault>
     ensures fault { result ≡ base_fault resources.now durations.now }
     ensures named { IsNone result → All (λ name. is_name name ≡ true) resources.now }
 {
-    if resources.len() > 8 {
+    if resources.len() > MAX_RESOURCES {
         return Some(AddFault::TooMany);
     }
     if !are_all_distinct(resources) {
@@ -292,7 +337,7 @@ fn fault_of_base(resources: &[Name], durations: &[Duration]) -> Option<AddFault>
     None
 }
 
-// whether the host of a state, if it has one, is an online node of the list.
+// whether the host of a state, if it has one, is an online node of the list
 fn is_host_online(nodes: &[Node], state: State) -> bool
     ensures { result ≡ host_is_online nodes.now state }
 {

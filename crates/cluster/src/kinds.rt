@@ -1,6 +1,8 @@
 //! The kinds of actions.
 ghost use Rattle.std.specs.Prelude.{◌≡◌, ◌<◌, slice_get};
-ghost use Rattle.cluster.specs.Kinds.{kind_number};
+ghost use Rattle.cluster.specs.Kinds.{kind_count, kind_number, kind_of_word, kind_word};
+
+use crate::words::{place_of_word, word_at};
 
 /// The kinds of actions: eight of machines, then two of nodes.
 #[derive(Clone, Copy, Debug, PartialEq, Eq)]
@@ -17,8 +19,14 @@ pub enum Kind {
     NodeShutdown,
 }
 
+/// How many kinds there are.
+pub const KIND_COUNT: usize = 10;
+
+/// How many of them, the first ones, are kinds of machines.
+pub const MACHINE_KIND_COUNT: usize = 8;
+
 /// The ten kinds in their order, which is that of each list of durations.
-pub const KINDS: [Kind; 10] = [
+pub const KINDS: [Kind; KIND_COUNT] = [
     Kind::Forge,
     Kind::Boot,
     Kind::Shutdown,
@@ -31,12 +39,41 @@ pub const KINDS: [Kind; 10] = [
     Kind::NodeShutdown,
 ];
 
+/// The words of the kinds, in the order of `KINDS`.
+pub const KIND_WORDS: [&str; KIND_COUNT] = [
+    "forge",
+    "boot",
+    "shutdown",
+    "suspend",
+    "resume",
+    "migrate",
+    "allocate",
+    "kill",
+    "node_boot",
+    "node_shutdown",
+];
+
 impl Kind {
+    /// The word of the kind.
+    pub fn word(self) -> &'static str
+        ensures { result.now ≡ kind_word self }
+    {
+        word_at(&KIND_WORDS, self.number())
+    }
+
+    /// The kind of a word; `None` exactly where no kind has it.
+    pub fn of_word(word: &str) -> Option<Kind>
+        ensures { result ≡ kind_of_word word.now }
+    {
+        let place = place_of_word(&KIND_WORDS, word)?;
+        KINDS.get(place).copied()
+    }
+
     /// The place of a kind in the order of the ten, from 0 to 9. A machine's kind is below 8.
     pub fn number(self) -> usize
         ensures number { result ≡ kind_number self }
         ensures place { slice_get KINDS result ≡ Some self }
-        ensures within { result < 10 }
+        ensures within { result < kind_count }
     {
         match self {
             Kind::Forge => 0,

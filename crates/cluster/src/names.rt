@@ -3,6 +3,7 @@ ghost use Rattle.std.specs.Prelude.{◌≡◌, IsTrue, IfOk, IfErr, OnOk, string
 ghost use Rattle.cluster.specs.Names.{is_name, starts_name, goes_on_name};
 ghost use Rattle.std.specs.List.{list_all};
 
+use crate::limits::MAX_NAME_BYTES;
 use memory::Memory;
 use std::alloc::{AllocError, Global};
 use std::marker::Model;
@@ -11,7 +12,7 @@ use thiserror::Error;
 /// Why a name was refused.
 #[derive(Clone, Copy, Debug, PartialEq, Eq, Error)]
 pub enum NameFault {
-    /// The bytes are not 1 to 64 letters, digits, `_`, `.` and `-` that begin with a letter, a digit or `_`.
+    /// The bytes are not 1 to `MAX_NAME_BYTES` letters, digits, `_`, `.` and `-` that begin with a letter, a digit or `_`.
     #[error("not a name")]
     BadName,
     /// An allocation was refused.
@@ -29,7 +30,7 @@ impl From<AllocError> for NameFault {
     }
 }
 
-/// A name: 1 to 64 letters, digits, `_`, `.` and `-`, the first a letter, a digit or `_`.
+/// A name: 1 to `MAX_NAME_BYTES` letters, digits, `_`, `.` and `-`, the first a letter, a digit or `_`.
 ///
 /// Contracts see it as its bytes.
 #[derive(Drop)]
@@ -71,7 +72,7 @@ fn all_follow(bytes: &[u8]) -> bool
 pub fn is_name_text(bytes: &[u8]) -> bool
     ensures { result ≡ is_name bytes.now }
 {
-    let shaped = 0 < bytes.len() && bytes.len() <= 64;
+    let shaped = 0 < bytes.len() && bytes.len() <= MAX_NAME_BYTES;
     shaped && may_start(bytes[0]) && all_follow(bytes)
 }
 

@@ -1,5 +1,9 @@
 //! The states of machines.
+ghost use Rattle.std.specs.Prelude.{◌≡◌};
+ghost use Rattle.cluster.specs.States.{state_number, state_word};
+
 use crate::ids::NodeId;
+use crate::words::word_at;
 
 /// The present state of a machine, as in BtrPlace's life cycle of a virtual machine:
 /// not forged yet, ready to boot, running or suspended on a node, or killed.
@@ -10,4 +14,29 @@ pub enum State {
     Running(NodeId),
     Sleeping(NodeId),
     Gone,
+}
+
+/// The words of the five states, in the order in which they are declared.
+pub const STATE_WORDS: [&str; 5] = ["init", "ready", "running", "sleeping", "gone"];
+
+impl State {
+    /// The word of the state, without its host.
+    pub fn word(self) -> &'static str
+        ensures { result.now ≡ state_word self }
+    {
+        word_at(&STATE_WORDS, self.number())
+    }
+
+    // the place of its word
+    fn number(self) -> usize
+        ensures { result ≡ state_number self }
+    {
+        match self {
+            State::Init => 0,
+            State::Ready => 1,
+            State::Running(_) => 2,
+            State::Sleeping(_) => 3,
+            State::Gone => 4,
+        }
+    }
 }

@@ -1,6 +1,6 @@
 use Rattle.std.proofs.Common.{◌∙◌, length, ap}
 use Rattle.catalogue.specs.Faults.{all_of, are_machines}
-use Rattle.catalogue.proofs.Seeing.{below_parts}
+use Rattle.catalogue.proofs.TwiceLemmas.{below_parts}
 use Rattle.catalogue.proofs.faults.names_machines.Goals as goal
 
 pub returns-in-Split : goal.returns-in-Split

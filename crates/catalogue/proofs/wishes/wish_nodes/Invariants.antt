@@ -1,9 +1,9 @@
 use Rattle.std.proofs.Common.{◌≡◌, ℕ, ◌<◌, length, if◌then◌else◌, nat_lt}
 use Rattle.cluster.specs.Sets.{has_node}
-use Rattle.catalogue.specs.Values.{joined_where}
+use Rattle.catalogue.specs.Values.{wish_where}
 use Rattle.catalogue.specs.Cells.{wish_cell}
 use Rattle.catalogue.proofs.wishes.wish_nodes.Given as goal
 
 abbrev pub invariant-loop-i : goal.invariant-loop-i
 invariant-loop-i l = (n : ℕ) → n < length l.table →
-    wish_cell l.table n ≡ (if nat_lt n l.i then joined_where (has_node l.nodes n) (wish_cell l.initial.table n) l.target else wish_cell l.initial.table n)
+    wish_cell l.table n ≡ (if nat_lt n l.i then wish_where (has_node l.nodes n) (wish_cell l.initial.table n) l.target else wish_cell l.initial.table n)

@@ -1,0 +1,10 @@
+use Rattle.std.specs.Prelude.{ℕ, List, []}
+use Rattle.std.specs.Borrow.{Bor}
+use Rattle.std.proofs.Common.{sym}
+use Rattle.std.proofs.Math.ListN.{get_or-map}
+use Rattle.cluster.proofs.words.word_at.Goals as goal
+
+pub returns : goal.returns
+returns c =
+    let none : Bor (List ℕ) = record { ref_ptr = (0, 0); now = [] } in
+    sym (get_or-map (λ (w : Bor (List ℕ)). w.now) c.args.words.now c.args.place none)
