@@ -8,10 +8,9 @@ use Rattle.cluster.specs.declared.durations.Duration.{Duration}
 use Rattle.cluster.specs.declared.ids.Element.{Element}
 use Rattle.cluster.specs.declared.ids.Element.TheVariants.{Vm, Node as TheNode}
 use Rattle.cluster.specs.declared.kinds.Kind.{Kind}
-use Rattle.cluster.specs.declared.kinds.Kind.TheVariants.{Forge, Boot, Shutdown, Suspend, Resume, Migrate, Allocate, Kill, NodeBoot, NodeShutdown}
 use Rattle.cluster.specs.Inventory.{amounts_fit, duration_fits, machine_fits, machine_own_fits, node_fits, node_own_fits, own_fits}
 use Rattle.cluster.specs.Kinds.{kind_number}
-use Rattle.cluster.proofs.Fitting.{IsDuration, IsDuration-fits, duration_at}
+use Rattle.cluster.proofs.Public.{IsDuration, IsDuration-fits, duration_at, kind_number-lt}
 use Rattle.catalogue.specs.Instance.{Instance, IsInstance, inventory_of}
 use Rattle.slices.specs.Actions.{action_duration, common_of, duration_of, end_of, is_legal, kind_duration, kind_of, machine_own, node_own, own_of}
 use Rattle.slices.specs.Legal.{DurationsLast, EndsByDuration, LegalActsLast, LegalEarlier}
@@ -32,18 +31,6 @@ own_at f s t none first last (suc n) (x ∷ xs) (suc i) a b = own_at f s t none 
 none_fits : (count : ℕ) (x : Option Duration) → is_none x ≡ true → own_fits count x ≡ true
 none_fits count None h = refl
 none_fits count (Some d) h = absurd (true≢false (sym h))
-
-number_lt : (kind : Kind) → kind_number kind < 10
-number_lt Forge = omega arith
-number_lt Boot = omega arith
-number_lt Shutdown = omega arith
-number_lt Suspend = omega arith
-number_lt Resume = omega arith
-number_lt Migrate = omega arith
-number_lt Allocate = omega arith
-number_lt Kill = omega arith
-number_lt NodeBoot = omega arith
-number_lt NodeShutdown = omega arith
 
 own_of-fits : (p : Instance) → IsInstance p → (e : Element) (kind : Kind) → own_fits (length p.resources) (own_of p e kind) ≡ true
 own_of-fits p s (Vm v) kind =
@@ -67,7 +54,7 @@ chosen-fits count (Some x) d a b = a
 pub chosen : (p : Instance) → IsInstance p → (e : Element) (kind : Kind) → IsDuration (length p.resources) (unwrap_or (own_of p e kind) (common_of p kind))
 chosen p s e kind =
     IsDuration-fits (length p.resources) (unwrap_or (own_of p e kind) (common_of p kind))
-    (chosen-fits (length p.resources) (own_of p e kind) (common_of p kind) (own_of-fits p s e kind) (duration_at (inventory_of p) s.inventory (kind_number kind) _ (number_lt kind)))
+    (chosen-fits (length p.resources) (own_of p e kind) (common_of p kind) (own_of-fits p s e kind) (duration_at (inventory_of p) s.inventory (kind_number kind) _ (kind_number-lt kind)))
 
 -- every duration is at least 1
 pub durations_last : DurationsLast

@@ -4,7 +4,7 @@ use Rattle.cluster.specs.declared.choices.Choice.{Choice}
 use Rattle.cluster.specs.declared.ids.NodeId.{NodeId}
 use Rattle.catalogue.specs.Instance.{Instance, IsInstance}
 use Rattle.catalogue.specs.Values.{demand_of, use_of}
-use Rattle.catalogue.proofs.Facts.{use_of_le}
+use Rattle.catalogue.proofs.Public.{use_of_le}
 use Rattle.slices.specs.declared.holding.Held.{Held}
 use Rattle.slices.specs.declared.holding.Holding.{Holding}
 use Rattle.slices.specs.declared.slice.Slice.{Slice}

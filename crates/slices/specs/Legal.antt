@@ -1,13 +1,13 @@
--- Laws of legal choices.
+-- Helping only: laws of legal choices.
 use Rattle.std.specs.Prelude.{◌≡◌, ℕ, ◌+◌, ◌<◌, ◌≤◌, List, length, slice_index_or, IsTrue}
 use Rattle.cluster.specs.declared.choices.Choice.{Choice}
 use Rattle.cluster.specs.declared.choices.Choice.TheVariants.{Idle, Act}
 use Rattle.cluster.specs.declared.choices.Place.{Place}
 use Rattle.cluster.specs.declared.ids.Element.{Element}
 use Rattle.cluster.specs.declared.kinds.Kind.{Kind}
-use Rattle.catalogue.specs.Instance.{Instance, IsInstance}
+use Rattle.cluster.specs.Elements.{element_at, element_count}
+use Rattle.catalogue.specs.Instance.{Instance, IsInstance, inventory_of}
 use Rattle.slices.specs.Actions.{action_duration, duration_of, end_of, is_legal}
-use Rattle.slices.specs.Elements.{element_at, element_count}
 use Rattle.slices.specs.Plans.{IsPlanOf, parted}
 
 -- every duration is at least 1
@@ -33,6 +33,6 @@ LegalEarlier =
 -- a list of legal choices, one for each element in order, is a plan
 abbrev pub LegalIsPlan : Type 0
 LegalIsPlan =
-    (p : Instance) (choices : List Choice) → length choices ≡ element_count p →
-    ((x : ℕ) → x < element_count p → IsTrue (is_legal p (element_at p x) (slice_index_or choices x Idle))) →
+    (p : Instance) (choices : List Choice) → length choices ≡ element_count (inventory_of p) →
+    ((x : ℕ) → x < element_count (inventory_of p) → IsTrue (is_legal p (element_at (inventory_of p) x) (slice_index_or choices x Idle))) →
     IsPlanOf p (parted p choices)

@@ -3,7 +3,7 @@
 
 pub mod actions;
 pub mod choice;
-pub mod elements;
+mod elements;
 pub mod holding;
 pub mod laws;
 pub mod plan;

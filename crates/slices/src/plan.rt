@@ -2,11 +2,11 @@
 ghost use Rattle.std.specs.Prelude.{◌≡◌, ◌↔◌, ◌≤◌, IsTrue};
 ghost use Rattle.catalogue.specs.Instance.{IsElement};
 ghost use Rattle.slices.specs.Actions.{end_of};
+ghost use Rattle.slices.specs.Limits.{max_cost};
 ghost use Rattle.slices.specs.Plans.{choices_of, parted, HasElement, IsPlanOf};
 ghost use Rattle.slices.specs.Costs.{cost_of};
 
 use crate::actions::{end_of, is_legal};
-use crate::elements::{count, element};
 use catalogue::problem::Problem;
 use cluster::choices::{Choice, Instant};
 use cluster::ids::{Element, NodeId, VmId};
@@ -74,11 +74,11 @@ impl Plan {
 pub fn is_plan(p: &Problem, choices: &[Choice]) -> bool
     ensures { IsTrue result ↔ IsPlanOf p.now.given (parted p.now.given choices.now) }
 {
-    if choices.len() != count(p) {
+    if choices.len() != p.cluster().element_count() {
         return false;
     }
     for x in 0..choices.len() {
-        if !is_legal(p, element(p, x), choices[x]) {
+        if !is_legal(p, p.cluster().element(x), choices[x]) {
             return false;
         }
     }
@@ -99,7 +99,7 @@ pub fn end_in(p: &Problem, plan: &Plan, e: Element) -> Instant
 pub fn cost(p: &Problem, plan: &Plan) -> u64
     requires { IsPlanOf p.now.given plan.now }
     ensures cost { result ≡ cost_of p.now.given (choices_of plan.now) }
-    ensures small { result ≤ 4_608_000_000 }
+    ensures small { result ≤ max_cost }
 {
     let mut total = 0;
     for v in 0..p.cluster().machines().len() {
