@@ -1,6 +1,5 @@
 -- Public has what crates above may cite; the rest is for this crate alone.
 pub mod Public
-mod RangeLemmas
 mod DurationLemmas
 mod PlaceLemmas
 mod HoldingLemmas

@@ -3,6 +3,7 @@ use Rattle.std.proofs.Common.{◌≡◌, ℕ, ◌≤◌, Bool, true, false, not,
 use Rattle.std.proofs.lemmas.Bool.{false≢true}
 use Rattle.std.proofs.lemmas.Bool.Decides.{nat_tests}
 use Rattle.sums.proofs.Sums.{sum_to-le}
+use Rattle.sums.proofs.Tests.{cond-implied, positive_above}
 use Rattle.cluster.specs.declared.choices.Choice.{Choice}
 use Rattle.cluster.specs.declared.choices.Choice.TheVariants.{Idle, Act}
 use Rattle.cluster.specs.Inventory.{is_online}
@@ -35,10 +36,6 @@ not-part true b h x = absurd (false≢true x)
 not-part false true h x = absurd (false≢true (h refl))
 not-part false false h x = refl
 
-and-part : (c a b : Bool) → (IsTrue a → IsTrue b) → IsTrue (c && a) → IsTrue (c && b)
-and-part true a b h x = h x
-and-part false a b h x = x
-
 both-part : (a b c d : Bool) → (IsTrue a → IsTrue c) → (IsTrue b → IsTrue d) → IsTrue (a && b) → IsTrue (c && d)
 both-part true b true d f g x = g x
 both-part true b false d f g x = absurd (false≢true (f refl))
@@ -49,14 +46,6 @@ or-part true b true d f g x = refl
 or-part true b false d f g x = absurd (false≢true (f refl))
 or-part false b true d f g x = refl
 or-part false b false d f g x = g x
-
-if-part : (a b : Bool) (m : ℕ) → (IsTrue a → IsTrue b) → (if a then m else 0) ≤ (if b then m else 0)
-if-part true true m h = omega arith
-if-part true false m h = absurd (false≢true (h refl))
-if-part false b m h = omega arith
-
-pub above-part : (a b : ℕ) → a ≤ b → IsTrue (nat_lt 0 a) → IsTrue (nat_lt 0 b)
-above-part a b l h = grind (arith, nat_tests)
 
 -- ---- a part keeps
 
@@ -87,7 +76,7 @@ pub parts_keep : PartsKeep
 parts_keep p s big part last (Load n r) h =
     omega (arith, sum_to-le (machine_count p) (λ v. s.held v (Amount r) (one n.0)) (λ v. big.held v (Amount r) (one n.0)) (λ v i. part.held v (Amount r) (one n.0)), h)
 parts_keep p s big part last (Usable v n) h =
-    λ x. part.usable n.0 (h (or-part _ _ _ _ (part.present v.0 (one n.0)) (above-part _ _ (part.held v.0 Image (one n.0))) x))
+    λ x. part.usable n.0 (h (or-part _ _ _ _ (part.present v.0 (one n.0)) (positive_above _ _ (part.held v.0 Image (one n.0))) x))
 parts_keep p s big part last (OfConstraint c) h = λ a k e. less_holds p s big k (less_for-part p s big part k) (h a k e)
 
 -- ---- where less has started and more has ended, there is only less
@@ -100,7 +89,7 @@ covers-part BeforeEnd s t a b x = not-part s.ended t.ended b x
 weigh-part : (p : Instance) (v : ℕ) (w : Weight) (o : Option Slice) (set : Nodes) (s t : Stage) → (IsTrue s.started → IsTrue t.started) → (IsTrue t.ended → IsTrue s.ended) → weigh p v w o s set ≤ weigh p v w o t set
 weigh-part p v w None set s t a b = omega arith
 weigh-part p v w (Some o) set s t a b =
-    if-part (set o.node.0 && covers o.span s) (set o.node.0 && covers o.span t) (weight_of p v w o.what) (and-part (set o.node.0) _ _ (covers-part o.span s t a b))
+    cond-implied (set o.node.0 && covers o.span s) (set o.node.0 && covers o.span t) (weight_of p v w o.what) (both-part (set o.node.0) _ (set o.node.0) _ (λ x. x) (covers-part o.span s t a b))
 
 pub held_by-part : (p : Instance) (v : ℕ) (w : Weight) (set : Nodes) (c : Choice) (s t : Stage) → (IsTrue s.started → IsTrue t.started) → (IsTrue t.ended → IsTrue s.ended) → held_by p v w set c s ≤ held_by p v w set c t
 unfolding held_by
@@ -128,7 +117,7 @@ pub stage_parts_are_part : StagePartsArePart
 unfolding snapshot
 stage_parts_are_part p plan s t part = record {
   held = λ v w set. held_by-part p v w set (plan (vm v)) (s (vm v)) (t (vm v)) (part.started (vm v)) (part.ended (vm v));
-  present = λ v set. above-part _ _ (held_by-part p v Presence set (plan (vm v)) (s (vm v)) (t (vm v)) (part.started (vm v)) (part.ended (vm v)));
+  present = λ v set. positive_above _ _ (held_by-part p v Presence set (plan (vm v)) (s (vm v)) (t (vm v)) (part.started (vm v)) (part.ended (vm v)));
   usable = λ n. usable_of-part (is_online p.nodes n) (plan (node n)) (s (node n)) (t (node n)) (part.started (node n)) (part.ended (node n));
   powered = λ n. powered_of-part (is_online p.nodes n) (plan (node n)) (s (node n)) (t (node n)) (part.started (node n)) (part.ended (node n));
   action = λ v far. progress_of-part far (plan (vm v)) (s (vm v)) (t (vm v)) (part.started (vm v)) (part.ended (vm v));

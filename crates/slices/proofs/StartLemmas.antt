@@ -5,6 +5,7 @@ use Rattle.std.proofs.lemmas.Bool.Decides.{nat_tests}
 use Rattle.std.proofs.lemmas.List.{get_or_past}
 use Rattle.std.proofs.lemmas.List.Folds.{list_any-append}
 use Rattle.sums.proofs.Sums.{sum_to-le}
+use Rattle.sums.proofs.Tests.{positive_above}
 use Rattle.cluster.specs.declared.choices.Choice.{Choice}
 use Rattle.cluster.specs.declared.choices.Choice.TheVariants.{Idle, Act}
 use Rattle.cluster.specs.declared.ids.Element.{Element}
@@ -31,7 +32,7 @@ use Rattle.slices.specs.Snapshots.{action_at, held_at, powered_at, snapshot, sna
 use Rattle.slices.specs.Stages.{Nodes, one, stage_of}
 use Rattle.slices.specs.Starts.{ActionQuiet, HeldQuiet, IsQuiet, KeepsQuiet, MattersQuiet, PoweredQuiet, UsableQuiet, matters}
 use Rattle.slices.proofs.FewerLemmas.{less_holds}
-use Rattle.slices.proofs.PartLemmas.{above-part, held_by-part, not-part, or-part, powered_of-part, progress_of-part, usable_of-part}
+use Rattle.slices.proofs.PartLemmas.{held_by-part, not-part, or-part, powered_of-part, progress_of-part, usable_of-part}
 
 same-number : (v : ℕ) → IsTrue (v == v)
 same-number v = grind (arith, nat_tests)
@@ -95,7 +96,7 @@ module _ (p : Instance) (plan : Choices) (u t : ℕ) (l : u ≤ t) where
 
   present-then : (v : ℕ) → IsQuiet (plan (vm v)) u t → (set : Nodes) → IsTrue ((snapshot_at p plan t).present v set) → IsTrue ((snapshot_at p plan u).present v set)
   unfolding snapshot stages_at held_at
-  present-then v q set = above-part _ _ (held_quiet p v Presence set u t (plan (vm v)) l q)
+  present-then v q set = positive_above _ _ (held_quiet p v Presence set u t (plan (vm v)) l q)
 
   usable-then : (n : ℕ) → IsQuiet (plan (node n)) u t → IsTrue ((snapshot_at p plan u).usable n) → IsTrue ((snapshot_at p plan t).usable n)
   unfolding snapshot stages_at usable_at
@@ -144,7 +145,7 @@ module _ (p : Instance) (plan : Choices) (u t : ℕ) (l : u ≤ t) where
   keeps-quiet q last (Load n r) h =
       omega (arith, h, sum_to-le (machine_count p) (λ v. (snapshot_at p plan t).held v (Amount r) (one n.0)) (λ v. (snapshot_at p plan u).held v (Amount r) (one n.0)) (λ v i. held-then v (q (vm v)) (Amount r) (one n.0)))
   keeps-quiet q last (Usable v n) h =
-      λ x. usable-then n.0 (q (node n.0)) (h (or-part _ _ _ _ (present-then v.0 (q (vm v.0)) (one n.0)) (above-part _ _ (held-then v.0 (q (vm v.0)) Image (one n.0))) x))
+      λ x. usable-then n.0 (q (node n.0)) (h (or-part _ _ _ _ (present-then v.0 (q (vm v.0)) (one n.0)) (positive_above _ _ (held-then v.0 (q (vm v.0)) Image (one n.0))) x))
   keeps-quiet q last (OfConstraint c) h = λ a k e. holds-quiet k (λ x m. q x) (h a k e)
 
 -- past the end, a plan's choices are Idle

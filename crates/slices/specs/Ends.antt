@@ -1,4 +1,4 @@
--- Laws of what one choice gives over the starts at a place.
+-- Helping only: laws of what one choice gives over the starts at a place.
 use Rattle.std.specs.Prelude.{◌≡◌, ℕ, ◌+◌, ◌≤◌, min, nat_le, if◌then◌else◌}
 use Rattle.cluster.specs.declared.choices.Choice.{Choice}
 use Rattle.cluster.specs.declared.choices.Choice.TheVariants.{Act}

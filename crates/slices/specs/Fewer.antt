@@ -1,4 +1,4 @@
--- What may be taken away from a snapshot so that a constraint of each kind still holds.
+-- Helping only: what may be taken away from a snapshot so that a constraint of each kind still holds.
 use Rattle.std.specs.Prelude.{ℕ, ◌<◌, ◌≤◌, List, IsTrue}
 use Rattle.cluster.specs.declared.ids.VmId.{VmId}
 use Rattle.cluster.specs.Sets.{has_node}

@@ -1,4 +1,4 @@
--- What a machine holds at one moment, as the code tells it.
+-- Helping only: what a machine holds at one moment, as the code tells it.
 use Rattle.std.specs.Prelude.{◌≡◌, ℕ, ◌+◌, ◌<◌, Bool, true, false, ◌||◌, Option, Some, None, if◌then◌else◌}
 use Rattle.cluster.specs.declared.choices.Choice.{Choice}
 use Rattle.cluster.specs.declared.ids.NodeId.{NodeId}

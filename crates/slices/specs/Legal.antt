@@ -1,4 +1,4 @@
--- Laws of legal choices.
+-- Helping only: laws of legal choices.
 use Rattle.std.specs.Prelude.{◌≡◌, ℕ, ◌+◌, ◌<◌, ◌≤◌, List, length, slice_index_or, IsTrue}
 use Rattle.cluster.specs.declared.choices.Choice.{Choice}
 use Rattle.cluster.specs.declared.choices.Choice.TheVariants.{Idle, Act}

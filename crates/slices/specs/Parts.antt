@@ -1,4 +1,4 @@
--- Laws of valid plans and their executions: a part of a snapshot keeps what the snapshot keeps.
+-- Helping only: laws of valid plans and their executions: a part of a snapshot keeps what the snapshot keeps.
 use Rattle.std.specs.Prelude.{◌≡◌, ℕ, ◌≤◌, Bool, true, false, Option, IsSome, IsTrue}
 use Rattle.cluster.specs.declared.ids.Element.{Element}
 use Rattle.catalogue.specs.Instance.{Instance, IsElement}

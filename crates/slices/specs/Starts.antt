@@ -1,4 +1,4 @@
--- Laws of starts: between starts there is only less, so what was kept stays kept.
+-- Helping only: laws of starts: between starts there is only less, so what was kept stays kept.
 use Rattle.std.specs.Prelude.{◌≡◌, ◌⊎◌, ℕ, ◌<◌, ◌≤◌, Bool, true, false, ◌==◌, Option, Some, None, IsTrue}
 use Rattle.std.specs.Option.{ForSome}
 use Rattle.cluster.specs.declared.choices.Choice.{Choice}

@@ -1,10 +1,11 @@
 //! Which action an element takes, how long it lasts, and which choices are legal.
 ghost use Rattle.std.specs.Prelude.{◌≡◌, ◌<◌, ◌≤◌, Bool, length, unwrap_or, IsTrue, IfSome};
+ghost use Rattle.cluster.specs.Limits.{max_amount, max_resources};
 ghost use Rattle.cluster.proofs.Public.{IsDuration};
 ghost use Rattle.catalogue.specs.Instance.{IsElement};
 ghost use Rattle.catalogue.specs.Values.{demand_of, use_of, wanted_of};
 ghost use Rattle.slices.specs.Elements.{state_of};
-ghost use Rattle.slices.specs.Actions.{kind_of, end_wish, wanted_state, machine_kind, node_kind, may_machine_idle, may_node_idle, differs_in, is_raised, may_idle, own_of, common_of, duration_amount, amount_at, duration_of, kind_duration, choice_duration, is_legal, end_of};
+ghost use Rattle.slices.specs.Actions.{kind_of, end_wish, wanted_state, machine_kind, node_kind, may_machine_idle, may_node_idle, differs_in, is_raised, may_idle, own_of, common_of, duration_amount, amount_at, duration_of, longest, kind_duration, choice_duration, is_legal, end_of};
 ghost use Rattle.slices.specs.Snapshots.{stage_at};
 ghost use Rattle.slices.specs.Starts.{start_of};
 ghost use Rattle.slices.specs.Stages.{stage_from};
@@ -38,9 +39,9 @@ fn end_wish(state: State, wish: Wish) -> Wish
 /// The present use of a machine.
 pub(crate) fn usage(p: &Problem, v: VmId, r: u8) -> u64
     requires machine { IsElement p.now.given (Element.Vm v) }
-    requires resource { r < 8 }
+    requires resource { r < max_resources }
     ensures usage { result ≡ use_of p.now.given.machines v.0 r }
-    ensures small { result ≤ 1_000_000_000 }
+    ensures small { result ≤ max_amount }
 {
     p.cluster().machines()[v.0 as usize].usage[r as usize]
 }
@@ -54,6 +55,7 @@ fn differs(p: &Problem, v: VmId, r: u8) -> bool
 }
 
 /// Whether the demand of a machine differs from its present use in some resource.
+#[tactic(auto, using(sums::proofs::Ranges::any_rules))]
 fn is_raised(p: &Problem, v: VmId) -> bool
     requires { IsElement p.now.given (Element.Vm v) }
     ensures { result ≡ is_raised p.now.given v.0 }
@@ -281,7 +283,7 @@ fn amount_of(p: &Problem, e: Element, resource: Option<u8>) -> u64
     requires element { IsElement p.now.given e }
     requires resource { IfSome resource (λ r. r < length p.now.given.resources) }
     ensures amount { result ≡ amount_at resource (duration_amount p.now.given e) }
-    ensures small { result ≤ 1_000_000_000 }
+    ensures small { result ≤ max_amount }
 {
     match resource {
         None => 0,
@@ -298,7 +300,7 @@ pub fn duration(p: &Problem, e: Element, kind: Kind) -> u64
     requires { IsElement p.now.given e }
     ensures duration { result ≡ duration_of p.now.given e kind }
     ensures lasting { 1 ≤ result }
-    ensures small { result ≤ 1_000_000_001_000_000 }
+    ensures small { result ≤ longest }
 {
     let d = duration_for(p, e, kind);
     u64::from(d.base) + u64::from(d.per) * amount_of(p, e, d.resource)
@@ -309,7 +311,7 @@ pub fn duration(p: &Problem, e: Element, kind: Kind) -> u64
 fn kind_duration(p: &Problem, e: Element, kind: Option<Kind>) -> u64
     requires { IsElement p.now.given e }
     ensures duration { result ≡ kind_duration p.now.given e kind }
-    ensures small { result ≤ 1_000_000_001_000_000 }
+    ensures small { result ≤ longest }
 {
     match kind {
         Some(kind) => duration(p, e, kind),
@@ -322,7 +324,7 @@ fn kind_duration(p: &Problem, e: Element, kind: Option<Kind>) -> u64
 fn choice_duration(p: &Problem, e: Element, c: Choice) -> u64
     requires { IsElement p.now.given e }
     ensures duration { result ≡ choice_duration p.now.given e c }
-    ensures small { result ≤ 1_000_000_001_000_000 }
+    ensures small { result ≤ longest }
 {
     match c {
         Choice::Idle => 0,

@@ -1,5 +1,6 @@
 //! What a machine holds at one moment: at most two nodes, and its image.
 ghost use Rattle.std.specs.Prelude.{◌≡◌, ◌<◌, ◌≤◌, length};
+ghost use Rattle.cluster.specs.Limits.{max_amount};
 ghost use Rattle.catalogue.specs.Instance.{IsElement};
 ghost use Rattle.slices.specs.Stages.{weight_of};
 ghost use Rattle.slices.specs.Holdings.{held_of, node_of, with_raise, holding_of};
@@ -100,7 +101,7 @@ pub fn amount(p: &Problem, v: VmId, what: What, r: u8) -> u64
     requires machine { IsElement p.now.given (Element.Vm v) }
     requires resource { r < length p.now.given.resources }
     ensures amount { result ≡ weight_of p.now.given v.0 (Amount r) what }
-    ensures small { result ≤ 1_000_000_000 }
+    ensures small { result ≤ max_amount }
 {
     match what {
         What::Use => usage(p, v, r),

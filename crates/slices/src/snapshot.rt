@@ -1,5 +1,6 @@
 //! What is where at an instant of a plan.
-ghost use Rattle.std.specs.Prelude.{◌≡◌, ◌≤◌, ◌<◌, length, nat_lt};
+ghost use Rattle.std.specs.Prelude.{◌≡◌, ◌*◌, ◌≤◌, ◌<◌, length, nat_lt};
+ghost use Rattle.cluster.specs.Limits.{max_amount, max_machines};
 ghost use Rattle.catalogue.specs.Instance.{IsElement};
 ghost use Rattle.slices.specs.Elements.{node_count};
 ghost use Rattle.slices.specs.Plans.{choices_of, IsPlanOf};
@@ -31,7 +32,7 @@ fn amount_on(p: &Problem, v: VmId, held: Option<Held>, n: NodeId, r: u8) -> u64
     requires machine { IsElement p.now.given (Element.Vm v) }
     requires resource { r < length p.now.given.resources }
     ensures amount { result ≡ amount_in p.now.given v.0 r (one n.0) held }
-    ensures small { result ≤ 1_000_000_000 }
+    ensures small { result ≤ max_amount }
 {
     match held {
         Some(x) => if x.node.0 == n.0 {
@@ -57,7 +58,7 @@ pub fn used(p: &Problem, plan: &Plan, n: NodeId, r: u8, t: Instant) -> u64
     requires plan { IsPlanOf p.now.given plan.now }
     requires resource { r < length p.now.given.resources }
     ensures load { result ≡ load p.now.given (snapshot_at p.now.given (choices_of plan.now) t) r (one n.0) }
-    ensures small { result ≤ 8_192_000_000_000 }
+    ensures small { result ≤ max_machines * (2 * max_amount) }
 {
     let mut total = 0;
     for v in 0..p.cluster().machines().len() {
