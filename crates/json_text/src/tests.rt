@@ -5,7 +5,7 @@ ghost use Rattle.serde_json.specs.View.{view};
 ghost use Rattle.serde_json.specs.Written.{has_float};
 
 use super::*;
-use json_walk::{ReadFault, read_value};
+use json_walk::{JsonFault, read_value};
 use memory::Memory;
 use serde_json::Value;
 use std::alloc::Global;
@@ -61,8 +61,8 @@ fn is_read_back(alloc: Global, value: &Value) -> Result<bool, Memory>
     let bytes = print(alloc, value)?;
     match read_value(alloc, &bytes) {
         Ok(again) => Ok(again == *value),
-        Err(ReadFault::NotJson) => Ok(false),
-        Err(ReadFault::Memory) => Err(Memory),
+        Err(JsonFault::NotJson) => Ok(false),
+        Err(JsonFault::Memory) => Err(Memory),
     }
 }
 

@@ -14,7 +14,7 @@ use std::alloc::Global;
 /// The compact text of a value without floats, and one newline.
 ///
 /// The bytes read back to the value where it nests at most 127 lists and objects.
-#[tactic(auto, using(json_walk::proofs::Texts::text_rules))]
+#[tactic(auto, using(json_walk::proofs::Public::text_rules))]
 pub fn print(alloc: Global, value: &Value) -> Result<Vec<u8>, Memory>
     requires { has_float (view value.now) ≡ false }
     ensures text { IfOk result (λ b. b.items ≡ compact_text (view value.now) ++ 10 ∷ []) }

@@ -6,7 +6,8 @@ ghost use Rattle.std.specs.Str.{bytes_eq};
 ghost use Rattle.std.specs.BTreeMap.{keys as map_keys};
 ghost use Rattle.serde_json.specs.View.{view, members_view};
 ghost use Rattle.json_walk.specs.PathRef.{path_of};
-ghost use Rattle.json_walk.specs.Walk.{Gives, fault_of, fault_at, object_of, field_of, number_of, flag_of, text_of, list_of, only_of};
+ghost use Rattle.json_walk.specs.Walk.{Gives, fault_of, fault_at, object_of, field_of, number_of};
+ghost use Rattle.json_walk.specs.Walk.{flag_of, text_of, list_of, only_of};
 
 use crate::fault::{Fault, FaultKind, WalkFault};
 use crate::path_ref::PathRef;
@@ -143,7 +144,8 @@ pub fn only_at(alloc: Global, value: &Value, path: &PathRef, keys: &[&str]) -> R
 }
 
 fn are_known(members: &Map<String, Value>, keys: &[&str]) -> bool
-    ensures { result ≡ list_all (λ k. list_any (bytes_eq (string_bytes k)) (map (λ s. s.now) keys.now)) (map_keys members.now) }
+    ensures { let known = map (λ s. s.now) keys.now in
+        result ≡ list_all (λ k. list_any (bytes_eq (string_bytes k)) known) (map_keys members.now) }
 {
     members.keys().all(|key| is_among(key.as_str(), keys))
 }

@@ -2,7 +2,7 @@
 
 ghost use Rattle.std.specs.Prelude.{◌≡◌};
 ghost use Rattle.json_walk.specs.declared.fault.WalkFault.TheVariants as walk_faults;
-ghost use Rattle.json_walk.specs.declared.fault.ReadFault.TheVariants as read_faults;
+ghost use Rattle.json_walk.specs.declared.fault.JsonFault.TheVariants as json_faults;
 
 use crate::path::PathText;
 use memory::Memory;
@@ -18,6 +18,23 @@ pub enum FaultKind {
     OutOfRange,
     /// A word or a key that has no meaning here.
     Unknown,
+}
+
+impl FaultKind {
+    ghost use Rattle.json_walk.specs.Texts.{kind_text};
+
+    /// What is wrong, in the words that are printed after a path.
+    #[tactic(auto, unfolding(crate::specs::Texts::kind_text))]
+    pub fn as_text(self) -> &'static str
+        ensures { result.now ≡ kind_text self }
+    {
+        match self {
+            FaultKind::Missing => "missing",
+            FaultKind::WrongKind => "wrong kind",
+            FaultKind::OutOfRange => "out of range",
+            FaultKind::Unknown => "unknown",
+        }
+    }
 }
 
 /// What is wrong, and the path at which it is.
@@ -46,17 +63,17 @@ impl From<Memory> for WalkFault {
 
 /// Why bytes have no value.
 #[derive(Clone, Copy, Debug, PartialEq, Eq)]
-pub enum ReadFault {
+pub enum JsonFault {
     /// The bytes are not UTF-8, or no JSON that `serde_json` reads.
     NotJson,
     /// Want of memory.
     Memory,
 }
 
-impl From<Memory> for ReadFault {
-    ghost from_gives = { λ _ e. e ≡ read_faults.Memory };
+impl From<Memory> for JsonFault {
+    ghost from_gives = { λ _ e. e ≡ json_faults.Memory };
 
-    fn from(_e: Memory) -> ReadFault {
-        ReadFault::Memory
+    fn from(_e: Memory) -> JsonFault {
+        JsonFault::Memory
     }
 }

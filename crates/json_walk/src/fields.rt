@@ -5,7 +5,8 @@ ghost use Rattle.serde_json.specs.Find.{get};
 ghost use Rattle.serde_json.specs.View.{view};
 ghost use Rattle.json_walk.specs.Path.{key_path};
 ghost use Rattle.json_walk.specs.PathRef.{path_of};
-ghost use Rattle.json_walk.specs.Walk.{Gives, fault_of, number_of, flag_of, optional, number_field_of, text_field_of, list_field_of};
+ghost use Rattle.json_walk.specs.Walk.{Gives, fault_of, number_of, flag_of, optional};
+ghost use Rattle.json_walk.specs.Walk.{number_field_of, text_field_of, list_field_of};
 
 use crate::at;
 use crate::fault::WalkFault;

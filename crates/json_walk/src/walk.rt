@@ -5,7 +5,8 @@ ghost use Rattle.std.specs.List.{list_any, list_all};
 ghost use Rattle.std.specs.Str.{bytes_eq};
 ghost use Rattle.std.specs.BTreeMap.{keys as map_keys};
 ghost use Rattle.serde_json.specs.View.{view};
-ghost use Rattle.json_walk.specs.Walk.{Gives, fault_of, field_of, number_of, flag_of, text_of, list_of, only_of};
+ghost use Rattle.json_walk.specs.Walk.{Gives, fault_of, field_of, number_of, flag_of};
+ghost use Rattle.json_walk.specs.Walk.{text_of, list_of, only_of};
 
 use crate::at;
 use crate::fault::{FaultKind, WalkFault};
@@ -36,7 +37,8 @@ pub fn number(
     least: u64,
     most: u64,
 ) -> Result<u64, WalkFault>
-    ensures gives { Gives fault_of (λ n. n) result (number_of (view value.now) path.now least most) }
+    ensures gives { Gives fault_of (λ n. n) result
+        (number_of (view value.now) path.now least most) }
     ensures low { IfOk result (λ n. least ≤ n) }
     ensures high { IfOk result (λ n. n ≤ most) }
 {
@@ -82,7 +84,8 @@ pub fn only(alloc: Global, value: &Value, path: &PathText, keys: &Keys) -> Resul
 }
 
 fn are_known(members: &Map<String, Value>, keys: &Keys) -> bool
-    ensures { result ≡ list_all (λ k. list_any (bytes_eq (string_bytes k)) keys.now) (map_keys members.now) }
+    ensures { result
+        ≡ list_all (λ k. list_any (bytes_eq (string_bytes k)) keys.now) (map_keys members.now) }
 {
     members.keys().all(|key| keys.has(key.as_str()))
 }

@@ -1,4 +1,4 @@
--- Values without floats, and how deep they nest: what a caller shows of the values that it builds.
+-- The lemmas that crates above may cite: that a value that was built has no floats, and how deep it nests.
 use Rattle.std.proofs.Common.{◌≡◌, ℕ, ◌≤◌, List, [], ◌∷◌, Bool, true, false, ◌||◌, All, Ordering, Less, Equal, Greater, refl, arith}
 use Rattle.std.proofs.Math.Nat.{max-le, le-max_left, le-max_right}
 use Rattle.std.proofs.lemmas.List.Elements.{All-head, All-tail}
