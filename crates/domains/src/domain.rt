@@ -89,6 +89,21 @@ impl Domain {
         })
     }
 
+    /// Becomes equal to another domain, in the memory that it has where that is enough.
+    pub fn copy_from(&mut self, other: &Domain) -> Result<(), Memory>
+        ensures ok { OnOk result (self.new ≡ other.now) }
+        ensures err { OnErr result (self.new ≡ self.old) }
+    {
+        if self.rows.capacity() < other.slots {
+            *self = other.copy()?;
+            return Ok(());
+        }
+        self.idle = other.idle;
+        self.slots = other.slots;
+        copy_rows(&mut self.rows, other.rows.as_slice());
+        Ok(())
+    }
+
     /// Whether no choice is left.
     pub fn is_empty(&self) -> bool
         ensures { IsTrue result ↔ (choices self.now ≡ []) }
@@ -232,6 +247,16 @@ fn put(rows: &mut SmallVec<Row, 1>, row: Row)
         Ok(i) => set_row(rows, i, row),
         Err(i) => insert_row(rows, i, row),
     }
+}
+
+// copies rows into memory that is there
+fn copy_rows(rows: &mut SmallVec<Row, 1>, others: &[Row])
+    requires { length others.now ≤ rows.old.capacity }
+    ensures items { rows.new.items ≡ others.now }
+    ensures capacity { rows.old.capacity ≤ rows.new.capacity }
+{
+    rows.clear();
+    let _had_room = rows.extend_from_slice(others);
 }
 
 fn set_row(rows: &mut SmallVec<Row, 1>, i: usize, row: Row)
