@@ -1,8 +1,8 @@
 -- What crates above may cite. All else under proofs/ is private.
 
 -- ---- demands and capacities: how great they are
-pub use Rattle.catalogue.proofs.Facts.{use_of_le, demand_of_le, written_of_le, capacity_of_le}
+pub use Rattle.catalogue.proofs.Bounds.{use_of_le, demand_of_le, written_of_le, capacity_of_le}
 -- ---- sets of nodes that are listed
-pub use Rattle.catalogue.proofs.Facts.{are_nodes-within, IsWithin-are_nodes}
+pub use Rattle.catalogue.proofs.NodeLemmas.{are_nodes-within, IsWithin-are_nodes}
 -- ---- words
-pub use Rattle.catalogue.proofs.WordLemmas.{place-constraint_word}
+pub use Rattle.catalogue.proofs.WordLemmas.{constraint_words-CONSTRAINT_WORDS, place-constraint_word}

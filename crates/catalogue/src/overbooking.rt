@@ -87,7 +87,7 @@ fn lower_one(row: &mut [Option<u64>; MAX_RESOURCES], r: u8, amount: u64)
 }
 
 /// The written capacity of a node for a resource.
-#[tactic(auto, using(crate::proofs::Facts::written_of_le))]
+#[tactic(auto, using(crate::proofs::Bounds::written_of_le))]
 pub fn written(cluster: &Cluster, n: NodeId, r: u8) -> u64
     requires node { n.0 < length cluster.now.given.nodes }
     requires resource { r < max_resources }

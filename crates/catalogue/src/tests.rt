@@ -61,17 +61,20 @@ fn problem(alloc: Global) -> Result<Problem, Fail> {
     Ok(Problem::new(alloc, cluster, 20))
 }
 
-/// The first fields of a constraint, of which the others do not matter here.
+/// A constraint, by the fields that matter here.
 #[derive(Clone, Copy)]
 enum Case {
-    Preserve(&'static [u32], u8, u64),
-    Overbook(u32, u8, u64, u64),
+    /// Of resource 0.
+    Preserve(&'static [u32], u64),
+    /// Of node 0 and resource 0.
+    Overbook(u64, u64),
     /// So many groups.
-    Among(u32),
-    /// These machines in the second part, machine 0 in the first, and so many parts in all.
-    Split(&'static [u32], u32),
+    Among(usize),
+    /// Machine 0 in the first part, and these in the second.
+    Split(&'static [u32]),
+    Precedence(u32, u32),
+    Serialize(&'static [u32]),
     Ready(&'static [u32]),
-    Killed(&'static [u32]),
 }
 
 fn vms(alloc: Global, ids: &[u32]) -> Result<Vms, Fail> {
@@ -82,241 +85,136 @@ fn vms(alloc: Global, ids: &[u32]) -> Result<Vms, Fail> {
     Ok(Vms::new(list))
 }
 
-fn nodes(n: u32) -> NodeSet {
+fn first_node() -> NodeSet {
     let mut set = NodeSet::new();
-    if n < 512 {
-        set.insert(NodeId(n));
-    }
+    set.insert(NodeId(0));
     set
 }
 
-fn groups(alloc: Global, count: u32) -> Result<Groups, Fail> {
-    let mut sets = Vec::new(alloc);
-    for _ in 0..count {
-        sets.push(nodes(0))?;
-    }
-    Ok(Groups::new(sets))
+fn among(alloc: Global, count: usize) -> Result<Constraint, Fail> {
+    let mut groups = Vec::new(alloc);
+    groups.resize(count, first_node())?;
+    Ok(Constraint::Among {
+        machines: vms(alloc, &[0])?,
+        groups: Groups::new(groups),
+        continuous: false,
+    })
 }
 
-fn parts(alloc: Global, second: &[u32], count: u32) -> Result<Parts, Fail> {
-    let mut lists = Vec::new(alloc);
-    for i in 0..count {
-        let ids: &[u32] = match i {
-            0 => &[0],
-            1 => second,
-            _ => &[],
-        };
-        lists.push(vms(alloc, ids)?)?;
+fn split(alloc: Global, second: &[u32]) -> Result<Constraint, Fail> {
+    let mut parts = Vec::new(alloc);
+    for ids in [&[0], second] {
+        parts.push(vms(alloc, ids)?)?;
     }
-    Ok(Parts::new(lists))
+    Ok(Constraint::Split {
+        parts: Parts::new(parts),
+        continuous: true,
+    })
 }
 
 fn constraint(alloc: Global, case: Case) -> Result<Constraint, Fail> {
     Ok(match case {
-        Case::Preserve(ids, resource, amount) => Constraint::Preserve {
+        Case::Preserve(ids, amount) => Constraint::Preserve {
             machines: vms(alloc, ids)?,
-            resource,
+            resource: 0,
             amount,
         },
-        Case::Overbook(n, resource, num, den) => Constraint::Overbook {
-            nodes: nodes(n),
-            resource,
+        Case::Overbook(num, den) => Constraint::Overbook {
+            nodes: first_node(),
+            resource: 0,
             num,
             den,
         },
-        Case::Among(count) => Constraint::Among {
-            machines: vms(alloc, &[0])?,
-            groups: groups(alloc, count)?,
-            continuous: false,
+        Case::Among(count) => among(alloc, count)?,
+        Case::Split(second) => split(alloc, second)?,
+        Case::Precedence(before, after) => Constraint::Precedence {
+            before: VmId(before),
+            after: VmId(after),
         },
-        Case::Split(second, count) => Constraint::Split {
-            parts: parts(alloc, second, count)?,
-            continuous: true,
-        },
-        Case::Ready(ids) => Constraint::Ready {
+        Case::Serialize(ids) => Constraint::Serialize {
             machines: vms(alloc, ids)?,
         },
-        Case::Killed(ids) => Constraint::Killed {
+        Case::Ready(ids) => Constraint::Ready {
             machines: vms(alloc, ids)?,
         },
     })
 }
 
-/// The first of the cases of which adding answers something else than what is wanted.
-fn wrong(
-    alloc: Global,
-    problem: &mut Problem,
-    cases: &[(Case, Result<(), RuleFault>)],
-) -> Result<Option<usize>, Fail> {
-    for (i, (case, want)) in cases.iter().enumerate() {
-        if problem.add(constraint(alloc, *case)?) != *want {
-            return Ok(Some(i));
+/// Constraints that say something or are refused, and the answer that is meant.
+const CASES: [(Case, Result<(), RuleFault>); 13] = [
+    (Case::Overbook(5, 4), Ok(())),
+    (Case::Preserve(&[0, 1], 5), Ok(())),
+    (Case::Ready(&[0]), Ok(())),
+    (Case::Among(1), Ok(())),
+    (Case::Split(&[1]), Ok(())),
+    (Case::Precedence(0, 1), Ok(())),
+    (Case::Serialize(&[0, 1]), Ok(())),
+    (Case::Overbook(1, 0), Err(RuleFault::TooGreat)),
+    (Case::Among(0), Err(RuleFault::TooGreat)),
+    (Case::Split(&[1, 0]), Err(RuleFault::Twice)),
+    (Case::Precedence(1, 1), Err(RuleFault::Twice)),
+    (Case::Serialize(&[1, 0, 1]), Err(RuleFault::Twice)),
+    (Case::Preserve(&[0, 0, 2], 1), Err(RuleFault::NoSuch)),
+];
+
+/// Adds a copy of each constraint, and tells whether each answer is the one that is meant.
+fn adds_as_meant(alloc: Global, problem: &mut Problem) -> Result<bool, Fail> {
+    for (case, meant) in CASES {
+        let copy = constraint(alloc, case)?.copy()?;
+        if problem.add(copy) != meant {
+            return Ok(false);
         }
     }
-    Ok(None)
-}
-
-fn wrong_lists(alloc: Global, p: &mut Problem) -> Result<Option<usize>, Fail> {
-    let most = 1_000_000_000;
-    let cases = [
-        (Case::Preserve(&[0, 1], 0, most), Ok(())),
-        (Case::Preserve(&[0, 2], 0, 1), Err(RuleFault::NoSuch)),
-        (Case::Preserve(&[0], 1, 1), Err(RuleFault::NoSuch)),
-        (Case::Preserve(&[1, 0, 1], 0, 1), Err(RuleFault::Twice)),
-        (Case::Preserve(&[0], 0, most + 1), Err(RuleFault::TooGreat)),
-        (
-            Case::Preserve(&[0, 0, 2], 0, most + 1),
-            Err(RuleFault::NoSuch),
-        ),
-        (Case::Preserve(&[0, 0], 0, most + 1), Err(RuleFault::Twice)),
-    ];
-    wrong(alloc, p, &cases)
-}
-
-fn wrong_numbers(alloc: Global, p: &mut Problem) -> Result<Option<usize>, Fail> {
-    let cases = [
-        (Case::Overbook(0, 0, 1000, 1), Ok(())),
-        (Case::Overbook(0, 0, 0, 1000), Ok(())),
-        (Case::Overbook(1, 0, 1, 1), Err(RuleFault::NoSuch)),
-        (Case::Overbook(511, 0, 1, 0), Err(RuleFault::NoSuch)),
-        (Case::Overbook(0, 0, 1001, 1), Err(RuleFault::TooGreat)),
-        (Case::Overbook(0, 0, 1, 1001), Err(RuleFault::TooGreat)),
-        (Case::Overbook(0, 0, 1, 0), Err(RuleFault::TooGreat)),
-    ];
-    wrong(alloc, p, &cases)
-}
-
-fn wrong_counts(alloc: Global, p: &mut Problem) -> Result<Option<usize>, Fail> {
-    let cases = [
-        (Case::Among(0), Err(RuleFault::TooGreat)),
-        (Case::Among(1), Ok(())),
-        (Case::Among(512), Ok(())),
-        (Case::Among(513), Err(RuleFault::TooGreat)),
-    ];
-    wrong(alloc, p, &cases)
-}
-
-fn wrong_parts(alloc: Global, p: &mut Problem) -> Result<Option<usize>, Fail> {
-    let cases = [
-        (Case::Split(&[1], 4096), Ok(())),
-        (Case::Split(&[1, 2], 4097), Err(RuleFault::NoSuch)),
-        (Case::Split(&[1, 0], 4097), Err(RuleFault::Twice)),
-        (Case::Split(&[1, 1], 2), Err(RuleFault::Twice)),
-        (Case::Split(&[1], 4097), Err(RuleFault::TooGreat)),
-    ];
-    wrong(alloc, p, &cases)
-}
-
-/// Whether no case of a table is wrong.
-fn are_all_right(alloc: Global, p: &mut Problem) -> Result<bool, Fail> {
-    let lists = wrong_lists(alloc, p)?.is_none();
-    let numbers = wrong_numbers(alloc, p)?.is_none();
-    let counts = wrong_counts(alloc, p)?.is_none();
-    let parts = wrong_parts(alloc, p)?.is_none();
-    Ok(lists && numbers && counts && parts)
-}
-
-#[test]
-fn refuses_by_the_first_fault(rt: HostRuntime) -> Result<(), Fail> {
-    let mut p = problem(rt.alloc())?;
-    let right = are_all_right(rt.alloc(), &mut p)?;
-    assert!(rt; right);
-    Ok(())
-}
-
-/// Adds as many constraints as a problem may have.
-fn fill(problem: &mut Problem) -> Result<(), Fail> {
-    for _ in 0..4096 {
-        problem.add(Constraint::Online { nodes: nodes(0) })?;
-    }
-    Ok(())
-}
-
-#[test]
-fn refuses_one_too_many(rt: HostRuntime) -> Result<(), Fail> {
-    let mut p = problem(rt.alloc())?;
-    fill(&mut p)?;
-    assert_eq!(rt;
-        p.add(Constraint::Online { nodes: nodes(1) }),
-        Err(RuleFault::TooMany)
-    );
-    Ok(())
+    Ok(true)
 }
 
 /// What a problem answers of elements and constraints that are there.
 #[derive(Clone, Copy)]
 struct Answers {
-    demands: [u64; 2],
+    demand: u64,
     capacity: u64,
-    wishes: [Wish; 3],
+    wishes: [Wish; 2],
     applies: [bool; 3],
+    word: &'static str,
 }
 
 fn answers_of(p: &Problem) -> Option<Answers> {
     let k = p.cluster();
-    if k.machines().len() < 2
+    if k.machines().is_empty()
         || k.nodes().is_empty()
         || k.resources().is_empty()
-        || p.constraints().len() < 3
+        || p.constraints().len() < 2
     {
         return None;
     }
     Some(Answers {
-        demands: [p.demand(VmId(0), 0), p.demand(VmId(1), 0)],
+        demand: p.demand(VmId(0), 0),
         capacity: p.capacity(NodeId(0), 0),
         wishes: [
             p.wanted(Element::Vm(VmId(0))),
-            p.wanted(Element::Vm(VmId(1))),
             p.wanted(Element::Node(NodeId(0))),
         ],
         applies: [
             p.applies(0, 19),
-            p.applies(2, 19),
-            p.applies(2, p.horizon()),
+            p.applies(1, 19),
+            p.applies(1, p.horizon()),
         ],
+        word: p.constraints()[1].word(),
     })
-}
-
-/// What a problem with constraints that say something answers.
-fn asked(alloc: Global) -> Result<Option<Answers>, Fail> {
-    let cases = [
-        (Case::Overbook(0, 0, 5, 4), Ok(())),
-        (Case::Overbook(0, 0, 3, 2), Ok(())),
-        (Case::Preserve(&[1], 0, 5), Ok(())),
-        (Case::Preserve(&[0, 1], 0, 2), Ok(())),
-        (Case::Ready(&[0, 1]), Ok(())),
-        (Case::Ready(&[0]), Ok(())),
-        (Case::Killed(&[1]), Ok(())),
-    ];
-    let mut p = problem(alloc)?;
-    let _ = wrong(alloc, &mut p, &cases)?;
-    Ok(answers_of(&p))
 }
 
 #[test]
 fn answers_what_constraints_say(rt: HostRuntime) -> Result<(), Fail> {
-    match asked(rt.alloc())? {
+    let mut p = problem(rt.alloc())?;
+    let right = adds_as_meant(rt.alloc(), &mut p)?;
+    assert!(rt; right);
+    match answers_of(&p) {
         Some(answers) => {
-            assert!(rt; answers.demands == [3, 5] && answers.capacity == 8);
-            assert!(rt; answers.wishes == [Wish::To(Target::Ready), Wish::Clash, Wish::Keep]);
-            assert!(rt; answers.applies == [true, false, true]);
+            assert!(rt; answers.demand == 5 && answers.capacity == 8);
+            assert!(rt; answers.wishes == [Wish::To(Target::Ready), Wish::Keep]);
+            assert!(rt; answers.applies == [true, false, true] && answers.word == "preserve");
         }
         None => assert!(rt; false),
-    }
-    Ok(())
-}
-
-/// Whether the copy of a case's constraint is continuous.
-fn has_continuous_copy(alloc: Global, case: Case) -> Result<bool, Fail> {
-    let original = constraint(alloc, case)?;
-    let copy = original.copy()?;
-    Ok(copy.is_continuous())
-}
-
-#[test]
-fn copies(rt: HostRuntime) -> Result<(), Fail> {
-    for (case, want) in [(Case::Split(&[1], 3), true), (Case::Among(2), false)] {
-        assert_eq!(rt; has_continuous_copy(rt.alloc(), case)?, want);
     }
     Ok(())
 }

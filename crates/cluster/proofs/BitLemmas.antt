@@ -10,15 +10,12 @@ use Rattle.std.proofs.lemmas.Nat.{shr-shr, pow_pos}
 use Rattle.std.proofs.lemmas.Nat.Bits.{bit_at_set_same, bit_at_set_other, same_from_bits, same_from_bits_below, bit_at-lt, bit_at-zero, bit_at_above}
 use Rattle.cluster.specs.Bits.{has_bit, with_bit, IsBits}
 
--- a bit shifted within a word, as code and std's lemmas on bits write it
-shifted : (k : ℕ) → k < 64 → 1 * 2 ^ k % 2 ^ 64 ≡ 2 ^ k
-shifted k lt = let below : 2 ^ k < 2 ^ 64 = pow-lt lt in omega arith
-
-pub shifted-once : (n : ℕ) → 1 * 2 ^ (n % 64) % 2 ^ 64 ≡ 2 ^ (n % 64)
-shifted-once n = shifted (n % 64) (omega arith)
-
-pub shifted-twice : (n : ℕ) → 1 * (1 * 2 ^ (n % 64) % 2 ^ 64) % 2 ^ 64 ≡ 2 ^ (n % 64)
-shifted-twice n = ap (λ b. 1 * b % 2 ^ 64) (shifted-once n) ∙ shifted-once n
+-- a bit within a word, as code shifts it
+pub one-shl : (n : ℕ) → 1 * 2 ^ (n % 64) % 2 ^ 64 ≡ 2 ^ (n % 64)
+one-shl n = by (n % 64) (omega arith)
+  where
+    by : (k : ℕ) → k < 64 → 1 * 2 ^ k % 2 ^ 64 ≡ 2 ^ k
+    by k lt = let below : 2 ^ k < 2 ^ 64 = pow-lt lt in omega arith
 
 -- no bit is set in words of 0
 none-at : (count i : ℕ) → slice_index (replicate count 0) i ≡ 0
@@ -37,7 +34,7 @@ has_bit-past words n le = ap (λ w. bit_at w (n % 64) == 1) (get_or_past words (
 pub has_bit-with_bit : (words : List ℕ) (n m : ℕ) → n / 64 < length words → has_bit (with_bit words n) m ≡ ((m == n) || has_bit words m)
 has_bit-with_bit words n m within =
     let small : n % 64 < 64 = omega arith in
-    rw (← shifted-once n) (⊎_elim
+    rw (← one-shl n) (⊎_elim
     (λ (same : m / 64 ≡ n / 64). ⊎_elim
     (λ (here : m % 64 ≡ n % 64).
     let one : m ≡ n = omega arith in

@@ -1,7 +1,7 @@
 -- What crates above may cite. All else under proofs/ is private.
 
 -- ---- names: what is listed is found by its name, and what is found is listed and has the name
-pub use Rattle.cluster.proofs.Finding.{element_named-name_of, listed-element_named, resource_named-listed, listed-resource_named}
+pub use Rattle.cluster.proofs.Finding.{element_named-name_of, listed-element_named, resource_named-listed, listed-resource_named, is_name-name_of, length-name_of}
 -- ---- elements by number
 pub use Rattle.cluster.proofs.Elements.{element_number-lt, element_at-element_number, IsListed-element_at, element_number-element_at}
 -- ---- hosts are in range

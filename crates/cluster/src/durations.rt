@@ -5,9 +5,9 @@
 /// The amount is what the machine uses of the resource at present or, for an action of a node, what the node's capacity of it says.
 #[derive(Clone, Copy, Debug, PartialEq, Eq)]
 pub struct Duration {
-    /// Instants, 1 to 1,000,000.
+    /// Instants, 1 to `MAX_DURATION`.
     pub base: u32,
-    /// Instants for each unit of the resource, 0 to 1,000,000.
+    /// Instants for each unit of the resource, 0 to `MAX_DURATION`.
     pub per: u32,
     /// A resource by its place in the cluster's list. It is there wherever `per` is above 0.
     pub resource: Option<u8>,

@@ -25,7 +25,7 @@ use thiserror::Error;
 /// Why a cluster, a node or a machine was refused. Where several hold, the first in this order is the answer.
 #[derive(Clone, Copy, Debug, PartialEq, Eq, Error)]
 pub enum AddFault {
-    /// There would be more than 8 resources, 512 nodes or 4,096 machines.
+    /// There would be more than `MAX_RESOURCES`, `MAX_NODES` or `MAX_MACHINES`.
     #[error("too many")]
     TooMany,
     /// The name is there: among the resources, or among the nodes and machines together.
@@ -34,8 +34,8 @@ pub enum AddFault {
     /// The machine's host is not an online node of the cluster.
     #[error("the host is not online")]
     BadHost,
-    /// An amount is above 1,000,000,000, or above 0 at a place past the listed resources;
-    /// or a duration has a `base` that is not 1 to 1,000,000, a `per` above 1,000,000, a `per` above 0 without a resource,
+    /// An amount is above `MAX_AMOUNT`, or above 0 at a place past the listed resources;
+    /// or a duration has a `base` that is 0 or above `MAX_DURATION`, a `per` above that, a `per` above 0 without a resource,
     /// a resource that is not listed, or is of a kind of the other sort of element.
     #[error("too great")]
     TooGreat,
@@ -337,7 +337,7 @@ fn fault_of_base(resources: &[Name], durations: &[Duration]) -> Option<AddFault>
     None
 }
 
-// whether the host of a state, if it has one, is an online node of the list.
+// whether the host of a state, if it has one, is an online node of the list
 fn is_host_online(nodes: &[Node], state: State) -> bool
     ensures { result ≡ host_is_online nodes.now state }
 {

@@ -12,7 +12,7 @@ use thiserror::Error;
 /// Why a name was refused.
 #[derive(Clone, Copy, Debug, PartialEq, Eq, Error)]
 pub enum NameFault {
-    /// The bytes are not 1 to 64 letters, digits, `_`, `.` and `-` that begin with a letter, a digit or `_`.
+    /// The bytes are not 1 to `MAX_NAME_BYTES` letters, digits, `_`, `.` and `-` that begin with a letter, a digit or `_`.
     #[error("not a name")]
     BadName,
     /// An allocation was refused.
@@ -30,7 +30,7 @@ impl From<AllocError> for NameFault {
     }
 }
 
-/// A name: 1 to 64 letters, digits, `_`, `.` and `-`, the first a letter, a digit or `_`.
+/// A name: 1 to `MAX_NAME_BYTES` letters, digits, `_`, `.` and `-`, the first a letter, a digit or `_`.
 ///
 /// Contracts see it as its bytes.
 #[derive(Drop)]

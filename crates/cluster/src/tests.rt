@@ -1,215 +1,85 @@
-//! Each public call once, and each refusal in its order.
+//! Each public call, once.
 use crate::durations::Duration;
 use crate::ids::{Element, NodeId, VmId};
 use crate::inventory::{AddFault, Cluster};
-use crate::kinds::KINDS;
+use crate::kinds::{KIND_COUNT, KIND_WORDS, KINDS, Kind};
+use crate::limits::MAX_RESOURCES;
 use crate::machines::Machine;
-use crate::names::Name;
+use crate::names::{Name, is_name_text};
 use crate::nodes::Node;
-use crate::sets::NodeSet;
+use crate::sets::{MachineSet, NodeSet};
 use crate::states::State;
 use std::alloc::Global;
 use std::test::Fail;
 
-const HOSTED: State = State::Running(NodeId(0));
+const DURATION: Duration = Duration {
+    base: 2,
+    per: 0,
+    resource: None,
+};
 
-const OFFLINE: State = State::Running(NodeId(1));
-
-const NOWHERE: State = State::Sleeping(NodeId(2));
-
-/// The name of a machine, its state, what it uses of a resource that is not listed, and the fault that comes.
-const MACHINES: [(&str, State, u64, AddFault); 7] = [
-    ("v0", HOSTED, 0, AddFault::Twice),
-    ("n1", HOSTED, 0, AddFault::Twice),
-    ("v0", OFFLINE, 1, AddFault::Twice),
-    ("v1", OFFLINE, 0, AddFault::BadHost),
-    ("v1", NOWHERE, 0, AddFault::BadHost),
-    ("v1", OFFLINE, 1, AddFault::BadHost),
-    ("v1", HOSTED, 1, AddFault::TooGreat),
-];
-
-/// The same of a node.
-const NODES: [(&str, u64, AddFault); 4] = [
-    ("n1", 0, AddFault::Twice),
-    ("v0", 0, AddFault::Twice),
-    ("v0", 1, AddFault::Twice),
-    ("n2", 1, AddFault::TooGreat),
-];
-
-/// Names, and whether they are well formed.
-const NAMES: [(&str, bool); 9] = [
-    ("", false),
-    ("a", true),
-    ("7", true),
+/// Texts, and whether they are names.
+const TEXTS: [(&str, bool); 5] = [
     ("_.-Z", true),
+    ("", false),
     (".a", false),
-    ("-a", false),
     ("a b", false),
-    (
-        "0123456789012345678901234567890123456789012345678901234567890123",
-        true,
-    ),
     (
         "01234567890123456789012345678901234567890123456789012345678901234",
         false,
     ),
 ];
 
-fn lasting(base: u32, per: u32, resource: Option<u8>) -> Duration {
-    Duration {
-        base,
-        per,
-        resource,
-    }
+fn add(alloc: Global, cluster: &mut Cluster) -> Result<(NodeId, VmId), Fail> {
+    let node = cluster.add_node(Node {
+        name: Name::new(alloc, b"n0")?,
+        online: true,
+        capacity: [0; MAX_RESOURCES],
+        own: [None; KIND_COUNT],
+    })?;
+    let machine = cluster.add_machine(Machine {
+        name: Name::new(alloc, b"v0")?,
+        state: State::Running(node),
+        usage: [0; MAX_RESOURCES],
+        own: [None; KIND_COUNT],
+    })?;
+    Ok((node, machine))
 }
 
-fn name(alloc: Global, text: &str) -> Result<Name, AddFault> {
-    match Name::new(alloc, text.as_bytes()) {
-        Ok(name) => Ok(name),
-        Err(_) => Err(AddFault::Memory),
-    }
+fn with_cpu(alloc: Global) -> Result<Cluster, Fail> {
+    let cpu = Name::new(alloc, b"cpu")?;
+    let mut resources = Vec::new(alloc);
+    resources.push(cpu.copy()?)?;
+    Ok(Cluster::new(alloc, resources, [DURATION; KIND_COUNT])?)
 }
 
-fn names(alloc: Global, texts: &[&str]) -> Result<Vec<Name>, Fail> {
-    let mut names = Vec::new(alloc);
-    for text in texts {
-        names.push(name(alloc, text)?)?;
-    }
-    Ok(names)
-}
-
-fn add_node(
-    alloc: Global,
-    cluster: &mut Cluster,
-    text: &str,
-    online: bool,
-    past: u64,
-) -> Result<NodeId, AddFault> {
-    let name = name(alloc, text)?;
-    cluster.add_node(Node {
-        name,
-        online,
-        capacity: [0, past, 0, 0, 0, 0, 0, 0],
-        own: [None; 10],
-    })
-}
-
-fn add_machine(
-    alloc: Global,
-    cluster: &mut Cluster,
-    text: &str,
-    state: State,
-    past: u64,
-) -> Result<VmId, AddFault> {
-    let name = name(alloc, text)?;
-    cluster.add_machine(Machine {
-        name,
-        state,
-        usage: [0, past, 0, 0, 0, 0, 0, 0],
-        own: [None; 10],
-    })
-}
-
-/// The resource cpu, n0 online, n1 offline, and v0 on n0.
-fn small(alloc: Global) -> Result<Cluster, Fail> {
-    let resources = names(alloc, &["cpu"])?;
-    let mut cluster = Cluster::new(alloc, resources, [lasting(2, 0, None); 10])?;
-    add_node(alloc, &mut cluster, "n0", true, 0)?;
-    add_node(alloc, &mut cluster, "n1", false, 0)?;
-    add_machine(alloc, &mut cluster, "v0", HOSTED, 0)?;
-    Ok(cluster)
-}
-
-/// As many nodes and machines as a cluster takes.
-fn fill(alloc: Global, cluster: &mut Cluster) -> Result<(), Fail> {
-    for i in 2..512usize {
-        let text = format!(in alloc; "n{i}")?;
-        add_node(alloc, cluster, text.as_str(), true, 0)?;
-    }
-    for i in 1..4096usize {
-        let text = format!(in alloc; "v{i}")?;
-        add_machine(alloc, cluster, text.as_str(), HOSTED, 0)?;
+#[test]
+fn answers_what_was_added(rt: HostRuntime) -> Result<(), Fail> {
+    let mut cluster = with_cpu(rt.alloc())?;
+    assert!(rt; add(rt.alloc(), &mut cluster)? == (NodeId(0), VmId(0)));
+    assert!(rt; cluster.nodes().len() == 1 && cluster.machines().len() == 1);
+    assert!(rt; cluster.resource(b"cpu") == Some(0) && cluster.resources().len() == 1);
+    assert!(rt; cluster.durations()[9].base == 2);
+    for x in 0..cluster.element_count() {
+        let e = cluster.element(x);
+        assert!(rt; cluster.number(e) == x && cluster.find(cluster.name(e).as_bytes()) == Some(e));
     }
     Ok(())
 }
 
 #[test]
-fn takes_names(rt: HostRuntime) -> Result<(), Fail> {
-    let alloc = rt.alloc();
-    for (text, want) in NAMES {
-        let made = Name::new(alloc, text.as_bytes());
-        assert!(rt; made.is_ok() == want);
+fn keeps_sets_names_and_words(rt: HostRuntime) {
+    let mut nodes = NodeSet::new();
+    nodes.insert(NodeId(511));
+    assert!(rt; nodes.has(NodeId(511)) && nodes.is_within(512) && !nodes.is_within(511));
+    let mut machines = MachineSet::new();
+    machines.insert(VmId(4095));
+    assert!(rt; machines.has(VmId(4095)) && !machines.has(VmId(0)));
+    for (text, want) in TEXTS {
+        assert!(rt; is_name_text(text.as_bytes()) == want);
     }
-    let first = Name::new(alloc, b"cpu")?;
-    let second = first.copy()?;
-    assert!(rt; second.as_text() == "cpu");
-    Ok(())
-}
-
-#[test]
-fn finds_what_was_added(rt: HostRuntime) -> Result<(), Fail> {
-    let alloc = rt.alloc();
-    let cluster = small(alloc)?;
-    assert!(rt; cluster.find(b"v0") == Some(Element::Vm(VmId(0))));
-    assert!(rt; cluster.find(b"n1") == Some(Element::Node(NodeId(1))));
-    assert!(rt; cluster.find(b"cpu").is_none());
-    assert!(rt; cluster.resource(b"cpu") == Some(0) && cluster.resource(b"n1").is_none());
-    assert!(rt; cluster.nodes().len() == 2 && cluster.machines().len() == 1);
-    assert!(rt; cluster.resources().len() == 1 && cluster.durations()[9].base == 2);
-    Ok(())
-}
-
-#[test]
-fn refuses_in_order(rt: HostRuntime) -> Result<(), Fail> {
-    let alloc = rt.alloc();
-    let mut cluster = small(alloc)?;
-    for (text, past, want) in NODES {
-        assert!(rt; add_node(alloc, &mut cluster, text, true, past) == Err(want));
+    for word in KIND_WORDS {
+        assert!(rt; matches!(Kind::of_word(word), Some(kind) if kind.word() == word));
     }
-    for (text, state, past, want) in MACHINES {
-        assert!(rt; add_machine(alloc, &mut cluster, text, state, past) == Err(want));
-    }
-    Ok(())
-}
-
-#[test]
-fn stops_at_the_limits(rt: HostRuntime) -> Result<(), Fail> {
-    let alloc = rt.alloc();
-    let mut cluster = small(alloc)?;
-    fill(alloc, &mut cluster)?;
-    let node = add_node(alloc, &mut cluster, "n0", true, 1);
-    assert!(rt; node == Err(AddFault::TooMany));
-    let machine = add_machine(alloc, &mut cluster, "v0", OFFLINE, 1);
-    assert!(rt; machine == Err(AddFault::TooMany));
-    Ok(())
-}
-
-#[test]
-fn refuses_resources_and_durations(rt: HostRuntime) -> Result<(), Fail> {
-    let alloc = rt.alloc();
-    let nine = ["a", "b", "c", "d", "e", "f", "g", "h", "a"];
-    let twice = ["a", "a"];
-    let two = ["a", "b"];
-    for (texts, duration, want) in [
-        (nine.as_slice(), lasting(0, 0, None), AddFault::TooMany),
-        (twice.as_slice(), lasting(0, 0, None), AddFault::Twice),
-        (two.as_slice(), lasting(0, 0, None), AddFault::TooGreat),
-        (two.as_slice(), lasting(1, 1, None), AddFault::TooGreat),
-        (two.as_slice(), lasting(1, 0, Some(2)), AddFault::TooGreat),
-    ] {
-        let made = Cluster::new(alloc, names(alloc, texts)?, [duration; 10]);
-        assert!(rt; matches!(made, Err(fault) if fault == want));
-    }
-    Ok(())
-}
-
-#[test]
-fn keeps_sets_and_kinds(rt: HostRuntime) {
-    let mut set = NodeSet::new();
-    set.insert(NodeId(511));
-    assert!(rt; set.has(NodeId(511)) && !set.has(NodeId(0)) && !set.has(NodeId(512)));
-    assert!(rt; set.is_within(512) && !set.is_within(511));
-    for (i, kind) in KINDS.iter().enumerate() {
-        assert!(rt; kind.number() == i);
-    }
+    assert!(rt; State::Gone.word() == "gone");
 }

@@ -20,6 +20,23 @@ pub enum FaultKind {
     Unknown,
 }
 
+impl FaultKind {
+    ghost use Rattle.json_walk.specs.Texts.{kind_text};
+
+    /// What is wrong, in the words that are printed after a path.
+    #[tactic(auto, unfolding(crate::specs::Texts::kind_text))]
+    pub fn as_text(self) -> &'static str
+        ensures { result.now ≡ kind_text self }
+    {
+        match self {
+            FaultKind::Missing => "missing",
+            FaultKind::WrongKind => "wrong kind",
+            FaultKind::OutOfRange => "out of range",
+            FaultKind::Unknown => "unknown",
+        }
+    }
+}
+
 /// What is wrong, and the path at which it is.
 #[derive(Drop)]
 pub struct Fault {

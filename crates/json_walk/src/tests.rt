@@ -6,22 +6,12 @@ use serde_json::Value;
 use std::alloc::{AllocError, Global};
 use std::test::Fail;
 
-fn word(kind: FaultKind) -> &'static str {
-    match kind {
-        FaultKind::Missing => "missing",
-        FaultKind::WrongKind => "wrong kind",
-        FaultKind::OutOfRange => "out of range",
-        FaultKind::Unknown => "unknown",
-    }
-}
-
 fn line(alloc: Global, answer: Result<u64, WalkFault>) -> Result<String, AllocError> {
     match answer {
         Ok(n) => format!(in alloc; "{n}"),
         Err(WalkFault::Memory) => String::from_str(alloc, "memory"),
         Err(WalkFault::Bad(fault)) => {
-            let word = word(fault.kind);
-            format!(in alloc; "{} {word}", fault.path.as_text())
+            format!(in alloc; "{} {}", fault.path.as_text(), fault.kind.as_text())
         }
     }
 }
@@ -40,47 +30,32 @@ fn number_line(alloc: Global, bytes: &[u8]) -> Result<String, AllocError> {
 
 #[test]
 fn numbers(rt: HostRuntime) -> Result<(), Fail> {
-    let cases = [
-        ("0", "0"),
-        (" 18446744073709551615\n", "18446744073709551615"),
-        ("18446744073709551616", "$ wrong kind"),
-        ("-1", "$ out of range"),
-        ("-9223372036854775808", "$ out of range"),
-        ("-9223372036854775809", "$ wrong kind"),
-        ("-0", "$ wrong kind"),
-        ("1.0", "$ wrong kind"),
-        ("1e3", "$ wrong kind"),
-        ("1e400", "not json"),
-        ("01", "not json"),
-        ("\"1\"", "$ wrong kind"),
-        ("[]", "$ wrong kind"),
-        ("[] x", "not json"),
-        ("\"\\ud800\"", "not json"),
-        ("\"\\ud83d\\ude00\"", "$ wrong kind"),
-        ("{\"a\":1e400,\"a\":1}", "not json"),
-        ("", "not json"),
+    let cases: [(&[u8], &str); 21] = [
+        (b"0", "0"),
+        (b" 18446744073709551615\n", "18446744073709551615"),
+        (b"18446744073709551616", "$ wrong kind"),
+        (b"-1", "$ out of range"),
+        (b"-9223372036854775808", "$ out of range"),
+        (b"-9223372036854775809", "$ wrong kind"),
+        (b"-0", "$ wrong kind"),
+        (b"1.0", "$ wrong kind"),
+        (b"1e3", "$ wrong kind"),
+        (b"1e400", "not json"),
+        (b"01", "not json"),
+        (b"\"1\"", "$ wrong kind"),
+        (b"[]", "$ wrong kind"),
+        (b"[] x", "not json"),
+        (b"\"\\ud800\"", "not json"),
+        (b"\"\\ud83d\\ude00\"", "$ wrong kind"),
+        (b"{\"a\":1e400,\"a\":1}", "not json"),
+        (b"", "not json"),
+        (b"\xef\xbb\xbf1", "not json"),
+        (b"\"\xff\"", "not json"),
+        (b"\"\xc3\xa9\"", "$ wrong kind"),
     ];
-    for (text, want) in cases {
-        assert_eq!(rt;
-            number_line(rt.alloc(), text.as_bytes())?.as_str(),
-            want,
-            "at {text}"
-        );
+    for (i, (bytes, want)) in cases.iter().enumerate() {
+        assert_eq!(rt; number_line(rt.alloc(), bytes)?.as_str(), *want, "case {i}");
     }
-    Ok(())
-}
-
-#[test]
-fn bytes_that_are_no_text(rt: HostRuntime) -> Result<(), Fail> {
-    assert_eq!(rt;
-        number_line(rt.alloc(), b"\xef\xbb\xbf1")?.as_str(),
-        "not json"
-    );
-    assert_eq!(rt; number_line(rt.alloc(), b"\"\xff\"")?.as_str(), "not json");
-    assert_eq!(rt;
-        number_line(rt.alloc(), b"\"\xc3\xa9\"")?.as_str(),
-        "$ wrong kind"
-    );
     Ok(())
 }
 
@@ -101,22 +76,15 @@ fn nesting(rt: HostRuntime) -> Result<(), Fail> {
 
 #[test]
 fn paths(rt: HostRuntime) -> Result<(), Fail> {
-    let root = PathText::root(rt.alloc());
-    assert_eq!(rt; root.as_text(), "$");
-    let constraint = root.key("constraints")?.item(2)?;
-    let first = constraint.key("groups")?.item(1)?.item(0)?;
-    assert_eq!(rt; first.as_text(), "constraints[2].groups[1][0]");
-    Ok(())
-}
-
-#[test]
-fn lent_paths(rt: HostRuntime) -> Result<(), Fail> {
+    let constraint = PathText::root(rt.alloc()).key("constraints")?.item(2)?;
+    assert_eq!(rt;
+        constraint.key("groups")?.as_text(),
+        "constraints[2].groups"
+    );
     let machines = PathRef::Root.key("machines");
     let first = machines.item(0);
-    let node = first.key("node");
-    assert_eq!(rt; node.to_text(rt.alloc())?.as_text(), "machines[0].node");
-    let horizon = PathRef::Root.key("horizon");
-    assert_eq!(rt; horizon.to_text(rt.alloc())?.as_text(), "horizon");
+    let node = first.key("node").to_text(rt.alloc())?;
+    assert_eq!(rt; node.as_text(), "machines[0].node");
     Ok(())
 }
 
@@ -195,20 +163,31 @@ fn members(alloc: Global, value: &Value) -> Result<u64, WalkFault> {
     let per = optional_number(alloc, value, &root, "per", 5, 0, 9)?;
     let on = optional_flag(alloc, value, &root, "on", true)?;
     let name = text_field(alloc, value, &root, "name")?;
+    let state = word_field(alloc, value, &root, "state", &["init", "ready", "gone"])?;
     let is_named = u64::from(name.len() > 2);
-    Ok(base * 1000 + per * 100 + u64::from(members.len() > 2) * 10 + u64::from(on) * 2 + is_named)
+    let few = u64::from(members.len() > 3) * 10 + u64::from(on) * 2 + is_named;
+    Ok(state as u64 * 10000 + base * 1000 + per * 100 + few)
 }
 
 #[test]
 fn members_of_one_kind(rt: HostRuntime) -> Result<(), Fail> {
     let cases = [
-        ("{\"base\":1,\"name\":\"abc\"}", "1503"),
-        ("{\"base\":9,\"name\":\"\",\"on\":false,\"per\":0}", "9010"),
+        ("{\"base\":1,\"name\":\"abc\",\"state\":\"gone\"}", "21503"),
+        (
+            "{\"base\":9,\"name\":\"\",\"on\":false,\"per\":0,\"state\":\"init\"}",
+            "9010",
+        ),
         ("{\"base\":0}", "base out of range"),
         ("{\"base\":10}", "base out of range"),
         ("{\"base\":1,\"per\":null}", "per wrong kind"),
         ("{\"base\":1,\"on\":null}", "on wrong kind"),
         ("{\"base\":1}", "name missing"),
+        ("{\"base\":1,\"name\":\"\"}", "state missing"),
+        ("{\"base\":1,\"name\":\"\",\"state\":1}", "state wrong kind"),
+        (
+            "{\"base\":1,\"name\":\"\",\"state\":\"Ready\"}",
+            "state unknown",
+        ),
         ("3", "$ wrong kind"),
     ];
     for (text, want) in cases {

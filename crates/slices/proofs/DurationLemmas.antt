@@ -1,20 +1,19 @@
 -- Durations fit, so each is at least 1.
-use Rattle.std.proofs.Common.{◌+◌, ◌&&◌, ◌≡◌, ℕ, zero, suc, ◌<◌, ◌≤◌, Bool, true, List, [], ◌∷◌, length, take, drop, Option, Some, None, is_none, is_some, nat_le, unwrap_or, slice_get, slice_index_or, get_or, inl, inr, refl, sym, true≢false, arith}
+use Rattle.std.proofs.Common.{◌+◌, ◌&&◌, ◌≡◌, ℕ, zero, suc, ◌<◌, ◌≤◌, Bool, true, false, List, [], ◌∷◌, length, take, drop, Option, Some, None, is_none, is_some, nat_le, unwrap_or, slice_get, slice_index_or, get_or, inl, inr, refl, sym, true≢false, arith}
 use Rattle.std.specs.List.{list_all}
 use Rattle.std.specs.Option.{option_map_or}
-use Rattle.std.proofs.lemmas.Bool.{and_parts, false≢true, leb-true}
+use Rattle.std.proofs.lemmas.Bool.{and_parts, false≢true, le-leb, leb-true}
 use Rattle.std.proofs.lemmas.Option.{slice_get_cases}
 use Rattle.cluster.specs.declared.durations.Duration.{Duration}
 use Rattle.cluster.specs.declared.ids.Element.{Element}
 use Rattle.cluster.specs.declared.ids.Element.TheVariants.{Vm, Node as TheNode}
 use Rattle.cluster.specs.declared.kinds.Kind.{Kind}
-use Rattle.cluster.specs.declared.kinds.Kind.TheVariants.{Forge, Boot, Shutdown, Suspend, Resume, Migrate, Allocate, Kill, NodeBoot, NodeShutdown}
 use Rattle.cluster.specs.Inventory.{amounts_fit, duration_fits, machine_fits, machine_own_fits, node_fits, node_own_fits, own_fits}
 use Rattle.cluster.specs.Kinds.{kind_number}
-use Rattle.cluster.proofs.Durations.{IsDuration, IsDuration-fits, duration_at}
+use Rattle.cluster.proofs.Public.{IsDuration, IsDuration-fits, duration_at, kind_number-lt}
 use Rattle.catalogue.specs.Instance.{Instance, IsInstance, inventory_of}
-use Rattle.slices.specs.Actions.{common_of, duration_of, end_of, is_legal, kind_of, lasts, lasts_by, machine_own, node_own, own_of}
-use Rattle.slices.specs.Parts.{LegalActsLast}
+use Rattle.slices.specs.Actions.{action_duration, common_of, duration_of, end_of, is_legal, kind_duration, kind_of, machine_own, node_own, own_of}
+use Rattle.slices.specs.Legal.{DurationsLast, EndsByDuration, LegalActsLast, LegalEarlier}
 
 -- what is at a place of a list, from what holds where there is nothing, and of each item
 pub of_get : {X : Type 0} (P : Option X → Type 0) (xs : List X) (i : ℕ) → P None → ((x : X) → i < length xs → get_or xs i x ≡ x → P (Some x)) → P (slice_get xs i)
@@ -32,18 +31,6 @@ own_at f s t none first last (suc n) (x ∷ xs) (suc i) a b = own_at f s t none 
 none_fits : (count : ℕ) (x : Option Duration) → is_none x ≡ true → own_fits count x ≡ true
 none_fits count None h = refl
 none_fits count (Some d) h = absurd (true≢false (sym h))
-
-number_lt : (kind : Kind) → kind_number kind < 10
-number_lt Forge = omega arith
-number_lt Boot = omega arith
-number_lt Shutdown = omega arith
-number_lt Suspend = omega arith
-number_lt Resume = omega arith
-number_lt Migrate = omega arith
-number_lt Allocate = omega arith
-number_lt Kill = omega arith
-number_lt NodeBoot = omega arith
-number_lt NodeShutdown = omega arith
 
 own_of-fits : (p : Instance) → IsInstance p → (e : Element) (kind : Kind) → own_fits (length p.resources) (own_of p e kind) ≡ true
 own_of-fits p s (Vm v) kind =
@@ -67,18 +54,30 @@ chosen-fits count (Some x) d a b = a
 pub chosen : (p : Instance) → IsInstance p → (e : Element) (kind : Kind) → IsDuration (length p.resources) (unwrap_or (own_of p e kind) (common_of p kind))
 chosen p s e kind =
     IsDuration-fits (length p.resources) (unwrap_or (own_of p e kind) (common_of p kind))
-    (chosen-fits (length p.resources) (own_of p e kind) (common_of p kind) (own_of-fits p s e kind) (duration_at (inventory_of p) s.inventory (kind_number kind) _ (number_lt kind)))
+    (chosen-fits (length p.resources) (own_of p e kind) (common_of p kind) (own_of-fits p s e kind) (duration_at (inventory_of p) s.inventory (kind_number kind) _ (kind_number-lt kind)))
 
 -- every duration is at least 1
-pub duration_of-least : (p : Instance) → IsInstance p → (e : Element) (kind : Kind) → 1 ≤ duration_of p e kind
+pub durations_last : DurationsLast
 unfolding duration_of
-duration_of-least p s e kind = let d = chosen p s e kind in omega (arith, d.some)
+durations_last p s e kind = let d = chosen p s e kind in omega (arith, d.some)
 
 -- the action of a legal choice has a kind, so it lasts, and it ends by the horizon
 pub legal_acts_last : LegalActsLast
-unfolding is_legal end_of lasts lasts_by
+unfolding is_legal end_of action_duration kind_duration
 legal_acts_last p s e place start legal = of (kind_of p e place) legal
   where
     of : (o : Option Kind) → (is_some o && nat_le (start + option_map_or (duration_of p e) o 0) p.horizon) ≡ true → (1 ≤ option_map_or (duration_of p e) o 0) × (start + option_map_or (duration_of p e) o 0 ≤ p.horizon)
     of None h = absurd (false≢true h)
-    of (Some kind) h = (duration_of-least p s e kind, leb-true (start + duration_of p e kind) p.horizon h)
+    of (Some kind) h = (durations_last p s e kind, leb-true (start + duration_of p e kind) p.horizon h)
+
+pub ends_by_duration : EndsByDuration
+unfolding end_of
+ends_by_duration p e place s = refl
+
+pub legal_earlier : LegalEarlier
+unfolding is_legal end_of
+legal_earlier p e place u s l legal = of (is_some (kind_of p e place)) legal
+  where
+    of : (b : Bool) → (b && nat_le (s + action_duration p e place) p.horizon) ≡ true → (b && nat_le (u + action_duration p e place) p.horizon) ≡ true
+    of true h = le-leb (u + action_duration p e place) p.horizon (omega (arith, leb-true (s + action_duration p e place) p.horizon h))
+    of false h = h

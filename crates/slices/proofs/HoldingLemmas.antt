@@ -4,7 +4,7 @@ use Rattle.cluster.specs.declared.choices.Choice.{Choice}
 use Rattle.cluster.specs.declared.ids.NodeId.{NodeId}
 use Rattle.catalogue.specs.Instance.{Instance, IsInstance}
 use Rattle.catalogue.specs.Values.{demand_of, use_of}
-use Rattle.catalogue.proofs.Facts.{use_of_le}
+use Rattle.catalogue.proofs.Public.{use_of_le}
 use Rattle.slices.specs.declared.holding.Held.{Held}
 use Rattle.slices.specs.declared.holding.Holding.{Holding}
 use Rattle.slices.specs.declared.slice.Slice.{Slice}
@@ -15,7 +15,7 @@ use Rattle.slices.specs.declared.slice.Weight.TheVariants.{Amount, Presence, Ima
 use Rattle.slices.specs.declared.slice.What.{What}
 use Rattle.slices.specs.declared.slice.What.TheVariants.{Use, Demand, Image as OfImage}
 use Rattle.slices.specs.Elements.{node_count, vm}
-use Rattle.slices.specs.Holdings.{IsHeldWithin, IsHolding, IsHoldingAt, IsNodeWithin, amount_in, count_in, held_of, holding_of, image_in, is_in, is_raise, joined, node_of}
+use Rattle.slices.specs.Holdings.{IsHeldWithin, IsHolding, IsHoldingAt, IsNodeWithin, amount_in, count_in, held_of, holding_of, image_in, is_in, is_raise, with_raise, node_of}
 use Rattle.slices.specs.Snapshots.{held_at, held_by, stage_at}
 use Rattle.slices.specs.Stages.{Nodes, covers, slices_of, weigh, weight_of}
 use Rattle.slices.proofs.PlaceLemmas.{AreSlices, ArePlain, IsSliceOf, allocated, are_slices}
@@ -102,14 +102,14 @@ node-within nodes None h = tt
 node-within nodes (Some x) h = h
 
 -- a machine whose slices are a use, a demand and an image
-not_raised : (nodes : ℕ) (g : Stage) (source : Option Held) (o : Option Slice) (image : Option NodeId) → IsSliceOf nodes Demand o → joined source (held_of o g) image ≡ record { source = source; target = held_of o g; image = image }
+not_raised : (nodes : ℕ) (g : Stage) (source : Option Held) (o : Option Slice) (image : Option NodeId) → IsSliceOf nodes Demand o → with_raise source (held_of o g) image ≡ record { source = source; target = held_of o g; image = image }
 not_raised nodes g source None image h = refl
 not_raised nodes g source (Some s) image h = at (covers s.span g)
   where
     plain : is_raise s.what ≡ false
     plain = ap is_raise h.1
 
-    at : (b : Bool) → joined source (cond b (Some (record { node = s.node; what = s.what })) None) image ≡ record { source = source; target = cond b (Some (record { node = s.node; what = s.what })) None; image = image }
+    at : (b : Bool) → with_raise source (cond b (Some (record { node = s.node; what = s.what })) None) image ≡ record { source = source; target = cond b (Some (record { node = s.node; what = s.what })) None; image = image }
     at true = rw plain refl
     at false = refl
 

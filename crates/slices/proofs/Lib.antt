@@ -1,9 +1,13 @@
-pub mod RangeLemmas
-pub mod DurationLemmas
-pub mod PlaceLemmas
-pub mod HoldingLemmas
-pub mod PartLemmas
-pub mod StartLemmas
-pub mod FirstLemmas
-pub mod EndLemmas
-pub mod NodeLemmas
+-- Public has what crates above may cite; the rest is for this crate alone.
+pub mod Public
+mod DurationLemmas
+mod PlaceLemmas
+mod HoldingLemmas
+mod FewerLemmas
+mod PartLemmas
+mod PlanLemmas
+mod StartLemmas
+mod LastLemmas
+mod FirstLemmas
+mod EndLemmas
+mod NodeLemmas

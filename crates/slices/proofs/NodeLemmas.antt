@@ -4,9 +4,11 @@ use Rattle.std.proofs.lemmas.Bool.{false≢true, lt-ltb, ltb-true, cases_lt}
 use Rattle.std.proofs.lemmas.Bool.Decides.{nat_tests}
 use Rattle.sums.specs.Sums.{sum_to}
 use Rattle.sums.proofs.Sums.{sum_to-add, sum_to-none, sum_to-one, sum_to-same}
+use Rattle.sums.proofs.Tests.{cond-none}
+use Rattle.cluster.specs.Limits.{max_amount}
 use Rattle.catalogue.specs.Instance.{Instance, IsInstance}
 use Rattle.catalogue.specs.Values.{demand_of, use_of}
-use Rattle.catalogue.proofs.Facts.{demand_of_le, use_of_le}
+use Rattle.catalogue.proofs.Public.{demand_of_le, use_of_le}
 use Rattle.slices.specs.declared.slice.Slice.{Slice}
 use Rattle.slices.specs.declared.slice.Slices.{Slices}
 use Rattle.slices.specs.declared.stage.Stage.{Stage}
@@ -15,17 +17,13 @@ use Rattle.slices.specs.declared.slice.Weight.TheVariants.{Amount, Presence, Ima
 use Rattle.slices.specs.declared.slice.What.{What}
 use Rattle.slices.specs.declared.slice.What.TheVariants.{Use, Demand, Raise, Image as OfImage}
 use Rattle.slices.specs.Elements.{node_count, vm}
-use Rattle.slices.specs.Ends.{AbsentUsesNothing, HeldByNode, HeldIsSmall, HeldOnMore, PresentOnSet, PresentSomewhere}
+use Rattle.slices.specs.ByNode.{AbsentUsesNothing, HeldByNode, HeldIsSmall, HeldOnMore, PresentOnSet, PresentSomewhere}
 use Rattle.slices.specs.Snapshots.{held_at, held_by, stage_at}
 use Rattle.slices.specs.Stages.{Nodes, covers, one, slices_of, weigh, weight_of}
 use Rattle.slices.proofs.HoldingLemmas.{no_weight}
 use Rattle.slices.proofs.PlaceLemmas.{AreSlices, IsSliceOf, are_slices}
 
 -- ---- by node
-
-cond-none : (b : Bool) → ◌≡◌ {A = ℕ} (cond b 0 0) 0
-cond-none true = refl
-cond-none false = refl
 
 cond-and : (a b : Bool) (k : ℕ) → cond (a && b) k 0 ≡ cond a (cond b k 0) 0
 cond-and true b k = refl
@@ -162,7 +160,7 @@ module _ (p : Instance) (v : ℕ) (g : Stage) (set : Nodes) where
       at true false f = cc
       at false k f = refl
 
-  amount-le : IsInstance p → (r : ℕ) (what : What) → weight_of p v (Amount r) what ≤ 1_000_000_000
+  amount-le : IsInstance p → (r : ℕ) (what : What) → weight_of p v (Amount r) what ≤ max_amount
   amount-le s r Use = omega (arith, use_of_le p v r, demand_of_le p v r s)
   amount-le s r Demand = demand_of_le p v r s
   amount-le s r Raise = omega (arith, demand_of_le p v r s)
@@ -205,7 +203,7 @@ held_is_small p s v set t c =
     let x = slices_of p v c in
     let are = are_slices p s v c in
     record {
-      amounts = λ r. omega (arith, weigh-le p v g set (Amount r) 1_000_000_000 x.source (amount-le p v g set s r), weigh-le p v g set (Amount r) 1_000_000_000 x.target (amount-le p v g set s r), image-none p v g set (Amount r) x are refl);
+      amounts = λ r. omega (arith, weigh-le p v g set (Amount r) max_amount x.source (amount-le p v g set s r), weigh-le p v g set (Amount r) max_amount x.target (amount-le p v g set s r), image-none p v g set (Amount r) x are refl);
       presences = omega (arith, weigh-le p v g set Presence 1 x.source (presence-le p v g set), weigh-le p v g set Presence 1 x.target (presence-le p v g set), image-none p v g set Presence x are refl);
       images = omega (arith, source-none p v g set x are, target-none p v g set x are, weigh-le p v g set Image 1 x.image (image-le p v g set));
     }

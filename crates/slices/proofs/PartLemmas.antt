@@ -2,14 +2,13 @@
 use Rattle.std.proofs.Common.{◌≡◌, ℕ, ◌≤◌, Bool, true, false, not, ◌&&◌, ◌||◌, ◌==◌, cond, if◌then◌else◌, nat_lt, Option, Some, None, IsTrue, slice_get, refl, sym, arith}
 use Rattle.std.proofs.lemmas.Bool.{false≢true}
 use Rattle.std.proofs.lemmas.Bool.Decides.{nat_tests}
-use Rattle.sums.specs.Sums.{sum_to}
 use Rattle.sums.proofs.Sums.{sum_to-le}
+use Rattle.sums.proofs.Tests.{cond-implied, positive_above}
 use Rattle.cluster.specs.declared.choices.Choice.{Choice}
 use Rattle.cluster.specs.declared.choices.Choice.TheVariants.{Idle, Act}
 use Rattle.cluster.specs.Inventory.{is_online}
-use Rattle.cluster.specs.Sets.{has_node}
 use Rattle.catalogue.specs.declared.constraint.Constraint.{Constraint}
-use Rattle.catalogue.specs.declared.constraint.Constraint.TheVariants.{Spread, Ban, Fence, Gather, Lonely, Among, Split, Root, ResourceCapacity, RunningCapacity, MaxOnline}
+use Rattle.catalogue.specs.declared.constraint.Constraint.TheVariants.{Spread, Ban, Fence, Gather, Lonely, Among, Split, Root, Precedence, Serialize, Preserve, ResourceCapacity, RunningCapacity, MaxOnline, Overbook, Online, Offline, Running, Sleeping, Ready, Killed}
 use Rattle.catalogue.specs.Instance.{Instance}
 use Rattle.catalogue.specs.Values.{continuous_at}
 use Rattle.slices.specs.declared.rule.Rule.{Rule}
@@ -17,87 +16,68 @@ use Rattle.slices.specs.declared.rule.Rule.TheVariants.{Load, Usable, Constraint
 use Rattle.slices.specs.declared.slice.Slice.{Slice}
 use Rattle.slices.specs.declared.slice.Span.{Span}
 use Rattle.slices.specs.declared.slice.Span.TheVariants.{Always, FromStart, BeforeEnd}
+use Rattle.slices.specs.declared.stage.Progress.{Progress}
+use Rattle.slices.specs.declared.stage.Progress.TheVariants.{Started, Unended, Acting}
 use Rattle.slices.specs.declared.stage.Stage.{Stage}
 use Rattle.slices.specs.declared.slice.Weight.{Weight}
 use Rattle.slices.specs.declared.slice.Weight.TheVariants.{Amount, Presence, Image}
-use Rattle.slices.specs.Elements.{machine_count, node_count, node, vm}
-use Rattle.slices.specs.Holds.{AreAllowed, AreApart, Holds}
+use Rattle.slices.specs.Elements.{machine_count, node, vm}
+use Rattle.slices.specs.Fewer.{IsLessFor}
 use Rattle.slices.specs.Parts.{ExecutionKeeps, IsPartOf, PartsKeep, StagePartsArePart}
-use Rattle.slices.specs.Rules.{Keeps}
+use Rattle.slices.specs.Rules.{IsValid, Keeps}
 use Rattle.slices.specs.Snapshots.{Snapshot, held_by, snapshot, snapshot_at, stages_at}
-use Rattle.slices.specs.Rules.{IsValid}
-use Rattle.slices.specs.Stages.{Nodes, covers, one, powered_of, slices_of, usable_of, weigh, weight_of}
+use Rattle.slices.specs.Stages.{Nodes, covers, one, powered_of, progress_of, slices_of, usable_of, weigh, weight_of}
+use Rattle.slices.proofs.FewerLemmas.{less_holds}
 
 -- ---- tests that imply others
 
-not-part : (a b : Bool) → (IsTrue b → IsTrue a) → IsTrue (not a) → IsTrue (not b)
+pub not-part : (a b : Bool) → (IsTrue b → IsTrue a) → IsTrue (not a) → IsTrue (not b)
 not-part true b h x = absurd (false≢true x)
 not-part false true h x = absurd (false≢true (h refl))
 not-part false false h x = refl
 
-and-part : (c a b : Bool) → (IsTrue a → IsTrue b) → IsTrue (c && a) → IsTrue (c && b)
-and-part true a b h x = h x
-and-part false a b h x = x
+both-part : (a b c d : Bool) → (IsTrue a → IsTrue c) → (IsTrue b → IsTrue d) → IsTrue (a && b) → IsTrue (c && d)
+both-part true b true d f g x = g x
+both-part true b false d f g x = absurd (false≢true (f refl))
+both-part false b c d f g x = absurd (false≢true x)
 
-or-part : (a b c d : Bool) → (IsTrue a → IsTrue c) → (IsTrue b → IsTrue d) → IsTrue (a || b) → IsTrue (c || d)
+pub or-part : (a b c d : Bool) → (IsTrue a → IsTrue c) → (IsTrue b → IsTrue d) → IsTrue (a || b) → IsTrue (c || d)
 or-part true b true d f g x = refl
 or-part true b false d f g x = absurd (false≢true (f refl))
 or-part false b true d f g x = refl
 or-part false b false d f g x = g x
 
-if-part : (a b : Bool) (m : ℕ) → (IsTrue a → IsTrue b) → (if a then m else 0) ≤ (if b then m else 0)
-if-part true true m h = omega arith
-if-part true false m h = absurd (false≢true (h refl))
-if-part false b m h = omega arith
-
--- what the greater does not pass, the lesser does not
-none-part : (a b : Bool) → (IsTrue a → IsTrue b) → b ≡ false → a ≡ false
-none-part true true h e = e
-none-part true false h e = sym (h refl)
-none-part false b h e = refl
-
-above-part : (a b : ℕ) → a ≤ b → IsTrue (nat_lt 0 a) → IsTrue (nat_lt 0 b)
-above-part a b l h = grind (arith, nat_tests)
-
 -- ---- a part keeps
 
-module _ (p : Instance) (s big : Snapshot) (part : IsPartOf s big) where
-  load-part : (w : Weight) (set : Nodes) → sum_to (machine_count p) (λ v. s.held v w set) ≤ sum_to (machine_count p) (λ v. big.held v w set)
-  load-part w set = sum_to-le (machine_count p) (λ v. s.held v w set) (λ v. big.held v w set) (λ v b. part.held v w set)
-
-  apart-part : (c : Constraint) → AreApart p big c → AreApart p s c
-  apart-part c h n v w a b d f x = none-part _ _ (part.present w (one n)) (h n v w a b d f (part.present v (one n) x))
-
-  allowed-part : (c : Constraint) → AreAllowed p big c → AreAllowed p s c
-  allowed-part c h v n a b f = none-part _ _ (part.present v (one n)) (h v n a b f)
-
-  powered-part : (set : Nodes) (n : ℕ) → cond (set n) (cond (s.powered n) 1 0) 0 ≤ cond (set n) (cond (big.powered n) 1 0) 0
-  powered-part set n = at (set n)
-    where
-      at : (b : Bool) → cond b (cond (s.powered n) 1 0) 0 ≤ cond b (cond (big.powered n) 1 0) 0
-      at true = if-part (s.powered n) (big.powered n) 1 (part.powered n)
-      at false = omega arith
-
-  pub Holds-part : (c : Constraint) → Holds p big c → Holds p s c
-  Holds-part (Spread vs b) h = apart-part (Spread vs b) h
-  Holds-part (Ban vs ns b) h = allowed-part (Ban vs ns b) h
-  Holds-part (Fence vs ns b) h = allowed-part (Fence vs ns b) h
-  Holds-part (Gather vs b) h = λ v w n m i j k l a b x y. h v w n m i j k l a b (part.present v (one n) x) (part.present w (one m) y)
-  Holds-part (Lonely vs b) h = apart-part (Lonely vs b) h
-  Holds-part (Among vs gs b) h = (h.0, h.1, h.2, h.3, λ v n i j a x. h.4 v n i j a (part.present v (one n) x))
-  Holds-part (Split parts b) h = apart-part (Split parts b) h
-  Holds-part (Root vs) h = allowed-part (Root vs) h
-  Holds-part (ResourceCapacity ns r a b) h = omega (arith, load-part (Amount r) (has_node ns))
-  Holds-part (RunningCapacity ns a b) h = omega (arith, load-part Presence (has_node ns))
-  Holds-part (MaxOnline ns a b) h =
-      omega (arith, sum_to-le (node_count p) (λ n. cond (has_node ns n) (cond (s.powered n) 1 0) 0) (λ n. cond (has_node ns n) (cond (big.powered n) 1 0) 0) (λ n l. powered-part (has_node ns) n))
-  Holds-part c h = tt
+less_for-part : (p : Instance) (s big : Snapshot) → IsPartOf s big → (c : Constraint) → IsLessFor p c s big
+less_for-part p s big part (Spread vs b) = λ v i m. part.present v
+less_for-part p s big part (Ban vs ns b) = λ v i m. part.present v
+less_for-part p s big part (Fence vs ns b) = λ v i m. part.present v
+less_for-part p s big part (Gather vs b) = λ v i m. part.present v
+less_for-part p s big part (Lonely vs b) = λ v i. part.present v
+less_for-part p s big part (Among vs groups b) = λ v i m. part.present v
+less_for-part p s big part (Split parts b) = λ i v l m. part.present v
+less_for-part p s big part (Root vs) = λ v i m. part.present v
+less_for-part p s big part (Precedence before after) = (part.action after.0 Started, part.action before.0 Unended)
+less_for-part p s big part (Serialize vs) = λ v i m. part.action v Acting
+less_for-part p s big part (ResourceCapacity ns r amount b) = λ v i. part.held v (Amount r)
+less_for-part p s big part (RunningCapacity ns amount b) = λ v i. part.held v Presence
+less_for-part p s big part (MaxOnline ns amount b) = λ n i m. part.powered n
+less_for-part p s big part (Preserve vs r amount) = tt
+less_for-part p s big part (Overbook ns r num den) = tt
+less_for-part p s big part (Online ns) = tt
+less_for-part p s big part (Offline ns) = tt
+less_for-part p s big part (Running vs) = tt
+less_for-part p s big part (Sleeping vs) = tt
+less_for-part p s big part (Ready vs) = tt
+less_for-part p s big part (Killed vs) = tt
 
 pub parts_keep : PartsKeep
-parts_keep p s big part last (Load n r) h = omega (arith, load-part p s big part (Amount r) (one n.0))
+parts_keep p s big part last (Load n r) h =
+    omega (arith, sum_to-le (machine_count p) (λ v. s.held v (Amount r) (one n.0)) (λ v. big.held v (Amount r) (one n.0)) (λ v i. part.held v (Amount r) (one n.0)), h)
 parts_keep p s big part last (Usable v n) h =
-    λ x. part.usable n.0 (h (or-part _ _ _ _ (part.present v.0 (one n.0)) (above-part _ _ (part.held v.0 Image (one n.0))) x))
-parts_keep p s big part last (OfConstraint c) h = λ a k e. Holds-part p s big part k (h a k e)
+    λ x. part.usable n.0 (h (or-part _ _ _ _ (part.present v.0 (one n.0)) (positive_above _ _ (part.held v.0 Image (one n.0))) x))
+parts_keep p s big part last (OfConstraint c) h = λ a k e. less_holds p s big k (less_for-part p s big part k) (h a k e)
 
 -- ---- where less has started and more has ended, there is only less
 
@@ -109,7 +89,7 @@ covers-part BeforeEnd s t a b x = not-part s.ended t.ended b x
 weigh-part : (p : Instance) (v : ℕ) (w : Weight) (o : Option Slice) (set : Nodes) (s t : Stage) → (IsTrue s.started → IsTrue t.started) → (IsTrue t.ended → IsTrue s.ended) → weigh p v w o s set ≤ weigh p v w o t set
 weigh-part p v w None set s t a b = omega arith
 weigh-part p v w (Some o) set s t a b =
-    if-part (set o.node.0 && covers o.span s) (set o.node.0 && covers o.span t) (weight_of p v w o.what) (and-part (set o.node.0) _ _ (covers-part o.span s t a b))
+    cond-implied (set o.node.0 && covers o.span s) (set o.node.0 && covers o.span t) (weight_of p v w o.what) (both-part (set o.node.0) _ (set o.node.0) _ (λ x. x) (covers-part o.span s t a b))
 
 pub held_by-part : (p : Instance) (v : ℕ) (w : Weight) (set : Nodes) (c : Choice) (s t : Stage) → (IsTrue s.started → IsTrue t.started) → (IsTrue t.ended → IsTrue s.ended) → held_by p v w set c s ≤ held_by p v w set c t
 unfolding held_by
@@ -127,13 +107,20 @@ powered_of-part online Idle s t a b x = x
 powered_of-part true (Act place start) s t a b x = not-part s.ended t.ended b x
 powered_of-part false (Act place start) s t a b x = a x
 
+pub progress_of-part : (far : Progress) (c : Choice) (s t : Stage) → (IsTrue s.started → IsTrue t.started) → (IsTrue t.ended → IsTrue s.ended) → IsTrue (progress_of far c s) → IsTrue (progress_of far c t)
+progress_of-part far Idle s t a b x = x
+progress_of-part Started (Act place start) s t a b x = a x
+progress_of-part Unended (Act place start) s t a b x = not-part s.ended t.ended b x
+progress_of-part Acting (Act place start) s t a b x = both-part _ _ _ _ a (not-part s.ended t.ended b) x
+
 pub stage_parts_are_part : StagePartsArePart
 unfolding snapshot
 stage_parts_are_part p plan s t part = record {
   held = λ v w set. held_by-part p v w set (plan (vm v)) (s (vm v)) (t (vm v)) (part.started (vm v)) (part.ended (vm v));
-  present = λ v set. above-part _ _ (held_by-part p v Presence set (plan (vm v)) (s (vm v)) (t (vm v)) (part.started (vm v)) (part.ended (vm v)));
+  present = λ v set. positive_above _ _ (held_by-part p v Presence set (plan (vm v)) (s (vm v)) (t (vm v)) (part.started (vm v)) (part.ended (vm v)));
   usable = λ n. usable_of-part (is_online p.nodes n) (plan (node n)) (s (node n)) (t (node n)) (part.started (node n)) (part.ended (node n));
   powered = λ n. powered_of-part (is_online p.nodes n) (plan (node n)) (s (node n)) (t (node n)) (part.started (node n)) (part.ended (node n));
+  action = λ v far. progress_of-part far (plan (vm v)) (s (vm v)) (t (vm v)) (part.started (vm v)) (part.ended (vm v));
 }
 
 -- ---- an execution keeps the rules of a valid plan

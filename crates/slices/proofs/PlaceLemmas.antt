@@ -11,7 +11,7 @@ use Rattle.cluster.specs.declared.choices.Place.TheVariants.{Nowhere, At}
 use Rattle.cluster.specs.declared.states.State.{State}
 use Rattle.cluster.specs.declared.states.State.TheVariants.{Init, Ready, Running, Sleeping, Gone}
 use Rattle.cluster.specs.Inventory.{host_is_online}
-use Rattle.cluster.proofs.Hosts.{is_online-lt}
+use Rattle.cluster.proofs.Public.{is_online-lt}
 use Rattle.catalogue.specs.Instance.{Instance, IsInstance}
 use Rattle.slices.specs.declared.slice.Slice.{Slice}
 use Rattle.slices.specs.declared.slice.Slices.{Slices}

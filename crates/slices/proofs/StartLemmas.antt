@@ -1,20 +1,41 @@
--- Between starts there is only less, so the starts suffice.
-use Rattle.std.proofs.Common.{◌≡◌, ◌⊎◌, inl, inr, ℕ, zero, suc, ◌+◌, ◌<◌, ◌≤◌, Bool, true, false, ◌==◌, Some, None, IsTrue, refl, ap, sym, ◌∙◌, subst, arith}
-use Rattle.std.proofs.lemmas.Bool.{le-leb, leb-true, lt-ltb, le-ltb, ne_eqb, cases_lt, cases_eq, false≢true}
+-- Between starts there is only less.
+use Rattle.std.proofs.Common.{◌≡◌, ◌⊎◌, inl, inr, ℕ, zero, suc, ◌+◌, ◌≤◌, Bool, true, ◌==◌, List, [], ◌∷◌, IsTrue, slice_index_or, refl, ◌∙◌, arith}
+use Rattle.std.proofs.lemmas.Bool.{le-leb, leb-true, cases_lt, or_left, or_right}
+use Rattle.std.proofs.lemmas.Bool.Decides.{nat_tests}
 use Rattle.std.proofs.lemmas.List.{get_or_past}
+use Rattle.std.proofs.lemmas.List.Folds.{list_any-append}
+use Rattle.sums.proofs.Sums.{sum_to-le}
+use Rattle.sums.proofs.Tests.{positive_above}
 use Rattle.cluster.specs.declared.choices.Choice.{Choice}
 use Rattle.cluster.specs.declared.choices.Choice.TheVariants.{Idle, Act}
 use Rattle.cluster.specs.declared.ids.Element.{Element}
 use Rattle.cluster.specs.declared.ids.Element.TheVariants.{Vm, Node as TheNode}
+use Rattle.cluster.specs.declared.ids.VmId.{VmId}
+use Rattle.cluster.specs.Inventory.{is_online}
+use Rattle.catalogue.specs.declared.constraint.Constraint.{Constraint}
+use Rattle.catalogue.specs.declared.constraint.Constraint.TheVariants.{Spread, Ban, Fence, Gather, Lonely, Among, Split, Root, Precedence, Serialize, Preserve, ResourceCapacity, RunningCapacity, MaxOnline, Overbook, Online, Offline, Running, Sleeping, Ready, Killed}
+use Rattle.catalogue.specs.Faults.{all_of, is_member}
 use Rattle.catalogue.specs.Instance.{Instance, IsElement}
-use Rattle.slices.specs.Actions.{lasts}
-use Rattle.slices.specs.Elements.{element_at, element_count, machine_count, node_count, node, number_of}
-use Rattle.slices.specs.Parts.{HasLastStart, IsQuiet, IsStagePart, IsStart, LastStart, StartsSuffice, start_of}
+use Rattle.slices.specs.declared.rule.Rule.{Rule}
+use Rattle.slices.specs.declared.rule.Rule.TheVariants.{Load, Usable, Constraint as OfConstraint}
+use Rattle.slices.specs.declared.stage.Progress.{Progress}
+use Rattle.slices.specs.declared.stage.Progress.TheVariants.{Started, Unended, Acting}
+use Rattle.slices.specs.declared.slice.Weight.{Weight}
+use Rattle.slices.specs.declared.slice.Weight.TheVariants.{Amount, Presence, Image}
+use Rattle.slices.specs.Actions.{action_duration, choice_duration}
+use Rattle.slices.specs.Elements.{machine_count, node_count, node, vm}
+use Rattle.slices.specs.Fewer.{IsLessFor}
+use Rattle.slices.specs.Holds.{Holds}
 use Rattle.slices.specs.Plans.{Choices, IsPlanOf, PlanChoices, choices_of}
-use Rattle.slices.specs.Rules.{KeepsAllAt}
-use Rattle.slices.specs.Snapshots.{snapshot_at, stage_at, stages_at}
-use Rattle.slices.specs.Stages.{stage_of}
-use Rattle.slices.proofs.PartLemmas.{parts_keep, stage_parts_are_part}
+use Rattle.slices.specs.Rules.{Keeps}
+use Rattle.slices.specs.Snapshots.{action_at, held_at, powered_at, snapshot, snapshot_at, stage_at, stages_at, usable_at}
+use Rattle.slices.specs.Stages.{Nodes, one, stage_of}
+use Rattle.slices.specs.Starts.{ActionQuiet, HeldQuiet, IsQuiet, KeepsQuiet, MattersQuiet, PoweredQuiet, UsableQuiet, matters}
+use Rattle.slices.proofs.FewerLemmas.{less_holds}
+use Rattle.slices.proofs.PartLemmas.{held_by-part, not-part, or-part, powered_of-part, progress_of-part, usable_of-part}
+
+same-number : (v : ℕ) → IsTrue (v == v)
+same-number v = grind (arith, nat_tests)
 
 -- ---- a choice that does not start has no more started, and no less ended
 
@@ -27,132 +48,121 @@ pub ended-quiet : (d : ℕ) (c : Choice) (u t : ℕ) → u ≤ t → IsTrue (sta
 ended-quiet d Idle u t l x = x
 ended-quiet d (Act place start) u t l x = le-leb (start + d) t (omega (arith, leb-true (start + d) u x))
 
-stages-quiet : (p : Instance) (plan : Choices) (u t : ℕ) → u ≤ t → ((e : Element) → IsQuiet (plan e) u t) → IsStagePart (stages_at p plan t) (stages_at p plan u)
-unfolding stages_at stage_at
-stages-quiet p plan u t l q = record {
-  started = λ e. started-quiet (lasts p e (plan e)) (plan e) u t l (q e);
-  ended = λ e. ended-quiet (lasts p e (plan e)) (plan e) u t l;
-}
+-- ---- one choice
 
--- before the horizon, rules break at starts alone
-pub quiet_keeps : (p : Instance) (plan : Choices) (u t : ℕ) → u ≤ t → t < p.horizon → ((e : Element) → IsQuiet (plan e) u t) → KeepsAllAt p plan u → KeepsAllAt p plan t
-quiet_keeps p plan u t l h q keep =
-    let early : (u == p.horizon) ≡ false = ne_eqb u p.horizon (λ e. omega arith) in
-    let late : (t == p.horizon) ≡ false = ne_eqb t p.horizon (λ e. omega arith) in
-    let part = stage_parts_are_part p plan (stages_at p plan t) (stages_at p plan u) (stages-quiet p plan u t l q) in
-    λ r i. rw late (parts_keep p (snapshot_at p plan t) (snapshot_at p plan u) part false r (rw early at (keep r i)))
+pub held_quiet : HeldQuiet
+unfolding held_at stage_at
+held_quiet p v w set u t c l q =
+    let d = choice_duration p (vm v) c in
+    held_by-part p v w set c (stage_of d c t) (stage_of d c u) (started-quiet d c u t l q) (ended-quiet d c u t l)
 
--- ---- the last start
+pub usable_quiet : UsableQuiet
+unfolding usable_at stage_at
+usable_quiet p n u t c l q =
+    let d = choice_duration p (node n) c in
+    usable_of-part (is_online p.nodes n) c (stage_of d c t) (stage_of d c u) (started-quiet d c u t l q) (ended-quiet d c u t l)
 
-start_cases : (c : Choice) → (start_of c ≡ None) ⊎ ((s : ℕ) × (start_of c ≡ Some s))
-start_cases Idle = inl refl
-start_cases (Act place start) = inr (start, refl)
+pub powered_quiet : PoweredQuiet
+unfolding powered_at stage_at
+powered_quiet p n u t c l q =
+    let d = choice_duration p (node n) c in
+    powered_of-part (is_online p.nodes n) c (stage_of d c t) (stage_of d c u) (started-quiet d c u t l q) (ended-quiet d c u t l)
 
-quiet_none : (c : Choice) (u t : ℕ) → start_of c ≡ None → IsQuiet c u t
-quiet_none c u t e = λ s f. cc
+pub action_quiet : ActionQuiet
+unfolding action_at stage_at
+action_quiet p v far u t c l q =
+    let d = choice_duration p (vm v) c in
+    progress_of-part far c (stage_of d c t) (stage_of d c u) (started-quiet d c u t l q) (ended-quiet d c u t l)
 
-quiet_some : (c : Choice) (u t s : ℕ) → start_of c ≡ Some s → (s ≤ u) ⊎ (t < s) → IsQuiet c u t
-quiet_some c u t s e h = λ x f. let same : s ≡ x = cc in subst (λ k. (k ≤ u) ⊎ (t < k)) same h
+-- what has not ended had not, whether it has started or not
+unended-earlier : (p : Instance) (v u t : ℕ) (c : Choice) → u ≤ t → IsTrue (action_at p v Unended t c) → IsTrue (action_at p v Unended u c)
+unfolding action_at stage_at
+unended-earlier p v u t Idle l x = x
+unended-earlier p v u t (Act place start) l x =
+    not-part _ _ (ended-quiet (action_duration p (vm v) place) (Act place start) u t l) x
 
-quiet_later : (c : Choice) (u w t : ℕ) → u ≤ w → IsQuiet c u t → IsQuiet c w t
-quiet_later c u w t l q = λ s e. elim (q s e) [ inl below ↦ inl (omega arith) | inr above ↦ inr above ]
+-- ---- all choices
 
-module _ (p : Instance) (plan : Choices) (some : Element → Bool) (t : ℕ) where
-  -- the last start up to t, of those of the first k elements that are among some
-  record LastOf (k : ℕ) : Type 0 where
-    at : ℕ
-    early : at ≤ t
-    is_start : (at ≡ 0) ⊎ ((e : Element) × IsElement p e × IsTrue (some e) × (start_of (plan e) ≡ Some at))
-    quiet : (x : ℕ) → x < k → IsTrue (some (element_at p x)) → IsQuiet (plan (element_at p x)) at t
+-- the machines of each part are listed
+part-listed : (parts : List (List VmId)) (i v : ℕ) → IsTrue (is_member (slice_index_or parts i []) v) → IsTrue (is_member (all_of parts) v)
+part-listed [] i v h = h
+part-listed (vs ∷ parts) zero v h = list_any-append (λ x. x.0 == v) vs (all_of parts) ∙ or_left (is_member vs v) (is_member (all_of parts) v) h
+part-listed (vs ∷ parts) (suc i) v h = list_any-append (λ x. x.0 == v) vs (all_of parts) ∙ or_right (is_member vs v) (is_member (all_of parts) v) (part-listed parts i v h)
 
-  kept : (k : ℕ) (b : LastOf k) → (IsTrue (some (element_at p k)) → IsQuiet (plan (element_at p k)) b.at t) → LastOf (suc k)
-  kept k b here = record {
-    at = b.at;
-    early = b.early;
-    is_start = b.is_start;
-    quiet = λ x within. elim (cases_eq x k) [ inl e ↦ rw e here | inr n ↦ b.quiet x (omega arith) ];
-  }
+module _ (p : Instance) (plan : Choices) (u t : ℕ) (l : u ≤ t) where
+  held-then : (v : ℕ) → IsQuiet (plan (vm v)) u t → (w : Weight) (set : Nodes) → (snapshot_at p plan t).held v w set ≤ (snapshot_at p plan u).held v w set
+  unfolding snapshot stages_at held_at
+  held-then v q w set = held_quiet p v w set u t (plan (vm v)) l q
 
-  later : (k s : ℕ) (b : LastOf k) → IsElement p (element_at p k) → IsTrue (some (element_at p k)) → start_of (plan (element_at p k)) ≡ Some s → s ≤ t → b.at < s → LastOf (suc k)
-  later k s b there is e l above = record {
-    at = s;
-    early = l;
-    is_start = inr (element_at p k, there, is, e);
-    quiet = λ x within. elim (cases_eq x k) [
-      | inl same ↦ rw same (λ _. quiet_some (plan (element_at p k)) s t s e (inl (omega arith)))
-      | inr n ↦ λ y. quiet_later (plan (element_at p x)) b.at s t (omega arith) (b.quiet x (omega arith) y)
-    ];
-  }
+  present-then : (v : ℕ) → IsQuiet (plan (vm v)) u t → (set : Nodes) → IsTrue ((snapshot_at p plan t).present v set) → IsTrue ((snapshot_at p plan u).present v set)
+  unfolding snapshot stages_at held_at
+  present-then v q set = positive_above _ _ (held_quiet p v Presence set u t (plan (vm v)) l q)
 
-  step : (k s : ℕ) (b : LastOf k) → IsElement p (element_at p k) → IsTrue (some (element_at p k)) → start_of (plan (element_at p k)) ≡ Some s → LastOf (suc k)
-  step k s b there is e =
-      elim (cases_lt t s) [
-        | inl above ↦ kept k b (λ _. quiet_some _ b.at t s e (inr above))
-        | inr below ↦
-            elim (cases_lt b.at s) [
-              | inl after ↦ later k s b there is e below after
-              | inr sooner ↦ kept k b (λ _. quiet_some _ b.at t s e (inl sooner))
-            ]
-      ]
+  usable-then : (n : ℕ) → IsQuiet (plan (node n)) u t → IsTrue ((snapshot_at p plan u).usable n) → IsTrue ((snapshot_at p plan t).usable n)
+  unfolding snapshot stages_at usable_at
+  usable-then n q = usable_quiet p n u t (plan (node n)) l q
 
-  last_of : ((x : ℕ) → x < element_count p → IsElement p (element_at p x)) → (k : ℕ) → k ≤ element_count p → LastOf k
-  last_of there zero l = record { at = 0; early = omega arith; is_start = inl refl; quiet = λ x within. absurd (omega arith) }
-  last_of there (suc k) l = at (last_of there k (omega arith)) (some (element_at p k)) refl (start_cases (plan (element_at p k)))
-    where
-      at : LastOf k → (y : Bool) → some (element_at p k) ≡ y → (start_of (plan (element_at p k)) ≡ None) ⊎ ((s : ℕ) × (start_of (plan (element_at p k)) ≡ Some s)) → LastOf (suc k)
-      at b false e c = kept k b (λ x. absurd (false≢true (sym e ∙ x)))
-      at b true e (inl none) = kept k b (λ _. quiet_none _ b.at t none)
-      at b true e (inr w) = step k w.0 b (there k (omega arith)) e w.1
+  powered-then : (n : ℕ) → IsQuiet (plan (node n)) u t → IsTrue ((snapshot_at p plan t).powered n) → IsTrue ((snapshot_at p plan u).powered n)
+  unfolding snapshot stages_at powered_at
+  powered-then n q = powered_quiet p n u t (plan (node n)) l q
 
--- ---- elements by number
+  action-then : (v : ℕ) → IsQuiet (plan (vm v)) u t → (far : Progress) → IsTrue ((snapshot_at p plan t).action v far) → IsTrue ((snapshot_at p plan u).action v far)
+  unfolding snapshot stages_at action_at
+  action-then v q far = action_quiet p v far u t (plan (vm v)) l q
 
-element_there : (p : Instance) (x : ℕ) → x < element_count p → IsElement p (element_at p x)
-element_there p x l =
-    elim (cases_lt x (machine_count p)) [
-      | inl below ↦ rw (lt-ltb x (machine_count p) below) below
-      | inr above ↦ rw (le-ltb x (machine_count p) above) (omega arith)
-    ]
+  unended-then : (v : ℕ) → IsTrue ((snapshot_at p plan t).action v Unended) → IsTrue ((snapshot_at p plan u).action v Unended)
+  unfolding snapshot stages_at action_at
+  unended-then v = unended-earlier p v u t (plan (vm v)) l
 
-pub number_of-lt : (p : Instance) (e : Element) → IsElement p e → number_of p e < element_count p
-number_of-lt p (Vm v) l = omega arith
-number_of-lt p (TheNode n) l = omega arith
+  less_for-quiet : (c : Constraint) → ((e : Element) → IsTrue (matters c e) → IsQuiet (plan e) u t) → IsLessFor p c (snapshot_at p plan t) (snapshot_at p plan u)
+  less_for-quiet (Spread vs b) q = λ v i m. present-then v (q (vm v) m)
+  less_for-quiet (Ban vs ns b) q = λ v i m. present-then v (q (vm v) m)
+  less_for-quiet (Fence vs ns b) q = λ v i m. present-then v (q (vm v) m)
+  less_for-quiet (Gather vs b) q = λ v i m. present-then v (q (vm v) m)
+  less_for-quiet (Lonely vs b) q = λ v i. present-then v (q (vm v) refl)
+  less_for-quiet (Among vs groups b) q = λ v i m. present-then v (q (vm v) m)
+  less_for-quiet (Split parts b) q = λ j v i m. present-then v (q (vm v) (part-listed parts j v m))
+  less_for-quiet (Root vs) q = λ v i m. present-then v (q (vm v) m)
+  less_for-quiet (Precedence before after) q =
+      (action-then after.0 (q (vm after.0) (same-number after.0)) Started, unended-then before.0)
+  less_for-quiet (Serialize vs) q = λ v i m. action-then v (q (vm v) m) Acting
+  less_for-quiet (ResourceCapacity ns r amount b) q = λ v i. held-then v (q (vm v) refl) (Amount r)
+  less_for-quiet (RunningCapacity ns amount b) q = λ v i. held-then v (q (vm v) refl) Presence
+  less_for-quiet (MaxOnline ns amount b) q = λ n i m. powered-then n (q (node n) m)
+  less_for-quiet (Preserve vs r amount) q = tt
+  less_for-quiet (Overbook ns r num den) q = tt
+  less_for-quiet (Online ns) q = tt
+  less_for-quiet (Offline ns) q = tt
+  less_for-quiet (Running vs) q = tt
+  less_for-quiet (Sleeping vs) q = tt
+  less_for-quiet (Ready vs) q = tt
+  less_for-quiet (Killed vs) q = tt
 
-pub element_at-number_of : (p : Instance) (e : Element) → IsElement p e → element_at p (number_of p e) ≡ e
-element_at-number_of p (Vm v) l = rw (lt-ltb v.0 (machine_count p) l) refl
-element_at-number_of p (TheNode n) l = rw (le-ltb (machine_count p + n.0) (machine_count p) (omega arith)) (ap node (omega arith))
+  holds-quiet : (c : Constraint) → ((e : Element) → IsTrue (matters c e) → IsQuiet (plan e) u t) → Holds p (snapshot_at p plan u) c → Holds p (snapshot_at p plan t) c
+  holds-quiet c q = less_holds p (snapshot_at p plan t) (snapshot_at p plan u) c (less_for-quiet c q)
 
-pub has_last_start : HasLastStart
-has_last_start p plan some t =
-    let b : LastOf p plan some t (element_count p) = last_of p plan some t (element_there p) (element_count p) (omega arith) in
-    record {
-      at = b.at;
-      early = b.early;
-      is_start = b.is_start;
-      quiet = λ e there. (rw (element_at-number_of p e there) at (b.quiet (number_of p e) (number_of-lt p e there)));
-    }
+  keeps-quiet : ((e : Element) → IsQuiet (plan e) u t) → (last : Bool) (r : Rule) → Keeps p (snapshot_at p plan u) last r → Keeps p (snapshot_at p plan t) last r
+  keeps-quiet q last (Load n r) h =
+      omega (arith, h, sum_to-le (machine_count p) (λ v. (snapshot_at p plan t).held v (Amount r) (one n.0)) (λ v. (snapshot_at p plan u).held v (Amount r) (one n.0)) (λ v i. held-then v (q (vm v)) (Amount r) (one n.0)))
+  keeps-quiet q last (Usable v n) h =
+      λ x. usable-then n.0 (q (node n.0)) (h (or-part _ _ _ _ (present-then v.0 (q (vm v.0)) (one n.0)) (positive_above _ _ (held-then v.0 (q (vm v.0)) Image (one n.0))) x))
+  keeps-quiet q last (OfConstraint c) h = λ a k e. holds-quiet k (λ x m. q x) (h a k e)
 
 -- past the end, a plan's choices are Idle
-quiet_all : (p : Instance) (plan : PlanChoices) → IsPlanOf p plan → (u t : ℕ) → ((e : Element) → IsElement p e → IsQuiet (choices_of plan e) u t) → (e : Element) → IsQuiet (choices_of plan e) u t
-quiet_all p plan is u t q (Vm v) =
-    elim (cases_lt v.0 (machine_count p)) [
-      | inl below ↦ q (Vm v) below
-      | inr past ↦ rw (get_or_past plan.machines v.0 Idle (omega (arith, is.machines))) (quiet_none Idle u t refl)
-    ]
-quiet_all p plan is u t q (TheNode n) =
-    elim (cases_lt n.0 (node_count p)) [
-      | inl below ↦ q (TheNode n) below
-      | inr past ↦ rw (get_or_past plan.nodes n.0 Idle (omega (arith, is.nodes))) (quiet_none Idle u t refl)
-    ]
+pub past-idle : (p : Instance) (plan : PlanChoices) → IsPlanOf p plan → (e : Element) → IsElement p e ⊎ (choices_of plan e ≡ Idle)
+past-idle p plan is (Vm v) =
+    elim (cases_lt v.0 (machine_count p)) [ inl below ↦ inl below | inr past ↦ inr (get_or_past plan.machines v.0 Idle (omega (arith, is.machines))) ]
+past-idle p plan is (TheNode n) =
+    elim (cases_lt n.0 (node_count p)) [ inl below ↦ inl below | inr past ↦ inr (get_or_past plan.nodes n.0 Idle (omega (arith, is.nodes))) ]
 
-start_of-last : (p : Instance) (plan : Choices) (t : ℕ) → (b : LastStart p plan (λ _. true) t) → IsStart p plan b.at
-start_of-last p plan t b = elim b.is_start [ inl z ↦ inl z | inr w ↦ inr (w.0, w.1, w.3) ]
+quiet-all : (p : Instance) (plan : PlanChoices) → IsPlanOf p plan → (u t : ℕ) (e : Element) → (IsElement p e → IsQuiet (choices_of plan e) u t) → IsQuiet (choices_of plan e) u t
+quiet-all p plan is u t e q =
+    elim (past-idle p plan is e) [ inl there ↦ q there | inr idle ↦ rw idle (λ s f. cc) ]
 
-pub starts_suffice : StartsSuffice
-starts_suffice p plan is b last each t l h =
-    elim (cases_eq t p.horizon) [
-      | inl e ↦ rw e (last (omega arith))
-      | inr n ↦
-          let s : LastStart p (choices_of plan) (λ _. true) t = has_last_start p (choices_of plan) (λ _. true) t in
-          quiet_keeps p (choices_of plan) s.at t s.early (omega arith) (quiet_all p plan is s.at t (λ e there. s.quiet e there refl))
-          (each s.at (omega (arith, s.early)) (start_of-last p (choices_of plan) t s))
-    ]
+pub matters_quiet : MattersQuiet
+matters_quiet p plan is u t c l q =
+    holds-quiet p (choices_of plan) u t l c (λ e m. quiet-all p plan is u t e (λ there. q e there m))
+
+pub keeps_quiet : KeepsQuiet
+keeps_quiet p plan is u t l q last r =
+    keeps-quiet p (choices_of plan) u t l (λ e. quiet-all p plan is u t e (q e)) last r

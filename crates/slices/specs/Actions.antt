@@ -17,6 +17,7 @@ use Rattle.cluster.specs.declared.machines.Machine.{Machine}
 use Rattle.cluster.specs.declared.nodes.Node.{Node}
 use Rattle.cluster.specs.Inventory.{is_online}
 use Rattle.cluster.specs.Kinds.{kind_number}
+use Rattle.cluster.specs.Limits.{max_amount, max_duration}
 use Rattle.catalogue.specs.declared.targets.Target.TheVariants.{Online as ToOnline, Offline as ToOffline, Running as ToRunning, Sleeping as ToSleeping, Ready as ToReady, Killed as ToKilled}
 use Rattle.catalogue.specs.declared.targets.Wish.{Wish}
 use Rattle.catalogue.specs.declared.targets.Wish.TheVariants.{Keep, To, Clash}
@@ -27,12 +28,12 @@ use Rattle.slices.specs.Elements.{is_place, state_of, vm}
 -- ---- which action
 
 -- what is wanted of a machine at the end: without a wish it keeps its state (which no wish says of Init)
-abbrev pub settled : State → Wish → Wish
-settled Ready Keep = To ToReady
-settled (Running h) Keep = To ToRunning
-settled (Sleeping h) Keep = To ToSleeping
-settled Gone Keep = To ToKilled
-settled state wish = wish
+abbrev pub end_wish : State → Wish → Wish
+end_wish Ready Keep = To ToReady
+end_wish (Running h) Keep = To ToRunning
+end_wish (Sleeping h) Keep = To ToSleeping
+end_wish Gone Keep = To ToKilled
+end_wish state wish = wish
 
 -- the kind of the action that takes a machine from its state to the wanted one, at a place; raised says whether its demand is
 abbrev pub machine_kind : State → Wish → Bool → Place → Option Kind
@@ -81,7 +82,7 @@ abbrev pub is_raised : Instance → ℕ → Bool
 is_raised p v = list_any (differs_in p v) (range_with_len 0 (length p.resources))
 
 abbrev pub wanted_state : Instance → ℕ → Wish
-wanted_state p v = settled (state_of p v) (wanted_of p (vm v))
+wanted_state p v = end_wish (state_of p v) (wanted_of p (vm v))
 
 -- the kind of an element's action at a place, if it has a legal one there
 unfoldable pub kind_of : Instance → Element → Place → Option Kind
@@ -114,9 +115,9 @@ abbrev pub common_of : Instance → Kind → Duration
 common_of p kind = slice_index_or p.durations (kind_number kind) (record { base = 1; per = 0; resource = None })
 
 -- the amounts that durations count: what a machine uses at present, the written capacity of a node
-abbrev pub counted_of : Instance → Element → ℕ → ℕ
-counted_of p (Vm v) r = use_of p.machines v.0 r
-counted_of p (TheNode n) r = written_of p.nodes n.0 r
+abbrev pub duration_amount : Instance → Element → ℕ → ℕ
+duration_amount p (Vm v) r = use_of p.machines v.0 r
+duration_amount p (TheNode n) r = written_of p.nodes n.0 r
 
 abbrev pub amount_at : Option ℕ → (ℕ → ℕ) → ℕ
 amount_at None amounts = 0
@@ -128,23 +129,31 @@ value_of d amounts = d.base + d.per * amount_at d.resource amounts
 
 -- how long an element's action of a kind lasts: by its own duration, or else by the cluster's
 unfoldable pub duration_of : Instance → Element → Kind → ℕ
-duration_of p e kind = value_of (unwrap_or (own_of p e kind) (common_of p kind)) (counted_of p e)
+duration_of p e kind = value_of (unwrap_or (own_of p e kind) (common_of p kind)) (duration_amount p e)
+
+-- the longest that an action can last
+abbrev pub longest : ℕ
+longest = max_duration + max_duration * max_amount
 
 -- ---- choices
 
 -- how long an action lasts, 0 where there is none
-unfoldable pub lasts_by : Instance → Element → Option Kind → ℕ
-lasts_by p e kind = option_map_or (duration_of p e) kind 0
+unfoldable pub kind_duration : Instance → Element → Option Kind → ℕ
+kind_duration p e kind = option_map_or (duration_of p e) kind 0
+
+-- how long an element's action at a place lasts, whenever it starts
+unfoldable pub action_duration : Instance → Element → Place → ℕ
+action_duration p e place = kind_duration p e (kind_of p e place)
 
 -- how long the action of a choice lasts
-unfoldable pub lasts : Instance → Element → Choice → ℕ
-lasts p e Idle = 0
-lasts p e (Act place start) = lasts_by p e (kind_of p e place)
+abbrev pub choice_duration : Instance → Element → Choice → ℕ
+choice_duration p e Idle = 0
+choice_duration p e (Act place start) = action_duration p e place
 
 -- when the action of a choice ends, 0 where there is none
 unfoldable pub end_of : Instance → Element → Choice → ℕ
 end_of p e Idle = 0
-end_of p e (Act place start) = start + lasts p e (Act place start)
+end_of p e (Act place start) = start + action_duration p e place
 
 -- a choice is legal where it is one of the table, and its action ends by the horizon
 unfoldable pub is_legal : Instance → Element → Choice → Bool

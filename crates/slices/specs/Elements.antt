@@ -1,5 +1,5 @@
--- Elements, their numbers and their present states.
-use Rattle.std.specs.Prelude.{ℕ, ◌+◌, ◌-◌, Bool, true, length, nat_lt, Option, Some, None, slice_get, if◌then◌else◌}
+-- Elements and their present states.
+use Rattle.std.specs.Prelude.{ℕ, Bool, true, length, nat_lt, Option, Some, None, slice_get}
 use Rattle.cluster.specs.declared.ids.Element.{Element}
 use Rattle.cluster.specs.declared.ids.Element.TheVariants.{Vm, Node as TheNode}
 use Rattle.cluster.specs.declared.choices.Place.{Place}
@@ -21,17 +21,6 @@ machine_count p = length p.machines
 
 abbrev pub node_count : Instance → ℕ
 node_count p = length p.nodes
-
--- the elements are numbered, the machines first
-abbrev pub element_count : Instance → ℕ
-element_count p = machine_count p + node_count p
-
-abbrev pub number_of : Instance → Element → ℕ
-number_of p (Vm v) = v.0
-number_of p (TheNode n) = machine_count p + n.0
-
-abbrev pub element_at : Instance → ℕ → Element
-element_at p x = if nat_lt x (machine_count p) then vm x else node (x - machine_count p)
 
 abbrev pub state_in : Option Machine → State
 state_in None = Gone

@@ -1,17 +1,16 @@
--- Laws of what one choice holds: over the starts at a place, between starts, and by nodes.
-use Rattle.std.specs.Prelude.{◌≡◌, ℕ, ◌<◌, ◌≤◌, false, min, if◌then◌else◌, IsTrue}
+-- Helping only: laws of what one choice gives over the starts at a place.
+use Rattle.std.specs.Prelude.{◌≡◌, ℕ, ◌+◌, ◌≤◌, min, nat_le, if◌then◌else◌}
 use Rattle.cluster.specs.declared.choices.Choice.{Choice}
 use Rattle.cluster.specs.declared.choices.Choice.TheVariants.{Act}
 use Rattle.cluster.specs.declared.choices.Place.{Place}
-use Rattle.catalogue.specs.Instance.{Instance, IsInstance}
-use Rattle.sums.specs.Sums.{sum_to}
+use Rattle.catalogue.specs.Instance.{Instance}
+use Rattle.slices.specs.declared.stage.Progress.{Progress}
 use Rattle.slices.specs.declared.slice.Weight.{Weight}
-use Rattle.slices.specs.declared.slice.Weight.TheVariants.{Amount, Presence, Image}
-use Rattle.slices.specs.Elements.{node_count, node, vm}
-use Rattle.slices.specs.Parts.{IsQuiet}
+use Rattle.slices.specs.Actions.{action_duration}
+use Rattle.slices.specs.Elements.{node, vm}
 use Rattle.slices.specs.Plans.{Choices}
-use Rattle.slices.specs.Snapshots.{Snapshot, held_at, powered_at, present_at, snapshot_at, usable_at}
-use Rattle.slices.specs.Stages.{Nodes, one}
+use Rattle.slices.specs.Snapshots.{Snapshot, action_at, held_at, powered_at, present_at, snapshot_at, usable_at}
+use Rattle.slices.specs.Stages.{Nodes}
 
 -- ---- by elements
 
@@ -22,13 +21,33 @@ snapshot_of p plan t = record {
   present = λ v set. present_at p v set t (plan (vm v));
   usable = λ n. usable_at p n t (plan (node n));
   powered = λ n. powered_at p n t (plan (node n));
+  action = λ v far. action_at p v far t (plan (vm v));
 }
 
 -- the snapshot at an instant is what each element's choice gives
 abbrev pub IsPointwise : Type 0
 IsPointwise = (p : Instance) (plan : Choices) (t : ℕ) → snapshot_at p plan t ≡ snapshot_of p plan t
 
--- ---- over the starts at one place
+-- ---- the form
+
+-- what is always held, what until an end, and what from a start on
+pub record Steps : Type 0 where
+  pub always : ℕ
+  pub before : ℕ
+  pub after : ℕ
+
+-- how much that is at an instant, where the action lasts so long
+abbrev pub step_value : Steps → ℕ → ℕ → ℕ → ℕ
+step_value x duration t start =
+    x.always + ((if nat_le (start + duration) t then 0 else x.before) + (if nat_le start t then x.after else 0))
+
+-- what a machine holds over the starts at a place has that form
+abbrev pub HeldInSteps : Type 0
+HeldInSteps =
+    (p : Instance) (v : ℕ) (w : Weight) (set : Nodes) (place : Place) →
+    (x : Steps) × ((t s : ℕ) → held_at p v w set t (Act place s) ≡ step_value x (action_duration p (vm v) place) t s)
+
+-- ---- least at an end
 
 -- no start of a row gives less than both of its ends
 abbrev pub IsLeastAtEnds : (Choice → ℕ) → Type 0
@@ -42,6 +61,10 @@ unusable_count p n t c = if usable_at p n t c then 0 else 1
 abbrev pub powered_count : Instance → ℕ → ℕ → Choice → ℕ
 powered_count p n t c = if powered_at p n t c then 1 else 0
 
+-- 1 for a choice under which the machine's action is so far
+abbrev pub action_count : Instance → ℕ → Progress → ℕ → Choice → ℕ
+action_count p v far t c = if action_at p v far t c then 1 else 0
+
 abbrev pub HeldAtEnds : Type 0
 HeldAtEnds = (p : Instance) (v : ℕ) (w : Weight) (set : Nodes) (t : ℕ) → IsLeastAtEnds (held_at p v w set t)
 
@@ -51,63 +74,5 @@ UnusableAtEnds = (p : Instance) (n t : ℕ) → IsLeastAtEnds (unusable_count p 
 abbrev pub PoweredAtEnds : Type 0
 PoweredAtEnds = (p : Instance) (n t : ℕ) → IsLeastAtEnds (powered_count p n t)
 
--- ---- between starts
-
--- a choice without a start after u up to t holds no more at t than at u
-abbrev pub HeldQuiet : Type 0
-HeldQuiet =
-    (p : Instance) (v : ℕ) (w : Weight) (set : Nodes) (u t : ℕ) (c : Choice) → u ≤ t → IsQuiet c u t →
-    held_at p v w set t c ≤ held_at p v w set u c
-
--- its node stays usable
-abbrev pub UsableQuiet : Type 0
-UsableQuiet =
-    (p : Instance) (n u t : ℕ) (c : Choice) → u ≤ t → IsQuiet c u t → IsTrue (usable_at p n u c) → IsTrue (usable_at p n t c)
-
--- and is powered only if it was
-abbrev pub PoweredQuiet : Type 0
-PoweredQuiet =
-    (p : Instance) (n u t : ℕ) (c : Choice) → u ≤ t → IsQuiet c u t → IsTrue (powered_at p n t c) → IsTrue (powered_at p n u c)
-
--- ---- by nodes
-
--- what is held on a set is the sum over its nodes
-abbrev pub HeldByNode : Type 0
-HeldByNode =
-    (p : Instance) → IsInstance p → (v : ℕ) (w : Weight) (set : Nodes) (t : ℕ) (c : Choice) →
-    held_at p v w set t c ≡ sum_to (node_count p) (λ n. if set n then held_at p v w (one n) t c else 0)
-
--- on more nodes there is no less
-abbrev pub HeldOnMore : Type 0
-HeldOnMore =
-    (p : Instance) (v : ℕ) (w : Weight) (few many : Nodes) (t : ℕ) (c : Choice) → ((n : ℕ) → IsTrue (few n) → IsTrue (many n)) →
-    held_at p v w few t c ≤ held_at p v w many t c
-
--- a machine that is present on a set is present on a node of it
-abbrev pub PresentSomewhere : Type 0
-PresentSomewhere =
-    (p : Instance) → IsInstance p → (v : ℕ) (set : Nodes) (t : ℕ) (c : Choice) → IsTrue (present_at p v set t c) →
-    (n : ℕ) × (n < node_count p) × IsTrue (set n) × IsTrue (present_at p v (one n) t c)
-
--- a machine that is present on a node is present on each set with the node
-abbrev pub PresentOnSet : Type 0
-PresentOnSet =
-    (p : Instance) (v n : ℕ) (set : Nodes) (t : ℕ) (c : Choice) → IsTrue (set n) → IsTrue (present_at p v (one n) t c) →
-    IsTrue (present_at p v set t c)
-
--- a machine that is not present uses nothing
-abbrev pub AbsentUsesNothing : Type 0
-AbsentUsesNothing =
-    (p : Instance) → IsInstance p → (v : ℕ) (set : Nodes) (r t : ℕ) (c : Choice) → present_at p v set t c ≡ false →
-    held_at p v (Amount r) set t c ≡ 0
-
--- ---- bounds
-
--- at most two nodes, with at most 10^9 each, and one image
-pub record IsSmall (p : Instance) (v : ℕ) (set : Nodes) (t : ℕ) (c : Choice) : Type 0 where
-  pub amounts : (r : ℕ) → held_at p v (Amount r) set t c ≤ 2_000_000_000
-  pub presences : held_at p v Presence set t c ≤ 2
-  pub images : held_at p v Image set t c ≤ 1
-
-abbrev pub HeldIsSmall : Type 0
-HeldIsSmall = (p : Instance) → IsInstance p → (v : ℕ) (set : Nodes) (t : ℕ) (c : Choice) → IsSmall p v set t c
+abbrev pub ActionAtEnds : Type 0
+ActionAtEnds = (p : Instance) (v : ℕ) (far : Progress) (t : ℕ) → IsLeastAtEnds (action_count p v far t)

@@ -1,4 +1,4 @@
--- What a machine holds at one moment, as the code tells it.
+-- Helping only: what a machine holds at one moment, as the code tells it.
 use Rattle.std.specs.Prelude.{◌≡◌, ℕ, ◌+◌, ◌<◌, Bool, true, false, ◌||◌, Option, Some, None, if◌then◌else◌}
 use Rattle.cluster.specs.declared.choices.Choice.{Choice}
 use Rattle.cluster.specs.declared.ids.NodeId.{NodeId}
@@ -61,14 +61,14 @@ node_of None = None
 node_of (Some x) = Some x.node
 
 -- a raise joins the use to which it adds
-abbrev pub joined : Option Held → Option Held → Option NodeId → Holding
-joined source None image = record { source = source; target = None; image = image }
-joined source (Some x) image =
+abbrev pub with_raise : Option Held → Option Held → Option NodeId → Holding
+with_raise source None image = record { source = source; target = None; image = image }
+with_raise source (Some x) image =
     if is_raise x.what then record { source = Some (record { node = x.node; what = Demand }); target = None; image = image }
     else record { source = source; target = Some x; image = image }
 
 abbrev pub holding_of : Slices → Stage → Holding
-holding_of x g = joined (held_of x.source g) (held_of x.target g) (node_of (held_of x.image g))
+holding_of x g = with_raise (held_of x.source g) (held_of x.target g) (node_of (held_of x.image g))
 
 -- ---- what a holding says
 

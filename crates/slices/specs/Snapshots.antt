@@ -4,22 +4,25 @@ use Rattle.cluster.specs.declared.choices.Choice.{Choice}
 use Rattle.cluster.specs.declared.ids.Element.{Element}
 use Rattle.cluster.specs.Inventory.{is_online}
 use Rattle.catalogue.specs.Instance.{Instance}
+use Rattle.catalogue.specs.Values.{capacity_of}
 use Rattle.sums.specs.Sums.{sum_to}
+use Rattle.slices.specs.declared.stage.Progress.{Progress}
 use Rattle.slices.specs.declared.stage.Stage.{Stage}
 use Rattle.slices.specs.declared.slice.Weight.{Weight}
 use Rattle.slices.specs.declared.slice.Weight.TheVariants.{Amount, Presence, Image}
 use Rattle.slices.specs.Elements.{machine_count, node_count, vm, node}
-use Rattle.slices.specs.Actions.{lasts}
+use Rattle.slices.specs.Actions.{choice_duration}
 use Rattle.slices.specs.Plans.{Choices}
-use Rattle.slices.specs.Stages.{Nodes, one, stage_of, slices_of, weigh, usable_of, powered_of}
+use Rattle.slices.specs.Stages.{Nodes, one, progress_of, stage_of, slices_of, weigh, usable_of, powered_of}
 
 -- what is where, by the numbers of machines and nodes: the amounts, presences and images that a machine has on a set of nodes,
--- whether it is present there at all, and which nodes are usable and powered
+-- whether it is present there at all, which nodes are usable and powered, and how far a machine's action is
 pub record Snapshot : Type 0 where
   pub held : ℕ → Weight → Nodes → ℕ
   pub present : ℕ → Nodes → Bool
   pub usable : ℕ → Bool
   pub powered : ℕ → Bool
+  pub action : ℕ → Progress → Bool
 
 -- what a machine holds on the nodes of a set, at a stage of its choice
 unfoldable pub held_by : Instance → ℕ → Weight → Nodes → Choice → Stage → ℕ
@@ -33,11 +36,12 @@ snapshot p plan stages = record {
   present = λ v set. nat_lt 0 (held_by p v Presence set (plan (vm v)) (stages (vm v)));
   usable = λ n. usable_of (is_online p.nodes n) (plan (node n)) (stages (node n));
   powered = λ n. powered_of (is_online p.nodes n) (plan (node n)) (stages (node n));
+  action = λ v far. progress_of far (plan (vm v)) (stages (vm v));
 }
 
 -- the stage of an element's choice at an instant
 unfoldable pub stage_at : Instance → Element → Choice → ℕ → Stage
-stage_at p e c t = stage_of (lasts p e c) c t
+stage_at p e c t = stage_of (choice_duration p e c) c t
 
 -- the stages of a plan's elements at an instant
 unfoldable pub stages_at : Instance → Choices → ℕ → Element → Stage
@@ -61,11 +65,18 @@ usable_at p n t c = usable_of (is_online p.nodes n) c (stage_at p (node n) c t)
 unfoldable pub powered_at : Instance → ℕ → ℕ → Choice → Bool
 powered_at p n t c = powered_of (is_online p.nodes n) c (stage_at p (node n) c t)
 
+unfoldable pub action_at : Instance → ℕ → Progress → ℕ → Choice → Bool
+action_at p v far t c = progress_of far c (stage_at p (vm v) c t)
+
 -- ---- sums over a snapshot
 
 -- the uses of a resource on the nodes of a set
 abbrev pub load : Instance → Snapshot → ℕ → Nodes → ℕ
 load p s r set = sum_to (machine_count p) (λ v. s.held v (Amount r) set)
+
+-- the capacities for a resource of the usable nodes of a set
+abbrev pub room : Instance → Snapshot → ℕ → Nodes → ℕ
+room p s r set = sum_to (node_count p) (λ n. if set n then (if s.usable n then capacity_of p n r else 0) else 0)
 
 -- the number of presences on the nodes of a set
 abbrev pub presences : Instance → Snapshot → Nodes → ℕ

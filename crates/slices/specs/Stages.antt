@@ -16,6 +16,8 @@ use Rattle.slices.specs.declared.slice.Slices.{Slices}
 use Rattle.slices.specs.declared.slice.Span.{Span}
 use Rattle.slices.specs.declared.slice.Span.TheVariants.{Always, FromStart, BeforeEnd}
 use Rattle.slices.specs.declared.stage.Stage.{Stage}
+use Rattle.slices.specs.declared.stage.Progress.{Progress}
+use Rattle.slices.specs.declared.stage.Progress.TheVariants.{Started, Unended, Acting}
 use Rattle.slices.specs.declared.slice.Weight.{Weight}
 use Rattle.slices.specs.declared.slice.Weight.TheVariants.{Amount, Presence, Image}
 use Rattle.slices.specs.declared.slice.What.{What}
@@ -41,6 +43,13 @@ stage_from start duration t = record { started = nat_le start t; ended = nat_le 
 abbrev pub stage_of : ℕ → Choice → ℕ → Stage
 stage_of duration Idle t = record { started = false; ended = false }
 stage_of duration (Act place start) t = stage_from start duration t
+
+-- how far the action of a choice is: it has started, it has not ended, or both; an idle element has none
+abbrev pub progress_of : Progress → Choice → Stage → Bool
+progress_of far Idle g = false
+progress_of Started (Act place start) g = g.started
+progress_of Unended (Act place start) g = not g.ended
+progress_of Acting (Act place start) g = g.started && not g.ended
 
 -- a source counts until its action's end, a destination from its start
 abbrev pub covers : Span → Stage → Bool

@@ -1,16 +1,17 @@
 //! Which action an element takes, how long it lasts, and which choices are legal.
 ghost use Rattle.std.specs.Prelude.{◌≡◌, ◌<◌, ◌≤◌, Bool, length, unwrap_or, IsTrue, IfSome};
-ghost use Rattle.cluster.proofs.Durations.{IsDuration};
+ghost use Rattle.cluster.specs.Limits.{max_amount, max_resources};
+ghost use Rattle.cluster.proofs.Public.{IsDuration};
 ghost use Rattle.catalogue.specs.Instance.{IsElement};
 ghost use Rattle.catalogue.specs.Values.{demand_of, use_of, wanted_of};
-ghost use Rattle.slices.specs.Elements.{state_of as the_state_of};
-ghost use Rattle.slices.specs.Actions.{kind_of as the_kind_of, settled as the_settled, wanted_state as the_wanted_state, machine_kind as the_machine_kind, node_kind as the_node_kind, may_machine_idle as the_may_machine_idle, may_node_idle as the_may_node_idle, differs_in, is_raised as is_the_raised, may_idle as the_may_idle, own_of, common_of, counted_of, amount_at, duration_of as the_duration_of, lasts_by as the_lasts_by, lasts as the_lasts, is_legal as is_the_legal, end_of as the_end_of};
-ghost use Rattle.slices.specs.Snapshots.{stage_at as the_stage_at};
-ghost use Rattle.slices.specs.Parts.{start_of};
+ghost use Rattle.slices.specs.Elements.{state_of};
+ghost use Rattle.slices.specs.Actions.{kind_of, end_wish, wanted_state, machine_kind, node_kind, may_machine_idle, may_node_idle, differs_in, is_raised, may_idle, own_of, common_of, duration_amount, amount_at, duration_of, longest, kind_duration, choice_duration, is_legal, end_of};
+ghost use Rattle.slices.specs.Snapshots.{stage_at};
+ghost use Rattle.slices.specs.Starts.{start_of};
 ghost use Rattle.slices.specs.Stages.{stage_from};
 
 use crate::elements::{is_online, is_place, state_of};
-use crate::stage::Stage;
+use crate::stage::{Stage, WAITING};
 use catalogue::problem::Problem;
 use catalogue::targets::{Target, Wish};
 use cluster::choices::{Choice, Instant, Place};
@@ -20,8 +21,8 @@ use cluster::kinds::Kind;
 use cluster::states::State;
 
 /// What is wanted of a machine: without a wish it keeps its state.
-fn settled(state: State, wish: Wish) -> Wish
-    ensures { result ≡ the_settled state wish }
+fn end_wish(state: State, wish: Wish) -> Wish
+    ensures { result ≡ end_wish state wish }
 {
     match wish {
         Wish::Keep => match state {
@@ -38,9 +39,9 @@ fn settled(state: State, wish: Wish) -> Wish
 /// The present use of a machine.
 pub(crate) fn usage(p: &Problem, v: VmId, r: u8) -> u64
     requires machine { IsElement p.now.given (Element.Vm v) }
-    requires resource { r < 8 }
+    requires resource { r < max_resources }
     ensures usage { result ≡ use_of p.now.given.machines v.0 r }
-    ensures small { result ≤ 1_000_000_000 }
+    ensures small { result ≤ max_amount }
 {
     p.cluster().machines()[v.0 as usize].usage[r as usize]
 }
@@ -54,9 +55,10 @@ fn differs(p: &Problem, v: VmId, r: u8) -> bool
 }
 
 /// Whether the demand of a machine differs from its present use in some resource.
+#[tactic(auto, using(sums::proofs::Ranges::any_rules))]
 fn is_raised(p: &Problem, v: VmId) -> bool
     requires { IsElement p.now.given (Element.Vm v) }
-    ensures { result ≡ is_the_raised p.now.given v.0 }
+    ensures { result ≡ is_raised p.now.given v.0 }
 {
     for r in 0..p.cluster().resources().len() {
         if differs(p, v, r as u8) {
@@ -68,7 +70,7 @@ fn is_raised(p: &Problem, v: VmId) -> bool
 
 /// The kind of action that makes a machine ready.
 fn kind_to_ready(state: State, place: Place) -> Option<Kind>
-    ensures { (raised : Bool) → result ≡ the_machine_kind state (Wish.To Target.Ready) raised place }
+    ensures { (raised : Bool) → result ≡ machine_kind state (Wish.To Target.Ready) raised place }
 {
     match place {
         Place::At(_) => None,
@@ -83,7 +85,7 @@ fn kind_to_ready(state: State, place: Place) -> Option<Kind>
 /// The kind of action that makes a machine run on a node.
 fn kind_to_running(p: &Problem, v: VmId, state: State, place: Place) -> Option<Kind>
     requires { IsElement p.now.given (Element.Vm v) }
-    ensures { result ≡ the_machine_kind state (Wish.To Target.Running) (is_the_raised p.now.given v.0) place }
+    ensures { result ≡ machine_kind state (Wish.To Target.Running) (is_raised p.now.given v.0) place }
 {
     match place {
         Place::Nowhere => None,
@@ -99,7 +101,7 @@ fn kind_to_running(p: &Problem, v: VmId, state: State, place: Place) -> Option<K
 /// The kind of action that keeps a machine running that runs on a host.
 fn kind_while_running(p: &Problem, v: VmId, host: NodeId, n: NodeId) -> Option<Kind>
     requires { IsElement p.now.given (Element.Vm v) }
-    ensures { result ≡ the_machine_kind (State.Running host) (Wish.To Target.Running) (is_the_raised p.now.given v.0) (Place.At n) }
+    ensures { result ≡ machine_kind (State.Running host) (Wish.To Target.Running) (is_raised p.now.given v.0) (Place.At n) }
 {
     if n.0 != host.0 {
         Some(Kind::Migrate)
@@ -112,7 +114,7 @@ fn kind_while_running(p: &Problem, v: VmId, host: NodeId, n: NodeId) -> Option<K
 
 /// The kind of action that puts a machine to sleep.
 fn kind_to_sleeping(state: State, place: Place) -> Option<Kind>
-    ensures { (raised : Bool) → result ≡ the_machine_kind state (Wish.To Target.Sleeping) raised place }
+    ensures { (raised : Bool) → result ≡ machine_kind state (Wish.To Target.Sleeping) raised place }
 {
     match place {
         Place::Nowhere => None,
@@ -129,7 +131,7 @@ fn kind_to_sleeping(state: State, place: Place) -> Option<Kind>
 
 /// The kind of action that ends a machine.
 fn kind_to_killed(state: State, place: Place) -> Option<Kind>
-    ensures { (raised : Bool) → result ≡ the_machine_kind state (Wish.To Target.Killed) raised place }
+    ensures { (raised : Bool) → result ≡ machine_kind state (Wish.To Target.Killed) raised place }
 {
     match place {
         Place::At(_) => None,
@@ -143,16 +145,16 @@ fn kind_to_killed(state: State, place: Place) -> Option<Kind>
 /// What is wanted of a machine at the end.
 fn wanted_state(p: &Problem, v: VmId) -> Wish
     requires { IsElement p.now.given (Element.Vm v) }
-    ensures { result ≡ the_wanted_state p.now.given v.0 }
+    ensures { result ≡ wanted_state p.now.given v.0 }
 {
-    settled(state_of(p, v), p.wanted(Element::Vm(v)))
+    end_wish(state_of(p, v), p.wanted(Element::Vm(v)))
 }
 
 /// The kind of a machine's action at a place of the instance.
 fn machine_kind(p: &Problem, v: VmId, place: Place) -> Option<Kind>
     requires { IsElement p.now.given (Element.Vm v) }
-    ensures { result ≡ the_machine_kind (the_state_of p.now.given v.0) (the_wanted_state p.now.given v.0)
-        (is_the_raised p.now.given v.0) place }
+    ensures { result ≡ machine_kind (state_of p.now.given v.0) (wanted_state p.now.given v.0)
+        (is_raised p.now.given v.0) place }
 {
     let state = state_of(p, v);
     match wanted_state(p, v) {
@@ -169,7 +171,7 @@ fn machine_kind(p: &Problem, v: VmId, place: Place) -> Option<Kind>
 
 /// The kind of a node's action at a place.
 fn node_kind(online: bool, wish: Wish, place: Place) -> Option<Kind>
-    ensures { result ≡ the_node_kind online wish place }
+    ensures { result ≡ node_kind online wish place }
 {
     match place {
         Place::At(_) => None,
@@ -196,7 +198,7 @@ fn node_kind(online: bool, wish: Wish, place: Place) -> Option<Kind>
 #[tactic(auto, unfolding(crate::specs::Actions::kind_of))]
 pub fn kind_of(p: &Problem, e: Element, place: Place) -> Option<Kind>
     requires { IsElement p.now.given e }
-    ensures { result ≡ the_kind_of p.now.given e place }
+    ensures { result ≡ kind_of p.now.given e place }
 {
     match e {
         Element::Vm(v) => if is_place(p, place) {
@@ -211,8 +213,8 @@ pub fn kind_of(p: &Problem, e: Element, place: Place) -> Option<Kind>
 /// Whether a machine may be idle: it is as it is wanted, and if it runs its demand is not raised.
 fn may_machine_idle(p: &Problem, v: VmId) -> bool
     requires { IsElement p.now.given (Element.Vm v) }
-    ensures { result ≡ the_may_machine_idle (the_state_of p.now.given v.0) (the_wanted_state p.now.given v.0)
-        (is_the_raised p.now.given v.0) }
+    ensures { result ≡ may_machine_idle (state_of p.now.given v.0) (wanted_state p.now.given v.0)
+        (is_raised p.now.given v.0) }
 {
     let wanted = wanted_state(p, v);
     match state_of(p, v) {
@@ -226,7 +228,7 @@ fn may_machine_idle(p: &Problem, v: VmId) -> bool
 
 /// Whether a node may be idle.
 fn may_node_idle(online: bool, wish: Wish) -> bool
-    ensures { result ≡ the_may_node_idle online wish }
+    ensures { result ≡ may_node_idle online wish }
 {
     match wish {
         Wish::Clash => false,
@@ -241,7 +243,7 @@ fn may_node_idle(online: bool, wish: Wish) -> bool
 #[tactic(auto, unfolding(crate::specs::Actions::may_idle))]
 fn may_idle(p: &Problem, e: Element) -> bool
     requires { IsElement p.now.given e }
-    ensures { result ≡ the_may_idle p.now.given e }
+    ensures { result ≡ may_idle p.now.given e }
 {
     match e {
         Element::Vm(v) => may_machine_idle(p, v),
@@ -277,11 +279,11 @@ fn duration_for(p: &Problem, e: Element, kind: Kind) -> Duration
 }
 
 /// The amount that a duration counts: a machine's present use, a node's written capacity.
-fn counted(p: &Problem, e: Element, resource: Option<u8>) -> u64
+fn amount_of(p: &Problem, e: Element, resource: Option<u8>) -> u64
     requires element { IsElement p.now.given e }
     requires resource { IfSome resource (λ r. r < length p.now.given.resources) }
-    ensures counted { result ≡ amount_at resource (counted_of p.now.given e) }
-    ensures small { result ≤ 1_000_000_000 }
+    ensures amount { result ≡ amount_at resource (duration_amount p.now.given e) }
+    ensures small { result ≤ max_amount }
 {
     match resource {
         None => 0,
@@ -296,20 +298,20 @@ fn counted(p: &Problem, e: Element, resource: Option<u8>) -> u64
 #[tactic(auto, unfolding(crate::specs::Actions::duration_of))]
 pub fn duration(p: &Problem, e: Element, kind: Kind) -> u64
     requires { IsElement p.now.given e }
-    ensures duration { result ≡ the_duration_of p.now.given e kind }
+    ensures duration { result ≡ duration_of p.now.given e kind }
     ensures lasting { 1 ≤ result }
-    ensures small { result ≤ 1_000_000_001_000_000 }
+    ensures small { result ≤ longest }
 {
     let d = duration_for(p, e, kind);
-    u64::from(d.base) + u64::from(d.per) * counted(p, e, d.resource)
+    u64::from(d.base) + u64::from(d.per) * amount_of(p, e, d.resource)
 }
 
 /// How long an action lasts, 0 where there is none.
-#[tactic(auto, unfolding(crate::specs::Actions::lasts_by))]
-fn lasts_by(p: &Problem, e: Element, kind: Option<Kind>) -> u64
+#[tactic(auto, unfolding(crate::specs::Actions::kind_duration))]
+fn kind_duration(p: &Problem, e: Element, kind: Option<Kind>) -> u64
     requires { IsElement p.now.given e }
-    ensures lasts { result ≡ the_lasts_by p.now.given e kind }
-    ensures small { result ≤ 1_000_000_001_000_000 }
+    ensures duration { result ≡ kind_duration p.now.given e kind }
+    ensures small { result ≤ longest }
 {
     match kind {
         Some(kind) => duration(p, e, kind),
@@ -318,24 +320,24 @@ fn lasts_by(p: &Problem, e: Element, kind: Option<Kind>) -> u64
 }
 
 /// How long the action of a choice lasts, 0 for Idle.
-#[tactic(auto, unfolding(crate::specs::Actions::lasts))]
-fn lasts(p: &Problem, e: Element, c: Choice) -> u64
+#[tactic(auto, unfolding(crate::specs::Actions::action_duration))]
+fn choice_duration(p: &Problem, e: Element, c: Choice) -> u64
     requires { IsElement p.now.given e }
-    ensures lasts { result ≡ the_lasts p.now.given e c }
-    ensures small { result ≤ 1_000_000_001_000_000 }
+    ensures duration { result ≡ choice_duration p.now.given e c }
+    ensures small { result ≤ longest }
 {
     match c {
         Choice::Idle => 0,
-        Choice::Act { place, start: _ } => lasts_by(p, e, kind_of(p, e, place)),
+        Choice::Act { place, start: _ } => kind_duration(p, e, kind_of(p, e, place)),
     }
 }
 
 /// Whether a choice is one that the element's present and wanted state allow, with an action that
 /// ends by the horizon.
-#[tactic(auto, unfolding(crate::specs::Actions::is_legal, crate::specs::Actions::end_of, crate::specs::Actions::lasts, crate::specs::Actions::lasts_by))]
+#[tactic(auto, unfolding(crate::specs::Actions::is_legal, crate::specs::Actions::end_of, crate::specs::Actions::action_duration, crate::specs::Actions::kind_duration))]
 pub fn is_legal(p: &Problem, e: Element, c: Choice) -> bool
     requires { IsElement p.now.given e }
-    ensures { result ≡ is_the_legal p.now.given e c }
+    ensures { result ≡ is_legal p.now.given e c }
 {
     match c {
         Choice::Idle => may_idle(p, e),
@@ -350,13 +352,13 @@ pub fn is_legal(p: &Problem, e: Element, c: Choice) -> bool
 #[tactic(auto, unfolding(crate::specs::Actions::is_legal, crate::specs::Actions::end_of))]
 pub fn end_of(p: &Problem, e: Element, c: Choice) -> Instant
     requires element { IsElement p.now.given e }
-    requires legal { IsTrue (is_the_legal p.now.given e c) }
-    ensures end { result ≡ the_end_of p.now.given e c }
+    requires legal { IsTrue (is_legal p.now.given e c) }
+    ensures end { result ≡ end_of p.now.given e c }
     ensures in_time { result ≤ p.now.given.horizon }
 {
     match c {
         Choice::Idle => 0,
-        Choice::Act { place: _, start } => (u64::from(start) + lasts(p, e, c)) as u32,
+        Choice::Act { place: _, start } => (u64::from(start) + choice_duration(p, e, c)) as u32,
     }
 }
 
@@ -380,26 +382,23 @@ pub(crate) fn stage_by(
     t: Instant,
 ) -> Stage
     requires { IsElement p.now.given e }
-    ensures { result ≡ stage_from start (the_lasts_by p.now.given e kind) t }
+    ensures { result ≡ stage_from start (kind_duration p.now.given e kind) t }
 {
     let started = start <= t;
     Stage {
         started,
-        ended: started && u64::from(start) + lasts_by(p, e, kind) <= u64::from(t),
+        ended: started && u64::from(start) + kind_duration(p, e, kind) <= u64::from(t),
     }
 }
 
 /// How far the action of a choice has come at an instant.
-#[tactic(auto, unfolding(crate::specs::Snapshots::stage_at, crate::specs::Actions::lasts))]
+#[tactic(auto, unfolding(crate::specs::Snapshots::stage_at, crate::specs::Actions::action_duration))]
 pub fn stage(p: &Problem, e: Element, c: Choice, t: Instant) -> Stage
     requires { IsElement p.now.given e }
-    ensures { result ≡ the_stage_at p.now.given e c t }
+    ensures { result ≡ stage_at p.now.given e c t }
 {
     match c {
-        Choice::Idle => Stage {
-            started: false,
-            ended: false,
-        },
+        Choice::Idle => WAITING,
         Choice::Act { place, start } => stage_by(p, e, kind_of(p, e, place), start, t),
     }
 }

@@ -1,16 +1,15 @@
 //! What a machine holds at one moment: at most two nodes, and its image.
 ghost use Rattle.std.specs.Prelude.{◌≡◌, ◌<◌, ◌≤◌, length};
+ghost use Rattle.cluster.specs.Limits.{max_amount};
 ghost use Rattle.catalogue.specs.Instance.{IsElement};
 ghost use Rattle.slices.specs.Stages.{weight_of};
-ghost use Rattle.slices.specs.Holdings.{held_of, node_of as the_node_of, joined as the_joined, holding_of, IsHoldingAt};
+ghost use Rattle.slices.specs.Holdings.{held_of, node_of, with_raise, holding_of};
 ghost use Rattle.slices.specs.declared.slice.Weight.TheVariants.{Amount};
 
-use crate::actions::{kind_of, stage_by, usage};
-use crate::elements::state_of;
-use crate::slice::{Slice, Slices, What, covers, idle_slices, slices_by};
+use crate::actions::usage;
+use crate::slice::{Slice, Slices, What, covers};
 use crate::stage::Stage;
 use catalogue::problem::Problem;
-use cluster::choices::{Choice, Instant, Place};
 use cluster::ids::{Element, NodeId, VmId};
 
 /// A node on which a machine is present, and whether it takes its present use or its demand there.
@@ -32,7 +31,7 @@ pub struct Holding {
 }
 
 /// The part of a slice that is held at a stage.
-fn held(slice: Option<Slice>, stage: Stage) -> Option<Held>
+fn held_of(slice: Option<Slice>, stage: Stage) -> Option<Held>
     ensures { result ≡ held_of slice stage }
 {
     match slice {
@@ -49,7 +48,7 @@ fn held(slice: Option<Slice>, stage: Stage) -> Option<Held>
 }
 
 fn node_of(held: Option<Held>) -> Option<NodeId>
-    ensures { result ≡ the_node_of held }
+    ensures { result ≡ node_of held }
 {
     match held {
         Some(x) => Some(x.node),
@@ -58,8 +57,8 @@ fn node_of(held: Option<Held>) -> Option<NodeId>
 }
 
 /// A raise joins the use to which it adds.
-fn joined(source: Option<Held>, target: Option<Held>, image: Option<NodeId>) -> Holding
-    ensures { result ≡ the_joined source target image }
+fn with_raise(source: Option<Held>, target: Option<Held>, image: Option<NodeId>) -> Holding
+    ensures { result ≡ with_raise source target image }
 {
     match target {
         Some(x) => match x.what {
@@ -86,49 +85,23 @@ fn joined(source: Option<Held>, target: Option<Held>, image: Option<NodeId>) -> 
 }
 
 /// What is held of slices at a stage.
-fn holding_from(slices: Slices, stage: Stage) -> Holding
+pub(crate) fn holding_from(slices: Slices, stage: Stage) -> Holding
     ensures { result ≡ holding_of slices stage }
 {
-    joined(
-        held(slices.source, stage),
-        held(slices.target, stage),
-        node_of(held(slices.image, stage)),
+    with_raise(
+        held_of(slices.source, stage),
+        held_of(slices.target, stage),
+        node_of(held_of(slices.image, stage)),
     )
 }
 
-/// All that a machine holds at an instant of a choice.
-#[tactic(auto, unfolding(crate::specs::Stages::slices_of, crate::specs::Snapshots::stage_at, crate::specs::Actions::lasts))]
-pub fn holding(p: &Problem, v: VmId, c: Choice, t: Instant) -> Holding
-    requires { IsElement p.now.given (Element.Vm v) }
-    ensures { IsHoldingAt p.now.given v.0 c t result }
-{
-    let state = state_of(p, v);
-    match c {
-        Choice::Idle => {
-            let waiting = Stage {
-                started: false,
-                ended: false,
-            };
-            holding_from(idle_slices(state), waiting)
-        }
-        Choice::Act { place, start } => {
-            let e = Element::Vm(v);
-            let kind = kind_of(p, e, place);
-            holding_from(
-                slices_by(state, place, kind),
-                stage_by(p, e, kind, start, t),
-            )
-        }
-    }
-}
-
 /// The amount of a resource that a machine takes where it holds this.
-#[tactic(auto, using(catalogue::proofs::Facts::use_of_le))]
+#[tactic(auto, using(catalogue::proofs::Public::use_of_le))]
 pub fn amount(p: &Problem, v: VmId, what: What, r: u8) -> u64
     requires machine { IsElement p.now.given (Element.Vm v) }
     requires resource { r < length p.now.given.resources }
     ensures amount { result ≡ weight_of p.now.given v.0 (Amount r) what }
-    ensures small { result ≤ 1_000_000_000 }
+    ensures small { result ≤ max_amount }
 {
     match what {
         What::Use => usage(p, v, r),

@@ -2,7 +2,8 @@
 #![tactic(auto)]
 
 pub mod actions;
-pub mod elements;
+pub mod choice;
+mod elements;
 pub mod holding;
 pub mod laws;
 pub mod plan;

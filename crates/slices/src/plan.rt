@@ -1,12 +1,13 @@
 //! Plans: one legal choice for each element.
-ghost use Rattle.std.specs.Prelude.{◌≡◌, ◌↔◌, ◌≤◌, IsTrue};
+ghost use Rattle.std.specs.Prelude.{◌≡◌, ◌+◌, ◌*◌, ◌↔◌, ◌≤◌, IsTrue};
+ghost use Rattle.cluster.specs.Limits.{max_machines, max_nodes};
 ghost use Rattle.catalogue.specs.Instance.{IsElement};
-ghost use Rattle.slices.specs.Actions.{end_of as the_end_of};
+ghost use Rattle.catalogue.specs.Limits.{max_horizon};
+ghost use Rattle.slices.specs.Actions.{end_of};
 ghost use Rattle.slices.specs.Plans.{choices_of, parted, HasElement, IsPlanOf};
 ghost use Rattle.slices.specs.Costs.{cost_of};
 
 use crate::actions::{end_of, is_legal};
-use crate::elements::{count, element};
 use catalogue::problem::Problem;
 use cluster::choices::{Choice, Instant};
 use cluster::ids::{Element, NodeId, VmId};
@@ -74,11 +75,11 @@ impl Plan {
 pub fn is_plan(p: &Problem, choices: &[Choice]) -> bool
     ensures { IsTrue result ↔ IsPlanOf p.now.given (parted p.now.given choices.now) }
 {
-    if choices.len() != count(p) {
+    if choices.len() != p.cluster().element_count() {
         return false;
     }
     for x in 0..choices.len() {
-        if !is_legal(p, element(p, x), choices[x]) {
+        if !is_legal(p, p.cluster().element(x), choices[x]) {
             return false;
         }
     }
@@ -89,7 +90,7 @@ pub fn is_plan(p: &Problem, choices: &[Choice]) -> bool
 pub fn end_in(p: &Problem, plan: &Plan, e: Element) -> Instant
     requires plan { IsPlanOf p.now.given plan.now }
     requires element { IsElement p.now.given e }
-    ensures end { result ≡ the_end_of p.now.given e (choices_of plan.now e) }
+    ensures end { result ≡ end_of p.now.given e (choices_of plan.now e) }
     ensures in_time { result ≤ p.now.given.horizon }
 {
     end_of(p, e, plan.choice(e))
@@ -99,7 +100,7 @@ pub fn end_in(p: &Problem, plan: &Plan, e: Element) -> Instant
 pub fn cost(p: &Problem, plan: &Plan) -> u64
     requires { IsPlanOf p.now.given plan.now }
     ensures cost { result ≡ cost_of p.now.given (choices_of plan.now) }
-    ensures small { result ≤ 4_608_000_000 }
+    ensures small { result ≤ (max_machines + max_nodes) * max_horizon }
 {
     let mut total = 0;
     for v in 0..p.cluster().machines().len() {

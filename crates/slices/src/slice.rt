@@ -1,6 +1,6 @@
 //! Slices: what a machine holds on one node each, over a span of its action.
 ghost use Rattle.std.specs.Prelude.{◌≡◌};
-ghost use Rattle.slices.specs.Stages.{slice as the_slice, idle_slices as the_idle_slices, acting_slices as the_acting_slices, slices_by as the_slices_by, covers as is_covered};
+ghost use Rattle.slices.specs.Stages.{slice, idle_slices, acting_slices, slices_by, covers};
 
 use crate::stage::Stage;
 use cluster::choices::Place;
@@ -60,14 +60,14 @@ const NOTHING: Slices = Slices {
 };
 
 fn slice_on(node: NodeId, span: Span, what: What) -> Option<Slice>
-    ensures { result ≡ the_slice node span what }
+    ensures { result ≡ slice node span what }
 {
     Some(Slice { node, span, what })
 }
 
 /// What an idle machine holds.
 pub(crate) fn idle_slices(state: State) -> Slices
-    ensures { result ≡ the_idle_slices state }
+    ensures { result ≡ idle_slices state }
 {
     match state {
         State::Running(h) => Slices {
@@ -84,7 +84,7 @@ pub(crate) fn idle_slices(state: State) -> Slices
 
 /// What a machine that runs on a host holds over its action.
 fn running_slices(host: NodeId, kind: Kind, place: Place) -> Slices
-    ensures { result ≡ the_acting_slices (State.Running host) kind place }
+    ensures { result ≡ acting_slices (State.Running host) kind place }
 {
     let until_end = slice_on(host, Span::BeforeEnd, What::Use);
     match kind {
@@ -116,7 +116,7 @@ fn running_slices(host: NodeId, kind: Kind, place: Place) -> Slices
 
 /// What a ready machine holds over its action.
 fn ready_slices(kind: Kind, place: Place) -> Slices
-    ensures { result ≡ the_acting_slices State.Ready kind place }
+    ensures { result ≡ acting_slices State.Ready kind place }
 {
     match kind {
         Kind::Boot => match place {
@@ -140,7 +140,7 @@ fn ready_slices(kind: Kind, place: Place) -> Slices
 
 /// What a machine that sleeps on a host holds over its action.
 fn sleeping_slices(host: NodeId, kind: Kind, place: Place) -> Slices
-    ensures { result ≡ the_acting_slices (State.Sleeping host) kind place }
+    ensures { result ≡ acting_slices (State.Sleeping host) kind place }
 {
     let until_end = slice_on(host, Span::BeforeEnd, What::Image);
     match kind {
@@ -169,7 +169,7 @@ fn sleeping_slices(host: NodeId, kind: Kind, place: Place) -> Slices
 
 /// What a machine in a state holds over its action.
 fn acting_slices(state: State, kind: Kind, place: Place) -> Slices
-    ensures { result ≡ the_acting_slices state kind place }
+    ensures { result ≡ acting_slices state kind place }
 {
     match state {
         State::Running(h) => running_slices(h, kind, place),
@@ -182,7 +182,7 @@ fn acting_slices(state: State, kind: Kind, place: Place) -> Slices
 /// What a machine holds over its action, if there is one.
 #[tactic(auto, unfolding(crate::specs::Stages::slices_by))]
 pub(crate) fn slices_by(state: State, place: Place, kind: Option<Kind>) -> Slices
-    ensures { result ≡ the_slices_by state place kind }
+    ensures { result ≡ slices_by state place kind }
 {
     match kind {
         Some(kind) => acting_slices(state, kind, place),
@@ -192,7 +192,7 @@ pub(crate) fn slices_by(state: State, place: Place, kind: Option<Kind>) -> Slice
 
 /// Whether a span has come at a stage, and not passed.
 pub fn covers(span: Span, stage: Stage) -> bool
-    ensures { result ≡ is_covered span stage }
+    ensures { result ≡ covers span stage }
 {
     match span {
         Span::Always => true,

@@ -1,20 +1,20 @@
 //! What is where at an instant of a plan.
-ghost use Rattle.std.specs.Prelude.{◌≡◌, ◌≤◌, ◌<◌, length, nat_lt};
+ghost use Rattle.std.specs.Prelude.{◌≡◌, ◌*◌, ◌≤◌, ◌<◌, length, nat_lt};
+ghost use Rattle.cluster.specs.Limits.{max_amount, max_machines};
 ghost use Rattle.catalogue.specs.Instance.{IsElement};
 ghost use Rattle.slices.specs.Elements.{node_count};
 ghost use Rattle.slices.specs.Plans.{choices_of, IsPlanOf};
-ghost use Rattle.slices.specs.Stages.{one, usable_of as is_usable_of, powered_of as is_powered_of};
+ghost use Rattle.slices.specs.Stages.{one};
 ghost use Rattle.slices.specs.Holdings.{amount_in, is_in, image_in, IsHoldingOf};
 ghost use Rattle.slices.specs.Snapshots.{snapshot_at, load};
 ghost use Rattle.slices.specs.declared.slice.Weight.TheVariants.{Image};
 
-use crate::actions::stage;
-use crate::elements::is_online;
-use crate::holding::{Held, Holding, amount, holding};
+use crate::choice;
+use crate::holding::{Held, Holding, amount};
 use crate::plan::Plan;
-use crate::stage::Stage;
+use crate::stage::Progress;
 use catalogue::problem::Problem;
-use cluster::choices::{Choice, Instant};
+use cluster::choices::Instant;
 use cluster::ids::{Element, NodeId, VmId};
 
 /// All that a machine holds at an instant.
@@ -24,7 +24,7 @@ pub fn holding_at(p: &Problem, plan: &Plan, v: VmId, t: Instant) -> Holding
     requires machine { IsElement p.now.given (Element.Vm v) }
     ensures { IsHoldingOf p.now.given (snapshot_at p.now.given (choices_of plan.now) t) v.0 result }
 {
-    holding(p, v, plan.choice(Element::Vm(v)), t)
+    choice::holding(p, v, plan.choice(Element::Vm(v)), t)
 }
 
 /// What is held on one node, of a resource.
@@ -32,7 +32,7 @@ fn amount_on(p: &Problem, v: VmId, held: Option<Held>, n: NodeId, r: u8) -> u64
     requires machine { IsElement p.now.given (Element.Vm v) }
     requires resource { r < length p.now.given.resources }
     ensures amount { result ≡ amount_in p.now.given v.0 r (one n.0) held }
-    ensures small { result ≤ 1_000_000_000 }
+    ensures small { result ≤ max_amount }
 {
     match held {
         Some(x) => if x.node.0 == n.0 {
@@ -58,7 +58,7 @@ pub fn used(p: &Problem, plan: &Plan, n: NodeId, r: u8, t: Instant) -> u64
     requires plan { IsPlanOf p.now.given plan.now }
     requires resource { r < length p.now.given.resources }
     ensures load { result ≡ load p.now.given (snapshot_at p.now.given (choices_of plan.now) t) r (one n.0) }
-    ensures small { result ≤ 8_192_000_000_000 }
+    ensures small { result ≤ max_machines * (2 * max_amount) }
 {
     let mut total = 0;
     for v in 0..p.cluster().machines().len() {
@@ -91,44 +91,32 @@ pub fn image(p: &Problem, plan: &Plan, v: VmId, n: NodeId, t: Instant) -> bool
     }
 }
 
-fn usable_of(online: bool, c: Choice, stage: Stage) -> bool
-    ensures { result ≡ is_usable_of online c stage }
-{
-    match c {
-        Choice::Idle => online,
-        Choice::Act { place: _, start: _ } => if online { !stage.started } else { stage.ended },
-    }
-}
-
-fn powered_of(online: bool, c: Choice, now: Stage) -> bool
-    ensures { result ≡ is_powered_of online c now }
-{
-    match c {
-        Choice::Idle => online,
-        Choice::Act { place: _, start: _ } => if online { !now.ended } else { now.started },
-    }
-}
-
 /// Whether a node is usable at an instant.
-#[tactic(auto, unfolding(crate::specs::Snapshots::snapshot, crate::specs::Snapshots::stages_at))]
+#[tactic(auto, unfolding(crate::specs::Snapshots::snapshot, crate::specs::Snapshots::stages_at, crate::specs::Snapshots::usable_at))]
 pub fn usable(p: &Problem, plan: &Plan, n: NodeId, t: Instant) -> bool
     requires plan { IsPlanOf p.now.given plan.now }
     requires node { IsElement p.now.given (Element.Node n) }
     ensures { result ≡ (snapshot_at p.now.given (choices_of plan.now) t).usable n.0 }
 {
-    let e = Element::Node(n);
-    let c = plan.choice(e);
-    usable_of(is_online(p, n), c, stage(p, e, c, t))
+    choice::usable(p, n, plan.choice(Element::Node(n)), t)
 }
 
 /// Whether a node is powered at an instant.
-#[tactic(auto, unfolding(crate::specs::Snapshots::snapshot, crate::specs::Snapshots::stages_at))]
+#[tactic(auto, unfolding(crate::specs::Snapshots::snapshot, crate::specs::Snapshots::stages_at, crate::specs::Snapshots::powered_at))]
 pub fn powered(p: &Problem, plan: &Plan, n: NodeId, t: Instant) -> bool
     requires plan { IsPlanOf p.now.given plan.now }
     requires node { IsElement p.now.given (Element.Node n) }
     ensures { result ≡ (snapshot_at p.now.given (choices_of plan.now) t).powered n.0 }
 {
-    let e = Element::Node(n);
-    let c = plan.choice(e);
-    powered_of(is_online(p, n), c, stage(p, e, c, t))
+    choice::powered(p, n, plan.choice(Element::Node(n)), t)
+}
+
+/// Whether a machine's action is so far at an instant.
+#[tactic(auto, unfolding(crate::specs::Snapshots::snapshot, crate::specs::Snapshots::stages_at, crate::specs::Snapshots::action_at))]
+pub fn action_at(p: &Problem, plan: &Plan, v: VmId, far: Progress, t: Instant) -> bool
+    requires plan { IsPlanOf p.now.given plan.now }
+    requires machine { IsElement p.now.given (Element.Vm v) }
+    ensures { result ≡ (snapshot_at p.now.given (choices_of plan.now) t).action v.0 far }
+{
+    choice::action(p, v, plan.choice(Element::Vm(v)), far, t)
 }

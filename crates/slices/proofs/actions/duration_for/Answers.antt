@@ -1,5 +1,5 @@
 use Rattle.std.proofs.Common.{◌≡◌, length, subst, unwrap_or}
-use Rattle.cluster.proofs.Durations.{IsDuration}
+use Rattle.cluster.proofs.Public.{IsDuration}
 use Rattle.slices.specs.Actions.{own_of, common_of}
 use Rattle.slices.proofs.DurationLemmas.{chosen}
 use Rattle.slices.proofs.actions.duration_for.Goals as goal

@@ -1,4 +1,4 @@
-use Rattle.slices.proofs.NodeLemmas.{held_is_small}
+use Rattle.slices.proofs.Public.{held_is_small}
 use Rattle.slices.proofs.laws.held_is_small.Goals as goal
 
 pub returns : goal.returns

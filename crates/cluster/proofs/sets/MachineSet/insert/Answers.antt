@@ -1,5 +1,6 @@
 use Rattle.std.proofs.Common.{◌<◌, ◌/◌, ap, sym, subst, arith, length, ◌∙◌}
 use Rattle.cluster.specs.Bits.{IsBits, IsBits-with_bit, has_bit}
+use Rattle.cluster.specs.Limits.{max_machines}
 use Rattle.cluster.specs.Sets.{has_machine}
 use Rattle.cluster.proofs.BitLemmas.{has_bit-with_bit}
 use Rattle.cluster.proofs.sets.MachineSet.insert.Goals as goal
@@ -11,4 +12,4 @@ returns c = λ m.
     ap (λ words. has_bit words m) c.set_bit.ensures ∙ has_bit-with_bit c.args.self.now.words c.args.v.0 m within
 
 pub invariant_of-self : goal.invariant_of-self
-invariant_of-self c = record { bits = subst (IsBits 64) (sym c.set_bit.ensures) (IsBits-with_bit 64 c.args.self.now.words c.args.v.0 c.args.self.now.bits) }
+invariant_of-self c = record { bits = subst (IsBits (max_machines / 64)) (sym c.set_bit.ensures) (IsBits-with_bit (max_machines / 64) c.args.self.now.words c.args.v.0 c.args.self.now.bits) }

@@ -1,5 +1,6 @@
-use Rattle.std.proofs.Common.{refl}
+use Rattle.std.proofs.Common.{◌/◌, refl}
 use Rattle.cluster.specs.Bits.{IsBits-zero}
+use Rattle.cluster.specs.Limits.{max_nodes}
 use Rattle.cluster.specs.Sets.{has_node, no_nodes}
 use Rattle.cluster.proofs.BitLemmas.{has_bit-zero}
 use Rattle.cluster.proofs.SetLemmas.{same_set_of_words}
@@ -7,7 +8,7 @@ use Rattle.cluster.proofs.sets.NodeSet.new.Goals as goal
 
 pub returns : goal.returns
 unfolding has_node no_nodes
-returns c = record { set = same_set_of_words _ no_nodes refl; nodes = λ m. has_bit-zero 8 m }
+returns c = record { set = same_set_of_words _ no_nodes refl; nodes = λ m. has_bit-zero (max_nodes / 64) m }
 
 pub invariant_of-result : goal.invariant_of-result
-invariant_of-result c = record { bits = IsBits-zero 8 }
+invariant_of-result c = record { bits = IsBits-zero (max_nodes / 64) }

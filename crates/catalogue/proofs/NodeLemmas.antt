@@ -1,0 +1,55 @@
+-- Which sets of nodes are listed.
+use Rattle.std.proofs.Common.{◌≡◌, ℕ, zero, suc, ◌<◌, ◌≤◌, ◌-◌, ◌+◌, not, slice_index_or, ⊎_elim, ◌∙◌, ap, sym, true≢false, refl, IsTrue, ◌↔◌, ◌&&◌, ◌/◌, Bool, true, false, length, slice_index, arith}
+use Rattle.std.specs.List.{list_all, range_with_len}
+use Rattle.std.proofs.lemmas.Bool.{cases_lt}
+use Rattle.std.proofs.lemmas.List.{get_or_past}
+use Rattle.std.proofs.lemmas.List.Folds.{list_all_at}
+use Rattle.std.proofs.lemmas.List.FromFn.{length-range_with_len, get_or-range_with_len}
+use Rattle.std.proofs.lemmas.Nat.Bits.{bit_at-zero}
+use Rattle.cluster.specs.Inventory.{Inventory}
+use Rattle.cluster.specs.Limits.{max_nodes}
+use Rattle.cluster.specs.declared.sets.NodeSet.{NodeSet}
+use Rattle.cluster.specs.Sets.{has_node, IsWithin}
+use Rattle.catalogue.specs.Faults.{are_nodes}
+
+-- a set of listed nodes has none past them
+pub IsWithin-are_nodes : (k : Inventory) (s : NodeSet) → are_nodes k s ≡ true → IsWithin s (length k.nodes)
+unfolding has_node
+IsWithin-are_nodes k s listed n past = ⊎_elim below above (cases_lt n max_nodes)
+  where
+    below : n < max_nodes → has_node s n ≡ false
+    below h = by (has_node s n) refl
+      where
+        by : (b : Bool) → has_node s n ≡ b → has_node s n ≡ false
+        by false is = is
+        by true is =
+            let count = max_nodes - length k.nodes in
+            let place = n - length k.nodes in
+            let within : place < count = omega arith in
+            let sum : length k.nodes + place ≡ n = omega arith in
+            let at : slice_index_or (range_with_len (length k.nodes) count) place 0 ≡ n = get_or-range_with_len (length k.nodes) count place 0 within ∙ sum in
+            let inside : place < length (range_with_len (length k.nodes) count) = rw length-range_with_len within in
+            let none = list_all_at (λ m. not (has_node s m)) (range_with_len (length k.nodes) count) place 0 inside (ap (λ m. not (has_node s m)) at ∙ ap not is) in
+            absurd (true≢false (sym listed ∙ none))
+
+    above : max_nodes ≤ n → has_node s n ≡ false
+    above h =
+        let past_words : length s.words ≤ n / 64 = omega (arith, s.bits.long) in
+        let word : slice_index s.words (n / 64) ≡ 0 = get_or_past s.words (n / 64) 0 past_words in
+        rw word (rw bit_at-zero refl)
+
+-- a set of nodes below a count has none of those from it on
+none_from : (s : NodeSet) (a count : ℕ) → IsWithin s a → list_all (λ n. not (has_node s n)) (range_with_len a count) ≡ true
+none_from s a zero within = refl
+none_from s a (suc count) within =
+    ap (λ b. not b && list_all (λ n. not (has_node s n)) (range_with_len (a + 1) count)) (within a (omega arith))
+    ∙ none_from s (a + 1) count (λ m h. within m (omega arith))
+
+-- a test whether a set is within the nodes tells whether its nodes are listed
+pub are_nodes-within : (k : Inventory) (s : NodeSet) (b : Bool) → IsTrue b ↔ IsWithin s (length k.nodes) → b ≡ are_nodes k s
+are_nodes-within k s true test = sym (none_from s (length k.nodes) (max_nodes - length k.nodes) (test.0 refl))
+are_nodes-within k s false test = by (are_nodes k s) refl
+  where
+    by : (b : Bool) → are_nodes k s ≡ b → false ≡ are_nodes k s
+    by false is = sym is
+    by true is = absurd (true≢false (sym (test.1 (IsWithin-are_nodes k s is))))
