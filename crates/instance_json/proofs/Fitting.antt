@@ -35,9 +35,6 @@ pub record AreAmounts (place : ℕ) (amounts : List ℕ) : Type 0 where
   pub small : list_all (λ a. nat_le a max_amount) amounts ≡ true
   pub rest : drop place amounts ≡ replicate (max_resources - place) 0
 
-pub amounts_begun : AreAmounts 0 (replicate max_resources 0)
-amounts_begun = record { long = refl; small = refl; rest = refl }
-
 drop-more : {X : Type 0} (xs ys : List X) (i : ℕ) → drop i xs ≡ drop i ys → drop (suc i) xs ≡ drop (suc i) ys
 drop-more xs ys i same = one xs i ∙ ap (drop 1) same ∙ sym (one ys i)
   where

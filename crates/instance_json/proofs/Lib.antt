@@ -1,3 +1,4 @@
+pub mod Public
 pub mod Loops
 pub mod Fitting
 pub mod NameLemmas

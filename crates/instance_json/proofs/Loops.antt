@@ -15,13 +15,6 @@ here [] i x lt is = absurd (omega arith)
 here (y ∷ ys) zero x lt is = ap (λ (z : _). z ∷ ys) (sym is)
 here (y ∷ ys) (suc i) x lt is = here ys i x (omega arith) is
 
-same_end : {A : Type 0} (r : Walk (List A)) → (r >>= λ rest. Ok rest) ≡ r
-same_end (Ok ys) = refl
-same_end (Err e) = refl
-
-pub fills_none : {X A : Type 0} (test : X → Walk A) (xs : List X) (out : List A) → Fills test xs 0 out
-fills_none test xs out = same_end (map_walk test xs)
-
 joined : {A : Type 0} (front : List A) (y : A) (r : Walk (List A)) → (r >>= λ rest. Ok ((front ++ y ∷ []) ++ rest)) ≡ ((r >>= λ ys. Ok (y ∷ ys)) >>= λ rest. Ok (front ++ rest))
 joined front y (Ok ys) = ap Ok (append_assoc front (y ∷ []) ys)
 joined front y (Err e) = refl

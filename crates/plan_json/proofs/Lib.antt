@@ -1,7 +1,7 @@
 pub mod NameLemmas
 pub mod Finding
 pub mod MarkLemmas
-pub mod Choosing
+pub mod ChoiceLemmas
 pub mod Printed
 pub mod Again
 pub mod ReadBack

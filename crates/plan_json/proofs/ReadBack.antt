@@ -33,7 +33,7 @@ use Rattle.plan_json.specs.Plans.{is_same, action_for, as_choice, choice_for, ch
 use Rattle.plan_json.specs.Print.{action_data, choice_data, element_data, actions_data, plan_data}
 use Rattle.plan_json.proofs.Again.{written_action, step_again}
 use Rattle.plan_json.proofs.Finding.{is_same-number, is_same-self}
-use Rattle.plan_json.proofs.Choosing.{length-choices_for, choices_for-at}
+use Rattle.plan_json.proofs.ChoiceLemmas.{length-choices_for, choices_for-at}
 
 -- the choice of the element of a number
 abbrev chosen_in : Instance → PlanChoices → ℕ → Choice
