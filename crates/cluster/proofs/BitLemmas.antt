@@ -11,8 +11,8 @@ use Rattle.std.proofs.lemmas.Nat.Bits.{bit_at_set_same, bit_at_set_other, same_f
 use Rattle.cluster.specs.Bits.{has_bit, with_bit, IsBits}
 
 -- a bit within a word, as code shifts it
-pub one-shl : (n : ℕ) → 1 * 2 ^ (n % 64) % 2 ^ 64 ≡ 2 ^ (n % 64)
-one-shl n = by (n % 64) (omega arith)
+pub one_shl : (n : ℕ) → 1 * 2 ^ (n % 64) % 2 ^ 64 ≡ 2 ^ (n % 64)
+one_shl n = by (n % 64) (omega arith)
   where
     by : (k : ℕ) → k < 64 → 1 * 2 ^ k % 2 ^ 64 ≡ 2 ^ k
     by k lt = let below : 2 ^ k < 2 ^ 64 = pow-lt lt in omega arith
@@ -34,7 +34,7 @@ has_bit-past words n le = ap (λ w. bit_at w (n % 64) == 1) (get_or_past words (
 pub has_bit-with_bit : (words : List ℕ) (n m : ℕ) → n / 64 < length words → has_bit (with_bit words n) m ≡ ((m == n) || has_bit words m)
 has_bit-with_bit words n m within =
     let small : n % 64 < 64 = omega arith in
-    rw (← one-shl n) (⊎_elim
+    rw (← one_shl n) (⊎_elim
     (λ (same : m / 64 ≡ n / 64). ⊎_elim
     (λ (here : m % 64 ≡ n % 64).
     let one : m ≡ n = omega arith in

@@ -3,6 +3,7 @@ ghost use Rattle.std.specs.Prelude.{◌≡◌, ◌<◌, ◌/◌, ◌^◌, length
 ghost use Rattle.cluster.specs.Bits.{has_bit, with_bit};
 
 /// Sets the bit of a number.
+#[tactic(auto, using(crate::proofs::BitLemmas::one_shl))]
 pub(crate) fn set_bit(words: &mut [u64], n: u32)
     requires { n / 64 < length words.old }
     ensures { words.new ≡ with_bit words.old n }

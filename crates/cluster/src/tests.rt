@@ -1,8 +1,8 @@
 //! Each public call, once.
 use crate::durations::Duration;
-use crate::ids::{Element, NodeId, VmId};
-use crate::inventory::{AddFault, Cluster};
-use crate::kinds::{KIND_COUNT, KIND_WORDS, KINDS, Kind};
+use crate::ids::{NodeId, VmId};
+use crate::inventory::Cluster;
+use crate::kinds::{KIND_COUNT, KIND_WORDS, Kind};
 use crate::limits::MAX_RESOURCES;
 use crate::machines::Machine;
 use crate::names::{Name, is_name_text};
@@ -18,19 +18,17 @@ const DURATION: Duration = Duration {
     resource: None,
 };
 
-/// Texts, and whether they are names.
-const TEXTS: [(&str, bool); 5] = [
-    ("_.-Z", true),
-    ("", false),
-    (".a", false),
-    ("a b", false),
-    (
-        "01234567890123456789012345678901234567890123456789012345678901234",
-        false,
-    ),
-];
+/// The resource cpu, the node n0 and the machine v0 on it.
+fn filled(alloc: Global) -> Result<Cluster, Fail> {
+    let cpu = Name::new(alloc, b"cpu")?;
+    let mut resources = Vec::new(alloc);
+    resources.push(cpu.copy()?)?;
+    let mut cluster = Cluster::new(alloc, resources, [DURATION; KIND_COUNT])?;
+    add(alloc, &mut cluster)?;
+    Ok(cluster)
+}
 
-fn add(alloc: Global, cluster: &mut Cluster) -> Result<(NodeId, VmId), Fail> {
+fn add(alloc: Global, cluster: &mut Cluster) -> Result<VmId, Fail> {
     let node = cluster.add_node(Node {
         name: Name::new(alloc, b"n0")?,
         online: true,
@@ -43,43 +41,54 @@ fn add(alloc: Global, cluster: &mut Cluster) -> Result<(NodeId, VmId), Fail> {
         usage: [0; MAX_RESOURCES],
         own: [None; KIND_COUNT],
     })?;
-    Ok((node, machine))
+    Ok(machine)
 }
 
-fn with_cpu(alloc: Global) -> Result<Cluster, Fail> {
-    let cpu = Name::new(alloc, b"cpu")?;
-    let mut resources = Vec::new(alloc);
-    resources.push(cpu.copy()?)?;
-    Ok(Cluster::new(alloc, resources, [DURATION; KIND_COUNT])?)
+/// Whether the lists are as long as they were made.
+fn is_filled(cluster: &Cluster) -> bool {
+    let elements = cluster.nodes().len() == 1 && cluster.machines().len() == 1;
+    elements && cluster.resources().len() == 1 && cluster.durations().len() == KIND_COUNT
+}
+
+/// Whether an element is found by its name, and has its number.
+fn is_found(cluster: &Cluster, x: usize) -> bool {
+    if x < cluster.element_count() {
+        let e = cluster.element(x);
+        cluster.number(e) == x && cluster.find(cluster.name(e).as_bytes()) == Some(e)
+    } else {
+        false
+    }
+}
+
+fn is_whole(cluster: &Cluster) -> bool {
+    let named = is_found(cluster, 0) && is_found(cluster, 1);
+    named && is_filled(cluster) && cluster.resource(b"cpu") == Some(0)
+}
+
+fn has_what_was_put_in() -> bool {
+    let mut nodes = NodeSet::new();
+    nodes.insert(NodeId(511));
+    let mut machines = MachineSet::new();
+    machines.insert(VmId(4095));
+    nodes.has(NodeId(511)) && nodes.is_within(512) && machines.has(VmId(4095))
+}
+
+fn is_read_back(word: &str) -> bool {
+    match Kind::of_word(word) {
+        Some(kind) => kind.word() == word,
+        None => false,
+    }
 }
 
 #[test]
 fn answers_what_was_added(rt: HostRuntime) -> Result<(), Fail> {
-    let mut cluster = with_cpu(rt.alloc())?;
-    assert!(rt; add(rt.alloc(), &mut cluster)? == (NodeId(0), VmId(0)));
-    assert!(rt; cluster.nodes().len() == 1 && cluster.machines().len() == 1);
-    assert!(rt; cluster.resource(b"cpu") == Some(0) && cluster.resources().len() == 1);
-    assert!(rt; cluster.durations()[9].base == 2);
-    for x in 0..cluster.element_count() {
-        let e = cluster.element(x);
-        assert!(rt; cluster.number(e) == x && cluster.find(cluster.name(e).as_bytes()) == Some(e));
-    }
+    let cluster = filled(rt.alloc())?;
+    assert!(rt; is_whole(&cluster));
     Ok(())
 }
 
 #[test]
-fn keeps_sets_names_and_words(rt: HostRuntime) {
-    let mut nodes = NodeSet::new();
-    nodes.insert(NodeId(511));
-    assert!(rt; nodes.has(NodeId(511)) && nodes.is_within(512) && !nodes.is_within(511));
-    let mut machines = MachineSet::new();
-    machines.insert(VmId(4095));
-    assert!(rt; machines.has(VmId(4095)) && !machines.has(VmId(0)));
-    for (text, want) in TEXTS {
-        assert!(rt; is_name_text(text.as_bytes()) == want);
-    }
-    for word in KIND_WORDS {
-        assert!(rt; matches!(Kind::of_word(word), Some(kind) if kind.word() == word));
-    }
-    assert!(rt; State::Gone.word() == "gone");
+fn keeps_sets_and_words(rt: HostRuntime) {
+    assert!(rt; has_what_was_put_in() && is_read_back("node_boot"));
+    assert!(rt; State::Gone.word() == "gone" && !is_name_text(b"a b"));
 }
