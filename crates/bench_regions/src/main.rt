@@ -32,7 +32,7 @@ fn start(alloc: Global, nodes: u32, machines: u32) -> Result<Region, Memory>
     ensures { IfOk result (λ g. length g.machines ≡ machines) }
 {
     let mut domains = Vec::new(alloc);
-    for _ in 0..machines {
+    for m in 0..machines {
         domains.push(domain(alloc, nodes)?)?;
     }
     Ok(Region::new(domains, Vec::new(alloc)))

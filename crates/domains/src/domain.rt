@@ -7,7 +7,7 @@ ghost use Rattle.domains.specs.Parts.{in_part, out_of_part, on_side};
 ghost use Rattle.domains.specs.Rows.{IsPartAt, option_choices};
 ghost use Rattle.domains.specs.Undo.{restored, CanRestore, put_row, put_back};
 
-use crate::measure::{lowest, Nought};
+use crate::measure::{Nought, lowest};
 use crate::parts::{Part, Row, Side};
 use crate::rows::{find, inside, outside};
 use crate::undo::Lost;
@@ -135,7 +135,11 @@ impl Domain {
                 rows: SmallVec::new(alloc),
                 slots: 0,
             },
-            Part::Upto(place, _) | Part::From(place, _) => match row_inside(self.rows.as_slice(), place, part) {
+            Part::Upto(place, _) | Part::From(place, _) => match row_inside(
+                self.rows.as_slice(),
+                place,
+                part,
+            ) {
                 None => Domain::new(alloc, false),
                 Some(row) => Domain {
                     idle: false,
@@ -161,7 +165,11 @@ impl Domain {
                 self.idle = false;
                 Lost::Idle
             }
-            Part::Upto(place, _) | Part::From(place, _) => match cut_row(&mut self.rows, place, part) {
+            Part::Upto(place, _) | Part::From(place, _) => match cut_row(
+                &mut self.rows,
+                place,
+                part,
+            ) {
                 None => Lost::Nothing,
                 Some(row) => Lost::Row(row),
             },

@@ -6,6 +6,6 @@
 #![tactic(auto)]
 
 mod log;
-pub mod trail;
 #[cfg(test)]
 mod tests;
+pub mod trail;

@@ -1,5 +1,5 @@
 //! Marks in one another, with a change of each sort, and back.
-ghost use Rattle.std.specs.Prelude.{◌≡◌, ◌<◌, [], IfOk, length};
+ghost use Rattle.std.specs.Prelude.{◌≡◌, ◌<◌, [], ◌∷◌, IfOk, OnOk, length};
 
 use crate::trail::Trail;
 use cluster::choices::{Instant, Place};
@@ -7,11 +7,12 @@ use cluster::ids::{Element, NodeId, VmId};
 use domains::domain::Domain;
 use domains::parts::{Change, Part, Row, Side};
 use domains::region::Region;
-use std::process::Abort;
 use std::alloc::Global;
+use std::process::Abort;
 use std::test::Fail;
 
 const HERE: Place = Place::At(NodeId(0));
+
 const MACHINE: Element = Element::Vm(VmId(0));
 
 fn row(place: Place, lo: Instant, hi: Instant) -> Row
@@ -51,28 +52,32 @@ fn assert_rows(rt: &impl Abort, trail: &Trail, idle: bool, rows: &[Row])
     assert_eq!(rt; domain.rows(), rows);
 }
 
+/// Makes a mark, and then a change.
+fn step(trail: &mut Trail, part: Part, side: Side) -> Result<(), Fail>
+    requires { 0 < length trail.old.region.machines }
+    ensures one { length trail.new.region.machines ≡ length trail.old.region.machines }
+    ensures marks { OnOk result (trail.new.marks ≡ trail.old.region ∷ trail.old.marks) }
+{
+    trail.mark()?;
+    trail.apply(change(part, side))?;
+    Ok(())
+}
+
 #[test]
 fn back_from_three_marks(rt: HostRuntime) -> Result<(), Fail> {
     let nowhere = row(Place::Nowhere, 2, 2);
-    let here = row(HERE, 3, 7);
     let mut trail = sample(rt.alloc())?;
-    trail.mark()?;
-    trail.apply(change(Part::Idle, Side::Outside))?;
-    trail.mark()?;
-    trail.apply(change(Part::From(HERE, 5), Side::Outside))?;
+    step(&mut trail, Part::Idle, Side::Outside)?;
+    step(&mut trail, Part::From(HERE, 5), Side::Outside)?;
     trail.apply(change(Part::From(Place::Nowhere, 0), Side::Outside))?;
-    trail.mark()?;
-    trail.apply(change(Part::Upto(HERE, 3), Side::Inside))?;
+    step(&mut trail, Part::Upto(HERE, 3), Side::Inside)?;
     assert_eq!(rt; trail.marks(), 3);
     assert_rows(&rt, &trail, false, &[row(HERE, 3, 3)]);
     trail.back();
     assert_rows(&rt, &trail, false, &[row(HERE, 3, 4)]);
     trail.back();
-    assert_rows(&rt, &trail, false, &[nowhere, here]);
+    assert_rows(&rt, &trail, false, &[nowhere, row(HERE, 3, 7)]);
     trail.back();
-    assert_rows(&rt, &trail, true, &[nowhere, here]);
-    assert_eq!(rt; trail.marks(), 0);
-    trail.apply(change(Part::Idle, Side::Inside))?;
-    assert_rows(&rt, &trail, true, &[]);
+    assert_rows(&rt, &trail, true, &[nowhere, row(HERE, 3, 7)]);
     Ok(())
 }
