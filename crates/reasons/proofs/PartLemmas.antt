@@ -1,0 +1,193 @@
+-- What is broken in a snapshot is broken in each one with more.
+use Rattle.std.proofs.Common.{ℕ, ◌<◌, ◌≤◌, Bool, true, false, not, ◌||◌, cond, List, [], ◌∷◌, length, IsTrue, Option, Some, None, refl, arith}
+use Rattle.std.specs.List.{filter}
+use Rattle.std.specs.Prelude.{IsSomeAnd}
+use Rattle.std.proofs.lemmas.Bool.{false≢true}
+use Rattle.std.proofs.lemmas.List.Elements.{All-weaker}
+use Rattle.sums.proofs.Sums.{sum_to-le}
+use Rattle.sums.proofs.Tests.{cond-implied, cond-le, fails_below, positive_above}
+use Rattle.cluster.specs.declared.ids.VmId.{VmId}
+use Rattle.cluster.specs.Sets.{has_node}
+use Rattle.catalogue.specs.declared.constraint.Constraint.{Constraint}
+use Rattle.catalogue.specs.declared.constraint.Constraint.TheVariants.{Spread, Ban, Fence, Gather, Lonely, Among, Split, Root, Precedence, Serialize, Preserve, ResourceCapacity, RunningCapacity, MaxOnline, Overbook, Online, Offline, Running, Sleeping, Ready, Killed}
+use Rattle.catalogue.specs.Instance.{Instance}
+use Rattle.catalogue.specs.Values.{capacity_of}
+use Rattle.slices.specs.declared.stage.Progress.TheVariants.{Started, Unended, Acting}
+use Rattle.slices.specs.declared.slice.Weight.TheVariants.{Amount, Presence, Image}
+use Rattle.slices.specs.Elements.{machine_count, node_count}
+use Rattle.slices.specs.Parts.{IsPartOf}
+use Rattle.slices.specs.Snapshots.{Snapshot, load, room}
+use Rattle.slices.specs.Stages.{Nodes, one}
+use Rattle.reasons.specs.Laws.{IsPartIn}
+use Rattle.reasons.specs.Reasons.{AreBothActing, AreScattered, HasOutside, IsGroup, IsHall, IsOverload, IsPair, IsPlace, IsPower, IsSetLoad, IsUnusable}
+
+-- a part is one as far as the machines of any instance go
+pub part-in : (p : Instance) (s big : Snapshot) → IsPartOf s big → IsPartIn p s big
+part-in p s big part = record {
+  held = λ v i w set. part.held v w set;
+  present = part.present;
+  usable = part.usable;
+  powered = part.powered;
+  action = part.action;
+}
+
+-- a constraint that applies passes a weaker test
+pub applies-weaker : (o : Option Constraint) (on : Constraint → Bool) (P Q : Constraint → Type 0) → ((k : Constraint) → P k → Q k) → IsSomeAnd o (λ k. IsTrue (on k) × P k) → IsSomeAnd o (λ k. IsTrue (on k) × Q k)
+applies-weaker None on P Q f h = h
+applies-weaker (Some k) on P Q f h = (h.0, f k h.1)
+
+or-implied : (a b x y : Bool) → (IsTrue a → IsTrue x) → (IsTrue b → IsTrue y) → IsTrue (a || b) → IsTrue (x || y)
+or-implied true b true y f g h = refl
+or-implied true b false y f g h = absurd (false≢true (f refl))
+or-implied false b true y f g h = refl
+or-implied false b false y f g h = g h
+
+-- a weaker test keeps no fewer
+filter-implied : (f g : VmId → Bool) (vs : List VmId) → ((v : VmId) → IsTrue (f v) → IsTrue (g v)) → length (filter f vs) ≤ length (filter g vs)
+filter-implied f g [] h = omega arith
+filter-implied f g (v ∷ vs) h = at (f v) (g v) (h v) (filter-implied f g vs h)
+  where
+    at : (a b : Bool) → (IsTrue a → IsTrue b) → length (filter f vs) ≤ length (filter g vs) → length (cond a (v ∷ filter f vs) (filter f vs)) ≤ length (cond b (v ∷ filter g vs) (filter g vs))
+    at true true i l = omega arith
+    at true false i l = absurd (false≢true (i refl))
+    at false true i l = omega arith
+    at false false i l = l
+
+module _ (p : Instance) (s big : Snapshot) (part : IsPartIn p s big) where
+  load-part : (r : ℕ) (set : Nodes) → load p s r set ≤ load p big r set
+  load-part r set =
+      sum_to-le (machine_count p) (λ v. s.held v (Amount r) set) (λ v. big.held v (Amount r) set) (λ v i. part.held v i (Amount r) set)
+
+  room-part : (r : ℕ) (set : Nodes) → room p big r set ≤ room p s r set
+  room-part r set =
+      sum_to-le (node_count p) (λ n. cond (set n) (cond (big.usable n) (capacity_of p n r) 0) 0) (λ n. cond (set n) (cond (s.usable n) (capacity_of p n r) 0) 0)
+      (λ n i. cond-le (set n) _ _ (λ x. cond-implied (big.usable n) (s.usable n) (capacity_of p n r) (part.usable n)))
+
+  pub overload-part : (r : ℕ) (set : Nodes) → IsOverload p s r set → IsOverload p big r set
+  overload-part r set over = omega (arith, over, room-part r set, load-part r set)
+
+  pub pair-part : (k : Constraint) (v w n : ℕ) → IsPair p s k v w n → IsPair p big k v w n
+  pair-part k v w n h = record {
+    forbidden = h.forbidden;
+    differ = h.differ;
+    first = part.present v (one n) h.first;
+    second = part.present w (one n) h.second;
+  }
+
+  pub place-part : (k : Constraint) (v n : ℕ) → IsPlace p s k v n → IsPlace p big k v n
+  place-part k v n h = record { forbidden = h.forbidden; present = part.present v (one n) h.present }
+
+  scattered-part : (vs : List VmId) (groups : List Nodes) → AreScattered s vs groups → AreScattered big vs groups
+  scattered-part vs groups h = record {
+    some = h.some;
+    each = All-weaker (HasOutside s vs) (HasOutside big vs) (λ g x. (x.0, x.1, part.present x.0 (λ n. not (g n)) x.2)) groups h.each;
+  }
+
+  acting-part : (vs : List VmId) → AreBothActing s vs → AreBothActing big vs
+  acting-part vs h = record {
+    v = h.v;
+    w = h.w;
+    differ = h.differ;
+    first_member = h.first_member;
+    second_member = h.second_member;
+    first = part.action h.v Acting h.first;
+    second = part.action h.w Acting h.second;
+  }
+
+  pub group-part : (k : Constraint) → IsGroup p s k → IsGroup p big k
+  group-part (Spread vs b) h = h
+  group-part (Ban vs ns b) h = h
+  group-part (Fence vs ns b) h = h
+  group-part (Gather vs b) h = scattered-part vs _ h
+  group-part (Lonely vs b) h = h
+  group-part (Among vs groups b) h = scattered-part vs _ h
+  group-part (Split parts b) h = h
+  group-part (Root vs) h = h
+  group-part (Precedence before after) h = (part.action after.0 Started h.0, part.action before.0 Unended h.1)
+  group-part (Serialize vs) h = acting-part vs h
+  group-part (Preserve vs r amount) h = h
+  group-part (ResourceCapacity ns r amount b) h = h
+  group-part (RunningCapacity ns amount b) h = h
+  group-part (MaxOnline ns amount b) h = h
+  group-part (Overbook ns r num den) h = h
+  group-part (Online ns) h = h
+  group-part (Offline ns) h = h
+  group-part (Running vs) h = h
+  group-part (Sleeping vs) h = h
+  group-part (Ready vs) h = h
+  group-part (Killed vs) h = h
+
+  pub set_load-part : (k : Constraint) → IsSetLoad p s k → IsSetLoad p big k
+  set_load-part (Spread vs b) h = h
+  set_load-part (Ban vs ns b) h = h
+  set_load-part (Fence vs ns b) h = h
+  set_load-part (Gather vs b) h = h
+  set_load-part (Lonely vs b) h = h
+  set_load-part (Among vs groups b) h = h
+  set_load-part (Split parts b) h = h
+  set_load-part (Root vs) h = h
+  set_load-part (Precedence before after) h = h
+  set_load-part (Serialize vs) h = h
+  set_load-part (Preserve vs r amount) h = h
+  set_load-part (ResourceCapacity ns r amount b) h = omega (arith, h, load-part r (has_node ns))
+  set_load-part (RunningCapacity ns amount b) h = omega (arith, h, sum_to-le (machine_count p) (λ v. s.held v Presence (has_node ns)) (λ v. big.held v Presence (has_node ns)) (λ v i. part.held v i Presence (has_node ns)))
+  set_load-part (MaxOnline ns amount b) h = h
+  set_load-part (Overbook ns r num den) h = h
+  set_load-part (Online ns) h = h
+  set_load-part (Offline ns) h = h
+  set_load-part (Running vs) h = h
+  set_load-part (Sleeping vs) h = h
+  set_load-part (Ready vs) h = h
+  set_load-part (Killed vs) h = h
+
+  pub power-part : (k : Constraint) → IsPower p s k → IsPower p big k
+  power-part (Spread vs b) h = h
+  power-part (Ban vs ns b) h = h
+  power-part (Fence vs ns b) h = h
+  power-part (Gather vs b) h = h
+  power-part (Lonely vs b) h = h
+  power-part (Among vs groups b) h = h
+  power-part (Split parts b) h = h
+  power-part (Root vs) h = h
+  power-part (Precedence before after) h = h
+  power-part (Serialize vs) h = h
+  power-part (Preserve vs r amount) h = h
+  power-part (ResourceCapacity ns r amount b) h = h
+  power-part (RunningCapacity ns amount b) h = h
+  power-part (MaxOnline ns amount b) h = omega (arith, h, sum_to-le (node_count p) (λ n. cond (has_node ns n) (cond (s.powered n) 1 0) 0) (λ n. cond (has_node ns n) (cond (big.powered n) 1 0) 0) (λ n i. cond-le (has_node ns n) _ _ (λ x. cond-implied (s.powered n) (big.powered n) 1 (part.powered n))))
+  power-part (Overbook ns r num den) h = h
+  power-part (Online ns) h = h
+  power-part (Offline ns) h = h
+  power-part (Running vs) h = h
+  power-part (Sleeping vs) h = h
+  power-part (Ready vs) h = h
+  power-part (Killed vs) h = h
+
+  pub unusable-part : (v n : ℕ) → v < machine_count p → IsUnusable s v n → IsUnusable big v n
+  unusable-part v n i h = record {
+    stands = or-implied _ _ _ _ (part.present v (one n)) (positive_above _ _ (part.held v i Image (one n))) h.stands;
+    unusable = fails_below _ _ (part.usable n) h.unusable;
+  }
+
+  pub hall-part : (set : Nodes) (k : Constraint) → IsHall p s set k → IsHall p big set k
+  hall-part set (Spread vs b) h = omega (arith, h, filter-implied (λ v. s.present v.0 set) (λ v. big.present v.0 set) vs (λ v. part.present v.0 set))
+  hall-part set (Ban vs ns b) h = h
+  hall-part set (Fence vs ns b) h = h
+  hall-part set (Gather vs b) h = h
+  hall-part set (Lonely vs b) h = h
+  hall-part set (Among vs groups b) h = h
+  hall-part set (Split parts b) h = h
+  hall-part set (Root vs) h = h
+  hall-part set (Precedence before after) h = h
+  hall-part set (Serialize vs) h = h
+  hall-part set (Preserve vs r amount) h = h
+  hall-part set (ResourceCapacity ns r amount b) h = h
+  hall-part set (RunningCapacity ns amount b) h = h
+  hall-part set (MaxOnline ns amount b) h = h
+  hall-part set (Overbook ns r num den) h = h
+  hall-part set (Online ns) h = h
+  hall-part set (Offline ns) h = h
+  hall-part set (Running vs) h = h
+  hall-part set (Sleeping vs) h = h
+  hall-part set (Ready vs) h = h
+  hall-part set (Killed vs) h = h

@@ -1,0 +1,74 @@
+-- What a constraint without a fault says of the machines that it names.
+use Rattle.std.proofs.Common.{◌≡◌, ◌≢◌, inl, inr, ℕ, zero, suc, ◌<◌, Bool, true, false, ◌&&◌, ◌==◌, nat_lt, not, List, [], ◌∷◌, ◌++◌, slice_get, Some, refl, sym, ap, ◌∙◌, arith}
+use Rattle.std.proofs.lemmas.Bool.{and_parts, eqb-true, false≢true, ltb-true, not-true, or_cases, or_left, or_right, true≢false}
+use Rattle.std.proofs.lemmas.List.Elements.{All-get_or}
+use Rattle.std.proofs.lemmas.List.Folds.{list_any-append}
+use Rattle.std.proofs.lemmas.Option.{get_or_from_slice_get, slice_get_within}
+use Rattle.cluster.specs.declared.ids.VmId.{VmId}
+use Rattle.catalogue.specs.declared.constraint.Constraint.{Constraint}
+use Rattle.catalogue.specs.Faults.{all_of, are_below, are_named_machines, are_named_nodes, differ, is_fitting, is_member, is_named_resource, is_rule, machines_in}
+use Rattle.catalogue.specs.Instance.{Instance, IsInstance, inventory_of}
+use Rattle.slices.specs.Elements.{machine_count}
+use Rattle.slices.specs.Holds.{IsInPart, IsMember}
+
+-- its machines are listed and differ, and its numbers are in range
+pub record IsSoundRule (p : Instance) (k : Constraint) : Type 0 where
+  pub listed : are_below (machine_count p) (machines_in k) ≡ true
+  pub differ : differ (machines_in k) ≡ true
+  pub fitting : is_fitting k ≡ true
+
+parts-of : (a b c d e : Bool) → (a && b && c && d && e) ≡ true → (a ≡ true) × (d ≡ true) × (e ≡ true)
+parts-of true true true true true h = (refl, refl, refl)
+parts-of true true true true false h = absurd (false≢true h)
+parts-of true true true false e h = absurd (false≢true h)
+parts-of true true false d e h = absurd (false≢true h)
+parts-of true false c d e h = absurd (false≢true h)
+parts-of false b c d e h = absurd (false≢true h)
+
+-- each constraint of an instance is one
+pub sound_rule : (p : Instance) → IsInstance p → (c : ℕ) (k : Constraint) → slice_get p.constraints c ≡ Some k → IsSoundRule p k
+sound_rule p sound c k e =
+    let rule : is_rule (inventory_of p) k ≡ true =
+    rw (get_or_from_slice_get p.constraints c k k e) at (All-get_or (λ x. is_rule (inventory_of p) x ≡ true) p.constraints c k (slice_get_within p.constraints c k e) sound.rules) in
+    let parts = parts-of (are_named_machines (inventory_of p) k) (are_named_nodes (inventory_of p) k) (is_named_resource (inventory_of p) k) (differ (machines_in k)) (is_fitting k) rule in
+    record { listed = parts.0; differ = parts.1; fitting = parts.2 }
+
+-- a member of listed machines is listed
+pub member_below : (n : ℕ) (vs : List VmId) (v : ℕ) → are_below n vs ≡ true → IsMember vs v → v < n
+member_below n [] v b m = absurd (false≢true m)
+member_below n (x ∷ xs) v b m =
+    let parts : (nat_lt x.0 n ≡ true) × (are_below n xs ≡ true) = and_parts _ (are_below n xs) b in
+    elim (or_cases (x.0 == v) (is_member xs v) m) [
+      | inl here ↦ omega (arith, ltb-true x.0 n parts.0, eqb-true x.0 v here)
+      | inr later ↦ member_below n xs v parts.1 later
+    ]
+
+-- machines that differ stand in no two of the lists that they are joined of
+split-differ : (xs ys : List VmId) (v : ℕ) → differ (xs ++ ys) ≡ true → IsMember xs v → IsMember ys v → ⊥
+split-differ [] ys v d m k = false≢true m
+split-differ (x ∷ xs) ys v d m k =
+    let parts = and_parts (not (is_member (xs ++ ys) x.0)) (differ (xs ++ ys)) d in
+    elim (or_cases (x.0 == v) (is_member xs v) m) [
+      | inl here ↦
+          let same : x.0 ≡ v = eqb-true x.0 v here in
+          let again : is_member (xs ++ ys) x.0 ≡ true = list_any-append (λ y. y.0 == x.0) xs ys ∙ or_right (is_member xs x.0) (is_member ys x.0) (ap (is_member ys) same ∙ k) in
+          true≢false (sym again ∙ not-true (is_member (xs ++ ys) x.0) parts.0)
+      | inr later ↦ split-differ xs ys v parts.1 later k
+    ]
+
+part-listed : (parts : List (List VmId)) (i v : ℕ) → IsInPart parts i v → IsMember (all_of parts) v
+part-listed [] i v h = h
+part-listed (vs ∷ parts) zero v h = list_any-append (λ x. x.0 == v) vs (all_of parts) ∙ or_left (is_member vs v) (is_member (all_of parts) v) h
+part-listed (vs ∷ parts) (suc i) v h = list_any-append (λ x. x.0 == v) vs (all_of parts) ∙ or_right (is_member vs v) (is_member (all_of parts) v) (part-listed parts i v h)
+
+differ-rest : (xs ys : List VmId) → differ (xs ++ ys) ≡ true → differ ys ≡ true
+differ-rest [] ys d = d
+differ-rest (x ∷ xs) ys d = differ-rest xs ys (and_parts (not (is_member (xs ++ ys) x.0)) (differ (xs ++ ys)) d).1
+
+-- no machine is in two parts
+pub parts_differ : (parts : List (List VmId)) (i j v : ℕ) → differ (all_of parts) ≡ true → i ≢ j → IsInPart parts i v → IsInPart parts j v → ⊥
+parts_differ [] i j v d ne h k = false≢true h
+parts_differ (vs ∷ parts) zero zero v d ne h k = ne refl
+parts_differ (vs ∷ parts) zero (suc j) v d ne h k = split-differ vs (all_of parts) v d h (part-listed parts j v k)
+parts_differ (vs ∷ parts) (suc i) zero v d ne h k = split-differ vs (all_of parts) v d k (part-listed parts i v h)
+parts_differ (vs ∷ parts) (suc i) (suc j) v d ne h k = parts_differ parts i j v (differ-rest vs (all_of parts) d) (λ e. ne (ap suc e)) h k

@@ -1,0 +1,166 @@
+-- What setting one element changes in what is sure.
+use Rattle.std.proofs.Common.{◌≡◌, ◌≢◌, inl, ℕ, ◌≤◌, Bool, true, false, cond, [], ◌∷◌, IsTrue, refl, sym, ap, subst, ◌∙◌, arith}
+use Rattle.std.specs.List.{Contains}
+use Rattle.std.proofs.lemmas.Bool.{eq-eqb, false_from_ne_true}
+use Rattle.std.proofs.Math.Bool.{or-false}
+use Rattle.sums.specs.Least.{least}
+use Rattle.sums.proofs.Sums.{sum_to-change, sum_to-same}
+use Rattle.cluster.specs.declared.choices.Choice.{Choice}
+use Rattle.cluster.specs.declared.choices.Choice.TheVariants.{Idle, Act}
+use Rattle.cluster.specs.declared.ids.Element.{Element}
+use Rattle.cluster.specs.declared.ids.Element.TheVariants.{Vm, Node as TheNode}
+use Rattle.catalogue.specs.Instance.{Instance}
+use Rattle.catalogue.specs.Values.{capacity_of}
+use Rattle.slices.specs.declared.slice.Weight.TheVariants.{Amount, Presence}
+use Rattle.slices.specs.Elements.{machine_count, node_count, node, vm}
+use Rattle.slices.specs.Snapshots.{action_at, held_at, powered_at, present_at, usable_at}
+use Rattle.domains.specs.Sets.{Sets, may, same_element, setting, surely}
+use Rattle.domains.proofs.Public.{least_of_each, may_each, same_is, surely_each}
+use Rattle.reasons.specs.Settings.{IsMachineUnder, IsNodeUnder, IsSameMachine, IsSameNode, SettingApart, SettingGrows, SettingLoad, SettingPowered, SettingPresences, SettingRoom, SettingSets, SomeEnd}
+use Rattle.reasons.specs.Sure.{sure}
+use Rattle.reasons.proofs.ClosedLemmas.{and-true}
+use Rattle.reasons.proofs.MeasureLemmas.{first-in}
+use Rattle.reasons.proofs.TurnLemmas.{low_of}
+
+self : (x : Element) → same_element x x ≡ true
+self (Vm v) = eq-eqb v.0 v.0 refl
+self (TheNode n) = eq-eqb n.0 n.0 refl
+
+pub setting-here : (x : Element) (c : Choice) (s : Sets) → setting x c s x ≡ c ∷ []
+setting-here x c s = rw (self x) refl
+
+pub setting-other : (x e : Element) (c : Choice) (s : Sets) → e ≢ x → setting x c s e ≡ s e
+setting-other x e c s ne = let other : same_element e x ≡ false = false_from_ne_true _ (λ t. ne (same_is e x t)) in rw other refl
+
+-- ---- element by element
+
+-- sets that are the same at an element have the same of it
+same-machine : (p : Instance) (s r : Sets) (t v : ℕ) → s (vm v) ≡ r (vm v) → IsSameMachine (sure p s t) (sure p r t) v
+unfolding sure
+same-machine p s r t v e = record {
+  held = λ w set. ap (least (held_at p v w set t)) e;
+  present = λ set. ap (surely (present_at p v set t)) e;
+  action = λ far. ap (surely (action_at p v far t)) e;
+}
+
+same-node : (p : Instance) (s r : Sets) (t n : ℕ) → s (node n) ≡ r (node n) → IsSameNode (sure p s t) (sure p r t) n
+unfolding sure
+same-node p s r t n e = record { usable = ap (may (usable_at p n t)) e; powered = ap (surely (powered_at p n t)) e }
+
+machine-under : (p : Instance) (s : Sets) (t v : ℕ) (c : Choice) → s (vm v) ≡ c ∷ [] → IsMachineUnder p (sure p s t) v t c
+unfolding sure
+machine-under p s t v c e = record {
+  held = λ w set. ap (least (held_at p v w set t)) e;
+  present = λ set. ap (surely (present_at p v set t)) e ∙ and-true (present_at p v set t c);
+  action = λ far. ap (surely (action_at p v far t)) e ∙ and-true (action_at p v far t c);
+}
+
+node-under : (p : Instance) (s : Sets) (t n : ℕ) (c : Choice) → s (node n) ≡ c ∷ [] → IsNodeUnder p (sure p s t) n t c
+unfolding sure
+node-under p s t n c e = record {
+  usable = ap (may (usable_at p n t)) e ∙ or-false (usable_at p n t c);
+  powered = ap (surely (powered_at p n t)) e ∙ and-true (powered_at p n t c);
+}
+
+pub setting_sets : SettingSets
+setting_sets p s x c t = record {
+  set_machine = λ v e. machine-under p (setting x c s) t v c (ap (setting x c s) (sym e) ∙ setting-here x c s);
+  set_node = λ n e. node-under p (setting x c s) t n c (ap (setting x c s) (sym e) ∙ setting-here x c s);
+  other_machines = λ v ne. same-machine p (setting x c s) s t v (setting-other x (vm v) c s ne);
+  other_nodes = λ n ne. same-node p (setting x c s) s t n (setting-other x (node n) c s ne);
+}
+
+pub setting_grows : SettingGrows
+unfolding sure
+setting_grows p s x c t i = record {
+  held = λ v w set. at-least (held_at p v w set t) (vm v) (same_element (vm v) x) refl;
+  present = λ v set. at-surely (present_at p v set t) (vm v) (same_element (vm v) x) refl;
+  usable = λ n. at-may (usable_at p n t) (node n) (same_element (node n) x) refl;
+  powered = λ n. at-surely (powered_at p n t) (node n) (same_element (node n) x) refl;
+  action = λ v far. at-surely (action_at p v far t) (vm v) (same_element (vm v) x) refl;
+}
+  where
+    in_set : (e : Element) → same_element e x ≡ true → Contains (s e) c
+    in_set e h = subst (λ y. Contains (s y) c) (sym (same_is e x h)) i
+
+    at-least : (f : Choice → ℕ) (e : Element) (b : Bool) → same_element e x ≡ b → least f (s e) ≤ least f (cond b (c ∷ []) (s e))
+    at-least f e true h = least_of_each f (s e) c (in_set e h)
+    at-least f e false h = omega arith
+
+    at-surely : (test : Choice → Bool) (e : Element) (b : Bool) → same_element e x ≡ b → IsTrue (surely test (s e)) → IsTrue (surely test (cond b (c ∷ []) (s e)))
+    at-surely test e true h sure_of = and-true (test c) ∙ surely_each test (s e) c (in_set e h) sure_of
+    at-surely test e false h sure_of = sure_of
+
+    at-may : (test : Choice → Bool) (e : Element) (b : Bool) → same_element e x ≡ b → IsTrue (may test (cond b (c ∷ []) (s e))) → IsTrue (may test (s e))
+    at-may test e true h maybe = may_each test (s e) c (in_set e h) (sym (or-false (test c)) ∙ maybe)
+    at-may test e false h maybe = maybe
+
+pub some_end : SomeEnd
+some_end [] ne = absurd (ne refl)
+some_end (Idle ∷ cs) ne = (Idle, first-in Idle cs)
+some_end (Act place s ∷ cs) ne =
+    let low = low_of (Act place s ∷ cs) place s (first-in (Act place s) cs) in
+    (Act place low.0, (low.1.0, inl low.1.1))
+
+-- ---- sums
+
+number : Element → ℕ
+number (Vm v) = v.0
+number (TheNode n) = n.0
+
+abbrev is_vm : Element → Bool
+is_vm (Vm v) = true
+is_vm (TheNode n) = false
+
+vm-differs : (k v : ℕ) → k ≢ v → vm k ≢ vm v
+unfolding number
+vm-differs k v ne e = ne (ap number e)
+
+node-differs : (k n : ℕ) → k ≢ n → node k ≢ node n
+unfolding number
+node-differs k n ne e = ne (ap number e)
+
+vm-node : (v n : ℕ) → vm v ≢ node n
+vm-node v n e = let bad : true ≡ false = ap is_vm e in cc
+
+pub setting_load : SettingLoad
+setting_load p s v c t r set l =
+    let set_to = setting_sets p s (vm v) c t in
+    let here = (set_to.set_machine v refl).held (Amount r) set in
+    let change = sum_to-change (machine_count p) (λ k. (sure p (setting (vm v) c s) t).held k (Amount r) set) (λ k. (sure p s t).held k (Amount r) set) v l
+    (λ k ne. (set_to.other_machines k (vm-differs k v ne)).held (Amount r) set) in
+    omega (arith, here, change)
+
+pub setting_presences : SettingPresences
+setting_presences p s v c t set l =
+    let set_to = setting_sets p s (vm v) c t in
+    let here = (set_to.set_machine v refl).held Presence set in
+    let change = sum_to-change (machine_count p) (λ k. (sure p (setting (vm v) c s) t).held k Presence set) (λ k. (sure p s t).held k Presence set) v l
+    (λ k ne. (set_to.other_machines k (vm-differs k v ne)).held Presence set) in
+    omega (arith, here, change)
+
+pub setting_room : SettingRoom
+setting_room p s n c t r set l =
+    let set_to = setting_sets p s (node n) c t in
+    let here = ap (λ b. cond (set n) (cond b (capacity_of p n r) 0) 0) (set_to.set_node n refl).usable in
+    let change = sum_to-change (node_count p) (λ k. cond (set k) (cond ((sure p (setting (node n) c s) t).usable k) (capacity_of p k r) 0) 0) (λ k. cond (set k) (cond ((sure p s t).usable k) (capacity_of p k r) 0) 0) n l
+    (λ k ne. ap (λ b. cond (set k) (cond b (capacity_of p k r) 0) 0) (set_to.other_nodes k (node-differs k n ne)).usable) in
+    omega (arith, here, change)
+
+pub setting_powered : SettingPowered
+setting_powered p s n c t set l =
+    let set_to = setting_sets p s (node n) c t in
+    let here : ◌≡◌ {A = ℕ} (cond (set n) (cond ((sure p (setting (node n) c s) t).powered n) 1 0) 0) (cond (set n) (cond (powered_at p n t c) 1 0) 0) = ap (λ b. cond (set n) (cond b 1 0) 0) (set_to.set_node n refl).powered in
+    let change = sum_to-change (node_count p) (λ k. cond (set k) (cond ((sure p (setting (node n) c s) t).powered k) 1 0) 0) (λ k. cond (set k) (cond ((sure p s t).powered k) 1 0) 0) n l
+    (λ k ne. ap (λ b. cond (set k) (cond b 1 0) 0) (set_to.other_nodes k (node-differs k n ne)).powered) in
+    omega (arith, here, change)
+
+pub setting_apart : SettingApart
+setting_apart p s c t = record {
+  same_load = λ n r set. sum_to-same (machine_count p) (λ v. (sure p (setting (node n) c s) t).held v (Amount r) set) (λ v. (sure p s t).held v (Amount r) set) (λ v l. ((setting_sets p s (node n) c t).other_machines v (vm-node v n)).held (Amount r) set);
+  same_presences = λ n set. sum_to-same (machine_count p) (λ v. (sure p (setting (node n) c s) t).held v Presence set) (λ v. (sure p s t).held v Presence set) (λ v l. ((setting_sets p s (node n) c t).other_machines v (vm-node v n)).held Presence set);
+  same_room = λ v r set. sum_to-same (node_count p) (λ n. cond (set n) (cond ((sure p (setting (vm v) c s) t).usable n) (capacity_of p n r) 0) 0) (λ n. cond (set n) (cond ((sure p s t).usable n) (capacity_of p n r) 0) 0)
+      (λ n l. ap (λ b. cond (set n) (cond b (capacity_of p n r) 0) 0) ((setting_sets p s (vm v) c t).other_nodes n (λ e. vm-node v n (sym e))).usable);
+  same_powered = λ v set. sum_to-same (node_count p) (λ n. cond (set n) (cond ((sure p (setting (vm v) c s) t).powered n) 1 0) 0) (λ n. cond (set n) (cond ((sure p s t).powered n) 1 0) 0)
+      (λ n l. ap (λ b. cond (set n) (cond b 1 0) 0) ((setting_sets p s (vm v) c t).other_nodes n (λ e. vm-node v n (sym e))).powered);
+}

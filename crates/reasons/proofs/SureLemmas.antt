@@ -1,0 +1,63 @@
+-- What is sure is a part of what each plan has, and grows in narrower sets.
+use Rattle.std.proofs.Common.{ℕ, ◌≤◌, arith}
+use Rattle.std.specs.Prelude.{Option, Some, None, IsSomeAnd}
+use Rattle.sums.specs.Least.{least}
+use Rattle.sums.proofs.Sums.{sum_to-le}
+use Rattle.catalogue.specs.Instance.{Instance}
+use Rattle.slices.specs.Actions.{end_of}
+use Rattle.slices.specs.Costs.{cost_of}
+use Rattle.slices.specs.Elements.{machine_count, node_count, node, vm}
+use Rattle.slices.specs.Ends.{snapshot_of}
+use Rattle.slices.specs.Parts.{IsPartOf}
+use Rattle.slices.specs.Plans.{Choices}
+use Rattle.slices.specs.Snapshots.{action_at, held_at, powered_at, present_at, usable_at}
+use Rattle.domains.specs.Sets.{Sets, IsIn}
+use Rattle.domains.proofs.Public.{least_grows, least_of_each, may_each, may_stays, surely_each, surely_stays}
+use Rattle.reasons.specs.Laws.{AreNarrower, HaveChoices, SureGrows}
+use Rattle.reasons.specs.Sure.{least_cost, sure}
+
+-- each plan of the sets has at least what is sure
+pub sure-part : (p : Instance) (s : Sets) (plan : Choices) (t : ℕ) → IsIn s plan → IsPartOf (sure p s t) (snapshot_of p plan t)
+unfolding sure
+sure-part p s plan t i = record {
+  held = λ v w set. least_of_each (held_at p v w set t) (s (vm v)) (plan (vm v)) (i (vm v));
+  present = λ v set. surely_each (present_at p v set t) (s (vm v)) (plan (vm v)) (i (vm v));
+  usable = λ n. may_each (usable_at p n t) (s (node n)) (plan (node n)) (i (node n));
+  powered = λ n. surely_each (powered_at p n t) (s (node n)) (plan (node n)) (i (node n));
+  action = λ v far. surely_each (action_at p v far t) (s (vm v)) (plan (vm v)) (i (vm v));
+}
+
+pub sure_grows : SureGrows
+unfolding sure
+sure_grows p s narrow fewer some t = record {
+  held = λ v i w set. least_grows (held_at p v w set t) (narrow (vm v)) (s (vm v)) (fewer (vm v)) (some (vm v) i);
+  present = λ v set. surely_stays (present_at p v set t) (narrow (vm v)) (s (vm v)) (fewer (vm v));
+  usable = λ n. may_stays (usable_at p n t) (narrow (node n)) (s (node n)) (fewer (node n));
+  powered = λ n. surely_stays (powered_at p n t) (narrow (node n)) (s (node n)) (fewer (node n));
+  action = λ v far. surely_stays (action_at p v far t) (narrow (vm v)) (s (vm v)) (fewer (vm v));
+}
+
+-- and costs at least the sum of the least ends
+pub least_cost-le : (p : Instance) (s : Sets) (plan : Choices) → IsIn s plan → least_cost p s ≤ cost_of p plan
+unfolding least_cost
+least_cost-le p s plan i =
+    let machines = sum_to-le (machine_count p) (λ v. least (end_of p (vm v)) (s (vm v))) (λ v. end_of p (vm v) (plan (vm v)))
+    (λ v l. least_of_each (end_of p (vm v)) (s (vm v)) (plan (vm v)) (i (vm v))) in
+    let nodes = sum_to-le (node_count p) (λ n. least (end_of p (node n)) (s (node n))) (λ n. end_of p (node n) (plan (node n)))
+    (λ n l. least_of_each (end_of p (node n)) (s (node n)) (plan (node n)) (i (node n))) in
+    omega (arith, machines, nodes)
+
+-- that sum grows in narrower sets
+pub least_cost-grows : (p : Instance) (s narrow : Sets) → AreNarrower narrow s → HaveChoices p narrow → least_cost p s ≤ least_cost p narrow
+unfolding least_cost
+least_cost-grows p s narrow fewer some =
+    let machines = sum_to-le (machine_count p) (λ v. least (end_of p (vm v)) (s (vm v))) (λ v. least (end_of p (vm v)) (narrow (vm v)))
+    (λ v l. least_grows (end_of p (vm v)) (narrow (vm v)) (s (vm v)) (fewer (vm v)) (some (vm v) l)) in
+    let nodes = sum_to-le (node_count p) (λ n. least (end_of p (node n)) (s (node n))) (λ n. least (end_of p (node n)) (narrow (node n)))
+    (λ n l. least_grows (end_of p (node n)) (narrow (node n)) (s (node n)) (fewer (node n)) (some (node n) l)) in
+    omega (arith, machines, nodes)
+
+-- a bound that is at most one number is at most a greater one
+pub bound-le : (bound : Option ℕ) (a b : ℕ) → a ≤ b → IsSomeAnd bound (λ cost. cost ≤ a) → IsSomeAnd bound (λ cost. cost ≤ b)
+bound-le None a b l h = h
+bound-le (Some cost) a b l h = omega arith

@@ -1,0 +1,41 @@
+-- Helping only: at which instants what is sure in a region can grow.
+use Rattle.std.specs.Prelude.{◌≡◌, ◌⊎◌, ℕ, ◌≤◌, ◌==◌, [], ◌∷◌, Some}
+use Rattle.cluster.specs.declared.choices.Choice.{Choice}
+use Rattle.cluster.specs.declared.choices.Choice.TheVariants.{Idle}
+use Rattle.cluster.specs.declared.ids.Element.{Element}
+use Rattle.catalogue.specs.Instance.{Instance, IsElement}
+use Rattle.slices.specs.Starts.{start_of}
+use Rattle.domains.specs.Sets.{Sets, setting}
+use Rattle.reasons.specs.declared.reason.ReasonKind.{ReasonKind}
+use Rattle.reasons.specs.Closed.{IsEnd, IsFree, IsQuietKind}
+use Rattle.reasons.specs.Sure.{sure}
+
+-- an element that the instance has not can only stay
+abbrev pub AreOf : Instance → Sets → Type 0
+AreOf p s = (e : Element) → IsElement p e ⊎ (s e ≡ Idle ∷ [])
+
+-- the instant is the start of an end of an element's choices
+pub record IsEndStart (s : Sets) (t : ℕ) : Type 0 where
+  pub element : Element
+  pub choice : Choice
+  pub is_end : IsEnd (s element) choice
+  pub starts : start_of choice ≡ Some t
+
+-- the instant is 0, the horizon, or a start of an end: only there can what is sure grow
+abbrev pub IsTurn : Instance → Sets → ℕ → Type 0
+IsTurn p s t = (t ≡ 0) ⊎ ((t ≡ p.horizon) ⊎ IsEndStart s t)
+
+-- what is free at each turn is free at each instant
+abbrev pub TurnsDecide : Type 0
+TurnsDecide =
+    (p : Instance) (s : Sets) (kind : ReasonKind) → AreOf p s → ((t : ℕ) → t ≤ p.horizon → IsTurn p s t → IsFree p (sure p s t) (t == p.horizon) kind) →
+    (t : ℕ) → t ≤ p.horizon → IsFree p (sure p s t) (t == p.horizon) kind
+
+-- at an instant, with any element set to any end of its choices, there is no standard reason of the kind
+abbrev pub IsQuietAt : Instance → Sets → ReasonKind → ℕ → Type 0
+IsQuietAt p s kind t = (e : Element) (c : Choice) → IsElement p e → IsEnd (s e) c → IsFree p (sure p (setting e c s) t) (t == p.horizon) kind
+
+-- so one pass over the turns decides for all ends
+abbrev pub QuietAtTurns : Type 0
+QuietAtTurns =
+    (p : Instance) (s : Sets) (kind : ReasonKind) → AreOf p s → ((t : ℕ) → t ≤ p.horizon → IsTurn p s t → IsQuietAt p s kind t) → IsQuietKind p s kind

@@ -1,0 +1,91 @@
+-- Helping only: what setting one element to a choice changes in what is sure.
+use Rattle.std.specs.Prelude.{◌≡◌, ◌≢◌, ℕ, ◌+◌, ◌<◌, List, [], if◌then◌else◌}
+use Rattle.std.specs.List.{Contains}
+use Rattle.cluster.specs.declared.choices.Choice.{Choice}
+use Rattle.cluster.specs.declared.ids.Element.{Element}
+use Rattle.catalogue.specs.Instance.{Instance}
+use Rattle.catalogue.specs.Values.{capacity_of}
+use Rattle.slices.specs.declared.slice.Weight.{Weight}
+use Rattle.slices.specs.declared.slice.Weight.TheVariants.{Amount, Presence}
+use Rattle.slices.specs.declared.stage.Progress.{Progress}
+use Rattle.slices.specs.Elements.{machine_count, node_count, node, vm}
+use Rattle.slices.specs.Parts.{IsPartOf}
+use Rattle.slices.specs.Snapshots.{Snapshot, action_at, held_at, load, powered_at, powered_nodes, presences, present_at, room, usable_at}
+use Rattle.slices.specs.Stages.{Nodes}
+use Rattle.domains.specs.Sets.{Sets, setting}
+use Rattle.reasons.specs.Closed.{IsEnd}
+use Rattle.reasons.specs.Sure.{sure}
+
+-- ---- element by element
+
+-- two snapshots have the same of a machine, and of a node
+pub record IsSameMachine (a b : Snapshot) (v : ℕ) : Type 0 where
+  pub held : (w : Weight) (set : Nodes) → a.held v w set ≡ b.held v w set
+  pub present : (set : Nodes) → a.present v set ≡ b.present v set
+  pub action : (far : Progress) → a.action v far ≡ b.action v far
+
+pub record IsSameNode (a b : Snapshot) (n : ℕ) : Type 0 where
+  pub usable : a.usable n ≡ b.usable n
+  pub powered : a.powered n ≡ b.powered n
+
+-- a snapshot has of a machine what it has under a choice at an instant; and of a node
+pub record IsMachineUnder (p : Instance) (a : Snapshot) (v t : ℕ) (c : Choice) : Type 0 where
+  pub held : (w : Weight) (set : Nodes) → a.held v w set ≡ held_at p v w set t c
+  pub present : (set : Nodes) → a.present v set ≡ present_at p v set t c
+  pub action : (far : Progress) → a.action v far ≡ action_at p v far t c
+
+pub record IsNodeUnder (p : Instance) (a : Snapshot) (n t : ℕ) (c : Choice) : Type 0 where
+  pub usable : a.usable n ≡ usable_at p n t c
+  pub powered : a.powered n ≡ powered_at p n t c
+
+-- the element that is set has what it has under its choice, and all others have what they had
+pub record IsSet (p : Instance) (s : Sets) (x : Element) (c : Choice) (t : ℕ) : Type 0 where
+  pub set_machine : (v : ℕ) → x ≡ vm v → IsMachineUnder p (sure p (setting x c s) t) v t c
+  pub set_node : (n : ℕ) → x ≡ node n → IsNodeUnder p (sure p (setting x c s) t) n t c
+  pub other_machines : (v : ℕ) → vm v ≢ x → IsSameMachine (sure p (setting x c s) t) (sure p s t) v
+  pub other_nodes : (n : ℕ) → node n ≢ x → IsSameNode (sure p (setting x c s) t) (sure p s t) n
+
+abbrev pub SettingSets : Type 0
+SettingSets = (p : Instance) (s : Sets) (x : Element) (c : Choice) (t : ℕ) → IsSet p s x c t
+
+-- with an element set to one of its choices, no less is sure
+abbrev pub SettingGrows : Type 0
+SettingGrows = (p : Instance) (s : Sets) (x : Element) (c : Choice) (t : ℕ) → Contains (s x) c → IsPartOf (sure p s t) (sure p (setting x c s) t)
+
+-- and an element with a choice has an end, to which it can be set
+abbrev pub SomeEnd : Type 0
+SomeEnd = (cs : List Choice) → cs ≢ [] → (c : Choice) × IsEnd cs c
+
+-- ---- sums: the part of the element that is set changes, and nothing else
+
+abbrev pub SettingLoad : Type 0
+SettingLoad =
+    (p : Instance) (s : Sets) (v : ℕ) (c : Choice) (t r : ℕ) (set : Nodes) → v < machine_count p →
+    load p (sure p (setting (vm v) c s) t) r set + (sure p s t).held v (Amount r) set ≡ load p (sure p s t) r set + held_at p v (Amount r) set t c
+
+abbrev pub SettingPresences : Type 0
+SettingPresences =
+    (p : Instance) (s : Sets) (v : ℕ) (c : Choice) (t : ℕ) (set : Nodes) → v < machine_count p →
+    presences p (sure p (setting (vm v) c s) t) set + (sure p s t).held v Presence set ≡ presences p (sure p s t) set + held_at p v Presence set t c
+
+abbrev pub SettingRoom : Type 0
+SettingRoom =
+    (p : Instance) (s : Sets) (n : ℕ) (c : Choice) (t r : ℕ) (set : Nodes) → n < node_count p →
+    room p (sure p (setting (node n) c s) t) r set + (if set n then (if (sure p s t).usable n then capacity_of p n r else 0) else 0) ≡
+    room p (sure p s t) r set + (if set n then (if usable_at p n t c then capacity_of p n r else 0) else 0)
+
+abbrev pub SettingPowered : Type 0
+SettingPowered =
+    (p : Instance) (s : Sets) (n : ℕ) (c : Choice) (t : ℕ) (set : Nodes) → n < node_count p →
+    powered_nodes p (sure p (setting (node n) c s) t) set + (if set n then (if (sure p s t).powered n then 1 else 0) else 0) ≡
+    powered_nodes p (sure p s t) set + (if set n then (if powered_at p n t c then 1 else 0) else 0)
+
+-- setting a node changes no load and no presences, and setting a machine no room and no powered nodes
+pub record IsApart (p : Instance) (s : Sets) (c : Choice) (t : ℕ) : Type 0 where
+  pub same_load : (n r : ℕ) (set : Nodes) → load p (sure p (setting (node n) c s) t) r set ≡ load p (sure p s t) r set
+  pub same_presences : (n : ℕ) (set : Nodes) → presences p (sure p (setting (node n) c s) t) set ≡ presences p (sure p s t) set
+  pub same_room : (v r : ℕ) (set : Nodes) → room p (sure p (setting (vm v) c s) t) r set ≡ room p (sure p s t) r set
+  pub same_powered : (v : ℕ) (set : Nodes) → powered_nodes p (sure p (setting (vm v) c s) t) set ≡ powered_nodes p (sure p s t) set
+
+abbrev pub SettingApart : Type 0
+SettingApart = (p : Instance) (s : Sets) (c : Choice) (t : ℕ) → IsApart p s c t
