@@ -10,7 +10,7 @@ use Rattle.cluster.specs.declared.states.State.TheVariants as states
 use Rattle.cluster.specs.Inventory.{Inventory, IsInventory, IsListed, name_of}
 use Rattle.cluster.specs.Names.{is_name}
 use Rattle.cluster.specs.States.{state_number, state_word, state_words}
-use Rattle.cluster.proofs.Public.{element_named-name_of, place-state_word}
+use Rattle.cluster.proofs.Public.{element_named-name_of, is_name-name_of, place-state_word}
 use Rattle.catalogue.specs.declared.constraint.Constraint.{Constraint}
 use Rattle.catalogue.specs.declared.constraint.Constraint.TheVariants as constraint
 use Rattle.catalogue.specs.Words.{constraint_number, constraint_word, constraint_words}
@@ -106,15 +106,15 @@ pub name_from-name : (name path : List ℕ) → is_name name ≡ true → name_f
 unfolding name_from text_of
 name_from-name name path named = rw named refl
 
-pub listed_machine-name : (k : Inventory) (v : VmId) (path : List ℕ) → IsInventory k → IsListed k (Vm v) → is_name (name_of k (Vm v)) ≡ true
+pub listed_machine-name : (k : Inventory) (v : VmId) (path : List ℕ) → IsInventory k → IsListed k (Vm v)
     → listed_machine k (string (name_of k (Vm v))) path ≡ Ok v
 unfolding listed_machine
-listed_machine-name k v path is listed named = rw (name_from-name (name_of k (Vm v)) path named, element_named-name_of k (Vm v) is listed) refl
+listed_machine-name k v path is listed = rw (name_from-name (name_of k (Vm v)) path (is_name-name_of k (Vm v) is listed), element_named-name_of k (Vm v) is listed) refl
 
-pub listed_node-name : (k : Inventory) (n : NodeId) (path : List ℕ) → IsInventory k → IsListed k (NodeElement n) → is_name (name_of k (NodeElement n)) ≡ true
+pub listed_node-name : (k : Inventory) (n : NodeId) (path : List ℕ) → IsInventory k → IsListed k (NodeElement n)
     → listed_node k (string (name_of k (NodeElement n))) path ≡ Ok n
 unfolding listed_node
-listed_node-name k n path is listed named = rw (name_from-name (name_of k (NodeElement n)) path named, element_named-name_of k (NodeElement n) is listed) refl
+listed_node-name k n path is listed = rw (name_from-name (name_of k (NodeElement n)) path (is_name-name_of k (NodeElement n) is listed), element_named-name_of k (NodeElement n) is listed) refl
 
 -- ---- lists
 

@@ -3,10 +3,8 @@ use Rattle.std.proofs.Common.{◌≡◌, ℕ, zero, suc, ◌+◌, ◌<◌, ◌�
 use Rattle.std.proofs.lemmas.Grind.{common_steps}
 use Rattle.std.proofs.lemmas.Bool.{and_parts, eq-eqb, ltb-true}
 use Rattle.std.proofs.lemmas.List.Elements.{All-head, All-tail}
-use Rattle.std.specs.List.{All, position}
-use Rattle.std.specs.Str.{bytes_eq}
 use Rattle.json_walk.specs.Path.{item_path}
-use Rattle.json_walk.specs.Walk.{optional, text_of, word_of, number_of as whole_of, number_field_of, field_of, only_of}
+use Rattle.json_walk.specs.Walk.{optional, text_of, number_of as whole_of, number_field_of, field_of, only_of}
 use Rattle.cluster.specs.declared.choices.Choice.TheVariants.{Act}
 use Rattle.cluster.specs.declared.ids.Element.{Element}
 use Rattle.cluster.specs.declared.ids.Element.TheVariants.{Vm, Node as TheNode}
@@ -17,8 +15,8 @@ use Rattle.cluster.specs.declared.choices.Place.{Place}
 use Rattle.cluster.specs.declared.choices.Place.TheVariants.{Nowhere, At}
 use Rattle.cluster.specs.Names.{is_name}
 use Rattle.cluster.specs.Inventory.{Inventory, IsInventory, IsListed, name_of, is_online}
-use Rattle.cluster.specs.Kinds.{kind_word, kind_words, kinds, kind_number}
-use Rattle.cluster.proofs.Public.{element_named-name_of, kinds-kind_number}
+use Rattle.cluster.specs.Kinds.{kind_word, kind_number}
+use Rattle.cluster.proofs.Public.{element_named-name_of, is_name-name_of, kind_of_word-kind_word}
 use Rattle.catalogue.specs.declared.targets.Target.{Target}
 use Rattle.catalogue.specs.declared.targets.Target.TheVariants.{Online as ToOnline, Offline as ToOffline, Running as ToRunning, Sleeping as ToSleeping, Ready as ToReady, Killed as ToKilled}
 use Rattle.catalogue.specs.declared.targets.Wish.{Wish}
@@ -31,31 +29,6 @@ use Rattle.plan_json.specs.Actions.{listed_element, listed_place, kind_from, act
 use Rattle.plan_json.specs.Plans.{action_for, action_step}
 use Rattle.plan_json.specs.declared.fields.Action.{Action}
 use Rattle.plan_json.specs.Print.{action_data}
-
--- ---- names and words
-
-name_at : {A : Type 0} (name : A → List ℕ) (xs : List A) (i : ℕ) → All (λ x. is_name (name x) ≡ true) xs → i < length xs → is_name (slice_index_or (map name xs) i []) ≡ true
-name_at name [] i h lt = absurd (omega arith)
-name_at name (x ∷ xs) zero h lt = All-head (λ y. is_name (name y) ≡ true) x xs h
-name_at name (x ∷ xs) (suc i) h lt = name_at name xs i (All-tail (λ y. is_name (name y) ≡ true) x xs h) (omega arith)
-
-is_name-name_of : (k : Inventory) (e : Element) → IsInventory k → IsListed k e → is_name (name_of k e) ≡ true
-is_name-name_of k (Vm v) is there = name_at (λ m. m.name) k.machines v.0 is.named_machines there
-is_name-name_of k (TheNode n) is there = name_at (λ m. m.name) k.nodes n.0 is.named_nodes there
-
--- the word of a kind stands at the kind's number
-place-kind_word : (kind : Kind) → position (bytes_eq (kind_word kind)) kind_words ≡ Some (kind_number kind)
-unfolding kind_word kind_words
-place-kind_word Forge = refl
-place-kind_word Boot = refl
-place-kind_word Shutdown = refl
-place-kind_word Suspend = refl
-place-kind_word Resume = refl
-place-kind_word Migrate = refl
-place-kind_word Allocate = refl
-place-kind_word Kill = refl
-place-kind_word NodeBoot = refl
-place-kind_word NodeShutdown = refl
 
 -- ---- what a legal choice says
 
@@ -118,17 +91,16 @@ from_zero start le = grind (arith, common_steps)
 action_again : (p : Instance) (path : List ℕ) (e : Element) (place : Place) (start : ℕ) (kind : Kind) → IsInstance p → IsElement p e
     → kind_of p e place ≡ Some kind → start ≤ 1000000
     → action_from (inventory_of p) (action_data p e place start) path ≡ Ok (record { element = e; kind = kind; place = place; start = start })
-unfolding action_from action_data listed_element kind_from listed_place field_of text_of word_of number_field_of whole_of only_of optional
+unfolding action_from action_data listed_element kind_from listed_place field_of text_of number_field_of whole_of only_of optional
 action_again p path e Nowhere start kind is there own early =
-    rw (is_name-name_of (inventory_of p) e is.inventory there, element_named-name_of (inventory_of p) e is.inventory there, own, place-kind_word kind, kinds-kind_number kind, from_zero start early) refl
+    rw (is_name-name_of (inventory_of p) e is.inventory there, element_named-name_of (inventory_of p) e is.inventory there, own, kind_of_word-kind_word kind, from_zero start early) refl
 action_again p path e (At n) start kind is there own early =
     let on : IsElement p (TheNode n) = on_node p e n kind own in
     rw (
       is_name-name_of (inventory_of p) e is.inventory there,
       element_named-name_of (inventory_of p) e is.inventory there,
       own,
-      place-kind_word kind,
-      kinds-kind_number kind,
+      kind_of_word-kind_word kind,
       is_name-name_of (inventory_of p) (TheNode n) is.inventory on,
       element_named-name_of (inventory_of p) (TheNode n) is.inventory on,
       from_zero start early,

@@ -1,8 +1,8 @@
 -- The choices that actions name, one action more at a time; and they are a plan where no element has to act that none is of.
-use Rattle.std.proofs.Common.{◌≡◌, ℕ, zero, suc, ◌+◌, ◌<◌, ◌≤◌, ◌&&◌, ◌==◌, Bool, true, false, not, List, [], ◌∷◌, ◌++◌, length, map, replicate, slice_set, slice_index_or, get_or, Option, Some, None, option_map, IsTrue, refl, sym, ap, subst, ◌∙◌, arith, ⊎_elim, if◌then◌else◌}
+use Rattle.std.proofs.Common.{◌≡◌, ℕ, zero, suc, ◌+◌, ◌<◌, ◌≤◌, ◌&&◌, ◌==◌, Bool, true, false, not, List, [], ◌∷◌, ◌++◌, length, map, take, replicate, slice_set, slice_index_or, get_or, Option, Some, None, option_map, IsTrue, refl, sym, ap, subst, ◌∙◌, arith, ⊎_elim, if◌then◌else◌, zero-add}
 use Rattle.std.proofs.lemmas.Grind.{common_steps}
 use Rattle.std.proofs.lemmas.Bool.{cases_eq, eq-eqb, eqb-true}
-use Rattle.std.proofs.lemmas.List.{ext_get_or, length-set, get_or-set_same, get_or-set_other}
+use Rattle.std.proofs.lemmas.List.{ext_get_or, length-set, get_or-set_same, get_or-set_other, take_more, get_or_default}
 use Rattle.std.proofs.lemmas.List.FromFn.{length-map-range_with_len, get_or-map-range_with_len, get_or-range_with_len, length-range_with_len}
 use Rattle.std.specs.List.{find, range_with_len}
 use Rattle.std.specs.Option.{option_map_or, option_or}
@@ -19,6 +19,7 @@ use Rattle.slices.proofs.Public.{legal_is_plan}
 use Rattle.plan_json.specs.declared.fields.Action.{Action}
 use Rattle.plan_json.specs.Plans.{is_same, action_for, as_choice, choice_for, choices_for, is_idle, must_act, first_to_act}
 use Rattle.plan_json.specs.Marks.{AreActions}
+use Rattle.plan_json.proofs.MarkLemmas.{apart_at}
 use Rattle.plan_json.proofs.Finding.{is_same-self, is_same-equal, is_same-number, action_for-more, none_passes, found}
 
 pub length-choices_for : (p : Instance) (actions : List Action) → length (choices_for p actions) ≡ element_count (inventory_of p)
@@ -76,6 +77,14 @@ choices_for-more p actions action there new =
     differ : (i x : ℕ) → (x ≡ i → ⊥) → (x == i) ≡ false
     differ i x other = grind (arith, common_steps)
 
+-- one more action of a list of elements that differ
+pub choices_for-next : (p : Instance) (actions : List Action) (i : ℕ) (d : Action) (choices : List Choice) → AreActions p actions → i < length actions → choices ≡ choices_for p (take i actions)
+    → slice_set choices (element_number (inventory_of p) (get_or actions i d).element) (as_choice (get_or actions i d)) ≡ choices_for p (take (i + 1) actions)
+choices_for-next p actions i d choices are lt was =
+    let a = get_or actions i d in
+    let new = apart_at actions i a lt (get_or_default actions i d a lt) are.apart in
+    rw (was, take_more actions i d lt) (choices_for-more p (take i actions) a (are.elements i d lt) new)
+
 -- ---- no element has to act that none is of
 
 nothing_found : {A B : Type 0} (f : A → B) (o : Option A) → option_map f o ≡ None → o ≡ None
@@ -106,5 +115,5 @@ plan_is p actions are none =
     (λ x lt.
     let at = choices_for-at p actions x lt in
     let free : must_act p (choices_for p actions) x ≡ false =
-    none_passes (must_act p (choices_for p actions)) (range_with_len 0 (element_count k)) x x (nothing_found (element_at k) _ none) (omega (arith, length-range_with_len 0 (element_count k))) (sym (get_or-range_with_len 0 (element_count k) x x lt)) in
+    none_passes (must_act p (choices_for p actions)) (range_with_len 0 (element_count k)) x x (nothing_found (element_at k) _ none) (omega (arith, length-range_with_len 0 (element_count k))) (sym (get_or-range_with_len 0 (element_count k) x x lt ∙ zero-add x)) in
     rw at (choice_is_legal p actions (element_at k x) (action_for actions (element_at k x)) are refl (rw at at free)))

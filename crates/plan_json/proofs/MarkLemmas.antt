@@ -47,7 +47,8 @@ apart-more (a ∷ actions) action apart new =
 
     none : (o q : Option Action) (b : Bool) → is_some q ≡ (b || is_some o) → b ≡ false → is_none o ≡ true → is_none q ≡ true
     none None None b more apart was = refl
-    none None (Some x) b more apart was = absurd (rw apart at more)
+    none None (Some x) true more apart was = absurd (cc)
+    none None (Some x) false more apart was = absurd (cc)
     none (Some y) q b more apart was = absurd (cc)
 
 -- no action before one is of its element
@@ -65,16 +66,16 @@ apart_at (a ∷ actions) (suc i) action lt is apart =
     nothing None h = refl
     nothing (Some x) h = absurd (cc)
 
-one : {P : Action → Type 0} (action : Action) → P action → All P (action ∷ [])
-one action h zero d lt = h
-one action h (suc k) d lt = absurd (omega arith)
+one : (P : Action → Type 0) (action : Action) → P action → All P (action ∷ [])
+one P action h zero d lt = h
+one P action h (suc k) d lt = absurd (omega arith)
 
 pub AreActions-more : (p : Instance) (actions : List Action) (action : Action) → AreActions p actions → IsElement p action.element → is_legal_action p action ≡ true
     → action_for actions action.element ≡ None → AreActions p (actions ++ action ∷ [])
 AreActions-more p actions action old there legal new = record {
-  elements = All-append (λ a. IsElement p a.element) actions (action ∷ []) old.elements (one {P = λ a. IsElement p a.element} action there);
+  elements = All-append (λ a. IsElement p a.element) actions (action ∷ []) old.elements (one (λ a. IsElement p a.element) action there);
   legal = All-append (λ a. IsTrue (is_legal p a.element (as_choice a))) actions (action ∷ []) old.legal
-      (one {P = λ a. IsTrue (is_legal p a.element (as_choice a))} action (and_parts (is_kind (kind_of p action.element action.place) action.kind) _ legal).1);
+      (one (λ a. IsTrue (is_legal p a.element (as_choice a))) action (and_parts (is_kind (kind_of p action.element action.place) action.kind) _ legal).1);
   apart = apart-more actions action old.apart new;
 }
 

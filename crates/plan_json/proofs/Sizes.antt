@@ -21,7 +21,7 @@ use Rattle.cluster.specs.Names.{is_name}
 use Rattle.cluster.specs.Inventory.{Inventory, IsInventory, name_of}
 use Rattle.catalogue.specs.Instance.{Instance, IsInstance, inventory_of}
 use Rattle.cluster.specs.Elements.{element_count, element_at}
-use Rattle.cluster.proofs.Public.{IsListed-element_at}
+use Rattle.cluster.proofs.Public.{IsListed-element_at, length-name_of}
 use Rattle.slices.specs.Actions.{kind_of, is_legal}
 use Rattle.slices.specs.Plans.{PlanChoices, choices_of, IsPlanOf}
 use Rattle.cluster.specs.Kinds.{kind_word, kind_words}
@@ -64,19 +64,6 @@ length-member later k d ms a b c key value rest =
     )
 
 -- ---- names and words
-
-short : (bs : List ℕ) → is_name bs ≡ true → length bs ≤ 64
-unfolding is_name
-short bs h = grind (arith, common_steps)
-
-short_at : {A : Type 0} (name : A → List ℕ) (xs : List A) (i : ℕ) → All (λ x. is_name (name x) ≡ true) xs → length (slice_index_or (map name xs) i []) ≤ 64
-short_at name [] i h = omega arith
-short_at name (x ∷ xs) zero h = short (name x) (All-head (λ y. is_name (name y) ≡ true) x xs h)
-short_at name (x ∷ xs) (suc i) h = short_at name xs i (All-tail (λ y. is_name (name y) ≡ true) x xs h)
-
-length-name_of : (k : Inventory) (e : Element) → IsInventory k → length (name_of k e) ≤ 64
-length-name_of k (Vm v) is = short_at (λ m. m.name) k.machines v.0 is.named_machines
-length-name_of k (TheNode n) is = short_at (λ n. n.name) k.nodes n.0 is.named_nodes
 
 length-name_data : (p : Instance) (e : Element) → IsInstance p → length (compact_text (name_data p e)) ≤ 386
 length-name_data p e is = length-quoted (name_of (inventory_of p) e) 64 (length-name_of (inventory_of p) e is.inventory)

@@ -1,14 +1,14 @@
 -- One action of a plan.
-use Rattle.std.specs.Prelude.{ℕ, List, map, Option, Some, None, Ok, codes, slice_get}
+use Rattle.std.specs.Prelude.{ℕ, List, map, Option, Some, None, Ok, codes}
 use Rattle.std.specs.Option.{ok_or}
 use Rattle.json_walk.specs.declared.fault.FaultKind.TheVariants.{OutOfRange, Unknown}
-use Rattle.json_walk.specs.Walk.{◌>>=◌, ◌>>◌, wants, text_of, word_of}
+use Rattle.json_walk.specs.Walk.{◌>>=◌, ◌>>◌, wants, text_of}
 use Rattle.cluster.specs.declared.ids.Element.{Element}
 use Rattle.cluster.specs.declared.ids.Element.TheVariants.{Vm, Node}
 use Rattle.cluster.specs.declared.kinds.Kind.{Kind}
 use Rattle.cluster.specs.declared.choices.Place.{Place}
 use Rattle.cluster.specs.declared.choices.Place.TheVariants.{Nowhere, At}
-use Rattle.cluster.specs.Kinds.{kinds, kind_words}
+use Rattle.cluster.specs.Kinds.{kind_of_word}
 use Rattle.cluster.specs.Names.{is_name}
 use Rattle.cluster.specs.Inventory.{Inventory, element_named}
 use Rattle.catalogue.specs.Limits.{max_horizon}
@@ -38,8 +38,8 @@ listed_place k d path = do
 -- the kind that has the word
 unfoldable pub kind_from : Test Kind
 kind_from d path = do
-  place ← as_walk (word_of d path kind_words)
-  ok_or (slice_get kinds place) (field_fault path Unknown)
+  word ← as_walk (text_of d path)
+  ok_or (kind_of_word word) (field_fault path Unknown)
 
 -- an action; without a place it is nowhere
 unfoldable pub action_from : Inventory → Test Action

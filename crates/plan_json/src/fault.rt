@@ -1,12 +1,11 @@
 //! Why bytes are no plan of a problem.
 
 ghost use Rattle.std.specs.Prelude.{◌≡◌, ◌++◌, IfOk, codes, string_bytes};
-ghost use Rattle.plan_json.specs.Texts.{kind_text};
 
 use crate::names::name;
 use catalogue::problem::Problem;
 use cluster::ids::Element;
-use json_walk::{Fault, FaultKind, PathText, WalkFault};
+use json_walk::{Fault, PathText, WalkFault};
 use memory::Memory;
 use std::alloc::{AllocError, AllocFailed, Global};
 
@@ -78,7 +77,7 @@ impl PlanFault {
         match self {
             PlanFault::TooLong => word(alloc, "too long"),
             PlanFault::NotJson => word(alloc, "not json"),
-            PlanFault::Field(fault) => after(alloc, fault.path.as_text(), kind_text(fault.kind)),
+            PlanFault::Field(fault) => after(alloc, fault.path.as_text(), fault.kind.as_text()),
             PlanFault::NoSuch(path) => after(alloc, path.as_text(), "no such name"),
             PlanFault::Twice(path) => after(alloc, path.as_text(), "twice"),
             PlanFault::NotLegal(path) => after(alloc, path.as_text(), "not legal"),
@@ -99,16 +98,4 @@ fn after(alloc: Global, place: &str, what: &str) -> Result<String, Memory>
     ensures { IfOk result (λ s. string_bytes s ≡ place.now ++ codes " " ++ what.now) }
 {
     Ok(format!(in alloc; "{place} {what}")?)
-}
-
-#[tactic(auto, unfolding(crate::specs::Texts::kind_text))]
-fn kind_text(kind: FaultKind) -> &'static str
-    ensures { result.now ≡ kind_text kind }
-{
-    match kind {
-        FaultKind::Missing => "missing",
-        FaultKind::WrongKind => "wrong kind",
-        FaultKind::OutOfRange => "out of range",
-        FaultKind::Unknown => "unknown",
-    }
 }

@@ -14,7 +14,7 @@ use catalogue::limits::MAX_HORIZON;
 use cluster::choices::{Instant, Place};
 use cluster::ids::Element;
 use cluster::inventory::Cluster;
-use cluster::kinds::{KIND_WORDS, KINDS, Kind};
+use cluster::kinds::Kind;
 use cluster::names::is_name_text;
 use json_walk::{FaultKind, PathRef};
 use serde_json::Value;
@@ -75,12 +75,15 @@ fn place(
 }
 
 /// The kind that has the word.
-#[tactic(auto, unfolding(crate::specs::Actions::kind_from, cluster::specs::Kinds::kinds, cluster::specs::Kinds::kind_words))]
+#[tactic(auto, unfolding(crate::specs::Actions::kind_from))]
 fn kind(alloc: Global, value: &Value, path: &PathRef) -> Result<Kind, PlanFault>
     ensures { Gives plan_fault_of (λ kind. kind) result (kind_from (view value.now) (path_of path.now)) }
 {
-    let place = json_walk::word_at(alloc, value, path, &KIND_WORDS)?;
-    Ok(KINDS[place])
+    let word = json_walk::text_at(alloc, value, path)?;
+    match Kind::of_word(word) {
+        Some(kind) => Ok(kind),
+        None => Err(json_walk::fault_at(alloc, path, FaultKind::Unknown).into()),
+    }
 }
 
 // ---- members
