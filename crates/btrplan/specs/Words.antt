@@ -2,15 +2,16 @@
 use Rattle.std.specs.Prelude.{◌&&◌, Bool, true, not, ℕ, List, [], ◌∷◌, length, nat_le, Option, Some, None, if◌then◌else◌, map, codes, String, string_bytes, bytes_eq}
 use Rattle.std.specs.List.{list_all}
 use Rattle.std.specs.declared.alloc.Global.{Global}
+use Rattle.btrplan.specs.declared.words.TheConstants.{LONGEST_NAME}
 
 -- A command, with the names of its files.
 pub data Command : Type 0 where
   plan : (instance plan_file certificate : List ℕ) → Command
   replay : (instance plan_file : List ℕ) → Command
 
--- A file's name has 1 to 4,096 bytes.
+-- A file's name has a byte, and no more than the longest.
 abbrev pub is_name : List ℕ → Bool
-is_name word = nat_le 1 (length word) && nat_le (length word) 4096
+is_name word = nat_le 1 (length word) && nat_le (length word) LONGEST_NAME
 
 -- Names of files, no two of them the same.
 abbrev pub are_names : List (List ℕ) → Bool
