@@ -21,7 +21,7 @@ pub enum Command<'a> {
 }
 
 /// The most bytes of a file's name.
-const LONGEST_NAME: usize = 4096;
+pub const LONGEST_NAME: usize = 4096;
 
 fn is_name(word: &str) -> bool
     ensures { result ≡ is_name word.now }
