@@ -1,5 +1,5 @@
 -- What crates above may cite: what is printed of words, names and lists is read back. All else under proofs/ is private.
-use Rattle.std.proofs.Common.{◌≡◌, ℕ, zero, suc, ◌<◌, true, List, [], ◌∷◌, length, get_or, Some, Ok, slice_get, codes, refl, arith}
+use Rattle.std.proofs.Common.{◌≡◌, ℕ, suc, ◌<◌, true, List, [], ◌∷◌, length, get_or, Some, Ok, slice_get, refl, arith}
 use Rattle.serde_json.specs.Data.{Data, string}
 use Rattle.json_walk.specs.Walk.{field_of, text_of, word_of, word_field_of}
 use Rattle.cluster.specs.declared.ids.NodeId.{NodeId}

@@ -1,8 +1,7 @@
 //! Durations.
 
-ghost use Rattle.std.specs.Prelude.{◌≡◌, ◌≤◌, ◌&&◌, None, IfOk, codes, length, map, string_bytes, true, nat_lt, nat_le, unwrap_or};
-ghost use Rattle.std.specs.List.{list_any, list_all};
-ghost use Rattle.std.specs.Str.{bytes_eq};
+ghost use Rattle.std.specs.Prelude.{◌≡◌, ◌≤◌, ◌&&◌, None, IfOk, codes, length, map, string_bytes, true, unwrap_or};
+ghost use Rattle.std.specs.List.{list_all};
 ghost use Rattle.std.specs.BTreeMap.{keys as map_keys};
 ghost use Rattle.serde_json.specs.Find.{get};
 ghost use Rattle.serde_json.specs.View.{view};
@@ -10,7 +9,7 @@ ghost use Rattle.json_walk.specs.Path.{key_path};
 ghost use Rattle.json_walk.specs.PathRef.{path_of};
 ghost use Rattle.json_walk.specs.Walk.{Gives};
 ghost use Rattle.cluster.specs.Inventory.{resource_fits, duration_fits, own_fits};
-ghost use Rattle.cluster.specs.Kinds.{kind_word, kinds};
+ghost use Rattle.cluster.specs.Kinds.{kinds};
 ghost use Rattle.cluster.specs.Limits.{max_resources};
 ghost use Rattle.instance_json.specs.Walk.{instance_fault_of, optional_by, map_walk};
 ghost use Rattle.instance_json.specs.Fitting.{kind_fits, owner_fits};

@@ -1,6 +1,6 @@
 //! The fields of constraints.
 
-ghost use Rattle.std.specs.Prelude.{◌≡◌, ◌<◌, Bool, List, IfOk, codes, length, nat_le, true};
+ghost use Rattle.std.specs.Prelude.{◌≡◌, ◌<◌, IfOk, codes, length, nat_le, true};
 ghost use Rattle.serde_json.specs.View.{view};
 ghost use Rattle.json_walk.specs.PathRef.{path_of};
 ghost use Rattle.json_walk.specs.Walk.{Gives};

@@ -1,21 +1,19 @@
 -- One printed action is read again.
-use Rattle.std.proofs.Common.{◌≡◌, ℕ, zero, suc, ◌+◌, ◌<◌, ◌≤◌, ◌&&◌, Bool, true, false, List, [], ◌∷◌, ◌++◌, length, map, nat_lt, nat_le, Option, Some, None, is_some, IsTrue, slice_index_or, unwrap_or, Ok, if◌then◌else◌, refl, arith}
+use Rattle.std.proofs.Common.{◌≡◌, ℕ, ◌+◌, ◌<◌, ◌≤◌, ◌&&◌, Bool, true, false, List, [], ◌∷◌, ◌++◌, nat_lt, nat_le, Option, Some, None, is_some, IsTrue, unwrap_or, Ok, if◌then◌else◌, refl, arith}
 use Rattle.std.proofs.lemmas.Grind.{common_steps}
 use Rattle.std.proofs.lemmas.Bool.{and_parts, eq-eqb, ltb-true}
-use Rattle.std.proofs.lemmas.List.Elements.{All-head, All-tail}
 use Rattle.json_walk.specs.Path.{item_path}
 use Rattle.json_walk.specs.Walk.{optional, text_of, number_of as whole_of, number_field_of, field_of, only_of}
 use Rattle.cluster.specs.declared.choices.Choice.TheVariants.{Act}
 use Rattle.cluster.specs.declared.ids.Element.{Element}
 use Rattle.cluster.specs.declared.ids.Element.TheVariants.{Vm, Node as TheNode}
 use Rattle.cluster.specs.declared.kinds.Kind.{Kind}
-use Rattle.cluster.specs.declared.kinds.Kind.TheVariants.{Forge, Boot, Shutdown, Suspend, Resume, Migrate, Allocate, Kill, NodeBoot, NodeShutdown}
+use Rattle.cluster.specs.declared.kinds.Kind.TheVariants.{Forge}
 use Rattle.cluster.specs.declared.ids.NodeId.{NodeId}
 use Rattle.cluster.specs.declared.choices.Place.{Place}
 use Rattle.cluster.specs.declared.choices.Place.TheVariants.{Nowhere, At}
-use Rattle.cluster.specs.Names.{is_name}
-use Rattle.cluster.specs.Inventory.{Inventory, IsInventory, IsListed, name_of, is_online}
-use Rattle.cluster.specs.Kinds.{kind_word, kind_number}
+use Rattle.cluster.specs.Inventory.{is_online}
+use Rattle.cluster.specs.Kinds.{kind_number}
 use Rattle.cluster.proofs.Public.{element_named-name_of, is_name-name_of, kind_of_word-kind_word}
 use Rattle.catalogue.specs.declared.targets.Target.{Target}
 use Rattle.catalogue.specs.declared.targets.Target.TheVariants.{Online as ToOnline, Offline as ToOffline, Running as ToRunning, Sleeping as ToSleeping, Ready as ToReady, Killed as ToKilled}

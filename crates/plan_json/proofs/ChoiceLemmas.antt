@@ -1,20 +1,19 @@
 -- The choices that actions name, one action more at a time; and they are a plan where no element has to act that none is of.
-use Rattle.std.proofs.Common.{◌≡◌, ℕ, zero, suc, ◌+◌, ◌<◌, ◌≤◌, ◌&&◌, ◌==◌, Bool, true, false, not, List, [], ◌∷◌, ◌++◌, length, map, take, replicate, slice_set, slice_index_or, get_or, Option, Some, None, option_map, IsTrue, refl, sym, ap, subst, ◌∙◌, arith, ⊎_elim, if◌then◌else◌, zero-add}
+use Rattle.std.proofs.Common.{◌≡◌, ℕ, zero, suc, ◌+◌, ◌<◌, ◌&&◌, ◌==◌, Bool, true, false, not, List, [], ◌∷◌, ◌++◌, length, map, take, replicate, slice_set, get_or, Option, Some, None, option_map, IsTrue, refl, sym, ap, subst, ◌∙◌, arith, ⊎_elim, zero-add}
 use Rattle.std.proofs.lemmas.Grind.{common_steps}
-use Rattle.std.proofs.lemmas.Bool.{cases_eq, eq-eqb, eqb-true}
+use Rattle.std.proofs.lemmas.Bool.{cases_eq}
 use Rattle.std.proofs.lemmas.List.{ext_get_or, length-set, get_or-set_same, get_or-set_other, take_more, get_or_default}
 use Rattle.std.proofs.lemmas.List.FromFn.{length-map-range_with_len, get_or-map-range_with_len, get_or-range_with_len, length-range_with_len}
-use Rattle.std.specs.List.{find, range_with_len}
+use Rattle.std.specs.List.{range_with_len}
 use Rattle.std.specs.Option.{option_map_or, option_or}
 use Rattle.cluster.specs.declared.choices.Choice.{Choice}
-use Rattle.cluster.specs.declared.choices.Choice.TheVariants.{Idle, Act}
+use Rattle.cluster.specs.declared.choices.Choice.TheVariants.{Idle}
 use Rattle.cluster.specs.declared.ids.Element.{Element}
 use Rattle.cluster.specs.Elements.{element_at, element_count, element_number}
-use Rattle.cluster.specs.Inventory.{Inventory, IsListed}
 use Rattle.cluster.proofs.Public.{element_number-lt, element_at-element_number, IsListed-element_at, element_number-element_at}
 use Rattle.catalogue.specs.Instance.{Instance, IsElement, inventory_of}
 use Rattle.slices.specs.Actions.{is_legal}
-use Rattle.slices.specs.Plans.{PlanChoices, parted, IsPlanOf}
+use Rattle.slices.specs.Plans.{parted, IsPlanOf}
 use Rattle.slices.proofs.Public.{legal_is_plan}
 use Rattle.plan_json.specs.declared.fields.Action.{Action}
 use Rattle.plan_json.specs.Plans.{is_same, action_for, as_choice, choice_for, choices_for, is_idle, must_act, first_to_act}

@@ -1,9 +1,7 @@
 -- A printed plan is small enough to be read again.
-use Rattle.std.proofs.Common.{◌≡◌, ℕ, zero, suc, ◌+◌, ◌*◌, ◌≤◌, Bool, true, false, cond, List, [], ◌∷◌, ◌++◌, length, map, nat_lt, Option, Some, None, IfSome, IsTrue, slice_index_or, codes, arith, length-append}
-use Rattle.std.proofs.lemmas.Grind.{common_steps}
+use Rattle.std.proofs.Common.{ℕ, zero, suc, ◌+◌, ◌*◌, ◌≤◌, Bool, true, false, cond, List, [], ◌∷◌, ◌++◌, length, nat_lt, Option, Some, None, IfSome, IsTrue, codes, arith, length-append}
 use Rattle.std.proofs.lemmas.Fmt.{length-decimal-le}
-use Rattle.std.proofs.lemmas.List.Elements.{All-head, All-tail}
-use Rattle.std.specs.List.{All, flat_map, range_with_len}
+use Rattle.std.specs.List.{flat_map, range_with_len}
 use Rattle.std.specs.Option.{option_map_or}
 use Rattle.json.specs.Print.{escape, escape_letter, escape_byte, quoted}
 use Rattle.serde_json.specs.Data.{Data, string, number, unsigned, array, Members, member, no_members}
@@ -12,13 +10,12 @@ use Rattle.serde_json.specs.Written.{compact_text, items_text, members_text, com
 use Rattle.cluster.specs.declared.choices.Choice.{Choice}
 use Rattle.cluster.specs.declared.choices.Choice.TheVariants.{Idle, Act}
 use Rattle.cluster.specs.declared.ids.Element.{Element}
-use Rattle.cluster.specs.declared.ids.Element.TheVariants.{Vm, Node as TheNode}
+use Rattle.cluster.specs.declared.ids.Element.TheVariants.{Node as TheNode}
 use Rattle.cluster.specs.declared.kinds.Kind.{Kind}
 use Rattle.cluster.specs.declared.kinds.Kind.TheVariants.{Forge, Boot, Shutdown, Suspend, Resume, Migrate, Allocate, Kill, NodeBoot, NodeShutdown}
 use Rattle.cluster.specs.declared.choices.Place.{Place}
 use Rattle.cluster.specs.declared.choices.Place.TheVariants.{Nowhere, At}
-use Rattle.cluster.specs.Names.{is_name}
-use Rattle.cluster.specs.Inventory.{Inventory, IsInventory, name_of}
+use Rattle.cluster.specs.Inventory.{name_of}
 use Rattle.catalogue.specs.Instance.{Instance, IsInstance, inventory_of}
 use Rattle.cluster.specs.Elements.{element_count, element_at}
 use Rattle.cluster.proofs.Public.{IsListed-element_at, length-name_of}

@@ -1,5 +1,5 @@
 -- One action of a plan.
-use Rattle.std.specs.Prelude.{ℕ, List, map, Option, Some, None, Ok, codes}
+use Rattle.std.specs.Prelude.{map, Option, Some, None, Ok, codes}
 use Rattle.std.specs.Option.{ok_or}
 use Rattle.json_walk.specs.declared.fault.FaultKind.TheVariants.{OutOfRange, Unknown}
 use Rattle.json_walk.specs.Walk.{◌>>=◌, ◌>>◌, wants, text_of}

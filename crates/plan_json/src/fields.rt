@@ -1,6 +1,6 @@
 //! The fields of one action.
 
-ghost use Rattle.std.specs.Prelude.{◌≡◌, ◌≤◌, IfOk, codes, map};
+ghost use Rattle.std.specs.Prelude.{IfOk, codes};
 ghost use Rattle.serde_json.specs.View.{view};
 ghost use Rattle.json_walk.specs.PathRef.{path_of};
 ghost use Rattle.json_walk.specs.Walk.{Gives};

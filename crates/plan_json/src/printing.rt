@@ -1,13 +1,13 @@
 //! From a plan to its text.
 
-ghost use Rattle.std.specs.Prelude.{◌≡◌, ◌++◌, [], IfOk, IfSome, OnOk};
+ghost use Rattle.std.specs.Prelude.{◌≡◌, ◌++◌, IfOk, IfSome, OnOk};
 ghost use Rattle.std.specs.Option.{option_copied};
 ghost use Rattle.serde_json.specs.View.{view};
 ghost use Rattle.json_text.specs.Out.{items};
 ghost use Rattle.catalogue.specs.Instance.{IsElement};
 ghost use Rattle.slices.specs.Plans.{IsPlanOf};
 ghost use Rattle.plan_json.specs.Plans.{plan_of};
-ghost use Rattle.plan_json.specs.Print.{name_data, word_at, action_data, choice_data, element_data, actions_data, plan_data, plan_text};
+ghost use Rattle.plan_json.specs.Print.{name_data, word_at, action_data, choice_data, actions_data, plan_data, plan_text};
 
 use crate::names::name;
 use catalogue::problem::Problem;

@@ -1,6 +1,6 @@
 //! From bytes to a plan.
 
-ghost use Rattle.std.specs.Prelude.{◌≡◌, IfOk, IfSome, codes};
+ghost use Rattle.std.specs.Prelude.{IfOk, IfSome, codes};
 ghost use Rattle.std.specs.Option.{ok_or};
 ghost use Rattle.serde_json.specs.View.{view};
 ghost use Rattle.json_walk.specs.Path.{root};

@@ -1,4 +1,3 @@
-use Rattle.std.proofs.Common.{length, ◌≡◌}
 use Rattle.serde_json.specs.View.{view}
 use Rattle.json_walk.specs.PathRef.{path_of}
 use Rattle.cluster.specs.Limits.{max_amount}

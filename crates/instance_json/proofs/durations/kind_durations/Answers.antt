@@ -1,4 +1,4 @@
-use Rattle.std.proofs.Common.{◌≡◌, ◌∙◌, ◌<◌, ◌≤◌, length, ap, Ok, arith, rules}
+use Rattle.std.proofs.Common.{◌∙◌, ◌<◌, ◌≤◌, length, ap, Ok, arith, rules}
 use Rattle.std.proofs.lemmas.List.{take_all, length-set}
 use Rattle.serde_json.specs.View.{view}
 use Rattle.json_walk.specs.PathRef.{path_of}
