@@ -1,13 +1,12 @@
 -- What other crates may cite.
-use Rattle.std.proofs.Common.{◌≡◌, ◌≢◌, ◌⊎◌, inl, inr, ℕ, ◌≤◌, ◌<◌, ◌==◌, ◌&&◌, ◌||◌, nat_lt, min, not, Bool, true, false, cond, Option, Some, None, ◌+◌, ◌-◌, List, [], ◌∷◌, ◌++◌, length, refl, sym, ap, ◌∙◌, arith}
+use Rattle.std.proofs.Common.{◌≡◌, ◌⊎◌, inl, inr, ℕ, ◌≤◌, ◌==◌, ◌&&◌, ◌||◌, nat_lt, min, not, Bool, true, false, cond, Option, Some, None, ◌+◌, ◌-◌, List, [], ◌∷◌, ◌++◌, length, refl, sym, ap, ◌∙◌, arith}
 use Rattle.std.specs.List.{filter, flat_map, Contains}
 use Rattle.std.proofs.lemmas.List.Elements.{filter-append}
 use Rattle.std.proofs.lemmas.Bool.Decides.{nat_tests, Decides-eqb}
-use Rattle.sums.specs.Least.{lower, lowest, least}
+use Rattle.sums.specs.Least.{lower, lowest}
 use Rattle.cluster.specs.declared.ids.Element.{Element}
 use Rattle.cluster.specs.declared.ids.Element.TheVariants.{Vm, Node}
 use Rattle.cluster.specs.declared.choices.Choice.{Choice}
-use Rattle.domains.specs.declared.parts.Part.{Part}
 use Rattle.domains.specs.Parts.{in_part, out_of_part}
 use Rattle.cluster.specs.declared.choices.Choice.TheVariants.{Idle, Act}
 use Rattle.domains.specs.declared.parts.Row.{Row}
@@ -20,7 +19,7 @@ use Rattle.domains.specs.Views.{seen, sight_of, sight_at, idle_seen, rows_under,
 use Rattle.domains.proofs.MeasureLemmas.{filter_true}
 use Rattle.domains.specs.Sets.{RegionView, Sets, domain_at, sets, keeping, same_element, surely, may, IsIn}
 use Rattle.domains.specs.Sizes.{size, IsOneOf}
-use Rattle.domains.specs.Laws.{PartsCover, PartsAreDisjoint, PlanSplits, PlanStays, SplitAddsUp, SizeFalls, SizeIsPositive, OpenHasTwo, CountFalls, CountFallsBelow, LeastOfEach, SurelyEach, MayEach, AreFewer, FilterIsFewer, SurelyStays, MayStays, LeastGrows, SurelyByLeast, MayByLeast, is_above_none, is_nought}
+use Rattle.domains.specs.Laws.{PartsCover, PartsAreDisjoint, PlanSplits, PlanStays, SplitAddsUp, SizeFalls, SizeIsPositive, OpenHasTwo, CountFalls, CountFallsBelow, LeastOfEach, SurelyEach, MayEach, FilterIsFewer, SurelyStays, MayStays, LeastGrows, SurelyByLeast, MayByLeast, is_above_none, is_nought}
 use Rattle.domains.proofs.SplitLemmas.{contains_none, contains_cases, contains_here, contains_later, contains_filter, filter_contains, size-split, size-le, size-positive, size-two, count-le, count-lt}
 
 -- a test is true or false

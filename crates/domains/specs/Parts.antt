@@ -1,5 +1,5 @@
 -- Parts of the choices of an element.
-use Rattle.std.specs.Prelude.{ℕ, Bool, true, false, ◌&&◌, not, nat_le, Option, Some, None}
+use Rattle.std.specs.Prelude.{Bool, true, false, ◌&&◌, not, nat_le, Option, Some, None}
 use Rattle.cluster.specs.declared.choices.Choice.{Choice}
 use Rattle.cluster.specs.declared.choices.Choice.TheVariants.{Idle as Stay, Act}
 use Rattle.domains.specs.declared.parts.Part.{Part}

@@ -1,5 +1,5 @@
 -- What a cut takes from a domain, and what puts it back.
-use Rattle.std.specs.Prelude.{◌≤◌, ℕ, true, List, [], ◌∷◌, length, nat_lt, Option, Some, None, if◌then◌else◌}
+use Rattle.std.specs.Prelude.{◌≤◌, true, List, [], ◌∷◌, length, nat_lt, Option, Some, None, if◌then◌else◌}
 use Rattle.domains.specs.declared.parts.Row.{Row}
 use Rattle.domains.specs.declared.undo.Lost.{Lost}
 use Rattle.domains.specs.declared.undo.Lost.TheVariants.{Nothing, Idle, Row as LostRow}

@@ -4,7 +4,6 @@ use Rattle.std.specs.List.{flat_map}
 use Rattle.cluster.specs.declared.ids.Element.{Element}
 use Rattle.cluster.specs.declared.choices.Choice.{Choice}
 use Rattle.cluster.specs.declared.choices.Choice.TheVariants.{Idle, Act}
-use Rattle.domains.specs.declared.parts.Part.{Part}
 use Rattle.domains.specs.declared.parts.Row.{Row}
 use Rattle.domains.specs.declared.view.Lens.{Lens}
 use Rattle.domains.specs.declared.view.Lens.TheVariants.{Whole, Inside, Outside, Set}

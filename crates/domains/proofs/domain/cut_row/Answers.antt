@@ -1,4 +1,4 @@
-use Rattle.std.proofs.Common.{sym, ap, ◌∙◌}
+use Rattle.std.proofs.Common.{sym, ap}
 use Rattle.domains.proofs.RowLemmas.{Climbs-at, Climbs-set, Climbs-remove}
 use Rattle.domains.proofs.PartLemmas.{outside_gap, outside_set, outside_remove}
 use Rattle.domains.proofs.UndoLemmas.{put-remove, put_set}

@@ -1,5 +1,5 @@
 use Rattle.std.proofs.Common.{arith, rules}
-use Rattle.domains.proofs.ListingLemmas.{counted_none, counted_more, count-room}
+use Rattle.domains.proofs.ListingLemmas.{counted_none, count-room}
 use Rattle.domains.proofs.listing.counted.Goals as goal
 
 pub loop-i-init : goal.loop-i-init

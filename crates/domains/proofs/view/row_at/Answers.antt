@@ -1,5 +1,5 @@
 use Rattle.std.proofs.Common.{◌<◌, length, sym}
-use Rattle.domains.specs.Choices.{no_row, row_choices}
+use Rattle.domains.specs.Choices.{no_row}
 use Rattle.domains.proofs.RowLemmas.{Climbs-at}
 use Rattle.domains.proofs.MeasureLemmas.{filter_true}
 use Rattle.domains.proofs.view.row_at.Goals as goal

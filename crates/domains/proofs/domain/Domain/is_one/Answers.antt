@@ -1,4 +1,4 @@
-use Rattle.std.proofs.Common.{◌≡◌, ◌≤◌, ◌+◌, ℕ, true, cond, not, length, ap, ◌∙◌, refl, arith}
+use Rattle.std.proofs.Common.{◌≡◌, ℕ, cond, not, length, ap, ◌∙◌, refl, arith}
 use Rattle.domains.specs.Choices.{no_row, DomainView}
 use Rattle.domains.proofs.SizeLemmas.{row_one, not_one}
 use Rattle.domains.proofs.domain.Domain.is_one.Goals as goal

@@ -1,4 +1,4 @@
-use Rattle.std.proofs.Common.{◌≡◌, arith, ap, ◌∙◌}
+use Rattle.std.proofs.Common.{arith, ap, ◌∙◌}
 use Rattle.domains.specs.Choices.{is_one}
 use Rattle.domains.proofs.ListingLemmas.{recount_room, recount_term, listed_change}
 use Rattle.domains.proofs.listing.Listing.set.Goals as goal

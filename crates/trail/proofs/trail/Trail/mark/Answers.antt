@@ -1,4 +1,4 @@
-use Rattle.std.proofs.Common.{arith, rules}
+use Rattle.std.proofs.Common.{rules}
 use Rattle.trail.proofs.LogLemmas.{few_marks}
 use Rattle.trail.proofs.trail.Trail.mark.Goals as goal
 
