@@ -1,15 +1,26 @@
 -- What is known of names that are given and used.
-use Rattle.std.proofs.Common.{◌≡◌, ℕ, ◌<◌, ◌++◌, List, [], ◌∷◌, length, Some, true, false, ap, ◌∙◌}
-use Rattle.std.proofs.lemmas.List.{append-nil}
+use Rattle.std.proofs.Common.{◌≡◌, ℕ, ◌<◌, ◌++◌, ◌&&◌, ◌||◌, Bool, not, List, [], ◌∷◌, length, Some, true, false, arith, refl, ap, ◌∙◌}
+use Rattle.std.proofs.lemmas.Bool.{and_from}
+use Rattle.std.proofs.lemmas.Cmp.{nat_list_eq_equiv}
+use Rattle.std.proofs.lemmas.Grind.{common_steps}
+use Rattle.std.proofs.lemmas.List.Folds.{list_any-append}
 use Rattle.std.specs.List.{list_any, position}
 use Rattle.std.specs.Str.{bytes_eq}
 use Rattle.cluster.specs.Inventory.{are_distinct}
-use Rattle.cluster.proofs.Adding.{are_distinct-insert}
 use Rattle.std.proofs.lemmas.List.Quantifiers.{position-Some}
 
 -- names that differ, with one more that is not among them
 pub distinct_more : (xs : List (List ℕ)) (n : List ℕ) → are_distinct xs ≡ true → list_any (bytes_eq n) xs ≡ false → are_distinct (xs ++ n ∷ []) ≡ true
-distinct_more xs n all new = are_distinct-insert xs [] n (ap are_distinct (append-nil xs) ∙ all) (ap (list_any (bytes_eq n)) (append-nil xs) ∙ new)
+distinct_more [] n all new = refl
+distinct_more (x ∷ xs) n all new =
+    let here : list_any (bytes_eq x) xs ≡ false = grind (arith, common_steps) in
+    let rest : are_distinct xs ≡ true = grind (arith, common_steps) in
+    let apart : bytes_eq n x ≡ false = grind (arith, common_steps) in
+    let later : list_any (bytes_eq n) xs ≡ false = grind (arith, common_steps) in
+    and_from _ _ (ap not (list_any-append (bytes_eq x) xs (n ∷ []) ∙ neither here (nat_list_eq_equiv.symm x n ∙ apart))) (distinct_more xs n rest later)
+  where
+    neither : {a b : Bool} → a ≡ false → b ≡ false → (a || (b || false)) ≡ false
+    neither h k = grind (arith, common_steps)
 
 pub place_below : (name : List ℕ) (xs : List (List ℕ)) (r : ℕ) → position (bytes_eq name) xs ≡ Some r → r < length xs
 place_below name xs r is = (position-Some (bytes_eq name) xs r [] is).0
