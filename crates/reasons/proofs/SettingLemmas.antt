@@ -19,7 +19,7 @@ use Rattle.domains.proofs.Public.{least_of_each, may_each, same_is, surely_each}
 use Rattle.reasons.specs.Settings.{IsMachineUnder, IsNodeUnder, IsSameMachine, IsSameNode, SettingApart, SettingGrows, SettingLoad, SettingPowered, SettingPresences, SettingRoom, SettingSets, SomeEnd}
 use Rattle.reasons.specs.Sure.{sure}
 use Rattle.reasons.proofs.ClosedLemmas.{and-true}
-use Rattle.reasons.proofs.MeasureLemmas.{first-in}
+use Rattle.reasons.proofs.MemberLemmas.{first-in}
 use Rattle.reasons.proofs.TurnLemmas.{low_of}
 
 self : (x : Element) → same_element x x ≡ true

@@ -13,7 +13,8 @@ use Rattle.slices.specs.Plans.{Choices}
 use Rattle.slices.specs.Snapshots.{action_at, held_at, powered_at, present_at, usable_at}
 use Rattle.domains.specs.Sets.{Sets, IsIn}
 use Rattle.domains.proofs.Public.{least_grows, least_of_each, may_each, may_stays, surely_each, surely_stays}
-use Rattle.reasons.specs.Laws.{AreNarrower, HaveChoices, SureGrows}
+use Rattle.reasons.specs.Closed.{HaveChoices}
+use Rattle.reasons.specs.Laws.{AreNarrower, SureGrows}
 use Rattle.reasons.specs.Sure.{least_cost, sure}
 
 -- each plan of the sets has at least what is sure
