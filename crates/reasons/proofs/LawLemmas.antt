@@ -21,7 +21,7 @@ use Rattle.reasons.proofs.HallLemmas.{holds-no_hall}
 use Rattle.reasons.proofs.LoadLemmas.{no_overload}
 use Rattle.reasons.proofs.PartLemmas.{applies-weaker, group-part, hall-part, overload-part, pair-part, parts_are_in, place-part, power-part, set_load-part, unusable-part}
 use Rattle.reasons.proofs.PlanLemmas.{holds-no_group, holds-no_pair, holds-no_place, holds-no_power, holds-no_set_load}
-use Rattle.reasons.proofs.SureLemmas.{bound-le, least_cost-grows, least_cost-le, sure-part, sure_grows}
+use Rattle.reasons.proofs.SureLemmas.{bound-le, least_cost_grows, costs_at_least, sure-part, sure_grows}
 use Rattle.reasons.proofs.ValidLemmas.{keeps-of, none_applies}
 
 none-in : (c : Choice) (cs : List Choice) → cs ≡ [] → ¬ Contains cs c
@@ -79,7 +79,7 @@ refuted_excludes p sound bound s reason refuted plan i valid =
     elim (is_bound reason) [
       | inl same ↦
           let says : Says p bound s Bound = subst (Says p bound s) same refuted.says in
-          bound-le bound _ _ (least_cost-le p s plan i) says
+          bound-le bound _ _ (costs_at_least p s plan i) says
       | inr ne ↦ absurd (none-says p sound bound s plan i valid reason ne refuted.named refuted.says)
     ]
 
@@ -98,7 +98,7 @@ empty_stays p bound s narrow e fewer refuted =
 pub stays_refuted : StaysRefuted
 stays_refuted p bound s narrow (Empty e) fewer some refuted = empty_stays p bound s narrow e fewer refuted
 stays_refuted p bound s narrow Bound fewer some refuted =
-    record { named = refuted.named; says = bound-le bound _ _ (least_cost-grows p s narrow fewer some) refuted.says }
+    record { named = refuted.named; says = bound-le bound _ _ (least_cost_grows p s narrow fewer some) refuted.says }
 stays_refuted p bound s narrow (Load t r set) fewer some refuted =
     record { named = refuted.named; says = overload-part p (sure p s t) (sure p narrow t) (sure_grows p s narrow fewer some t) r (has_node set) refuted.says }
 stays_refuted p bound s narrow (Pair c t v w n) fewer some refuted = record {

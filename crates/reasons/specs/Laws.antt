@@ -21,7 +21,7 @@ use Rattle.reasons.specs.declared.reason.Reason.TheVariants.{Empty, Bound, Load,
 use Rattle.reasons.specs.declared.reason.ReasonKind.{ReasonKind}
 use Rattle.reasons.specs.Closed.{HaveChoices, IsClosed, IsFree, IsUnrefuted, all_nodes}
 use Rattle.reasons.specs.Reasons.{IsGroup, IsHall, IsOverload, IsPair, IsPlace, IsPower, IsSetLoad, IsUnusable, Refutes}
-use Rattle.reasons.specs.Sure.{sure}
+use Rattle.reasons.specs.Sure.{least_cost, sure}
 
 -- where a plan of a cost is handed in, no valid plan of the sets costs less; without one, none is valid
 abbrev pub Excludes : Instance → Option ℕ → Sets → Type 0
@@ -43,6 +43,13 @@ RefutedExcludesAll = (p : Instance) → IsInstance p → (bound : Option ℕ) (s
 abbrev pub OnlyClosed : Type 0
 OnlyClosed = (p : Instance) → IsInstance p → (s : Sets) (plan : Choices) → IsOnly s plan → IsClosed p s ↔ IsValid p plan
 
+-- no plan of the sets costs less than the sum of the least ends, and one that is all of them costs that
+abbrev pub CostsAtLeast : Type 0
+CostsAtLeast = (p : Instance) (s : Sets) (plan : Choices) → IsIn s plan → least_cost p s ≤ cost_of p plan
+
+abbrev pub OnlyCosts : Type 0
+OnlyCosts = (p : Instance) (s : Sets) (plan : Choices) → IsOnly s plan → least_cost p s ≡ cost_of p plan
+
 -- ---- narrower sets
 
 -- each element has fewer choices
@@ -60,6 +67,10 @@ pub record IsPartIn (p : Instance) (s big : Snapshot) : Type 0 where
 -- in narrower sets, none of which is empty, more is sure
 abbrev pub SureGrows : Type 0
 SureGrows = (p : Instance) (s narrow : Sets) → AreNarrower narrow s → HaveChoices p narrow → (t : ℕ) → IsPartIn p (sure p s t) (sure p narrow t)
+
+-- the sum of the least ends is no less
+abbrev pub LeastCostGrows : Type 0
+LeastCostGrows = (p : Instance) (s narrow : Sets) → AreNarrower narrow s → HaveChoices p narrow → least_cost p s ≤ least_cost p narrow
 
 -- and what is refuted stays refuted, by the same reason
 abbrev pub StaysRefuted : Type 0

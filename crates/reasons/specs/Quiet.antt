@@ -52,3 +52,9 @@ UnrefutedAtTurns =
 abbrev pub ClosedAtTurns : Type 0
 ClosedAtTurns =
     (p : Instance) (s : Sets) → AreOf p s → HaveChoices p s → ((kind : ReasonKind) (t : ℕ) → t ≤ p.horizon → IsTurn p s t → IsQuietAt p s kind t) → IsClosed p s
+
+-- where the instance has an element, a quiet kind has no reason in the sets as they are
+abbrev pub QuietIsFree : Type 0
+QuietIsFree =
+    (p : Instance) (s : Sets) (kind : ReasonKind) (e : Element) → IsElement p e → HaveChoices p s → IsQuietKind p s kind → (t : ℕ) → t ≤ p.horizon →
+    IsFree p (sure p s t) (t == p.horizon) kind

@@ -1,8 +1,8 @@
 //! Laws of the definitions: each is the contract of a function that does nothing, and a lemma of the
 //! same name in proofs/Public proves it.
-ghost use Rattle.reasons.specs.Laws.{EmptyStays, FreeStays, OnlyClosed, PartsAreIn, PartsBreak, RefutedExcludes, RefutedExcludesAll, StaysRefuted, SureGrows, UnrefutedByReasons};
-ghost use Rattle.reasons.specs.Quiet.{ClosedAtTurns, ClosedByKinds, QuietAtTurns, TurnsDecide, UnrefutedAtTurns};
-ghost use Rattle.reasons.specs.Settings.{SettingApart, SettingGrows, SettingLoad, SettingPowered, SettingPresences, SettingRoom, SettingSets, SomeEnd};
+ghost use Rattle.reasons.specs.Laws.{CostsAtLeast, EmptyStays, FreeStays, LeastCostGrows, OnlyClosed, OnlyCosts, PartsAreIn, PartsBreak, RefutedExcludes, RefutedExcludesAll, StaysRefuted, SureGrows, UnrefutedByReasons};
+ghost use Rattle.reasons.specs.Quiet.{ClosedAtTurns, ClosedByKinds, QuietAtTurns, QuietIsFree, TurnsDecide, UnrefutedAtTurns};
+ghost use Rattle.reasons.specs.Settings.{EndIsChoice, MachineChange, NodeChange, SameSets, SettingAgrees, SettingGrows, SettingLoad, SettingPowered, SettingPresences, SettingRoom, SettingSets, SomeEnd};
 ghost use Rattle.reasons.specs.Regions.{EndsOfRows, PlanIsInStart, RegionIsOf, StartIsLegal, StartIsOf, TurnsOfRows};
 
 /// What is refuted holds no valid plan that costs less than the one handed in, and none at all
@@ -16,6 +16,18 @@ pub fn refuted_excludes()
 #[tactic(auto, using(crate::proofs::Public::refuted_excludes_all))]
 pub fn refuted_excludes_all()
     ensures { RefutedExcludesAll }
+{}
+
+/// No plan of the sets costs less than the sum of the least ends.
+#[tactic(auto, using(crate::proofs::Public::costs_at_least))]
+pub fn costs_at_least()
+    ensures { CostsAtLeast }
+{}
+
+/// Sets that are one plan have its cost as the sum of the least ends.
+#[tactic(auto, using(crate::proofs::Public::only_costs))]
+pub fn only_costs()
+    ensures { OnlyCosts }
 {}
 
 /// Sets that are one plan are closed exactly where the plan is valid.
@@ -32,6 +44,12 @@ pub fn unrefuted_by_reasons()
 #[tactic(auto, using(crate::proofs::Public::sure_grows))]
 pub fn sure_grows()
     ensures { SureGrows }
+{}
+
+/// In narrower sets, none of which is empty, the sum of the least ends is no less.
+#[tactic(auto, using(crate::proofs::Public::least_cost_grows))]
+pub fn least_cost_grows()
+    ensures { LeastCostGrows }
 {}
 
 /// What is refuted stays refuted by the same reason in narrower sets, none of which is empty.
@@ -92,6 +110,12 @@ pub fn closed_at_turns()
     ensures { ClosedAtTurns }
 {}
 
+/// A quiet kind has no reason in the sets as they are, where the instance has an element.
+#[tactic(auto, using(crate::proofs::Public::quiet_is_free))]
+pub fn quiet_is_free()
+    ensures { QuietIsFree }
+{}
+
 /// An element that is set has what it has under its choice, and all others have what they had.
 #[tactic(auto, using(crate::proofs::Public::setting_sets))]
 pub fn setting_sets()
@@ -108,6 +132,36 @@ pub fn setting_grows()
 #[tactic(auto, using(crate::proofs::Public::some_end))]
 pub fn some_end()
     ensures { SomeEnd }
+{}
+
+/// An end is a choice.
+#[tactic(auto, using(crate::proofs::Public::end_is_choice))]
+pub fn end_is_choice()
+    ensures { EndIsChoice }
+{}
+
+/// Sets that are the same at an element have the same of it.
+#[tactic(auto, using(crate::proofs::Public::same_sets))]
+pub fn same_sets()
+    ensures { SameSets }
+{}
+
+/// Another set of a machine changes loads and presences by its own, and nothing else.
+#[tactic(auto, using(crate::proofs::Public::machine_change))]
+pub fn machine_change()
+    ensures { MachineChange }
+{}
+
+/// Another set of a node changes room and powered nodes by its own, and nothing else.
+#[tactic(auto, using(crate::proofs::Public::node_change))]
+pub fn node_change()
+    ensures { NodeChange }
+{}
+
+/// Sets of which one is set are the same but there.
+#[tactic(auto, using(crate::proofs::Public::setting_agrees))]
+pub fn setting_agrees()
+    ensures { SettingAgrees }
 {}
 
 /// Setting a machine changes a load by what the machine uses.
@@ -132,13 +186,6 @@ pub fn setting_room()
 #[tactic(auto, using(crate::proofs::Public::setting_powered))]
 pub fn setting_powered()
     ensures { SettingPowered }
-{}
-
-/// Setting a node changes no load and no presences, and setting a machine no room and no powered
-/// nodes.
-#[tactic(auto, using(crate::proofs::Public::setting_apart))]
-pub fn setting_apart()
-    ensures { SettingApart }
 {}
 
 /// The start region has exactly the legal choices of each element.
