@@ -1,10 +1,8 @@
 -- The causes of a status, from those of how the command ended.
 use Rattle.std.proofs.Common.{◌≡◌, ◌⊎◌, ◌∙◌, ℕ, Result, Ok, Err, inl, inr, refl, subst}
-use Rattle.plan_io.specs.Causes.{Rose, CountsWrites}
-use Rattle.btrplan.specs.Causes.{Counts, counts, Causes, CommandCauses, DeskCauses, NothingFailed}
-use Rattle.plan_io.specs.declared.faults.OutFault.{OutFault}
-use Rattle.plan_io.specs.declared.faults.OutFault.TheVariants as out
-use Rattle.btrplan.specs.Endings.{IsAnswered, out_fault}
+use Rattle.plan_io.specs.Causes.{Rose}
+use Rattle.btrplan.specs.Causes.{Counts, counts, Causes, CommandCauses, NothingFailed}
+use Rattle.btrplan.specs.Endings.{IsAnswered}
 use Rattle.btrplan.specs.declared.status.Status.{Status}
 use Rattle.btrplan.specs.declared.status.Status.TheVariants as status
 use Rattle.btrplan.specs.declared.fault.Fault.{Fault}
@@ -61,20 +59,3 @@ answered before after status.Input causes nothing memory = tt
 answered before after status.ReadFault causes nothing memory = elim (causes.read refl) [ inl h ↦ nothing.reads h | inr h ↦ nothing.source h ]
 answered before after status.WriteFault causes nothing memory = elim (causes.write refl) [ inl h ↦ nothing.writes h | inr h ↦ nothing.sink h ]
 answered before after status.Memory causes nothing memory = absurd (memory refl)
-
--- a part of a command that met no fault left both counts of the desk
-reads_stay : {T : Type 0} {value : T} {reads reads_now writes writes_now : ℕ} → DeskCauses reads reads_now writes writes_now (Ok value) → reads_now ≡ reads
-reads_stay causes = elim causes.reads [ inl e ↦ e | inr e ↦ absurd (cc) ]
-
-writes_stay : {T : Type 0} {value : T} {reads reads_now writes writes_now : ℕ} → DeskCauses reads reads_now writes writes_now (Ok value) → writes_now ≡ writes
-writes_stay causes = elim causes.writes [ inl e ↦ e | inr e ↦ absurd (cc) ]
-
--- where two parts met no fault, and then a write of the sink was refused
-pub causes_of_refused_write : {T U V : Type 0} (first : T) (second : U) (reads reads_between reads_now source writes writes_between writes_now sink now : ℕ) (refused : OutFault)
-    → DeskCauses reads reads_between writes writes_between (Ok first) → DeskCauses reads_between reads_now writes_between writes_now (Ok second)
-    → CountsWrites {T = V} sink now (Err refused)
-    → CommandCauses {T = Ending} (counts reads source writes sink) (counts reads_now source writes_now now) (Err (out_fault refused))
-causes_of_refused_write first second reads reads_between reads_now source writes writes_between writes_now sink now out.Failed one two written =
-    record { read = λ h. absurd (cc); write = λ h. inr (written.failed refl); reads = inl (reads_stay two ∙ reads_stay one); source = inl refl; writes = inl (writes_stay two ∙ writes_stay one); sink = inr refl }
-causes_of_refused_write first second reads reads_between reads_now source writes writes_between writes_now sink now out.Memory one two written =
-    record { read = λ h. absurd (cc); write = λ h. absurd (cc); reads = inl (reads_stay two ∙ reads_stay one); source = inl refl; writes = inl (writes_stay two ∙ writes_stay one); sink = inl (written.memory refl) }

@@ -1,7 +1,7 @@
 pub mod Causing
-pub mod Decisions
 pub mod Ends
+pub mod PlanAnswers
 pub mod Printing
 pub mod Readings
 pub mod ReplayAnswers
-pub mod Staying
+pub mod StayingPlan

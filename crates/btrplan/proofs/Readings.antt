@@ -1,5 +1,5 @@
 -- What the readings of an instance and of a plan answer.
-use Rattle.std.proofs.Common.{◌≡◌, ◌<◌, ℕ, List, length, nat_le, false, Some, None, Ok, Err, codes, refl, ap, arith}
+use Rattle.std.proofs.Common.{◌≡◌, ◌<◌, ◌≤◌, ℕ, List, Bool, length, nat_le, true, false, Some, None, Result, Ok, Err, if◌then◌else◌, codes, refl, ap, arith}
 use Rattle.std.proofs.lemmas.Bool.Decides.{nat_tests}
 use Rattle.catalogue.specs.Instance.{Instance, inventory_of}
 use Rattle.json_walk.specs.Walk.{Fails}
@@ -14,7 +14,38 @@ use Rattle.plan_json.specs.Texts.{fault_text as plan_fault_text}
 use Rattle.plan_json.specs.Walk.{named as plan_named}
 use Rattle.plan_json.specs.declared.fault.PlanFault.{PlanFault}
 use Rattle.plan_json.specs.declared.fault.PlanFault.TheVariants as of_plan
-use Rattle.btrplan.specs.Inputs.{reading_of, instance_line, lined, plan_reading_of, plan_line, plan_lined}
+use Rattle.json_walk.specs.declared.reading.TheConstants.{MAX_TEXT_BYTES}
+use Rattle.btrplan.specs.Inputs.{input_line, whole_of}
+use Rattle.btrplan.specs.Inputs.Instance.{reading_of, instance_line, lined}
+use Rattle.btrplan.specs.Inputs.Plan.{plan_reading_of, plan_line, plan_lined}
+
+-- ---- all bytes of an input
+
+-- more bytes than an input may have
+pub long_input : (input bytes : List ℕ) → MAX_TEXT_BYTES < length bytes → whole_of input bytes ≡ Err (input_line input (codes "too long"))
+unfolding whole_of
+long_input input bytes long =
+    let past : nat_le (length bytes) MAX_TEXT_BYTES ≡ false = grind (arith, nat_tests) in
+    rw past refl
+
+-- no more bytes than an input may have
+pub short_input : (input bytes : List ℕ) → length bytes ≤ MAX_TEXT_BYTES → whole_of input bytes ≡ Ok bytes
+unfolding whole_of
+short_input input bytes short =
+    let within : nat_le (length bytes) MAX_TEXT_BYTES ≡ true = grind (arith, nat_tests) in
+    rw within refl
+
+-- a line that refuses the bytes of an input says that they are too many, and so they are
+abbrev pub IsLong : (input bytes line : List ℕ) → Type 0
+IsLong input bytes line = (nat_le (length bytes) MAX_TEXT_BYTES ≡ false) × (line ≡ input_line input (codes "too long"))
+
+long_line : (input bytes line : List ℕ) → whole_of input bytes ≡ Err line → IsLong input bytes line
+unfolding whole_of
+long_line input bytes line = by_size (nat_le (length bytes) MAX_TEXT_BYTES) refl
+  where
+    by_size : (within : Bool) → nat_le (length bytes) MAX_TEXT_BYTES ≡ within → (if within then Ok bytes else Err (input_line input (codes "too long"))) ≡ Err line → IsLong input bytes line
+    by_size true is e = absurd (cc)
+    by_size false is e = (is, cc)
 
 -- ---- an instance
 
@@ -30,12 +61,12 @@ first_instance_fault bytes (of_instance.BadHost x) other h = ap lined h
 first_instance_fault bytes (of_instance.Limit x) other h = ap lined h
 first_instance_fault bytes of_instance.Memory other h = absurd (other refl)
 
--- more bytes than an instance may have
-pub long_instance : (bytes : List ℕ) → 67108864 < length bytes → reading_of bytes ≡ Err (instance_line (codes "too long"))
+-- the line that its bytes are too many refuses an instance
+pub long_instance : (bytes line : List ℕ) → whole_of (codes "instance") bytes ≡ Err line → reading_of bytes ≡ Err line
 unfolding reading_of instance_of instance_fault_text
-long_instance bytes long =
-    let past : nat_le (length bytes) 67108864 ≡ false = grind (arith, nat_tests) in
-    rw past refl
+long_instance bytes line h =
+    let long = long_line (codes "instance") bytes line h in
+    rw (long.0, long.1) refl
 
 -- ---- a plan
 
@@ -61,9 +92,9 @@ first_plan_fault p bytes (of_plan.NotLegal x) other h = ap (plan_lined p) h
 first_plan_fault p bytes (of_plan.MustAct x) other h = ap (plan_lined p) h
 first_plan_fault p bytes of_plan.Memory other h = absurd (other refl)
 
--- more bytes than a plan may have
-pub long_plan : (p : Instance) (bytes : List ℕ) → 67108864 < length bytes → plan_reading_of p bytes ≡ Err (plan_line (codes "too long"))
+-- the line that its bytes are too many refuses a plan
+pub long_plan : (p : Instance) (bytes line : List ℕ) → whole_of (codes "plan") bytes ≡ Err line → plan_reading_of p bytes ≡ Err line
 unfolding plan_reading_of plan_of plan_fault_text
-long_plan p bytes long =
-    let past : nat_le (length bytes) 67108864 ≡ false = grind (arith, nat_tests) in
-    rw past refl
+long_plan p bytes line h =
+    let long = long_line (codes "plan") bytes line h in
+    rw (long.0, long.1) refl

@@ -42,8 +42,18 @@ pub record CommandCauses {T : Type 0} (before after : Counts) (result : Result T
   pub writes : (after.writes ≡ before.writes) ⊎ (result ≡ Err fault.WriteFault)
   pub sink : (after.sink ≡ before.sink) ⊎ (result ≡ Err fault.WriteFault)
 
--- The same of a part of a command that has the desk alone.
-pub record DeskCauses {T : Type 0} (reads_before reads_after writes_before writes_after : ℕ) (result : Result T Fault) : Type 0 where
+-- A part of a command that only reads: a failed read comes only where the count rose, and elsewhere it is as before.
+pub record ReadCauses {T : Type 0} (before after : ℕ) (result : Result T Fault) : Type 0 where
+  pub failed : result ≡ Err fault.ReadFault → Rose before after
+  pub kept : (after ≡ before) ⊎ (result ≡ Err fault.ReadFault)
+
+-- A part of a command that only writes, alike.
+pub record WriteCauses {T : Type 0} (before after : ℕ) (result : Result T Fault) : Type 0 where
+  pub failed : result ≡ Err fault.WriteFault → Rose before after
+  pub kept : (after ≡ before) ⊎ (result ≡ Err fault.WriteFault)
+
+-- A part of a command that raises one count of failed reads and one of failed writes at most.
+pub record PartCauses {T : Type 0} (reads_before reads_after writes_before writes_after : ℕ) (result : Result T Fault) : Type 0 where
   pub read : result ≡ Err fault.ReadFault → Rose reads_before reads_after
   pub write : result ≡ Err fault.WriteFault → Rose writes_before writes_after
   pub reads : (reads_after ≡ reads_before) ⊎ (result ≡ Err fault.ReadFault)

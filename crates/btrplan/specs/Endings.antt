@@ -1,10 +1,9 @@
--- How a command ends, before its last line is printed.
+-- How a command or a part of it ends, before its last line is printed.
 use Rattle.std.specs.Prelude.{◌≡◌, ◌++◌, ℕ, List, Option, Some, None, Result, Ok, Err, IfSome, codes, String, string_bytes}
 use Rattle.std.specs.declared.alloc.Global.{Global}
 use Rattle.plan_io.specs.declared.faults.OutFault.{OutFault}
 use Rattle.plan_io.specs.declared.faults.OutFault.TheVariants as out
-use Rattle.btrplan.specs.Words.{Command}
-use Rattle.btrplan.specs.Answer.{Outside, outside, IsAnswer}
+use Rattle.btrplan.specs.Answer.{Outside, outside}
 use Rattle.btrplan.specs.declared.status.Status.{Status}
 use Rattle.btrplan.specs.declared.status.Status.TheVariants as status
 use Rattle.btrplan.specs.declared.fault.Fault.{Fault}
@@ -39,17 +38,33 @@ printed_with printed None = printed
 printed_with printed (Some line) = printed ++ string_bytes line
 
 -- The answer stands as soon as the last line is printed, if there is one.
-unfoldable pub Ends : Option Command → Option (List ℕ) → Outside → Outside → Result Ending Fault → Type 0
-Ends command source before after (Ok ending) = IsAnswer command source before (outside after.files (printed_with after.printed ending.line)) (outcome_status ending.outcome)
-Ends command source before after (Err f) = IfSome (line_of f) (λ line. IsAnswer command source before (outside after.files (after.printed ++ line)) (fault_status f))
+unfoldable pub Ends : (Outside → Status → Type 0) → Outside → Result Ending Fault → Type 0
+Ends answer after (Ok ending) = answer (outside after.files (printed_with after.printed ending.line)) (outcome_status ending.outcome)
+Ends answer after (Err f) = IfSome (line_of f) (λ line. answer (outside after.files (after.printed ++ line)) (fault_status f))
 
--- A call that reads an input may fail by the input, by a failed read, or by want of memory.
+-- A part that reads an input may fail by the input, by a failed read, or by want of memory.
 abbrev pub IsOfReading : Fault → Type 0
 IsOfReading fault.Words = ⊥
 IsOfReading (fault.Input line) = Unit {0}
 IsOfReading fault.ReadFault = Unit {0}
 IsOfReading fault.WriteFault = ⊥
 IsOfReading fault.Memory = Unit {0}
+
+-- A part that writes may fail by a failed write, or by want of memory.
+abbrev pub IsOfWriting : Fault → Type 0
+IsOfWriting fault.Words = ⊥
+IsOfWriting (fault.Input line) = ⊥
+IsOfWriting fault.ReadFault = ⊥
+IsOfWriting fault.WriteFault = Unit {0}
+IsOfWriting fault.Memory = Unit {0}
+
+-- A part that decides and writes may fail by the input, by a failed write, or by want of memory.
+abbrev pub IsOfDeciding : Fault → Type 0
+IsOfDeciding fault.Words = ⊥
+IsOfDeciding (fault.Input line) = Unit {0}
+IsOfDeciding fault.ReadFault = ⊥
+IsOfDeciding fault.WriteFault = Unit {0}
+IsOfDeciding fault.Memory = Unit {0}
 
 -- The fault with this line, unless memory ran out.
 abbrev pub IsRefusal : Fault → List ℕ → Type 0
@@ -59,7 +74,7 @@ IsRefusal fault.ReadFault line = ⊥
 IsRefusal fault.WriteFault line = ⊥
 IsRefusal fault.Memory line = Unit {0}
 
--- What a call gave is this value, or the line of its fault, unless memory ran out.
+-- What a part gave is this value, or the line of its fault, unless memory ran out.
 abbrev pub Reads : {X Y : Type 0} → (X → Y) → Result X Fault → Result Y (List ℕ) → Type 0
 Reads view (Ok x) reading = reading ≡ Ok (view x)
 Reads view (Err fault.Words) reading = ⊥

@@ -1,9 +1,10 @@
 pub mod Codes
 pub mod Words
 pub mod Meaning
-pub mod Inputs
-pub mod Staying
 pub mod Answer
-pub mod Left
+pub mod Inputs
+pub mod Deciding
+pub mod Commands
+pub mod Printed
 pub mod Causes
 pub mod Endings

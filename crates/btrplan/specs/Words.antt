@@ -1,16 +1,17 @@
 -- What the words of the command line ask for.
-use Rattle.std.specs.Prelude.{◌&&◌, Bool, true, not, ℕ, List, [], ◌∷◌, length, nat_le, Option, Some, None, IsTrue, if◌then◌else◌, map, codes, String, string_bytes, bytes_eq}
+use Rattle.std.specs.Prelude.{◌&&◌, Bool, true, not, ℕ, List, [], ◌∷◌, length, nat_le, Option, Some, None, if◌then◌else◌, map, codes, String, string_bytes, bytes_eq}
 use Rattle.std.specs.List.{list_all}
 use Rattle.std.specs.declared.alloc.Global.{Global}
+use Rattle.btrplan.specs.declared.words.TheConstants.{LONGEST_NAME}
 
 -- A command, with the names of its files.
 pub data Command : Type 0 where
   plan : (instance plan_file certificate : List ℕ) → Command
   replay : (instance plan_file : List ℕ) → Command
 
--- A file's name has 1 to 4,096 bytes.
+-- A file's name has a byte, and no more than the longest.
 abbrev pub is_name : List ℕ → Bool
-is_name word = nat_le 1 (length word) && nat_le (length word) 4096
+is_name word = nat_le 1 (length word) && nat_le (length word) LONGEST_NAME
 
 -- Names of files, no two of them the same.
 abbrev pub are_names : List (List ℕ) → Bool
@@ -28,9 +29,3 @@ command_of _ = None
 -- The command that the words of the command line ask for.
 abbrev pub asked : List (String Global) → Option Command
 asked words = command_of (map string_bytes words)
-
--- The desk reads the files that the command reads, and writes those that it creates.
-abbrev pub MayRun : (List ℕ → Bool) → (List ℕ → Bool) → Option Command → Type 0
-MayRun reads writes None = Unit {0}
-MayRun reads writes (Some (plan instance plan_file certificate)) = IsTrue (reads instance) × IsTrue (writes plan_file) × IsTrue (writes certificate)
-MayRun reads writes (Some (replay instance plan_file)) = IsTrue (reads instance) × IsTrue (reads plan_file)

@@ -2,16 +2,13 @@
 //! that it writes. `run::run` is the top call, and says what the program promises.
 #![tactic(auto)]
 
+mod commands;
+mod deciding;
 mod fault;
 mod inputs;
-mod instance;
 mod lines;
-mod plan;
-mod plan_file;
-mod replaying;
 mod run;
 mod status;
-mod stay;
 mod words;
 
 use plan_io::{FileDesk, StdSink, StdSource};

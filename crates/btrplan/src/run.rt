@@ -3,15 +3,17 @@
 ghost use Rattle.std.specs.Prelude.{◌≡◌, ◌≢◌, ◌⊎◌, ◌++◌, ◌↔◌, ℕ, List, Option, None, Err, IsTrue};
 ghost use Rattle.plan_io.specs.Causes.{Rose};
 ghost use Rattle.plan_io.specs.Files.{Files};
-ghost use Rattle.btrplan.specs.Words.{asked, MayRun, Command as Asked};
-ghost use Rattle.btrplan.specs.Answer.{Outside, IsAnswer, outside, told};
-ghost use Rattle.btrplan.specs.Left.{Leaves, LeavesAtFailedRead, PrintsFront, KeepsSource, KeepsDeskWrites};
+ghost use Rattle.btrplan.specs.Words.{asked, Command as Asked};
+ghost use Rattle.btrplan.specs.Answer.{Outside, outside, told};
+ghost use Rattle.btrplan.specs.Commands.{MayRun, IsAnswer, Leaves, LeavesAtFailedRead};
+ghost use Rattle.btrplan.specs.Commands.{KeepsSource, KeepsDeskWrites};
+ghost use Rattle.btrplan.specs.Printed.{PrintsPrefix};
 ghost use Rattle.btrplan.specs.Causes.{Counts, Causes, CommandCauses, NothingFailed, counts};
 ghost use Rattle.btrplan.specs.Endings.{Ends, IsAnswered};
 
+use crate::commands::planning::plan;
+use crate::commands::replaying::replay;
 use crate::fault::{Ending, Fault};
-use crate::plan::plan;
-use crate::replaying::replay;
 use crate::status::Status;
 use crate::words::{Command, read_words};
 use plan_io::{Desk, OutFault, Sink, Source, write_text};
@@ -27,15 +29,26 @@ fn answer<D: Desk, I: Source, O: Sink>(
     out: &mut O,
 ) -> Result<Ending, Fault>
     requires names { MayRun D.reads D.writes (asked words.now) }
-    ensures ends { IsTrue D.tells → IsTrue O.tells → Ends (asked words.now) (told I.tells (I.rest input.old)) (outside (D.files desk.old) (O.written out.old)) (outside (D.files desk.new) (O.written out.new)) result }
+    ensures ends { let source = told I.tells (I.rest input.old) in
+        let before = outside (D.files desk.old) (O.written out.old) in
+        let after = outside (D.files desk.new) (O.written out.new) in
+        IsTrue D.tells → IsTrue O.tells
+        → Ends (IsAnswer (asked words.now) source before) after result }
     ensures left { IsTrue D.tells → Leaves (asked words.now) (D.files desk.old) (D.files desk.new) }
-    ensures failed_read { IsTrue D.tells → result ≡ Err Fault.ReadFault → LeavesAtFailedRead (asked words.now) (D.files desk.old) (D.files desk.new) }
-    ensures printed { IsTrue D.tells → IsTrue O.tells → PrintsFront (asked words.now) (told I.tells (I.rest input.old)) (outside (D.files desk.old) (O.written out.old)) (outside (D.files desk.new) (O.written out.new)) }
+    ensures failed_read { IsTrue D.tells → result ≡ Err Fault.ReadFault
+        → LeavesAtFailedRead (asked words.now) (D.files desk.old) (D.files desk.new) }
+    ensures printed { let source = told I.tells (I.rest input.old) in
+        let before = outside (D.files desk.old) (O.written out.old) in
+        let after = outside (D.files desk.new) (O.written out.new) in
+        IsTrue D.tells → IsTrue O.tells → PrintsPrefix (asked words.now) source before after }
     ensures source { KeepsSource (asked words.now) input.old input.new }
-    ensures causes { let before = counts (D.read_faults desk.old) (I.faults input.old) (D.write_faults desk.old) (O.faults out.old) in
-        let after = counts (D.read_faults desk.new) (I.faults input.new) (D.write_faults desk.new) (O.faults out.new) in
+    ensures causes { let before = counts (D.read_faults desk.old) (I.faults input.old)
+        (D.write_faults desk.old) (O.faults out.old) in
+        let after = counts (D.read_faults desk.new) (I.faults input.new)
+        (D.write_faults desk.new) (O.faults out.new) in
         CommandCauses before after result }
-    ensures desk_writes { KeepsDeskWrites (asked words.now) (D.write_faults desk.old) (D.write_faults desk.new) }
+    ensures desk_writes { let command = asked words.now in
+        KeepsDeskWrites command (D.write_faults desk.old) (D.write_faults desk.new) }
     ensures words { (asked words.now ≡ None) ↔ (result ≡ Err Fault.Words) }
 {
     match read_words(words) {
@@ -61,11 +74,13 @@ fn answer<D: Desk, I: Source, O: Sink>(
 fn say<O: Sink>(out: &mut O, line: &str, said: Status) -> Status
     requires { IsAnswered said }
     ensures status { (result ≡ said) ⊎ (result ≡ Status.WriteFault) ⊎ (result ≡ Status.Memory) }
-    ensures written { IsTrue O.tells → result ≡ said → O.written out.new ≡ O.written out.old ++ line.now }
-    ensures front { IsTrue O.tells → (command : Option Asked) (source : Option (List ℕ)) (before : Outside) (after : Files)
-        → PrintsFront command source before (outside after (O.written out.old))
+    ensures written { IsTrue O.tells → result ≡ said
+        → O.written out.new ≡ O.written out.old ++ line.now }
+    ensures prefix { IsTrue O.tells
+        → (command : Option Asked) (source : Option (List ℕ)) (before : Outside) (after : Files)
+        → PrintsPrefix command source before (outside after (O.written out.old))
         → IsAnswer command source before (outside after (O.written out.old ++ line.now)) said
-        → PrintsFront command source before (outside after (O.written out.new)) }
+        → PrintsPrefix command source before (outside after (O.written out.new)) }
     ensures cause { result ≡ Status.WriteFault → Rose (O.faults out.old) (O.faults out.new) }
     ensures kept { (O.faults out.new ≡ O.faults out.old) ⊎ (result ≡ Status.WriteFault) }
 {
@@ -79,15 +94,18 @@ fn say<O: Sink>(out: &mut O, line: &str, said: Status) -> Status
 /// Prints the last line of a command, if it has one, and gives its status or that of a refused write.
 #[tactic(auto, using(crate::proofs::Causing::causes_of_line, crate::proofs::Causing::causes_as_they_were), unfolding(crate::specs::Endings::Ends))]
 fn finish<O: Sink>(out: &mut O, ended: Result<Ending, Fault>) -> Status
-    ensures answer { IsTrue O.tells → IsAnswered result → (command : Option Asked) (source : Option (List ℕ)) (before : Outside) (after : Files)
-        → Ends command source before (outside after (O.written out.old)) ended
+    ensures answer { IsTrue O.tells → IsAnswered result
+        → (command : Option Asked) (source : Option (List ℕ)) (before : Outside) (after : Files)
+        → Ends (IsAnswer command source before) (outside after (O.written out.old)) ended
         → IsAnswer command source before (outside after (O.written out.new)) result }
-    ensures printed { IsTrue O.tells → (command : Option Asked) (source : Option (List ℕ)) (before : Outside) (after : Files)
-        → PrintsFront command source before (outside after (O.written out.old))
-        → Ends command source before (outside after (O.written out.old)) ended
-        → PrintsFront command source before (outside after (O.written out.new)) }
+    ensures printed { IsTrue O.tells
+        → (command : Option Asked) (source : Option (List ℕ)) (before : Outside) (after : Files)
+        → PrintsPrefix command source before (outside after (O.written out.old))
+        → Ends (IsAnswer command source before) (outside after (O.written out.old)) ended
+        → PrintsPrefix command source before (outside after (O.written out.new)) }
     ensures words { result ≡ Status.Words → ended ≡ Err Fault.Words }
-    ensures words_told { ended ≡ Err Fault.Words → (result ≡ Status.Words) ⊎ (result ≡ Status.WriteFault) ⊎ (result ≡ Status.Memory) }
+    ensures words_told { ended ≡ Err Fault.Words
+        → (result ≡ Status.Words) ⊎ (result ≡ Status.WriteFault) ⊎ (result ≡ Status.Memory) }
     ensures read { result ≡ Status.ReadFault → ended ≡ Err Fault.ReadFault }
     ensures causes { (before : Counts) (reads source writes : ℕ)
         → CommandCauses before (counts reads source writes (O.faults out.old)) ended
@@ -117,28 +135,43 @@ pub fn run<D: Desk, I: Source, O: Sink>(
     requires names { MayRun D.reads D.writes (asked words.now) }
 
     // The answer, where the desk and the sink tell, nothing failed and memory was there.
-    ensures answer { let before = counts (D.read_faults desk.old) (I.faults input.old) (D.write_faults desk.old) (O.faults out.old) in
-        let after = counts (D.read_faults desk.new) (I.faults input.new) (D.write_faults desk.new) (O.faults out.new) in
-        IsTrue D.tells → IsTrue O.tells → NothingFailed before after → result ≢ Status.Memory
-        → IsAnswer (asked words.now) (told I.tells (I.rest input.old)) (outside (D.files desk.old) (O.written out.old)) (outside (D.files desk.new) (O.written out.new)) result }
+    ensures answer { let source = told I.tells (I.rest input.old) in
+        let before = outside (D.files desk.old) (O.written out.old) in
+        let after = outside (D.files desk.new) (O.written out.new) in
+        let counts_before = counts (D.read_faults desk.old) (I.faults input.old)
+        (D.write_faults desk.old) (O.faults out.old) in
+        let counts_after = counts (D.read_faults desk.new) (I.faults input.new)
+        (D.write_faults desk.new) (O.faults out.new) in
+        IsTrue D.tells → IsTrue O.tells → NothingFailed counts_before counts_after
+        → result ≢ Status.Memory → IsAnswer (asked words.now) source before after result }
 
-    // For every desk and sink: this status only where the words are in no command, and there no answer but this.
+    // For every desk and sink: this status only where the words are in no command, and there no answer
+    // but this.
     ensures words { result ≡ Status.Words → asked words.now ≡ None }
-    ensures no_command { asked words.now ≡ None → (result ≡ Status.Words) ⊎ (result ≡ Status.WriteFault) ⊎ (result ≡ Status.Memory) }
+    ensures no_command { asked words.now ≡ None
+        → (result ≡ Status.Words) ⊎ (result ≡ Status.WriteFault) ⊎ (result ≡ Status.Memory) }
 
     // The causes of a failed read or write, and such a status for each cause.
-    ensures causes { let before = counts (D.read_faults desk.old) (I.faults input.old) (D.write_faults desk.old) (O.faults out.old) in
-        let after = counts (D.read_faults desk.new) (I.faults input.new) (D.write_faults desk.new) (O.faults out.new) in
+    ensures causes { let before = counts (D.read_faults desk.old) (I.faults input.old)
+        (D.write_faults desk.old) (O.faults out.old) in
+        let after = counts (D.read_faults desk.new) (I.faults input.new)
+        (D.write_faults desk.new) (O.faults out.new) in
         Causes before after result }
 
     // What is left however it ends: the files, what the sink has got, and the source.
-    ensures files { IsTrue D.tells → Leaves (asked words.now) (D.files desk.old) (D.files desk.new) }
-    ensures failed_read { IsTrue D.tells → result ≡ Status.ReadFault → LeavesAtFailedRead (asked words.now) (D.files desk.old) (D.files desk.new) }
-    ensures printed { IsTrue D.tells → IsTrue O.tells → PrintsFront (asked words.now) (told I.tells (I.rest input.old)) (outside (D.files desk.old) (O.written out.old)) (outside (D.files desk.new) (O.written out.new)) }
+    ensures files { let command = asked words.now in
+        IsTrue D.tells → Leaves command (D.files desk.old) (D.files desk.new) }
+    ensures failed_read { IsTrue D.tells → result ≡ Status.ReadFault
+        → LeavesAtFailedRead (asked words.now) (D.files desk.old) (D.files desk.new) }
+    ensures printed { let source = told I.tells (I.rest input.old) in
+        let before = outside (D.files desk.old) (O.written out.old) in
+        let after = outside (D.files desk.new) (O.written out.new) in
+        IsTrue D.tells → IsTrue O.tells → PrintsPrefix (asked words.now) source before after }
     ensures source { KeepsSource (asked words.now) input.old input.new }
 
     // For every desk: a command that only reads leaves its count of failed writes.
-    ensures desk_writes { KeepsDeskWrites (asked words.now) (D.write_faults desk.old) (D.write_faults desk.new) }
+    ensures desk_writes { let command = asked words.now in
+        KeepsDeskWrites command (D.write_faults desk.old) (D.write_faults desk.new) }
 {
     let ended = answer(alloc, words, desk, input, out);
     finish(out, ended)

@@ -21,12 +21,12 @@ pub enum Command<'a> {
 }
 
 /// The most bytes of a file's name.
-const MOST: usize = 4096;
+pub const LONGEST_NAME: usize = 4096;
 
 fn is_name(word: &str) -> bool
     ensures { result ≡ is_name word.now }
 {
-    1 <= word.len() && word.len() <= MOST
+    1 <= word.len() && word.len() <= LONGEST_NAME
 }
 
 fn are_two_names(first: &str, second: &str) -> bool

@@ -1,6 +1,7 @@
 -- What other crates may cite.
-use Rattle.std.proofs.Common.{◌≡◌, ◌≢◌, ◌⊎◌, inl, inr, ℕ, ◌≤◌, ◌<◌, ◌==◌, ◌&&◌, ◌||◌, nat_lt, min, not, Bool, true, false, cond, Option, Some, None, List, [], ◌∷◌, length, refl, sym, ap, ◌∙◌, arith}
-use Rattle.std.specs.List.{filter, Contains}
+use Rattle.std.proofs.Common.{◌≡◌, ◌≢◌, ◌⊎◌, inl, inr, ℕ, ◌≤◌, ◌<◌, ◌==◌, ◌&&◌, ◌||◌, nat_lt, min, not, Bool, true, false, cond, Option, Some, None, ◌+◌, ◌-◌, List, [], ◌∷◌, ◌++◌, length, refl, sym, ap, ◌∙◌, arith}
+use Rattle.std.specs.List.{filter, flat_map, Contains}
+use Rattle.std.proofs.lemmas.List.Elements.{filter-append}
 use Rattle.std.proofs.lemmas.Bool.Decides.{nat_tests, Decides-eqb}
 use Rattle.sums.specs.Least.{lower, lowest, least}
 use Rattle.cluster.specs.declared.ids.Element.{Element}
@@ -8,7 +9,16 @@ use Rattle.cluster.specs.declared.ids.Element.TheVariants.{Vm, Node}
 use Rattle.cluster.specs.declared.choices.Choice.{Choice}
 use Rattle.domains.specs.declared.parts.Part.{Part}
 use Rattle.domains.specs.Parts.{in_part, out_of_part}
-use Rattle.domains.specs.Sets.{Sets, keeping, same_element, surely, may, IsIn}
+use Rattle.cluster.specs.declared.choices.Choice.TheVariants.{Idle, Act}
+use Rattle.domains.specs.declared.parts.Row.{Row}
+use Rattle.domains.specs.declared.view.Lens.{Lens}
+use Rattle.domains.specs.declared.view.Lens.TheVariants.{Whole, Inside, Outside, Set}
+use Rattle.domains.specs.declared.view.Sight.{Sight}
+use Rattle.domains.specs.declared.view.Sight.TheVariants.{All, In, Out, Only}
+use Rattle.domains.specs.Choices.{DomainView, choices, row_choices}
+use Rattle.domains.specs.Views.{seen, sight_of, sight_at, idle_seen, rows_under, shows, SeenByRows}
+use Rattle.domains.proofs.MeasureLemmas.{filter_true}
+use Rattle.domains.specs.Sets.{RegionView, Sets, domain_at, sets, keeping, same_element, surely, may, IsIn}
 use Rattle.domains.specs.Sizes.{size, IsOneOf}
 use Rattle.domains.specs.Laws.{PartsCover, PartsAreDisjoint, PlanSplits, PlanStays, SplitAddsUp, SizeFalls, SizeIsPositive, OpenHasTwo, CountFalls, CountFallsBelow, LeastOfEach, SurelyEach, MayEach, AreFewer, FilterIsFewer, SurelyStays, MayStays, LeastGrows, SurelyByLeast, MayByLeast, is_above_none, is_nought}
 use Rattle.domains.proofs.SplitLemmas.{contains_none, contains_cases, contains_here, contains_later, contains_filter, filter_contains, size-split, size-le, size-positive, size-two, count-le, count-lt}
@@ -184,3 +194,47 @@ may_by_least test (c ∷ cs) = rw (may_by_least test cs) (step (test c) (lowest 
     step false None = refl
     step true (Some n) = grind (arith, nat_tests)
     step false (Some n) = grind (arith, nat_tests)
+
+-- ---- what is seen, row by row
+
+filter-flat_map : (test : Choice → Bool) (rows : List Row) → filter test (flat_map row_choices rows) ≡ flat_map (λ r. filter test (row_choices r)) rows
+filter-flat_map test [] = refl
+filter-flat_map test (r ∷ rs) = filter-append test (row_choices r) (flat_map row_choices rs) ∙ ap (λ cs. filter test (row_choices r) ++ cs) (filter-flat_map test rs)
+
+filter-idle : (test : Choice → Bool) (idle : Bool) (cs : List Choice) → filter test (cond idle (Idle ∷ []) [] ++ cs) ≡ cond (idle && test Idle) (Idle ∷ []) [] ++ filter test cs
+filter-idle test false cs = refl
+filter-idle test true cs = by (test Idle)
+  where
+    by : (b : Bool) → cond b (Idle ∷ filter test cs) (filter test cs) ≡ cond b (Idle ∷ []) [] ++ filter test cs
+    by true = refl
+    by false = refl
+
+-- what is seen of a domain's choices
+by_rows : (s : Sight) (d : DomainView) → sight_of s (choices d) ≡ cond (idle_seen s d) (Idle ∷ []) [] ++ flat_map (λ r. filter (shows s) (row_choices r)) (rows_under s d)
+by_rows All d = ap (λ cs. cond d.idle (Idle ∷ []) [] ++ cs) (sym (filter_true (flat_map row_choices d.rows)) ∙ filter-flat_map (λ c. true) d.rows)
+by_rows (In part) d = filter-idle (in_part part) d.idle (flat_map row_choices d.rows) ∙ ap (λ cs. cond (d.idle && in_part part Idle) (Idle ∷ []) [] ++ cs) (filter-flat_map (in_part part) d.rows)
+by_rows (Out part) d = filter-idle (out_of_part part) d.idle (flat_map row_choices d.rows) ∙ ap (λ cs. cond (d.idle && out_of_part part Idle) (Idle ∷ []) [] ++ cs) (filter-flat_map (out_of_part part) d.rows)
+by_rows (Only Idle) d = refl
+by_rows (Only (Act place start)) d = let one : start + 1 - start ≡ 1 = omega arith in rw one refl
+
+-- what a lens shows is what is seen at each element
+seen-sight : (g : RegionView) (lens : Lens) (e : Element) → seen g lens e ≡ sight_of (sight_at lens e) (sets g e)
+seen-sight g Whole e = refl
+seen-sight g (Inside x part) e = by (same_element e x)
+  where
+    by : (b : Bool) → cond b (filter (in_part part) (sets g e)) (sets g e) ≡ sight_of (cond b (In part) All) (sets g e)
+    by true = refl
+    by false = refl
+seen-sight g (Outside x part) e = by (same_element e x)
+  where
+    by : (b : Bool) → cond b (filter (out_of_part part) (sets g e)) (sets g e) ≡ sight_of (cond b (Out part) All) (sets g e)
+    by true = refl
+    by false = refl
+seen-sight g (Set x c) e = by (same_element e x)
+  where
+    by : (b : Bool) → cond b (c ∷ []) (sets g e) ≡ sight_of (cond b (Only c) All) (sets g e)
+    by true = refl
+    by false = refl
+
+pub seen_by_rows : SeenByRows
+seen_by_rows g lens e = seen-sight g lens e ∙ by_rows (sight_at lens e) (domain_at g e)

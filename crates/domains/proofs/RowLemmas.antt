@@ -3,13 +3,8 @@ use Rattle.std.proofs.Common.{◌≡◌, ◌⊎◌, inl, inr, ℕ, zero, suc, �
 use Rattle.std.proofs.lemmas.List.{get_or_default}
 use Rattle.std.specs.List.{All, remove}
 use Rattle.std.proofs.lemmas.List.Elements.{All-head, All-tail}
-use Rattle.cluster.specs.declared.choices.Place.TheVariants.{Nowhere}
 use Rattle.domains.specs.declared.parts.Row.{Row}
 use Rattle.domains.specs.Choices.{place_index, Climbs}
-
--- what a place of a list is read as where it has no row
-abbrev pub blank : Row
-blank = record { place = Nowhere; lo = 0; hi = 0 }
 
 -- rows that climb from an index on do so from a lower one
 pub Climbs-lower : (low from : ℕ) (rows : List Row) → low ≤ from → Climbs from rows → Climbs low rows

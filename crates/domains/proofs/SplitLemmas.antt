@@ -167,9 +167,11 @@ module _ (machines nodes : ℕ) (s : Sets) (some : (x : Element) → IsOneOf mac
 
 pub count-le : (machines nodes : ℕ) (s : Sets) (x : Element) (test : Choice → Bool) → choice_count machines nodes (keeping x test s) ≤ choice_count machines nodes s
 count-le machines nodes s x test =
-    omega
-    (arith, sum_to-le machines (machine_choices (keeping x test s)) (machine_choices s) (λ k l. keeping-le x (Vm (record { 0 = k })) test s),
-    sum_to-le nodes (node_choices (keeping x test s)) (node_choices s) (λ k l. keeping-le x (Node (record { 0 = k })) test s))
+    omega (
+      arith,
+      sum_to-le machines (machine_choices (keeping x test s)) (machine_choices s) (λ k l. keeping-le x (Vm (record { 0 = k })) test s),
+      sum_to-le nodes (node_choices (keeping x test s)) (node_choices s) (λ k l. keeping-le x (Node (record { 0 = k })) test s),
+    )
 
 pub count-lt : (machines nodes : ℕ) (s : Sets) (x : Element) (test : Choice → Bool) (c : Choice) → IsOneOf machines nodes x → Contains (s x) c → test c ≡ false → choice_count machines nodes (keeping x test s) < choice_count machines nodes s
 count-lt machines nodes s (Vm v) test c l h f =

@@ -31,6 +31,10 @@ starts_from place from (suc count) = Act place from ∷ starts_from place (from 
 abbrev pub row_choices : Row → List Choice
 row_choices r = starts_from r.place r.lo (r.hi + 1 - r.lo)
 
+-- what a list of rows is read as past its end
+abbrev pub no_row : Row
+no_row = record { place = Nowhere; lo = 0; hi = 0 }
+
 -- the set of choices that a domain is
 abbrev pub choices : DomainView → List Choice
 choices d = (if d.idle then Idle ∷ [] else []) ++ flat_map row_choices d.rows

@@ -2,7 +2,7 @@
 use Rattle.std.specs.Prelude.{◌≡◌, ℕ, ◌<◌, ◌≤◌, Bool, ◌&&◌, nat_le, List, [], length, Option, Some, None, slice_index_or}
 use Rattle.cluster.specs.declared.choices.Place.{Place}
 use Rattle.cluster.specs.declared.choices.Choice.{Choice}
-use Rattle.cluster.specs.declared.choices.Choice.TheVariants.{Act}
+use Rattle.cluster.specs.declared.choices.Choice.TheVariants.{Idle as Stay, Act}
 use Rattle.domains.specs.declared.parts.Row.{Row}
 use Rattle.domains.specs.declared.parts.Part.{Part}
 use Rattle.domains.specs.declared.parts.Part.TheVariants.{Idle, Upto, From}
@@ -12,6 +12,11 @@ use Rattle.domains.specs.Choices.{place_index, row_choices}
 abbrev pub option_choices : Option Row → List Choice
 option_choices None = []
 option_choices (Some r) = row_choices r
+
+-- the row of one choice; Idle has none
+abbrev pub row_of : Choice → Option Row
+row_of Stay = None
+row_of (Act place start) = Some (record { place = place; lo = start; hi = start })
 
 -- a row at a place, which is not empty
 pub record IsRowAt (place : Place) (r : Row) : Type 0 where

@@ -7,7 +7,7 @@ ghost use Rattle.domains.specs.Parts.{in_part, out_of_part, on_side};
 ghost use Rattle.domains.specs.Rows.{IsPartAt, option_choices};
 ghost use Rattle.domains.specs.Undo.{restored, CanRestore, put_row, put_back};
 
-use crate::measure::{lowest, Nought};
+use crate::measure::{Nought, lowest};
 use crate::parts::{Part, Row, Side};
 use crate::rows::{find, inside, outside};
 use crate::undo::Lost;
@@ -89,6 +89,21 @@ impl Domain {
         })
     }
 
+    /// Becomes equal to another domain, in the memory that it has where that is enough.
+    pub fn copy_from(&mut self, other: &Domain) -> Result<(), Memory>
+        ensures ok { OnOk result (self.new ≡ other.now) }
+        ensures err { OnErr result (self.new ≡ self.old) }
+    {
+        if self.rows.capacity() < other.slots {
+            *self = other.copy()?;
+            return Ok(());
+        }
+        self.idle = other.idle;
+        self.slots = other.slots;
+        copy_rows(&mut self.rows, other.rows.as_slice());
+        Ok(())
+    }
+
     /// Whether no choice is left.
     pub fn is_empty(&self) -> bool
         ensures { IsTrue result ↔ (choices self.now ≡ []) }
@@ -120,7 +135,11 @@ impl Domain {
                 rows: SmallVec::new(alloc),
                 slots: 0,
             },
-            Part::Upto(place, _) | Part::From(place, _) => match row_inside(self.rows.as_slice(), place, part) {
+            Part::Upto(place, _) | Part::From(place, _) => match row_inside(
+                self.rows.as_slice(),
+                place,
+                part,
+            ) {
                 None => Domain::new(alloc, false),
                 Some(row) => Domain {
                     idle: false,
@@ -146,7 +165,11 @@ impl Domain {
                 self.idle = false;
                 Lost::Idle
             }
-            Part::Upto(place, _) | Part::From(place, _) => match cut_row(&mut self.rows, place, part) {
+            Part::Upto(place, _) | Part::From(place, _) => match cut_row(
+                &mut self.rows,
+                place,
+                part,
+            ) {
                 None => Lost::Nothing,
                 Some(row) => Lost::Row(row),
             },
@@ -232,6 +255,16 @@ fn put(rows: &mut SmallVec<Row, 1>, row: Row)
         Ok(i) => set_row(rows, i, row),
         Err(i) => insert_row(rows, i, row),
     }
+}
+
+// copies rows into memory that is there
+fn copy_rows(rows: &mut SmallVec<Row, 1>, others: &[Row])
+    requires { length others.now ≤ rows.old.capacity }
+    ensures items { rows.new.items ≡ others.now }
+    ensures capacity { rows.old.capacity ≤ rows.new.capacity }
+{
+    rows.clear();
+    let _had_room = rows.extend_from_slice(others);
 }
 
 fn set_row(rows: &mut SmallVec<Row, 1>, i: usize, row: Row)

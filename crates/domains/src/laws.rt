@@ -1,5 +1,6 @@
 //! Laws of sets of choices: each is the contract of a function that does nothing.
 ghost use Rattle.domains.specs.Laws.{PartsCover, PartsAreDisjoint, PlanSplits, PlanStays, SplitAddsUp, SizeFalls, SizeIsPositive, OpenHasTwo, CountFalls, CountFallsBelow, LeastOfEach, SurelyEach, MayEach, FilterIsFewer, SurelyStays, MayStays, LeastGrows, SurelyByLeast, MayByLeast};
+ghost use Rattle.domains.specs.Views.{SeenByRows};
 
 /// Each choice is inside or outside of a part.
 pub fn parts_cover()
@@ -106,4 +107,9 @@ pub fn surely_by_least()
 #[tactic(auto, using(crate::proofs::Public::may_by_least))]
 pub fn may_by_least()
     ensures { MayByLeast }
+{}
+
+/// What is seen of an element through a lens is Idle and what is seen of the rows.
+pub fn seen_by_rows()
+    ensures { SeenByRows }
 {}

@@ -10,7 +10,7 @@ pub mod measure;
 pub mod parts;
 pub mod region;
 mod rows;
-pub mod undo;
-pub mod view;
 #[cfg(test)]
 mod tests;
+pub mod undo;
+pub mod view;

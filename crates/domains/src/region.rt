@@ -156,7 +156,8 @@ impl Region {
         requires { HasElement self.now change.element }
         ensures { IsTrue result ↔ (filter (on_side change.side change.part) (sets self.now change.element) ≡ []) }
     {
-        self.domain(change.element).leaves_none(change.part, change.side)
+        self.domain(change.element)
+            .leaves_none(change.part, change.side)
     }
 
     /// Whether each element has exactly one choice.

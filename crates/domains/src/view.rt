@@ -1,14 +1,15 @@
 //! A region seen as it is, on one side of a part, or with one element set to one choice; nothing is copied.
-ghost use Rattle.std.specs.Prelude.{◌≡◌, IsTrue, ◌↔◌};
-ghost use Rattle.std.specs.List.{Contains};
+ghost use Rattle.std.specs.Prelude.{◌≡◌, ◌<◌, ◌≤◌, IfSome, filter, length, slice_index_or};
 ghost use Rattle.sums.specs.Least.{lowest as lowest_of};
-ghost use Rattle.cluster.specs.declared.choices.Choice.TheVariants.{Idle};
-ghost use Rattle.domains.specs.Sets.{RegionView, HasElement, same_element, sets};
-ghost use Rattle.domains.specs.Views.{seen, sight_of};
+ghost use Rattle.domains.specs.Choices.{no_row, row_choices};
+ghost use Rattle.domains.specs.Rows.{option_choices, row_of};
+ghost use Rattle.domains.specs.Sets.{RegionView, HasElement, domain_at, same_element, sets};
+ghost use Rattle.domains.specs.Views.{seen, sight_of, sight_at, idle_seen, rows_under, shows};
 
 use crate::measure::{Measure, lowest};
-use crate::parts::Part;
+use crate::parts::{Part, Row};
 use crate::region::Region;
+use crate::rows::{inside, outside};
 use cluster::choices::Choice;
 use cluster::ids::Element;
 
@@ -56,15 +57,90 @@ pub fn lowest_seen<M: Measure>(view: &View, e: Element, m: &M) -> Option<u64>
     }
 }
 
+/// Whether Idle is seen of an element.
+pub fn has_idle(view: &View, e: Element) -> bool
+    requires { HasElement view.now.region.now e }
+    ensures { result ≡ idle_seen (sight_at view.now.lens e) (domain_at view.now.region.now e) }
+{
+    let idle = view.region.domain(e).idle();
+    match shown(view.lens, e) {
+        Sight::All => idle,
+        Sight::In(part) => idle && matches!(part, Part::Idle),
+        Sight::Out(part) => idle && !matches!(part, Part::Idle),
+        Sight::Only(c) => matches!(c, Choice::Idle),
+    }
+}
+
+/// How many rows all else is seen of. The law `seen_by_rows` says that this is all.
+pub fn row_count(view: &View, e: Element) -> usize
+    requires { HasElement view.now.region.now e }
+    ensures { result ≡ length (rows_under (sight_at view.now.lens e) (domain_at view.now.region.now e)) }
+{
+    let count = view.region.domain(e).rows().len();
+    match shown(view.lens, e) {
+        Sight::All | Sight::In(_) | Sight::Out(_) => count,
+        Sight::Only(c) => if matches!(c, Choice::Idle) { 0 } else { 1 },
+    }
+}
+
+/// What is seen of one of these rows: a row, or nothing.
+pub fn row_at(view: &View, e: Element, k: usize) -> Option<Row>
+    requires element { HasElement view.now.region.now e }
+    requires there { k < length (rows_under (sight_at view.now.lens e) (domain_at view.now.region.now e)) }
+    ensures set { option_choices result ≡ filter (shows (sight_at view.now.lens e))
+        (row_choices (slice_index_or (rows_under (sight_at view.now.lens e) (domain_at view.now.region.now e)) k no_row)) }
+    ensures row { IfSome result (λ r. r.lo ≤ r.hi) }
+{
+    let rows = view.region.domain(e).rows();
+    match shown(view.lens, e) {
+        Sight::All => Some(rows[k]),
+        Sight::In(part) => inside(rows[k], part),
+        Sight::Out(part) => outside(rows[k], part),
+        Sight::Only(c) => only_row(c),
+    }
+}
+
+fn only_row(c: Choice) -> Option<Row>
+    ensures { result ≡ row_of c }
+{
+    match c {
+        Choice::Idle => None,
+        Choice::Act { place, start } => Some(Row {
+            place,
+            lo: start,
+            hi: start,
+        }),
+    }
+}
+
 /// What a lens shows of an element.
 pub fn shown(lens: Lens, e: Element) -> Sight
-    ensures { (g : RegionView) → seen g lens e ≡ sight_of result (sets g e) }
+    ensures sight { result ≡ sight_at lens e }
+    ensures seen { (g : RegionView) → seen g lens e ≡ sight_of result (sets g e) }
 {
     match lens {
         Lens::Whole => Sight::All,
-        Lens::Inside(x, part) => if is_same(e, x) { Sight::In(part) } else { Sight::All },
-        Lens::Outside(x, part) => if is_same(e, x) { Sight::Out(part) } else { Sight::All },
-        Lens::Set(x, c) => if is_same(e, x) { Sight::Only(c) } else { Sight::All },
+        Lens::Inside(x, part) => {
+            if is_same(e, x) {
+                Sight::In(part)
+            } else {
+                Sight::All
+            }
+        }
+        Lens::Outside(x, part) => {
+            if is_same(e, x) {
+                Sight::Out(part)
+            } else {
+                Sight::All
+            }
+        }
+        Lens::Set(x, c) => {
+            if is_same(e, x) {
+                Sight::Only(c)
+            } else {
+                Sight::All
+            }
+        }
     }
 }
 

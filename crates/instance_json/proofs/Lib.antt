@@ -1,7 +1,6 @@
-pub mod Steps
+pub mod Public
 pub mod Loops
-pub mod Fits
+pub mod Fitting
 pub mod NameLemmas
-pub mod NodeLemmas
 pub mod ListLemmas
 pub mod RuleLemmas

@@ -1,20 +1,20 @@
 -- Lists of machines and sets of nodes, one more at a time.
-use Rattle.std.proofs.Common.{◌≡◌, ℕ, zero, suc, ◌+◌, ◌<◌, ◌||◌, ◌==◌, Bool, true, false, not, List, [], ◌∷◌, ◌++◌, length, refl, sym, ap, ◌∙◌, arith}
+use Rattle.std.proofs.Common.{◌≡◌, ℕ, zero, suc, ◌+◌, ◌<◌, ◌||◌, ◌==◌, Bool, true, false, not, List, [], ◌∷◌, ◌++◌, length, nat_lt, refl, sym, ap, ◌∙◌, arith}
 use Rattle.std.proofs.lemmas.Grind.{common_steps}
 use Rattle.std.proofs.lemmas.List.{append_assoc, append-nil}
 use Rattle.std.proofs.lemmas.Bool.{and_from, and_parts}
 use Rattle.std.proofs.lemmas.List.Folds.{list_all-append, list_any-append}
-use Rattle.std.specs.List.{list_all, range_with_len}
+use Rattle.std.specs.List.{list_all}
 use Rattle.cluster.specs.declared.ids.VmId.{VmId}
 use Rattle.cluster.specs.declared.sets.NodeSet.{NodeSet}
-use Rattle.cluster.specs.Sets.{has_node}
+use Rattle.cluster.specs.declared.sets.MachineSet.{MachineSet}
+use Rattle.cluster.specs.Limits.{max_nodes}
+use Rattle.cluster.specs.Sets.{has_machine, has_node, IsWithin, no_nodes, with_node}
+use Rattle.cluster.proofs.Public.{has_node-no_nodes, has_node-with_node}
 use Rattle.cluster.specs.Inventory.{Inventory}
-use Rattle.catalogue.specs.declared.seen.Seen.{Seen}
-use Rattle.catalogue.specs.Seen.{has_seen}
-use Rattle.catalogue.specs.Faults.{is_member, differ, all_of}
+use Rattle.catalogue.specs.Faults.{is_member, differ, all_of, are_machines, are_nodes}
+use Rattle.catalogue.proofs.Public.{are_nodes-within, IsWithin-are_nodes}
 use Rattle.instance_json.specs.Listed.{AreMarked}
-use Rattle.instance_json.specs.NodeSets.{no_nodes, with_node, is_listed_set, are_listed_sets}
-use Rattle.instance_json.proofs.NodeLemmas.{has_node-no_nodes, has_node-with_node}
 
 -- one more item that passes
 pub list_all_more : {X : Type 0} (p : X → Bool) (xs : List X) (x : X) → list_all p xs ≡ true → p x ≡ true → list_all p (xs ++ x ∷ []) ≡ true
@@ -50,39 +50,35 @@ differ-more (x ∷ xs) v all new =
     fresh a b h k = rw h k
 
 -- one more machine is marked
-pub AreMarked-push : (s t : Seen) (vs ws : List VmId) (v : VmId) → AreMarked s (vs ++ ws) → is_member (vs ++ ws) v.0 ≡ false
-    → ((m : ℕ) → has_seen t m ≡ ((m == v.0) || has_seen s m)) → AreMarked t (vs ++ (ws ++ v ∷ []))
+pub AreMarked-push : (s t : MachineSet) (vs ws : List VmId) (v : VmId) → AreMarked s (vs ++ ws) → is_member (vs ++ ws) v.0 ≡ false
+    → ((m : ℕ) → has_machine t m ≡ ((m == v.0) || has_machine s m)) → AreMarked t (vs ++ (ws ++ v ∷ []))
 AreMarked-push s t vs ws v old new marks = rw (← append_assoc vs ws (v ∷ [])) (record {
-  marked = λ m. marks m ∙ ap (λ b. (m == v.0) || b) (old.marked m) ∙ sym (member-more (vs ++ ws) v m);
+  same = λ m. marks m ∙ ap (λ b. (m == v.0) || b) (old.same m) ∙ sym (member-more (vs ++ ws) v m);
   apart = differ-more (vs ++ ws) v old.apart new;
 })
 
 -- a list is done
-pub AreMarked-close : (s : Seen) (ps : List (List VmId)) (vs : List VmId) → AreMarked s (all_of ps ++ vs) → AreMarked s (all_of (ps ++ vs ∷ []) ++ [])
+pub AreMarked-close : (s : MachineSet) (ps : List (List VmId)) (vs : List VmId) → AreMarked s (all_of ps ++ vs) → AreMarked s (all_of (ps ++ vs ∷ []) ++ [])
 AreMarked-close s ps vs old = rw (append-nil (all_of (ps ++ vs ∷ [])), all_of-more ps vs) old
+
+-- one more list of listed machines
+pub are_machines-part : (k : Inventory) (ps : List (List VmId)) (vs : List VmId) → are_machines k (all_of ps) ≡ true → are_machines k vs ≡ true → are_machines k (all_of (ps ++ vs ∷ [])) ≡ true
+are_machines-part k ps vs old new =
+    ap (are_machines k) (all_of-more ps vs) ∙ list_all-append (λ (x : VmId). nat_lt x.0 (length k.machines)) (all_of ps) vs ∙ and_from _ _ old new
+
+pub ruleset part_rules = (are_machines-part)
 
 -- ---- nodes
 
-none-in-empty : (a n : ℕ) → list_all (λ m. not (has_node no_nodes m)) (range_with_len a n) ≡ true
-none-in-empty a zero = refl
-none-in-empty a (suc n) = and_from _ _ (ap not (has_node-no_nodes a)) (none-in-empty (a + 1) n)
+pub are_nodes-none : (k : Inventory) → are_nodes k no_nodes ≡ true
+are_nodes-none k = sym (are_nodes-within k no_nodes true (λ _ m past. has_node-no_nodes m, λ _. refl))
 
-pub no_nodes_listed : (k : Inventory) → is_listed_set k no_nodes ≡ true
-unfolding is_listed_set
-no_nodes_listed k = none-in-empty (length k.nodes) _
+pub are_nodes-with : (k : Inventory) (s : NodeSet) (n : ℕ) → n < max_nodes → n < length k.nodes → are_nodes k s ≡ true → are_nodes k (with_node s n) ≡ true
+are_nodes-with k s n small below old = sym (are_nodes-within k (with_node s n) true (λ _. within, λ _. refl))
+  where
+    within : IsWithin (with_node s n) (length k.nodes)
+    within m past =
+        let apart : (m == n) ≡ false = grind (arith, common_steps) in
+        has_node-with_node s n m small ∙ ap (λ b. b || has_node s m) apart ∙ IsWithin-are_nodes k s old m past
 
-none-in-with : (s : NodeSet) (x a n : ℕ) → x < 512 → x < a → list_all (λ m. not (has_node s m)) (range_with_len a n) ≡ true
-    → list_all (λ m. not (has_node (with_node s x) m)) (range_with_len a n) ≡ true
-none-in-with s x a zero small below old = refl
-none-in-with s x a (suc n) small below old =
-    let apart : (a == x) ≡ false = grind (arith, common_steps) in
-    let parts = and_parts (not (has_node s a)) _ old in
-    and_from _ _ (ap not (has_node-with_node s x a small) ∙ ap (λ b. not (b || has_node s a)) apart ∙ parts.0) (none-in-with s x (a + 1) n small (omega arith) parts.1)
-
-pub is_listed_set_with : (k : Inventory) (s : NodeSet) (n : ℕ) → n < 512 → n < length k.nodes → is_listed_set k s ≡ true → is_listed_set k (with_node s n) ≡ true
-unfolding is_listed_set
-is_listed_set_with k s n small below old = none-in-with s n (length k.nodes) _ small below old
-
-pub no_sets_listed : (k : Inventory) → are_listed_sets k [] ≡ true
-unfolding are_listed_sets
-no_sets_listed k = refl
+pub ruleset set_rules = (are_nodes-none, are_nodes-with)

@@ -1,31 +1,60 @@
--- Loops over a list of small values, each of which a loop reads with some default.
-use Rattle.std.proofs.Common.{◌≡◌, ℕ, ◌+◌, ◌<◌, ◌≤◌, List, [], ◌∷◌, ◌++◌, length, map, take, slice_set, get_or, Option, Result, Ok, sym, ap, ◌∙◌}
-use Rattle.std.proofs.lemmas.List.{take_more, take_more_set, take_all, map-append, get_or_default}
-use Rattle.json_walk.specs.Walk.{Fails}
-use Rattle.json_walk.specs.Each.{each}
-use Rattle.json_walk.proofs.Each.{StandsIn, goes_on_in, fails_in_loop_in}
+-- A loop that fills places from the first one on does what `map_walk` says.
+use Rattle.std.proofs.Common.{◌≡◌, ℕ, zero, suc, ◌+◌, ◌<◌, ◌≤◌, List, [], ◌∷◌, ◌++◌, length, take, drop, slice_set, get_or, add-one, Option, Some, None, Result, Ok, Err, refl, sym, ap, ◌∙◌, arith, append_assoc}
+use Rattle.std.proofs.Math.Seq.{take-suc-set}
+use Rattle.std.proofs.lemmas.List.{append-nil, get_or_default}
+use Rattle.json_walk.specs.Walk.{◌>>=◌, Fails}
+use Rattle.instance_json.specs.declared.fault.InstanceFault.{InstanceFault}
+use Rattle.instance_json.specs.Walk.{Walk, map_walk}
 
-pub goes_on_at : {X A E : Type 0} (step : ℕ → A → X → Result A E) (xs : List X) (place : ℕ) (so_far start : A) (d : X) (next : A)
-    → place < length xs → StandsIn step xs place so_far start → step place so_far (get_or xs place d) ≡ Ok next → StandsIn step xs (place + 1) next start
-goes_on_at step xs place so_far start d next lt stands made =
-    goes_on_in step xs place so_far start (get_or xs place d) next lt (get_or_default xs place d (get_or xs place d) lt) stands made
+-- the places before one are what the test gives of the items before it
+abbrev pub Fills : {X A : Type 0} → (X → Walk A) → List X → ℕ → List A → Type 0
+Fills test xs i out = (map_walk test (drop i xs) >>= λ rest. Ok (take i out ++ rest)) ≡ map_walk test xs
 
-pub fails_at : {X A F : Type 0} (step : ℕ → A → X → Result A F) (xs : List X) (place : ℕ) (so_far start : A) (d : X) (named : Option F)
-    → place < length xs → StandsIn step xs place so_far start → Fails named (step place so_far (get_or xs place d)) → Fails named (each step 0 start xs)
-fails_at step xs place so_far start d named lt stands h =
-    fails_in_loop_in step xs place so_far start (get_or xs place d) named lt (get_or_default xs place d (get_or xs place d) lt) stands h
+here : {X : Type 0} (xs : List X) (i : ℕ) (x : X) → i < length xs → x ≡ get_or xs i x → drop i xs ≡ x ∷ drop (suc i) xs
+here [] i x lt is = absurd (omega arith)
+here (y ∷ ys) zero x lt is = ap (λ (z : _). z ∷ ys) (sym is)
+here (y ∷ ys) (suc i) x lt is = here ys i x (omega arith) is
 
--- ---- places that are filled one after the other
+joined : {A : Type 0} (front : List A) (y : A) (r : Walk (List A)) → (r >>= λ rest. Ok ((front ++ y ∷ []) ++ rest)) ≡ ((r >>= λ ys. Ok (y ∷ ys)) >>= λ rest. Ok (front ++ rest))
+joined front y (Ok ys) = ap Ok (append_assoc front (y ∷ []) ys)
+joined front y (Err e) = refl
 
--- one more place that is filled from its own place
-pub filled_more : {X Y : Type 0} (f : X → Y) (ys : List Y) (xs : List X) (i : ℕ) (d : X) → i < length ys → i < length xs
-    → take i ys ≡ map f (take i xs) → take (i + 1) (slice_set ys i (f (get_or xs i d))) ≡ map f (take (i + 1) xs)
-filled_more f ys xs i d lt within so_far =
-    take_more_set ys i (f (get_or xs i d)) lt
-    ∙ ap (λ (l : List _). l ++ f (get_or xs i d) ∷ []) so_far
-    ∙ sym (ap (map f) (take_more xs i d within) ∙ map-append f (take i xs) (get_or xs i d ∷ []))
+pub fills_more : {X A : Type 0} (test : X → Walk A) (xs : List X) (i : ℕ) (out : List A) (x : X) (y : A)
+    → i < length xs → i < length out → x ≡ get_or xs i x → Fills test xs i out → test x ≡ Ok y → Fills test xs (i + 1) (slice_set out i y)
+unfolding map_walk
+fills_more test xs i out x y lt within is so_far made =
+    rw (add-one, take-suc-set out i y within)
+    (joined (take i out) y (map_walk test (drop (suc i) xs)) ∙ sym (ap (λ l. map_walk test l >>= λ rest. Ok (take i out ++ rest)) (here xs i x lt is) ∙ rw made refl) ∙ so_far)
 
-pub all_filled : {X Y : Type 0} (f : X → Y) (ys : List Y) (xs : List X) (i : ℕ) → length ys ≤ i → length xs ≤ i → take i ys ≡ map f (take i xs) → ys ≡ map f xs
-all_filled f ys xs i le less same = sym (take_all i ys le) ∙ same ∙ ap (map f) (take_all i xs less)
+past : {X : Type 0} (xs : List X) (i : ℕ) → length xs ≤ i → drop i xs ≡ []
+past [] zero le = refl
+past [] (suc i) le = refl
+past (x ∷ xs) zero le = absurd (omega arith)
+past (x ∷ xs) (suc i) le = past xs i (omega arith)
 
-pub ruleset loop_at_rules = (goes_on_at, fails_at)
+pub fills_all : {X A : Type 0} (test : X → Walk A) (xs : List X) (i : ℕ) (out : List A) → length xs ≤ i → Fills test xs i out → map_walk test xs ≡ Ok (take i out)
+unfolding map_walk
+fills_all test xs i out le so_far = sym so_far ∙ ap (λ l. map_walk test l >>= λ rest. Ok (take i out ++ rest)) (past xs i le) ∙ ap Ok (append-nil (take i out))
+
+-- where an item has a fault, the whole has it; no fault is named where memory ran out
+pub fill_fails : {X A : Type 0} (test : X → Walk A) (xs : List X) (i : ℕ) (out : List A) (x : X) (fault : Option InstanceFault)
+    → i < length xs → x ≡ get_or xs i x → Fills test xs i out → Fails fault (test x) → Fails fault (map_walk test xs)
+unfolding map_walk
+fill_fails test xs i out x None lt is so_far h = tt
+fill_fails test xs i out x (Some f) lt is so_far h =
+    sym so_far ∙ ap (λ l. map_walk test l >>= λ rest. Ok (take i out ++ rest)) (here xs i x lt is) ∙ rw h refl
+
+-- what follows a fault has it
+pub fails_then : {A B : Type 0} (r : Walk A) (next : A → Walk B) (fault : Option InstanceFault) → Fails fault r → Fails fault (r >>= next)
+fails_then r next None h = tt
+fails_then r next (Some f) h = rw h refl
+
+-- ---- the same over a list of small values, each of which a loop reads with some default
+
+pub fills_more_at : {X A : Type 0} (test : X → Walk A) (xs : List X) (i : ℕ) (out : List A) (d : X) (y : A)
+    → i < length xs → i < length out → Fills test xs i out → test (get_or xs i d) ≡ Ok y → Fills test xs (i + 1) (slice_set out i y)
+fills_more_at test xs i out d y lt within so_far made = fills_more test xs i out (get_or xs i d) y lt within (get_or_default xs i d (get_or xs i d) lt) so_far made
+
+pub fill_fails_at : {X A : Type 0} (test : X → Walk A) (xs : List X) (i : ℕ) (out : List A) (d : X) (fault : Option InstanceFault)
+    → i < length xs → Fills test xs i out → Fails fault (test (get_or xs i d)) → Fails fault (map_walk test xs)
+fill_fails_at test xs i out d fault lt so_far h = fill_fails test xs i out (get_or xs i d) fault lt (get_or_default xs i d (get_or xs i d) lt) so_far h

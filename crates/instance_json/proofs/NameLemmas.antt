@@ -5,7 +5,7 @@ use Rattle.std.specs.List.{list_any, position}
 use Rattle.std.specs.Str.{bytes_eq}
 use Rattle.cluster.specs.Inventory.{are_distinct}
 use Rattle.cluster.proofs.Adding.{are_distinct-insert}
-use Rattle.cluster.proofs.Finding.{position-Some}
+use Rattle.std.proofs.lemmas.List.Quantifiers.{position-Some}
 
 -- names that differ, with one more that is not among them
 pub distinct_more : (xs : List (List ℕ)) (n : List ℕ) → are_distinct xs ≡ true → list_any (bytes_eq n) xs ≡ false → are_distinct (xs ++ n ∷ []) ≡ true

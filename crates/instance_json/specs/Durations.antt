@@ -1,73 +1,83 @@
 -- Durations.
-use Rattle.std.specs.Prelude.{ℕ, List, map, replicate, ◌+◌, ◌==◌, Option, Some, None, unwrap_or, Ok, Err, codes, slice_set, if◌then◌else◌}
+use Rattle.std.specs.Prelude.{ℕ, Bool, true, List, map, replicate, ◌==◌, ◌&&◌, nat_lt, nat_le, Option, Some, None, unwrap_or, Ok, Err, codes, if◌then◌else◌}
 use Rattle.std.specs.List.{list_any, list_all}
 use Rattle.std.specs.Str.{bytes_eq}
 use Rattle.serde_json.specs.Data.{Data}
 use Rattle.serde_json.specs.Find.{get}
 use Rattle.json_walk.specs.declared.fault.FaultKind.TheVariants.{Missing, Unknown}
 use Rattle.json_walk.specs.Path.{key_path}
-use Rattle.json_walk.specs.Walk.{◌>>=◌, ◌>>◌, wants, object_of, keys_of, only_of}
-use Rattle.json_walk.specs.Each.{each}
+use Rattle.json_walk.specs.Walk.{◌>>=◌, ◌>>◌, wants, object_of, keys_of}
 use Rattle.cluster.specs.declared.kinds.Kind.{Kind}
 use Rattle.cluster.specs.declared.durations.Duration.{Duration}
-use Rattle.instance_json.specs.Walk.{Walk, Test, looked, bad, maybe, whole, whole_or}
-use Rattle.instance_json.specs.Keys.{duration_keys}
+use Rattle.cluster.specs.Kinds.{kind_count, machine_kind_count, kind_number, kind_word, kinds}
+use Rattle.cluster.specs.Limits.{max_duration}
+use Rattle.instance_json.specs.declared.keys.TheConstants.{DURATION_KEYS}
+use Rattle.instance_json.specs.declared.durations.Owner.{Owner}
+use Rattle.instance_json.specs.declared.durations.Owner.TheVariants.{Machine, Node, Either}
+use Rattle.instance_json.specs.Walk.{Walk, Test, as_walk, field_fault, only_keys, optional_by, number_field, optional_number, map_walk}
 use Rattle.instance_json.specs.Names.{listed_resource}
-use Rattle.instance_json.specs.Words.{kind_word, machine_kinds, node_kinds, all_kinds}
 
 -- the resource whose amount is multiplied, which must be there where something is
-unfoldable pub counted_of : List (List ℕ) → ℕ → Option Data → List ℕ → Walk (Option ℕ)
-counted_of resources per None path = if per == 0 then Ok None else Err (bad path Missing)
-counted_of resources per (Some d) path = do
+unfoldable pub unit_from : List (List ℕ) → ℕ → Option Data → List ℕ → Walk (Option ℕ)
+unit_from resources per None path = if per == 0 then Ok None else Err (field_fault path Missing)
+unit_from resources per (Some d) path = do
   r ← listed_resource resources d path
   Ok (Some r)
 
 -- a duration, whose value is base + per * amount
-unfoldable pub duration_of : List (List ℕ) → Test Duration
-duration_of resources d path = do
-  base ← whole 1 1000000 d path (codes "base")
-  per ← whole_or 0 0 1000000 d path (codes "per")
-  resource ← counted_of resources per (get (codes "resource") d) (key_path path (codes "resource"))
-  looked (only_of d path duration_keys)
+unfoldable pub duration_from : List (List ℕ) → Test Duration
+duration_from resources d path = do
+  base ← number_field 1 max_duration d path (codes "base")
+  per ← optional_number max_duration d path (codes "per")
+  resource ← unit_from resources per (get (codes "resource") d) (key_path path (codes "resource"))
+  only_keys (map (λ key. key.now) DURATION_KEYS) d path
   Ok (record { base = base; per = per; resource = resource })
 
--- a duration that may be absent
-unfoldable pub own_of : List (List ℕ) → Test (Option Duration)
-own_of resources d path = do
-  duration ← duration_of resources d path
+-- ---- durations by kind
+
+-- whether an object of durations may have one of the kind, by whose durations they are
+abbrev pub has_kind : Owner → Kind → Bool
+has_kind Machine kind = nat_lt (kind_number kind) machine_kind_count
+has_kind Node kind = nat_le machine_kind_count (kind_number kind)
+has_kind Either kind = true
+
+-- a duration that is there
+unfoldable pub given_duration : List (List ℕ) → Test (Option Duration)
+given_duration resources d path = do
+  duration ← duration_from resources d path
   Ok (Some duration)
 
--- the ten places without a duration
-unfoldable pub none_given : List (Option Duration)
-none_given = replicate 10 None
+-- the duration that an object has of a kind, if it has one
+unfoldable pub duration_by_kind : List (List ℕ) → Owner → Data → List ℕ → Kind → Walk (Option Duration)
+duration_by_kind resources owner d path kind =
+    if has_kind owner kind then optional_by None (given_duration resources) d path (kind_word kind) else Ok None
 
--- the duration of one more kind, at its place among the ten
-unfoldable pub own_step : List (List ℕ) → Data → List ℕ → ℕ → ℕ → List (Option Duration) → Kind → Walk (List (Option Duration))
-own_step resources d path first place own kind = do
-  one ← maybe None (own_of resources) d path (kind_word kind)
-  Ok (slice_set own (first + place) one)
+-- whether the key is the word of a kind of which the object may have a duration
+abbrev pub is_kind_key : Owner → List ℕ → Bool
+is_kind_key owner key = list_any (λ kind. has_kind owner kind && bytes_eq key (kind_word kind)) kinds
 
--- an object of durations of these kinds, which stand from that place on among the ten, and of no other ones
-unfoldable pub owns_of : List (List ℕ) → ℕ → List Kind → Test (List (Option Duration))
-owns_of resources first kinds d path = do
-  members ← looked (object_of d path)
-  own ← each (own_step resources d path first) 0 none_given kinds
-  wants (list_all (λ key. list_any (bytes_eq key) (map kind_word kinds)) (keys_of members)) (bad path Unknown)
-  Ok own
+-- an object of durations by kind, in the order of the ten kinds
+unfoldable pub durations_from : List (List ℕ) → Owner → Test (List (Option Duration))
+durations_from resources owner d path = do
+  members ← as_walk (object_of d path)
+  durations ← map_walk (duration_by_kind resources owner d path) kinds
+  wants (list_all (is_kind_key owner) (keys_of members)) (field_fault path Unknown)
+  Ok durations
+
+-- a duration of no kind
+abbrev pub no_durations : List (Option Duration)
+no_durations = replicate kind_count None
+
+-- the member `durations`
+abbrev pub own_durations : List (List ℕ) → Owner → Data → List ℕ → Walk (List (Option Duration))
+own_durations resources owner d path = optional_by no_durations (durations_from resources owner) d path (codes "durations")
 
 -- what stands for a duration that is not given
 abbrev pub one_instant : Duration
 one_instant = record { base = 1; per = 0; resource = None }
 
--- the own durations of a machine and of a node
-abbrev pub machine_owns_of : List (List ℕ) → Data → List ℕ → Walk (List (Option Duration))
-machine_owns_of resources d path = maybe none_given (owns_of resources 0 machine_kinds) d path (codes "durations")
-
-abbrev pub node_owns_of : List (List ℕ) → Data → List ℕ → Walk (List (Option Duration))
-node_owns_of resources d path = maybe none_given (owns_of resources 8 node_kinds) d path (codes "durations")
-
--- the durations of the ten kinds
-unfoldable pub durations_of : List (List ℕ) → Data → List ℕ → Walk (List Duration)
-durations_of resources d path = do
-  own ← maybe none_given (owns_of resources 0 all_kinds) d path (codes "durations")
-  Ok (map (λ o. unwrap_or o one_instant) own)
+-- the durations of the ten kinds for elements without one of their own
+unfoldable pub base_durations : List (List ℕ) → Data → List ℕ → Walk (List Duration)
+base_durations resources d path = do
+  durations ← own_durations resources Either d path
+  Ok (map (λ duration. unwrap_or duration one_instant) durations)

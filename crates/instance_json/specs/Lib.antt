@@ -1,12 +1,10 @@
 pub mod Walk
 pub mod Texts
-pub mod Words
-pub mod Keys
 pub mod Names
 pub mod Durations
 pub mod Elements
-pub mod Listed
-pub mod NodeSets
 pub mod Lists
 pub mod Rules
 pub mod Instance
+pub mod Fitting
+pub mod Listed

@@ -7,18 +7,18 @@ use Rattle.json_walk.specs.Walk.{◌>>=◌, ◌>>◌, wants, list_of}
 use Rattle.json_walk.specs.Each.{each}
 use Rattle.cluster.specs.declared.ids.VmId.{VmId}
 use Rattle.cluster.specs.declared.sets.NodeSet.{NodeSet}
-use Rattle.cluster.specs.Sets.{has_node}
+use Rattle.cluster.specs.Sets.{has_node, no_nodes, with_node}
 use Rattle.cluster.specs.Inventory.{Inventory}
 use Rattle.catalogue.specs.Faults.{is_member, all_of}
+use Rattle.catalogue.specs.Limits.{max_groups, max_parts}
 use Rattle.instance_json.specs.declared.fault.InstanceFault.TheVariants.{Twice, Limit}
-use Rattle.instance_json.specs.NodeSets.{no_nodes, with_node}
-use Rattle.instance_json.specs.Walk.{Walk, Test, looked, bad}
+use Rattle.instance_json.specs.Walk.{Walk, Test, as_walk, field_fault}
 use Rattle.instance_json.specs.Names.{listed_machine, listed_node}
 
 -- ---- machines
 
--- One more machine. It is in no part before and not in the list so far; an unknown name was not
--- named before, so the order of the two tests does not matter.
+-- One more machine. It is in no list before and not in this one so far; a name that stood before is
+-- listed, so the order of the two tests does not matter.
 unfoldable pub machine_item : Inventory → List VmId → List ℕ → ℕ → List VmId → Data → Walk (List VmId)
 machine_item k before path place found d = do
   v ← listed_machine k d (item_path path place)
@@ -28,24 +28,24 @@ machine_item k before path place found d = do
 -- a list of machines that differ, also from those before
 unfoldable pub machines_after : Inventory → List VmId → Test (List VmId)
 machines_after k before d path = do
-  values ← looked (list_of d path)
+  values ← as_walk (list_of d path)
   each (machine_item k before path) 0 [] values
 
 -- a list of machines that differ
-abbrev pub machines_in : Inventory → Test (List VmId)
-machines_in k = machines_after k []
+abbrev pub machine_list : Inventory → Test (List VmId)
+machine_list k = machines_after k []
 
--- one more part
+-- one more list
 unfoldable pub part_step : Inventory → List ℕ → ℕ → List (List VmId) → Data → Walk (List (List VmId))
 part_step k path place parts d = do
   part ← machines_after k (all_of parts) d (item_path path place)
   Ok (parts ++ part ∷ [])
 
--- at most 4,096 lists of machines, which differ over all lists
-unfoldable pub parts_in : Inventory → Test (List (List VmId))
-parts_in k d path = do
-  values ← looked (list_of d path)
-  wants (nat_le (length values) 4096) (Limit path)
+-- lists of machines, which differ over all lists
+unfoldable pub parts_from : Inventory → Test (List (List VmId))
+parts_from k d path = do
+  values ← as_walk (list_of d path)
+  wants (nat_le (length values) max_parts) (Limit path)
   each (part_step k path) 0 [] values
 
 -- ---- nodes
@@ -58,21 +58,21 @@ node_item k path place found d = do
   Ok (with_node found n.0)
 
 -- a list of nodes that differ
-unfoldable pub nodes_in : Inventory → Test NodeSet
-nodes_in k d path = do
-  values ← looked (list_of d path)
+unfoldable pub node_set : Inventory → Test NodeSet
+node_set k d path = do
+  values ← as_walk (list_of d path)
   each (node_item k path) 0 no_nodes values
 
 -- one more group
 unfoldable pub group_step : Inventory → List ℕ → ℕ → List NodeSet → Data → Walk (List NodeSet)
 group_step k path place groups d = do
-  group ← nodes_in k d (item_path path place)
+  group ← node_set k d (item_path path place)
   Ok (groups ++ group ∷ [])
 
--- 1 to 512 lists of nodes
-unfoldable pub groups_in : Inventory → Test (List NodeSet)
-groups_in k d path = do
-  values ← looked (list_of d path)
-  wants (nat_lt 0 (length values)) (bad path OutOfRange)
-  wants (nat_le (length values) 512) (Limit path)
+-- lists of nodes, at least one
+unfoldable pub groups_from : Inventory → Test (List NodeSet)
+groups_from k d path = do
+  values ← as_walk (list_of d path)
+  wants (nat_lt 0 (length values)) (field_fault path OutOfRange)
+  wants (nat_le (length values) max_groups) (Limit path)
   each (group_step k path) 0 [] values

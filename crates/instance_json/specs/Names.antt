@@ -12,39 +12,40 @@ use Rattle.cluster.specs.declared.ids.NodeId.{NodeId}
 use Rattle.cluster.specs.declared.ids.VmId.{VmId}
 use Rattle.cluster.specs.declared.ids.Element.{Element}
 use Rattle.cluster.specs.declared.ids.Element.TheVariants.{Vm, Node as NodeElement}
+use Rattle.cluster.specs.Limits.{max_resources}
 use Rattle.cluster.specs.Names.{is_name}
 use Rattle.cluster.specs.Inventory.{Inventory, element_named, is_taken}
 use Rattle.instance_json.specs.declared.fault.InstanceFault.TheVariants.{Twice, NoSuch, Limit}
-use Rattle.instance_json.specs.Walk.{Walk, Test, looked, bad}
+use Rattle.instance_json.specs.Walk.{Walk, Test, as_walk, field_fault}
 
 -- a text that is a well-formed name
-unfoldable pub name_text_of : Test (List ℕ)
-name_text_of d path = do
-  text ← looked (text_of d path)
-  wants (is_name text) (bad path OutOfRange)
+unfoldable pub name_from : Test (List ℕ)
+name_from d path = do
+  text ← as_walk (text_of d path)
+  wants (is_name text) (field_fault path OutOfRange)
   Ok text
 
 -- ---- names that are given
 
 -- the name of one more element
-unfoldable pub new_name_of : Inventory → Test (List ℕ)
-new_name_of k d path = do
-  name ← name_text_of d path
+unfoldable pub new_name_from : Inventory → Test (List ℕ)
+new_name_from k d path = do
+  name ← name_from d path
   wants (not (is_taken k name)) (Twice path)
   Ok name
 
 -- the name of one more resource
 unfoldable pub resource_step : List ℕ → ℕ → List (List ℕ) → Data → Walk (List (List ℕ))
 resource_step path place resources d = do
-  name ← name_text_of d (item_path path place)
+  name ← name_from d (item_path path place)
   wants (not (list_any (bytes_eq name) resources)) (Twice (item_path path place))
   Ok (resources ++ name ∷ [])
 
--- at most 8 names of resources, which differ
-unfoldable pub resources_of : Test (List (List ℕ))
-resources_of d path = do
-  values ← looked (list_of d path)
-  wants (nat_le (length values) 8) (Limit path)
+-- the names of the resources, which differ
+unfoldable pub resources_from : Test (List (List ℕ))
+resources_from d path = do
+  values ← as_walk (list_of d path)
+  wants (nat_le (length values) max_resources) (Limit path)
   each (resource_step path) 0 [] values
 
 -- ---- names that are used
@@ -64,17 +65,17 @@ as_node (Some (NodeElement n)) = Some n
 -- the listed machine that has the name
 unfoldable pub listed_machine : Inventory → Test VmId
 listed_machine k d path = do
-  name ← name_text_of d path
+  name ← name_from d path
   ok_or (as_machine (element_named k name)) (NoSuch path)
 
 -- the listed node that has the name
 unfoldable pub listed_node : Inventory → Test NodeId
 listed_node k d path = do
-  name ← name_text_of d path
+  name ← name_from d path
   ok_or (as_node (element_named k name)) (NoSuch path)
 
--- the listed resource that has the name
+-- the place of the listed resource that has the name
 unfoldable pub listed_resource : List (List ℕ) → Test ℕ
 listed_resource resources d path = do
-  name ← name_text_of d path
+  name ← name_from d path
   ok_or (position (bytes_eq name) resources) (NoSuch path)

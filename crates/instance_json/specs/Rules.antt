@@ -1,166 +1,177 @@
 -- Constraints.
-use Rattle.std.specs.Prelude.{ℕ, Bool, false, List, [], ◌∷◌, ◌++◌, length, nat_le, Ok, codes}
-use Rattle.std.specs.Option.{ok_or}
+use Rattle.std.specs.Prelude.{ℕ, Bool, false, not, ◌==◌, List, [], ◌∷◌, ◌++◌, length, map, nat_le, Ok, codes}
 use Rattle.serde_json.specs.Data.{Data}
-use Rattle.json_walk.specs.declared.fault.FaultKind.TheVariants.{Unknown}
 use Rattle.json_walk.specs.Path.{key_path, item_path}
-use Rattle.json_walk.specs.Walk.{◌>>=◌, ◌>>◌, wants, text_field_of, list_of, only_of}
+use Rattle.json_walk.specs.Walk.{◌>>=◌, ◌>>◌, wants, list_of}
 use Rattle.json_walk.specs.Each.{each}
 use Rattle.cluster.specs.declared.ids.VmId.{VmId}
 use Rattle.cluster.specs.declared.sets.NodeSet.{NodeSet}
 use Rattle.cluster.specs.Inventory.{Inventory}
+use Rattle.cluster.specs.Limits.{max_amount}
 use Rattle.catalogue.specs.declared.constraint.Constraint.{Constraint}
-use Rattle.catalogue.specs.declared.constraint.Constraint.TheVariants as rules
+use Rattle.catalogue.specs.declared.constraint.Constraint.TheVariants as constraint
 use Rattle.catalogue.specs.Instance.{Instance, inventory_of}
-use Rattle.instance_json.specs.declared.words.RuleKind.{RuleKind}
-use Rattle.instance_json.specs.declared.words.RuleKind.TheVariants.{Spread, Gather, Lonely, Ban, Fence, Among, Split, Root, Preserve, ResourceCapacity, RunningCapacity, MaxOnline, Overbook, Online, Offline, Running, Sleeping, Ready, Killed}
-use Rattle.instance_json.specs.declared.fault.InstanceFault.TheVariants.{Limit}
-use Rattle.instance_json.specs.Walk.{Walk, Test, looked, bad, needed, whole, flag_or}
-use Rattle.instance_json.specs.Words.{rule_kind}
-use Rattle.instance_json.specs.Keys.{machines_keys, flagged_machines_keys, both_keys, among_keys, split_keys, preserve_keys, resource_capacity_keys, counted_nodes_keys, overbook_keys, nodes_keys}
-use Rattle.instance_json.specs.Names.{listed_resource}
-use Rattle.instance_json.specs.Lists.{machines_in, parts_in, nodes_in, groups_in}
+use Rattle.catalogue.specs.Limits.{max_constraints, max_scale}
+use Rattle.catalogue.specs.Words.{constraint_words}
+use Rattle.instance_json.specs.declared.constraint_kind.ConstraintKind.{ConstraintKind}
+use Rattle.instance_json.specs.declared.constraint_kind.ConstraintKind.TheVariants.{Spread, Ban, Fence, Gather, Lonely, Among, Split, Root, Precedence, Serialize, Preserve, ResourceCapacity, RunningCapacity, MaxOnline, Overbook, Online, Offline, Running, Sleeping, Ready, Killed}
+use Rattle.instance_json.specs.declared.constraint_kind.TheConstants.{CONSTRAINT_KINDS}
+use Rattle.instance_json.specs.declared.fault.InstanceFault.TheVariants.{Twice, Limit}
+use Rattle.instance_json.specs.declared.keys.TheConstants.{MACHINES_KEYS, FLAGGED_MACHINES_KEYS, BOTH_KEYS, AMONG_KEYS, SPLIT_KEYS, PRECEDENCE_KEYS, PRESERVE_KEYS, RESOURCE_CAPACITY_KEYS, NODE_COUNT_KEYS, OVERBOOK_KEYS, NODES_KEYS}
+use Rattle.instance_json.specs.Walk.{Walk, Test, as_walk, only_keys, field_by, number_field, optional_flag, word_field}
+use Rattle.instance_json.specs.Names.{listed_machine, listed_resource}
+use Rattle.instance_json.specs.Lists.{machine_list, parts_from, node_set, groups_from}
 
 -- ---- fields of one kind
 
-abbrev machines_at : Inventory → Test (List VmId)
-machines_at k d path = needed (machines_in k) d path (codes "machines")
+abbrev machines_field : Inventory → Test (List VmId)
+machines_field k d path = field_by (machine_list k) d path (codes "machines")
 
-abbrev nodes_at : Inventory → Test NodeSet
-nodes_at k d path = needed (nodes_in k) d path (codes "nodes")
+abbrev nodes_field : Inventory → Test NodeSet
+nodes_field k d path = field_by (node_set k) d path (codes "nodes")
 
-abbrev resource_at : Inventory → Test ℕ
-resource_at k d path = needed (listed_resource k.resources) d path (codes "resource")
+abbrev resource_field : Inventory → Test ℕ
+resource_field k d path = field_by (listed_resource k.resources) d path (codes "resource")
 
-abbrev amount_at : Test ℕ
-amount_at d path = whole 0 1000000000 d path (codes "amount")
+abbrev amount_field : Test ℕ
+amount_field d path = number_field 0 max_amount d path (codes "amount")
 
-abbrev continuous_at : Test Bool
-continuous_at d path = flag_or false d path (codes "continuous")
+abbrev continuous_flag : Test Bool
+continuous_flag d path = optional_flag false d path (codes "continuous")
 
 -- ---- the fields of a constraint, in their order
 
--- root, running, sleeping, ready, killed
+-- root, serialize, running, sleeping, ready, killed
 unfoldable pub machines_fields : Inventory → Test (List VmId)
 machines_fields k d path = do
-  machines ← machines_at k d path
-  looked (only_of d path machines_keys)
+  machines ← machines_field k d path
+  only_keys (map (λ key. key.now) MACHINES_KEYS) d path
   Ok machines
 
 -- spread, gather, lonely
 unfoldable pub flagged_machines_fields : Inventory → Test (List VmId × Bool)
 flagged_machines_fields k d path = do
-  machines ← machines_at k d path
-  continuous ← continuous_at d path
-  looked (only_of d path flagged_machines_keys)
+  machines ← machines_field k d path
+  continuous ← continuous_flag d path
+  only_keys (map (λ key. key.now) FLAGGED_MACHINES_KEYS) d path
   Ok (machines, continuous)
 
 -- ban, fence
 unfoldable pub both_fields : Inventory → Test (List VmId × NodeSet × Bool)
 both_fields k d path = do
-  machines ← machines_at k d path
-  nodes ← nodes_at k d path
-  continuous ← continuous_at d path
-  looked (only_of d path both_keys)
+  machines ← machines_field k d path
+  nodes ← nodes_field k d path
+  continuous ← continuous_flag d path
+  only_keys (map (λ key. key.now) BOTH_KEYS) d path
   Ok (machines, nodes, continuous)
 
-unfoldable pub among_of : Inventory → Test Constraint
-among_of k d path = do
-  machines ← machines_at k d path
-  groups ← needed (groups_in k) d path (codes "groups")
-  continuous ← continuous_at d path
-  looked (only_of d path among_keys)
-  Ok (rules.Among machines groups continuous)
+unfoldable pub among_from : Inventory → Test Constraint
+among_from k d path = do
+  machines ← machines_field k d path
+  groups ← field_by (groups_from k) d path (codes "groups")
+  continuous ← continuous_flag d path
+  only_keys (map (λ key. key.now) AMONG_KEYS) d path
+  Ok (constraint.Among machines groups continuous)
 
-unfoldable pub split_of : Inventory → Test Constraint
-split_of k d path = do
-  parts ← needed (parts_in k) d path (codes "parts")
-  continuous ← continuous_at d path
-  looked (only_of d path split_keys)
-  Ok (rules.Split parts continuous)
+unfoldable pub split_from : Inventory → Test Constraint
+split_from k d path = do
+  parts ← field_by (parts_from k) d path (codes "parts")
+  continuous ← continuous_flag d path
+  only_keys (map (λ key. key.now) SPLIT_KEYS) d path
+  Ok (constraint.Split parts continuous)
 
-unfoldable pub preserve_of : Inventory → Test Constraint
-preserve_of k d path = do
-  machines ← machines_at k d path
-  resource ← resource_at k d path
-  amount ← amount_at d path
-  looked (only_of d path preserve_keys)
-  Ok (rules.Preserve machines resource amount)
+-- the first machine's action before that of another one
+unfoldable pub precedence_from : Inventory → Test Constraint
+precedence_from k d path = do
+  before ← field_by (listed_machine k) d path (codes "before")
+  after ← field_by (listed_machine k) d path (codes "after")
+  wants (not (before.0 == after.0)) (Twice (key_path path (codes "after")))
+  only_keys (map (λ key. key.now) PRECEDENCE_KEYS) d path
+  Ok (constraint.Precedence before after)
 
-unfoldable pub resource_capacity_of : Inventory → Test Constraint
-resource_capacity_of k d path = do
-  nodes ← nodes_at k d path
-  resource ← resource_at k d path
-  amount ← amount_at d path
-  continuous ← continuous_at d path
-  looked (only_of d path resource_capacity_keys)
-  Ok (rules.ResourceCapacity nodes resource amount continuous)
+unfoldable pub preserve_from : Inventory → Test Constraint
+preserve_from k d path = do
+  machines ← machines_field k d path
+  resource ← resource_field k d path
+  amount ← amount_field d path
+  only_keys (map (λ key. key.now) PRESERVE_KEYS) d path
+  Ok (constraint.Preserve machines resource amount)
+
+unfoldable pub resource_capacity_from : Inventory → Test Constraint
+resource_capacity_from k d path = do
+  nodes ← nodes_field k d path
+  resource ← resource_field k d path
+  amount ← amount_field d path
+  continuous ← continuous_flag d path
+  only_keys (map (λ key. key.now) RESOURCE_CAPACITY_KEYS) d path
+  Ok (constraint.ResourceCapacity nodes resource amount continuous)
 
 -- runningCapacity, maxOnline
-unfoldable pub counted_nodes_fields : Inventory → Test (NodeSet × ℕ × Bool)
-counted_nodes_fields k d path = do
-  nodes ← nodes_at k d path
-  amount ← amount_at d path
-  continuous ← continuous_at d path
-  looked (only_of d path counted_nodes_keys)
+unfoldable pub node_count_fields : Inventory → Test (NodeSet × ℕ × Bool)
+node_count_fields k d path = do
+  nodes ← nodes_field k d path
+  amount ← amount_field d path
+  continuous ← continuous_flag d path
+  only_keys (map (λ key. key.now) NODE_COUNT_KEYS) d path
   Ok (nodes, amount, continuous)
 
-unfoldable pub overbook_of : Inventory → Test Constraint
-overbook_of k d path = do
-  nodes ← nodes_at k d path
-  resource ← resource_at k d path
-  num ← whole 0 1000 d path (codes "num")
-  den ← whole 1 1000 d path (codes "den")
-  looked (only_of d path overbook_keys)
-  Ok (rules.Overbook nodes resource num den)
+unfoldable pub overbook_from : Inventory → Test Constraint
+overbook_from k d path = do
+  nodes ← nodes_field k d path
+  resource ← resource_field k d path
+  num ← number_field 0 max_scale d path (codes "num")
+  den ← number_field 1 max_scale d path (codes "den")
+  only_keys (map (λ key. key.now) OVERBOOK_KEYS) d path
+  Ok (constraint.Overbook nodes resource num den)
 
 -- online, offline
 unfoldable pub nodes_fields : Inventory → Test NodeSet
 nodes_fields k d path = do
-  nodes ← nodes_at k d path
-  looked (only_of d path nodes_keys)
+  nodes ← nodes_field k d path
+  only_keys (map (λ key. key.now) NODES_KEYS) d path
   Ok nodes
 
 -- ---- constraints
 
 -- a constraint of that kind
-unfoldable pub rule_of : Inventory → RuleKind → Test Constraint
-rule_of k Spread d path = flagged_machines_fields k d path >>= λ x. Ok (rules.Spread x.0 x.1)
-rule_of k Gather d path = flagged_machines_fields k d path >>= λ x. Ok (rules.Gather x.0 x.1)
-rule_of k Lonely d path = flagged_machines_fields k d path >>= λ x. Ok (rules.Lonely x.0 x.1)
-rule_of k Ban d path = both_fields k d path >>= λ x. Ok (rules.Ban x.0 x.1 x.2)
-rule_of k Fence d path = both_fields k d path >>= λ x. Ok (rules.Fence x.0 x.1 x.2)
-rule_of k Among d path = among_of k d path
-rule_of k Split d path = split_of k d path
-rule_of k Root d path = machines_fields k d path >>= λ vs. Ok (rules.Root vs)
-rule_of k Preserve d path = preserve_of k d path
-rule_of k ResourceCapacity d path = resource_capacity_of k d path
-rule_of k RunningCapacity d path = counted_nodes_fields k d path >>= λ x. Ok (rules.RunningCapacity x.0 x.1 x.2)
-rule_of k MaxOnline d path = counted_nodes_fields k d path >>= λ x. Ok (rules.MaxOnline x.0 x.1 x.2)
-rule_of k Overbook d path = overbook_of k d path
-rule_of k Online d path = nodes_fields k d path >>= λ ns. Ok (rules.Online ns)
-rule_of k Offline d path = nodes_fields k d path >>= λ ns. Ok (rules.Offline ns)
-rule_of k Running d path = machines_fields k d path >>= λ vs. Ok (rules.Running vs)
-rule_of k Sleeping d path = machines_fields k d path >>= λ vs. Ok (rules.Sleeping vs)
-rule_of k Ready d path = machines_fields k d path >>= λ vs. Ok (rules.Ready vs)
-rule_of k Killed d path = machines_fields k d path >>= λ vs. Ok (rules.Killed vs)
+unfoldable pub constraint_by : Inventory → ConstraintKind → Test Constraint
+constraint_by k Spread d path = flagged_machines_fields k d path >>= λ x. Ok (constraint.Spread x.0 x.1)
+constraint_by k Ban d path = both_fields k d path >>= λ x. Ok (constraint.Ban x.0 x.1 x.2)
+constraint_by k Fence d path = both_fields k d path >>= λ x. Ok (constraint.Fence x.0 x.1 x.2)
+constraint_by k Gather d path = flagged_machines_fields k d path >>= λ x. Ok (constraint.Gather x.0 x.1)
+constraint_by k Lonely d path = flagged_machines_fields k d path >>= λ x. Ok (constraint.Lonely x.0 x.1)
+constraint_by k Among d path = among_from k d path
+constraint_by k Split d path = split_from k d path
+constraint_by k Root d path = machines_fields k d path >>= λ vs. Ok (constraint.Root vs)
+constraint_by k Precedence d path = precedence_from k d path
+constraint_by k Serialize d path = machines_fields k d path >>= λ vs. Ok (constraint.Serialize vs)
+constraint_by k Preserve d path = preserve_from k d path
+constraint_by k ResourceCapacity d path = resource_capacity_from k d path
+constraint_by k RunningCapacity d path = node_count_fields k d path >>= λ x. Ok (constraint.RunningCapacity x.0 x.1 x.2)
+constraint_by k MaxOnline d path = node_count_fields k d path >>= λ x. Ok (constraint.MaxOnline x.0 x.1 x.2)
+constraint_by k Overbook d path = overbook_from k d path
+constraint_by k Online d path = nodes_fields k d path >>= λ ns. Ok (constraint.Online ns)
+constraint_by k Offline d path = nodes_fields k d path >>= λ ns. Ok (constraint.Offline ns)
+constraint_by k Running d path = machines_fields k d path >>= λ vs. Ok (constraint.Running vs)
+constraint_by k Sleeping d path = machines_fields k d path >>= λ vs. Ok (constraint.Sleeping vs)
+constraint_by k Ready d path = machines_fields k d path >>= λ vs. Ok (constraint.Ready vs)
+constraint_by k Killed d path = machines_fields k d path >>= λ vs. Ok (constraint.Killed vs)
 
 -- a constraint
-unfoldable pub constraint_of : Inventory → Test Constraint
-constraint_of k d path = do
-  word ← looked (text_field_of d path (codes "kind"))
-  kind ← ok_or (rule_kind word) (bad (key_path path (codes "kind")) Unknown)
-  rule_of k kind d path
+unfoldable pub constraint_from : Inventory → Test Constraint
+constraint_from k d path = do
+  kind ← word_field constraint_words CONSTRAINT_KINDS d path (codes "kind")
+  constraint_by k kind d path
 
 -- one more constraint
 unfoldable pub constraint_step : List ℕ → ℕ → Instance → Data → Walk Instance
 constraint_step path place p d = do
-  c ← constraint_of (inventory_of p) d (item_path path place)
+  c ← constraint_from (inventory_of p) d (item_path path place)
   Ok (record p { constraints = p.constraints ++ c ∷ [] })
 
 -- at most 4,096 constraints
-unfoldable pub constraints_of : Instance → Test Instance
-constraints_of p d path = do
-  values ← looked (list_of d path)
-  wants (nat_le (length values) 4096) (Limit path)
+unfoldable pub constraints_from : Instance → Test Instance
+constraints_from p d path = do
+  values ← as_walk (list_of d path)
+  wants (nat_le (length values) max_constraints) (Limit path)
   each (constraint_step path) 0 p values

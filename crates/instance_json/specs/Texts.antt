@@ -1,16 +1,8 @@
 -- How a fault is printed.
 use Rattle.std.specs.Prelude.{ℕ, List, ◌++◌, codes}
-use Rattle.json_walk.specs.declared.fault.FaultKind.{FaultKind}
-use Rattle.json_walk.specs.declared.fault.FaultKind.TheVariants.{Missing, WrongKind, OutOfRange, Unknown}
+use Rattle.json_walk.specs.Texts.{kind_text}
 use Rattle.instance_json.specs.declared.fault.InstanceFault.{InstanceFault}
 use Rattle.instance_json.specs.declared.fault.InstanceFault.TheVariants.{TooLong, NotJson, Field, Twice, NoSuch, BadHost, Limit, Memory}
-
--- what is wrong with one value
-unfoldable pub kind_text : FaultKind → List ℕ
-kind_text Missing = codes "missing"
-kind_text WrongKind = codes "wrong kind"
-kind_text OutOfRange = codes "out of range"
-kind_text Unknown = codes "unknown"
 
 -- the path, where there is one, and what is wrong
 unfoldable pub fault_text : InstanceFault → List ℕ

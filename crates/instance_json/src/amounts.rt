@@ -1,74 +1,55 @@
 //! Amounts of the resources.
 
-ghost use Rattle.std.specs.Prelude.{◌≡◌, ◌<◌, ◌≤◌, IfOk, length, replicate, string_bytes, true};
+ghost use Rattle.std.specs.Prelude.{◌≡◌, ◌≤◌, IfOk, length, nat_le, replicate, string_bytes, true};
 ghost use Rattle.std.specs.List.{list_any, list_all};
 ghost use Rattle.std.specs.Str.{bytes_eq};
 ghost use Rattle.std.specs.BTreeMap.{keys as map_keys};
 ghost use Rattle.serde_json.specs.View.{view};
 ghost use Rattle.json_walk.specs.PathRef.{path_of};
 ghost use Rattle.json_walk.specs.Walk.{Gives};
-ghost use Rattle.json_walk.specs.Each.{each};
 ghost use Rattle.cluster.specs.Inventory.{amounts_fit};
-ghost use Rattle.instance_json.specs.Walk.{named, maybe};
-ghost use Rattle.instance_json.specs.Elements.{no_amounts, amount_step, amounts_of};
+ghost use Rattle.cluster.specs.Limits.{max_amount, max_resources};
+ghost use Rattle.instance_json.specs.Walk.{instance_fault_of, optional_number};
+ghost use Rattle.instance_json.specs.Elements.{resource_amounts, amounts_from, amounts_in};
 
 use crate::fault::InstanceFault;
 use crate::names::is_among;
+use cluster::limits::{MAX_AMOUNT, MAX_RESOURCES};
 use cluster::names::Name;
 use json_walk::PathRef;
 use serde_json::{Map, Value};
 use std::alloc::Global;
 
-/// The greatest amount.
-pub(crate) const MOST_AMOUNT: u64 = 1_000_000_000;
-
-/// The eight places without an amount.
-#[tactic(auto, unfolding(crate::specs::Elements::no_amounts))]
-fn no_amounts() -> [u64; 8]
-    ensures { result ≡ no_amounts }
-{
-    [0; 8]
-}
-
-#[tactic(auto, unfolding(crate::specs::Elements::amount_step))]
-fn set_amount(
+/// The amount of a resource, 0 where none is given.
+fn amount(
     alloc: Global,
     value: &Value,
     path: &PathRef,
-    place: usize,
-    amounts: &mut [u64; 8],
     resource: &Name,
-) -> Result<(), InstanceFault>
-    requires { place < 8 }
-    ensures { Gives named (λ _. amounts.new) result
-        (amount_step (view value.now) (path_of path.now) place amounts.old resource.now) }
+) -> Result<u64, InstanceFault>
+    ensures gives { Gives instance_fault_of (λ n. n) result
+        (optional_number max_amount (view value.now) (path_of path.now) resource.now) }
+    ensures small { IfOk result (λ n. nat_le n max_amount ≡ true) }
 {
-    amounts[place] = json_walk::optional_number(
-        alloc,
-        value,
-        path,
-        resource.as_text(),
-        0,
-        0,
-        MOST_AMOUNT,
-    )?;
-    Ok(())
+    let key = resource.as_text();
+    Ok(json_walk::optional_number(alloc, value, path, key, 0, 0, MAX_AMOUNT)?)
 }
 
-#[tactic(auto, using(json_walk::proofs::Each::loop_in_rules))]
-fn amounts_in(
+/// An amount of each resource, and 0 at the places past the resources.
+fn resource_amounts(
     alloc: Global,
     resources: &[Name],
     value: &Value,
     path: &PathRef,
-) -> Result<[u64; 8], InstanceFault>
-    requires { length resources.now ≤ 8 }
-    ensures { Gives named (λ a. a) result
-        (each (amount_step (view value.now) (path_of path.now)) 0 no_amounts resources.now) }
+) -> Result<[u64; MAX_RESOURCES], InstanceFault>
+    requires { length resources.now ≤ max_resources }
+    ensures gives { Gives instance_fault_of (λ a. a) result
+        (resource_amounts resources.now (view value.now) (path_of path.now)) }
+    ensures fit { IfOk result (λ a. amounts_fit (length resources.now) a ≡ true) }
 {
-    let mut amounts = no_amounts();
+    let mut amounts = [0; MAX_RESOURCES];
     for (i, resource) in resources.iter().enumerate() {
-        set_amount(alloc, value, path, i, &mut amounts, resource)?;
+        amounts[i] = amount(alloc, value, path, resource)?;
     }
     Ok(amounts)
 }
@@ -80,55 +61,42 @@ fn are_resources(members: &Map<String, Value>, resources: &[Name]) -> bool
 }
 
 /// An object of amounts, and of no key that is no resource.
-#[tactic(auto, using(json_walk::proofs::Walks::known_rules), unfolding(crate::specs::Elements::amounts_of))]
+#[tactic(auto, using(json_walk::proofs::Public::known_rules), unfolding(crate::specs::Elements::amounts_from))]
 fn amounts(
     alloc: Global,
     resources: &[Name],
     value: &Value,
     path: &PathRef,
-) -> Result<[u64; 8], InstanceFault>
-    requires { length resources.now ≤ 8 }
-    ensures { Gives named (λ a. a) result
-        (amounts_of resources.now (view value.now) (path_of path.now)) }
+) -> Result<[u64; MAX_RESOURCES], InstanceFault>
+    requires { length resources.now ≤ max_resources }
+    ensures gives { Gives instance_fault_of (λ a. a) result
+        (amounts_from resources.now (view value.now) (path_of path.now)) }
+    ensures fit { IfOk result (λ a. amounts_fit (length resources.now) a ≡ true) }
 {
     let members = json_walk::object_at(alloc, value, path)?;
-    let amounts = amounts_in(alloc, resources, value, path)?;
+    let amounts = resource_amounts(alloc, resources, value, path)?;
     if !are_resources(members, resources) {
         return Err(InstanceFault::NoSuch(path.to_text(alloc)?));
     }
     Ok(amounts)
 }
 
-#[tactic(auto, unfolding(json_walk::specs::Walk::optional))]
-fn amounts_or(
-    alloc: Global,
-    resources: &[Name],
-    value: &Value,
-    path: &PathRef,
-    key: &str,
-) -> Result<[u64; 8], InstanceFault>
-    requires { length resources.now ≤ 8 }
-    ensures { Gives named (λ a. a) result
-        (maybe no_amounts (amounts_of resources.now) (view value.now) (path_of path.now) key.now) }
-{
-    match value.get(key) {
-        None => Ok(no_amounts()),
-        Some(found) => amounts(alloc, resources, found, &path.key(key)),
-    }
-}
-
 /// A member that may be absent, an object of amounts.
+#[tactic(auto, using(crate::proofs::Fitting::no_amounts_fit), unfolding(json_walk::specs::Walk::optional))]
 pub(crate) fn amounts_at(
     alloc: Global,
     resources: &[Name],
     value: &Value,
     path: &PathRef,
     key: &str,
-) -> Result<[u64; 8], InstanceFault>
-    requires { length resources.now ≤ 8 }
-    ensures gives { Gives named (λ a. a) result
-        (maybe no_amounts (amounts_of resources.now) (view value.now) (path_of path.now) key.now) }
+) -> Result<[u64; MAX_RESOURCES], InstanceFault>
+    requires { length resources.now ≤ max_resources }
+    ensures gives { Gives instance_fault_of (λ a. a) result
+        (amounts_in resources.now (view value.now) (path_of path.now) key.now) }
     ensures fit { IfOk result (λ a. amounts_fit (length resources.now) a ≡ true) }
 {
-    amounts_or(alloc, resources, value, path, key)
+    match value.get(key) {
+        None => Ok([0; MAX_RESOURCES]),
+        Some(found) => amounts(alloc, resources, found, &path.key(key)),
+    }
 }

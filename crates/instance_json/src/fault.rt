@@ -1,16 +1,15 @@
 //! Why bytes are no instance.
 
 ghost use Rattle.std.specs.Prelude.{◌≡◌, ◌++◌, IfOk, codes, string_bytes};
-ghost use Rattle.instance_json.specs.Texts.{kind_text};
 
-use json_walk::{Fault, FaultKind, PathText, WalkFault};
+use json_walk::{Fault, PathText, WalkFault};
 use memory::Memory;
 use std::alloc::{AllocFailed, Global};
 
 /// The first fault of an instance, with the path at which it stands.
 #[derive(Drop)]
 pub enum InstanceFault {
-    /// More than 67,108,864 bytes.
+    /// More than `json_walk::MAX_TEXT_BYTES` bytes.
     TooLong,
     /// The bytes have no value that `serde_json` reads.
     NotJson,
@@ -30,9 +29,9 @@ pub enum InstanceFault {
 
 impl From<WalkFault> for InstanceFault {
     ghost use Rattle.std.specs.Prelude.{◌≡◌};
-    ghost use Rattle.instance_json.specs.Walk.{lifted};
+    ghost use Rattle.instance_json.specs.Walk.{as_instance_fault};
 
-    ghost from_gives = { λ w e. e ≡ lifted w };
+    ghost from_gives = { λ w e. e ≡ as_instance_fault w };
 
     fn from(fault: WalkFault) -> InstanceFault {
         match fault {
@@ -76,7 +75,7 @@ impl InstanceFault {
         match self {
             InstanceFault::TooLong => word(alloc, "too long"),
             InstanceFault::NotJson => word(alloc, "not json"),
-            InstanceFault::Field(fault) => after(alloc, &fault.path, kind_text(fault.kind)),
+            InstanceFault::Field(fault) => after(alloc, &fault.path, fault.kind.as_text()),
             InstanceFault::Twice(path) => after(alloc, path, "twice"),
             InstanceFault::NoSuch(path) => after(alloc, path, "no such name"),
             InstanceFault::BadHost(path) => after(alloc, path, "bad host"),
@@ -98,16 +97,4 @@ fn after(alloc: Global, path: &PathText, what: &str) -> Result<String, Memory>
 {
     let path = path.as_text();
     Ok(format!(in alloc; "{path} {what}")?)
-}
-
-#[tactic(auto, unfolding(crate::specs::Texts::kind_text))]
-fn kind_text(kind: FaultKind) -> &'static str
-    ensures { result.now ≡ kind_text kind }
-{
-    match kind {
-        FaultKind::Missing => "missing",
-        FaultKind::WrongKind => "wrong kind",
-        FaultKind::OutOfRange => "out of range",
-        FaultKind::Unknown => "unknown",
-    }
 }

@@ -2,8 +2,10 @@
 #![tactic(auto)]
 
 mod amounts;
+mod constraint_kind;
 mod durations;
 mod fault;
+mod fields;
 mod keys;
 mod listing;
 mod lists;
@@ -12,7 +14,7 @@ mod names;
 mod nodes;
 mod read;
 mod rules;
-mod words;
+mod states;
 
 pub use fault::InstanceFault;
 pub use read::read_instance;

@@ -2,23 +2,23 @@
 
 ghost use Rattle.std.specs.Prelude.{◌≡◌, ◌<◌, ◌++◌, ◌∷◌, [], OnOk, false, true};
 ghost use Rattle.catalogue.specs.Faults.{is_member, differ, all_of};
-ghost use Rattle.instance_json.specs.Listed.{machines_of};
+ghost use Rattle.cluster.specs.Limits.{max_machines};
+ghost use Rattle.instance_json.specs.Listed.{listed_machines};
 
 use catalogue::lists::{Parts, Vms};
-use catalogue::seen::Seen;
 use cluster::ids::VmId;
+use cluster::sets::MachineSet;
 use memory::Memory;
 use std::alloc::Global;
 use std::marker::Model;
 use std::mem;
 
-/// The lists that are done, and the one that is being read. A machine that stands in any of them is
-/// found by its bit.
+/// The lists before, and the one that is being read. A set marks the machines of them all.
 #[derive(Drop)]
 pub(crate) struct Listing {
     alloc: Global,
-    seen: Seen,
-    done: Vec<Vms>,
+    marks: MachineSet,
+    before: Vec<Vms>,
     current: Vec<VmId>,
 }
 
@@ -29,57 +29,57 @@ impl Model for Listing {
 
     ghost Value = { Listed };
 
-    ghost view = { λ a. record { done = a.done.items; current = a.current.items } };
+    ghost view = { λ a. record { before = a.before.items; current = a.current.items } };
 
-    ghost invariant = { λ a. AreMarked a.seen (all_of a.done.items ++ a.current.items) };
+    ghost invariant = { λ a. AreMarked a.marks (all_of a.before.items ++ a.current.items) };
 }
 
 impl Listing {
     /// No list.
     pub(crate) fn new(alloc: Global) -> Listing
-        ensures { result ≡ record { done = []; current = [] } }
+        ensures { result ≡ record { before = []; current = [] } }
     {
         Listing {
             alloc,
-            seen: Seen::new(),
-            done: Vec::new(alloc),
+            marks: MachineSet::new(),
+            before: Vec::new(alloc),
             current: Vec::new(alloc),
         }
     }
 
     /// Whether the machine stands in a list.
     pub(crate) fn has(&self, v: VmId) -> bool
-        requires { v.0 < 4096 }
-        ensures { result ≡ is_member (machines_of self.now) v.0 }
+        requires { v.0 < max_machines }
+        ensures { result ≡ is_member (listed_machines self.now) v.0 }
     {
-        self.seen.has(v)
+        self.marks.has(v)
     }
 
     /// Adds a machine to the list that is being read.
     pub(crate) fn push(&mut self, v: VmId) -> Result<(), Memory>
-        requires small { v.0 < 4096 }
-        requires new { is_member (machines_of self.old) v.0 ≡ false }
-        ensures { OnOk result (self.new ≡ record { done = self.old.done; current = self.old.current ++ v ∷ [] }) }
+        requires small { v.0 < max_machines }
+        requires new { is_member (listed_machines self.old) v.0 ≡ false }
+        ensures { OnOk result (self.new ≡ record { before = self.old.before; current = self.old.current ++ v ∷ [] }) }
     {
         self.current.reserve(1)?;
-        self.seen.mark(v);
+        self.marks.insert(v);
         self.current.push(v).unwrap();
         Ok(())
     }
 
     /// Ends the list that is being read, and begins another one.
     pub(crate) fn close(&mut self) -> Result<(), Memory>
-        ensures { OnOk result (self.new ≡ record { done = self.old.done ++ self.old.current ∷ []; current = [] }) }
+        ensures { OnOk result (self.new ≡ record { before = self.old.before ++ self.old.current ∷ []; current = [] }) }
     {
-        self.done.reserve(1)?;
+        self.before.reserve(1)?;
         let list = mem::replace(&mut self.current, Vec::new(self.alloc));
-        self.done.push(Vms::new(list)).unwrap();
+        self.before.push(Vms::new(list)).unwrap();
         Ok(())
     }
 
     /// The only list.
     pub(crate) fn into_list(self) -> Vms
-        requires { self.done ≡ [] }
+        requires { self.before ≡ [] }
         ensures list { result ≡ self.current }
         ensures apart { differ self.current ≡ true }
     {
@@ -89,9 +89,9 @@ impl Listing {
     /// All lists, where none is being read.
     pub(crate) fn into_parts(self) -> Parts
         requires { self.current ≡ [] }
-        ensures parts { result ≡ self.done }
-        ensures apart { differ (all_of self.done) ≡ true }
+        ensures parts { result ≡ self.before }
+        ensures apart { differ (all_of self.before) ≡ true }
     {
-        Parts::new(self.done)
+        Parts::new(self.before)
     }
 }

@@ -7,15 +7,16 @@ ghost use Rattle.json_walk.specs.PathRef.{path_of};
 ghost use Rattle.json_walk.specs.Walk.{Gives};
 ghost use Rattle.json_walk.specs.Each.{each};
 ghost use Rattle.catalogue.specs.Faults.{are_machines, are_nodes, differ, all_of};
-ghost use Rattle.instance_json.specs.Walk.{named, needed};
-ghost use Rattle.instance_json.specs.NodeSets.{no_nodes, with_node, is_listed_set, are_listed_sets};
-ghost use Rattle.instance_json.specs.Lists.{machine_item, machines_after, machines_in, part_step, parts_in, node_item, nodes_in, group_step, groups_in};
+ghost use Rattle.instance_json.specs.Walk.{instance_fault_of, field_by};
+ghost use Rattle.cluster.specs.Sets.{no_nodes};
+ghost use Rattle.catalogue.specs.Limits.{max_groups, max_parts};
+ghost use Rattle.instance_json.specs.Lists.{machine_item, machines_after, machine_list, part_step, parts_from, node_item, node_set, group_step, groups_from};
 
 use crate::fault::InstanceFault;
 use crate::listing::Listing;
 use crate::names;
+use catalogue::limits::{MAX_GROUPS, MAX_PARTS};
 use catalogue::lists::{Groups, Parts, Vms};
-use cluster::ids::NodeId;
 use cluster::inventory::Cluster;
 use cluster::sets::NodeSet;
 use json_walk::{FaultKind, PathRef};
@@ -33,9 +34,9 @@ fn push_machine(
     listing: &mut Listing,
     value: &Value,
 ) -> Result<(), InstanceFault>
-    ensures gives { Gives named (λ _. listing.new.current) result
-        (machine_item cluster.now.given (all_of listing.old.done) (path_of path.now) place listing.old.current (view value.now)) }
-    ensures done { OnOk result (listing.new.done ≡ listing.old.done) }
+    ensures gives { Gives instance_fault_of (λ _. listing.new.current) result
+        (machine_item cluster.now.given (all_of listing.old.before) (path_of path.now) place listing.old.current (view value.now)) }
+    ensures before { OnOk result (listing.new.before ≡ listing.old.before) }
     ensures listed { OnOk result (are_machines cluster.now.given listing.old.current ≡ true → are_machines cluster.now.given listing.new.current ≡ true) }
 {
     let v = names::machine(alloc, cluster, value, &path.item(place))?;
@@ -46,7 +47,7 @@ fn push_machine(
     Ok(())
 }
 
-#[tactic(auto, using(json_walk::proofs::Each::loop_rules))]
+#[tactic(auto, using(json_walk::proofs::Public::loop_rules))]
 fn machines_from(
     alloc: Global,
     cluster: &Cluster,
@@ -55,9 +56,9 @@ fn machines_from(
     path: &PathRef,
 ) -> Result<(), InstanceFault>
     requires { listing.old.current ≡ [] }
-    ensures gives { Gives named (λ _. listing.new.current) result
-        (each (machine_item cluster.now.given (all_of listing.old.done) (path_of path.now)) 0 [] (map view values.now)) }
-    ensures done { OnOk result (listing.new.done ≡ listing.old.done) }
+    ensures gives { Gives instance_fault_of (λ _. listing.new.current) result
+        (each (machine_item cluster.now.given (all_of listing.old.before) (path_of path.now)) 0 [] (map view values.now)) }
+    ensures before { OnOk result (listing.new.before ≡ listing.old.before) }
     ensures listed { OnOk result (are_machines cluster.now.given listing.new.current ≡ true) }
 {
     for (i, value) in values.iter().enumerate() {
@@ -76,9 +77,9 @@ fn read_list(
     path: &PathRef,
 ) -> Result<(), InstanceFault>
     requires { listing.old.current ≡ [] }
-    ensures gives { Gives named (λ _. listing.new.current) result
-        (machines_after cluster.now.given (all_of listing.old.done) (view value.now) (path_of path.now)) }
-    ensures done { OnOk result (listing.new.done ≡ listing.old.done) }
+    ensures gives { Gives instance_fault_of (λ _. listing.new.current) result
+        (machines_after cluster.now.given (all_of listing.old.before) (view value.now) (path_of path.now)) }
+    ensures before { OnOk result (listing.new.before ≡ listing.old.before) }
     ensures listed { OnOk result (are_machines cluster.now.given listing.new.current ≡ true) }
 {
     let values = json_walk::list_at(alloc, value, path)?;
@@ -92,8 +93,8 @@ pub(crate) fn machines_at(
     value: &Value,
     path: &PathRef,
 ) -> Result<Vms, InstanceFault>
-    ensures gives { Gives named (λ vs. vs) result
-        (needed (machines_in cluster.now.given) (view value.now) (path_of path.now) (codes "machines")) }
+    ensures gives { Gives instance_fault_of (λ vs. vs) result
+        (field_by (machine_list cluster.now.given) (view value.now) (path_of path.now) (codes "machines")) }
     ensures listed { IfOk result (λ vs. are_machines cluster.now.given vs ≡ true) }
     ensures apart { IfOk result (λ vs. differ vs ≡ true) }
 {
@@ -103,7 +104,7 @@ pub(crate) fn machines_at(
     Ok(listing.into_list())
 }
 
-#[tactic(auto, using(crate::proofs::ListLemmas::list_all_more), unfolding(crate::specs::Lists::part_step))]
+#[tactic(auto, using(crate::proofs::ListLemmas::part_rules), unfolding(crate::specs::Lists::part_step))]
 fn push_part(
     alloc: Global,
     cluster: &Cluster,
@@ -113,29 +114,29 @@ fn push_part(
     value: &Value,
 ) -> Result<(), InstanceFault>
     requires { listing.old.current ≡ [] }
-    ensures gives { Gives named (λ _. listing.new.done) result
-        (part_step cluster.now.given (path_of path.now) place listing.old.done (view value.now)) }
+    ensures gives { Gives instance_fault_of (λ _. listing.new.before) result
+        (part_step cluster.now.given (path_of path.now) place listing.old.before (view value.now)) }
     ensures ended { OnOk result (listing.new.current ≡ []) }
-    ensures listed { OnOk result (list_all (are_machines cluster.now.given) listing.old.done ≡ true → list_all (are_machines cluster.now.given) listing.new.done ≡ true) }
-    ensures longer { OnOk result (length listing.new.done ≡ length listing.old.done + 1) }
+    ensures listed { OnOk result (are_machines cluster.now.given (all_of listing.old.before) ≡ true → are_machines cluster.now.given (all_of listing.new.before) ≡ true) }
+    ensures longer { OnOk result (length listing.new.before ≡ length listing.old.before + 1) }
 {
     read_list(alloc, cluster, listing, value, &path.item(place))?;
     listing.close()?;
     Ok(())
 }
 
-#[tactic(auto, using(json_walk::proofs::Each::loop_rules))]
+#[tactic(auto, using(json_walk::proofs::Public::loop_rules))]
 fn parts_from(
     alloc: Global,
     cluster: &Cluster,
     values: &[Value],
     path: &PathRef,
 ) -> Result<Listing, InstanceFault>
-    ensures gives { Gives named (λ l. l.done) result
+    ensures gives { Gives instance_fault_of (λ l. l.before) result
         (each (part_step cluster.now.given (path_of path.now)) 0 [] (map view values.now)) }
     ensures ended { IfOk result (λ l. l.current ≡ []) }
-    ensures listed { IfOk result (λ l. list_all (are_machines cluster.now.given) l.done ≡ true) }
-    ensures as_many { IfOk result (λ l. length l.done ≡ length values.now) }
+    ensures listed { IfOk result (λ l. are_machines cluster.now.given (all_of l.before) ≡ true) }
+    ensures as_many { IfOk result (λ l. length l.before ≡ length values.now) }
 {
     let mut listing = Listing::new(alloc);
     for (i, value) in values.iter().enumerate() {
@@ -144,39 +145,39 @@ fn parts_from(
     Ok(listing)
 }
 
-#[tactic(auto, unfolding(crate::specs::Lists::parts_in))]
+#[tactic(auto, unfolding(crate::specs::Lists::parts_from))]
 fn parts(
     alloc: Global,
     cluster: &Cluster,
     value: &Value,
     path: &PathRef,
 ) -> Result<Parts, InstanceFault>
-    ensures gives { Gives named (λ ps. ps) result
-        (parts_in cluster.now.given (view value.now) (path_of path.now)) }
-    ensures listed { IfOk result (λ ps. list_all (are_machines cluster.now.given) ps ≡ true) }
+    ensures gives { Gives instance_fault_of (λ ps. ps) result
+        (parts_from cluster.now.given (view value.now) (path_of path.now)) }
+    ensures listed { IfOk result (λ ps. are_machines cluster.now.given (all_of ps) ≡ true) }
     ensures apart { IfOk result (λ ps. differ (all_of ps) ≡ true) }
-    ensures few { IfOk result (λ ps. nat_le (length ps) 4096 ≡ true) }
+    ensures few { IfOk result (λ ps. nat_le (length ps) max_parts ≡ true) }
 {
     let values = json_walk::list_at(alloc, value, path)?;
-    if values.len() > 4096 {
+    if values.len() > MAX_PARTS {
         return Err(InstanceFault::Limit(path.to_text(alloc)?));
     }
     let listing = parts_from(alloc, cluster, values, path)?;
     Ok(listing.into_parts())
 }
 
-/// The member `parts`, at most 4,096 lists of machines that differ over all lists.
+/// The member `parts`, lists of machines that differ over all lists.
 pub(crate) fn parts_at(
     alloc: Global,
     cluster: &Cluster,
     value: &Value,
     path: &PathRef,
 ) -> Result<Parts, InstanceFault>
-    ensures gives { Gives named (λ ps. ps) result
-        (needed (parts_in cluster.now.given) (view value.now) (path_of path.now) (codes "parts")) }
-    ensures listed { IfOk result (λ ps. list_all (are_machines cluster.now.given) ps ≡ true) }
+    ensures gives { Gives instance_fault_of (λ ps. ps) result
+        (field_by (parts_from cluster.now.given) (view value.now) (path_of path.now) (codes "parts")) }
+    ensures listed { IfOk result (λ ps. are_machines cluster.now.given (all_of ps) ≡ true) }
     ensures apart { IfOk result (λ ps. differ (all_of ps) ≡ true) }
-    ensures few { IfOk result (λ ps. nat_le (length ps) 4096 ≡ true) }
+    ensures few { IfOk result (λ ps. nat_le (length ps) max_parts ≡ true) }
 {
     let found = json_walk::field_at(alloc, value, path, "parts")?;
     parts(alloc, cluster, found, &path.key("parts"))
@@ -184,22 +185,7 @@ pub(crate) fn parts_at(
 
 // ---- nodes
 
-/// The set without nodes.
-fn no_nodes() -> NodeSet
-    ensures { result ≡ no_nodes }
-{
-    NodeSet::new()
-}
-
-/// Puts a node in.
-fn insert(set: &mut NodeSet, n: NodeId)
-    requires { n.0 < 512 }
-    ensures { set.new ≡ with_node set.old n.0 }
-{
-    set.insert(n);
-}
-
-#[tactic(auto, using(crate::proofs::ListLemmas::is_listed_set_with), unfolding(crate::specs::Lists::node_item))]
+#[tactic(auto, using(crate::proofs::ListLemmas::set_rules), unfolding(crate::specs::Lists::node_item))]
 fn push_node(
     alloc: Global,
     cluster: &Cluster,
@@ -208,30 +194,30 @@ fn push_node(
     set: &mut NodeSet,
     value: &Value,
 ) -> Result<(), InstanceFault>
-    ensures gives { Gives named (λ _. set.new) result
+    ensures gives { Gives instance_fault_of (λ _. set.new) result
         (node_item cluster.now.given (path_of path.now) place set.old (view value.now)) }
-    ensures listed { OnOk result (is_listed_set cluster.now.given set.old ≡ true → is_listed_set cluster.now.given set.new ≡ true) }
+    ensures listed { OnOk result (are_nodes cluster.now.given set.old ≡ true → are_nodes cluster.now.given set.new ≡ true) }
 {
     let n = names::node(alloc, cluster, value, &path.item(place))?;
     if set.has(n) {
         return Err(InstanceFault::Twice(path.item(place).to_text(alloc)?));
     }
-    insert(set, n);
+    set.insert(n);
     Ok(())
 }
 
-#[tactic(auto, using(json_walk::proofs::Each::loop_rules, crate::proofs::ListLemmas::no_nodes_listed))]
+#[tactic(auto, using(json_walk::proofs::Public::loop_rules, crate::proofs::ListLemmas::set_rules))]
 fn nodes_from(
     alloc: Global,
     cluster: &Cluster,
     values: &[Value],
     path: &PathRef,
 ) -> Result<NodeSet, InstanceFault>
-    ensures gives { Gives named (λ s. s) result
+    ensures gives { Gives instance_fault_of (λ s. s) result
         (each (node_item cluster.now.given (path_of path.now)) 0 no_nodes (map view values.now)) }
-    ensures listed { IfOk result (λ s. is_listed_set cluster.now.given s ≡ true) }
+    ensures listed { IfOk result (λ s. are_nodes cluster.now.given s ≡ true) }
 {
-    let mut set = no_nodes();
+    let mut set = NodeSet::new();
     for (i, value) in values.iter().enumerate() {
         push_node(alloc, cluster, path, i as u64, &mut set, value)?;
     }
@@ -239,15 +225,15 @@ fn nodes_from(
 }
 
 /// A list of nodes that differ.
-#[tactic(auto, unfolding(crate::specs::Lists::nodes_in, crate::specs::NodeSets::is_listed_set))]
+#[tactic(auto, unfolding(crate::specs::Lists::node_set))]
 fn nodes(
     alloc: Global,
     cluster: &Cluster,
     value: &Value,
     path: &PathRef,
 ) -> Result<NodeSet, InstanceFault>
-    ensures gives { Gives named (λ s. s) result
-        (nodes_in cluster.now.given (view value.now) (path_of path.now)) }
+    ensures gives { Gives instance_fault_of (λ s. s) result
+        (node_set cluster.now.given (view value.now) (path_of path.now)) }
     ensures listed { IfOk result (λ s. are_nodes cluster.now.given s ≡ true) }
 {
     let values = json_walk::list_at(alloc, value, path)?;
@@ -262,15 +248,15 @@ pub(crate) fn nodes_at(
     value: &Value,
     path: &PathRef,
 ) -> Result<NodeSet, InstanceFault>
-    ensures gives { Gives named (λ s. s) result
-        (needed (nodes_in cluster.now.given) (view value.now) (path_of path.now) (codes "nodes")) }
+    ensures gives { Gives instance_fault_of (λ s. s) result
+        (field_by (node_set cluster.now.given) (view value.now) (path_of path.now) (codes "nodes")) }
     ensures listed { IfOk result (λ s. are_nodes cluster.now.given s ≡ true) }
 {
     let found = json_walk::field_at(alloc, value, path, "nodes")?;
     nodes(alloc, cluster, found, &path.key("nodes"))
 }
 
-#[tactic(auto, using(crate::proofs::ListLemmas::list_all_more), unfolding(crate::specs::Lists::group_step, crate::specs::NodeSets::are_listed_sets))]
+#[tactic(auto, using(crate::proofs::ListLemmas::list_all_more), unfolding(crate::specs::Lists::group_step))]
 fn push_group(
     alloc: Global,
     cluster: &Cluster,
@@ -279,9 +265,9 @@ fn push_group(
     groups: &mut Vec<NodeSet>,
     value: &Value,
 ) -> Result<(), InstanceFault>
-    ensures gives { Gives named (λ _. groups.new.items) result
+    ensures gives { Gives instance_fault_of (λ _. groups.new.items) result
         (group_step cluster.now.given (path_of path.now) place groups.old.items (view value.now)) }
-    ensures listed { OnOk result (are_listed_sets cluster.now.given groups.old.items ≡ true → are_listed_sets cluster.now.given groups.new.items ≡ true) }
+    ensures listed { OnOk result (list_all (are_nodes cluster.now.given) groups.old.items ≡ true → list_all (are_nodes cluster.now.given) groups.new.items ≡ true) }
     ensures longer { OnOk result (length groups.new.items ≡ length groups.old.items + 1) }
 {
     let group = nodes(alloc, cluster, value, &path.item(place))?;
@@ -289,16 +275,16 @@ fn push_group(
     Ok(())
 }
 
-#[tactic(auto, using(json_walk::proofs::Each::loop_rules, crate::proofs::ListLemmas::no_sets_listed))]
+#[tactic(auto, using(json_walk::proofs::Public::loop_rules))]
 fn groups_from(
     alloc: Global,
     cluster: &Cluster,
     values: &[Value],
     path: &PathRef,
 ) -> Result<Vec<NodeSet>, InstanceFault>
-    ensures gives { Gives named (λ gs. gs.items) result
+    ensures gives { Gives instance_fault_of (λ gs. gs.items) result
         (each (group_step cluster.now.given (path_of path.now)) 0 [] (map view values.now)) }
-    ensures listed { IfOk result (λ gs. are_listed_sets cluster.now.given gs.items ≡ true) }
+    ensures listed { IfOk result (λ gs. list_all (are_nodes cluster.now.given) gs.items ≡ true) }
     ensures as_many { IfOk result (λ gs. length gs.items ≡ length values.now) }
 {
     let mut groups = Vec::new(alloc);
@@ -308,42 +294,42 @@ fn groups_from(
     Ok(groups)
 }
 
-#[tactic(auto, unfolding(crate::specs::Lists::groups_in))]
+#[tactic(auto, unfolding(crate::specs::Lists::groups_from))]
 fn groups(
     alloc: Global,
     cluster: &Cluster,
     value: &Value,
     path: &PathRef,
 ) -> Result<Groups, InstanceFault>
-    ensures gives { Gives named (λ gs. gs) result
-        (groups_in cluster.now.given (view value.now) (path_of path.now)) }
-    ensures listed { IfOk result (λ gs. are_listed_sets cluster.now.given gs ≡ true) }
+    ensures gives { Gives instance_fault_of (λ gs. gs) result
+        (groups_from cluster.now.given (view value.now) (path_of path.now)) }
+    ensures listed { IfOk result (λ gs. list_all (are_nodes cluster.now.given) gs ≡ true) }
     ensures some { IfOk result (λ gs. nat_lt 0 (length gs) ≡ true) }
-    ensures few { IfOk result (λ gs. nat_le (length gs) 512 ≡ true) }
+    ensures few { IfOk result (λ gs. nat_le (length gs) max_groups ≡ true) }
 {
     let values = json_walk::list_at(alloc, value, path)?;
     if values.is_empty() {
         return Err(json_walk::fault_at(alloc, path, FaultKind::OutOfRange).into());
     }
-    if values.len() > 512 {
+    if values.len() > MAX_GROUPS {
         return Err(InstanceFault::Limit(path.to_text(alloc)?));
     }
     let groups = groups_from(alloc, cluster, values, path)?;
     Ok(Groups::new(groups))
 }
 
-/// The member `groups`, 1 to 512 lists of nodes.
+/// The member `groups`, lists of nodes.
 pub(crate) fn groups_at(
     alloc: Global,
     cluster: &Cluster,
     value: &Value,
     path: &PathRef,
 ) -> Result<Groups, InstanceFault>
-    ensures gives { Gives named (λ gs. gs) result
-        (needed (groups_in cluster.now.given) (view value.now) (path_of path.now) (codes "groups")) }
-    ensures listed { IfOk result (λ gs. are_listed_sets cluster.now.given gs ≡ true) }
+    ensures gives { Gives instance_fault_of (λ gs. gs) result
+        (field_by (groups_from cluster.now.given) (view value.now) (path_of path.now) (codes "groups")) }
+    ensures listed { IfOk result (λ gs. list_all (are_nodes cluster.now.given) gs ≡ true) }
     ensures some { IfOk result (λ gs. nat_lt 0 (length gs) ≡ true) }
-    ensures few { IfOk result (λ gs. nat_le (length gs) 512 ≡ true) }
+    ensures few { IfOk result (λ gs. nat_le (length gs) max_groups ≡ true) }
 {
     let found = json_walk::field_at(alloc, value, path, "groups")?;
     groups(alloc, cluster, found, &path.key("groups"))

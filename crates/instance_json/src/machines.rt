@@ -3,36 +3,41 @@
 ghost use Rattle.std.specs.Prelude.{◌≡◌, ◌<◌, ◌≤◌, ◌+◌, ◌++◌, ◌∷◌, [], IfOk, OnOk, codes, length, map, true, false};
 ghost use Rattle.serde_json.specs.View.{view};
 ghost use Rattle.json_walk.specs.PathRef.{path_of};
-ghost use Rattle.json_walk.specs.Walk.{Gives, only_of};
+ghost use Rattle.json_walk.specs.Walk.{Gives};
 ghost use Rattle.json_walk.specs.Each.{each};
 ghost use Rattle.cluster.specs.Inventory.{is_taken, is_online, host_is_online, machine_fits};
-ghost use Rattle.instance_json.specs.Walk.{named, looked, needed};
-ghost use Rattle.instance_json.specs.Elements.{host_of, state_named, state_of, keys_in, machine_of, machine_step, machines_of};
+ghost use Rattle.cluster.specs.Limits.{max_machines};
+ghost use Rattle.cluster.specs.States.{state_words};
+ghost use Rattle.instance_json.specs.Walk.{instance_fault_of, only_keys, field_by, word_field};
+ghost use Rattle.instance_json.specs.Elements.{host_from, state_by, state_from, machine_keys, machine_from, machine_step, machines_from};
 
 use crate::amounts::amounts_at;
-use crate::durations::machine_durations;
+use crate::durations::{Owner, own_durations};
 use crate::fault::InstanceFault;
+use crate::keys::{HOSTED_KEYS, MACHINE_KEYS};
+use crate::names;
 use crate::nodes::element_name;
-use crate::{keys, names};
+use crate::states::{STATES, StateWord};
 use cluster::ids::NodeId;
-use cluster::states::State;
 use cluster::inventory::{AddFault, Cluster};
+use cluster::limits::MAX_MACHINES;
 use cluster::machines::Machine;
-use json_walk::{FaultKind, PathRef};
+use cluster::states::{STATE_WORDS, State};
+use json_walk::PathRef;
 use memory::Memory;
 use serde_json::Value;
 use std::alloc::Global;
 
 /// A listed node that is online.
-#[tactic(auto, unfolding(crate::specs::Elements::host_of))]
+#[tactic(auto, unfolding(crate::specs::Elements::host_from))]
 fn host(
     alloc: Global,
     cluster: &Cluster,
     value: &Value,
     path: &PathRef,
 ) -> Result<NodeId, InstanceFault>
-    ensures gives { Gives named (λ n. n) result
-        (host_of cluster.now.given (view value.now) (path_of path.now)) }
+    ensures gives { Gives instance_fault_of (λ n. n) result
+        (host_from cluster.now.given (view value.now) (path_of path.now)) }
     ensures online { IfOk result (λ n. is_online cluster.now.given.nodes n.0 ≡ true) }
 {
     let n = names::node(alloc, cluster, value, path)?;
@@ -49,50 +54,59 @@ fn host_at(
     value: &Value,
     path: &PathRef,
 ) -> Result<NodeId, InstanceFault>
-    ensures gives { Gives named (λ n. n) result
-        (needed (host_of cluster.now.given) (view value.now) (path_of path.now) (codes "node")) }
+    ensures gives { Gives instance_fault_of (λ n. n) result
+        (field_by (host_from cluster.now.given) (view value.now) (path_of path.now) (codes "node")) }
     ensures online { IfOk result (λ n. is_online cluster.now.given.nodes n.0 ≡ true) }
 {
     let found = json_walk::field_at(alloc, value, path, "node")?;
     host(alloc, cluster, found, &path.key("node"))
 }
 
+/// The word of a machine's state.
+#[tactic(auto, unfolding(crate::specs::Walk::word_field, cluster::specs::States::state_words))]
+fn state_word(alloc: Global, value: &Value, path: &PathRef) -> Result<StateWord, InstanceFault>
+    ensures { Gives instance_fault_of (λ w. w) result
+        (word_field state_words STATES (view value.now) (path_of path.now) (codes "state")) }
+{
+    let place = json_walk::word_field(alloc, value, path, "state", &STATE_WORDS)?;
+    Ok(STATES[place])
+}
+
 /// The state of that word.
-#[tactic(auto, unfolding(crate::specs::Elements::state_named))]
-fn state_named(
+#[tactic(auto, unfolding(crate::specs::Elements::state_by))]
+fn state_by(
     alloc: Global,
     cluster: &Cluster,
-    word: &str,
+    word: StateWord,
     value: &Value,
     path: &PathRef,
 ) -> Result<State, InstanceFault>
-    ensures gives { Gives named (λ s. s) result
-        (state_named cluster.now.given word.now (view value.now) (path_of path.now)) }
+    ensures gives { Gives instance_fault_of (λ s. s) result
+        (state_by cluster.now.given word (view value.now) (path_of path.now)) }
     ensures online { IfOk result (λ s. host_is_online cluster.now.given.nodes s ≡ true) }
 {
     match word {
-        "init" => Ok(State::Init),
-        "ready" => Ok(State::Ready),
-        "running" => Ok(State::Running(host_at(alloc, cluster, value, path)?)),
-        "sleeping" => Ok(State::Sleeping(host_at(alloc, cluster, value, path)?)),
-        "gone" => Ok(State::Gone),
-        _ => Err(json_walk::fault_at(alloc, &path.key("state"), FaultKind::Unknown).into()),
+        StateWord::Init => Ok(State::Init),
+        StateWord::Ready => Ok(State::Ready),
+        StateWord::Running => Ok(State::Running(host_at(alloc, cluster, value, path)?)),
+        StateWord::Sleeping => Ok(State::Sleeping(host_at(alloc, cluster, value, path)?)),
+        StateWord::Gone => Ok(State::Gone),
     }
 }
 
-#[tactic(auto, unfolding(crate::specs::Elements::state_of))]
+#[tactic(auto, unfolding(crate::specs::Elements::state_from))]
 fn state(
     alloc: Global,
     cluster: &Cluster,
     value: &Value,
     path: &PathRef,
 ) -> Result<State, InstanceFault>
-    ensures gives { Gives named (λ s. s) result
-        (state_of cluster.now.given (view value.now) (path_of path.now)) }
+    ensures gives { Gives instance_fault_of (λ s. s) result
+        (state_from cluster.now.given (view value.now) (path_of path.now)) }
     ensures online { IfOk result (λ s. host_is_online cluster.now.given.nodes s ≡ true) }
 {
-    let word = json_walk::text_field(alloc, value, path, "state")?;
-    state_named(alloc, cluster, word, value, path)
+    let word = state_word(alloc, value, path)?;
+    state_by(alloc, cluster, word, value, path)
 }
 
 /// An object without keys beside those of a machine in that state.
@@ -102,29 +116,29 @@ fn only_machine(
     value: &Value,
     path: &PathRef,
 ) -> Result<(), InstanceFault>
-    ensures { Gives named (λ _. tt) result
-        (looked (only_of (view value.now) (path_of path.now) (keys_in state))) }
+    ensures { Gives instance_fault_of (λ _. tt) result
+        (only_keys (machine_keys state) (view value.now) (path_of path.now)) }
 {
     match state {
         State::Running(_) | State::Sleeping(_) => {
-            json_walk::only_at(alloc, value, path, &keys::hosted_keys())?
+            json_walk::only_at(alloc, value, path, &HOSTED_KEYS)?
         }
         State::Init | State::Ready | State::Gone => {
-            json_walk::only_at(alloc, value, path, &keys::machine_keys())?
+            json_walk::only_at(alloc, value, path, &MACHINE_KEYS)?
         }
     }
     Ok(())
 }
 
-#[tactic(auto, unfolding(crate::specs::Elements::machine_of))]
+#[tactic(auto, unfolding(crate::specs::Elements::machine_from))]
 fn machine(
     alloc: Global,
     cluster: &Cluster,
     value: &Value,
     path: &PathRef,
 ) -> Result<Machine, InstanceFault>
-    ensures gives { Gives named (λ m. m) result
-        (machine_of cluster.now.given (view value.now) (path_of path.now)) }
+    ensures gives { Gives instance_fault_of (λ m. m) result
+        (machine_from cluster.now.given (view value.now) (path_of path.now)) }
     ensures free { IfOk result (λ m. is_taken cluster.now.given m.name ≡ false) }
     ensures online { IfOk result (λ m. host_is_online cluster.now.given.nodes m.state ≡ true) }
     ensures fits { IfOk result (λ m. machine_fits (length cluster.now.given.resources) m ≡ true) }
@@ -132,7 +146,7 @@ fn machine(
     let name = element_name(alloc, cluster, value, path)?;
     let state = state(alloc, cluster, value, path)?;
     let usage = amounts_at(alloc, cluster.resources(), value, path, "use")?;
-    let own = machine_durations(alloc, cluster.resources(), value, path)?;
+    let own = own_durations(alloc, cluster.resources(), Owner::Machine, value, path)?;
     only_machine(alloc, state, value, path)?;
     Ok(Machine {
         name,
@@ -144,7 +158,7 @@ fn machine(
 
 /// Adds a machine that has no fault.
 fn add_machine(cluster: &mut Cluster, machine: Machine) -> Result<(), Memory>
-    requires room { length cluster.old.given.machines < 4096 }
+    requires room { length cluster.old.given.machines < max_machines }
     requires free { is_taken cluster.old.given machine.name ≡ false }
     requires online { host_is_online cluster.old.given.nodes machine.state ≡ true }
     requires fits { machine_fits (length cluster.old.given.resources) machine ≡ true }
@@ -165,8 +179,8 @@ fn push_machine(
     cluster: &mut Cluster,
     value: &Value,
 ) -> Result<(), InstanceFault>
-    requires { length cluster.old.given.machines < 4096 }
-    ensures gives { Gives named (λ _. cluster.new.given) result
+    requires { length cluster.old.given.machines < max_machines }
+    ensures gives { Gives instance_fault_of (λ _. cluster.new.given) result
         (machine_step (path_of path.now) place cluster.old.given (view value.now)) }
     ensures longer { OnOk result (length cluster.new.given.machines ≡ length cluster.old.given.machines + 1) }
 {
@@ -175,7 +189,7 @@ fn push_machine(
     Ok(())
 }
 
-#[tactic(auto, using(json_walk::proofs::Each::loop_rules))]
+#[tactic(auto, using(json_walk::proofs::Public::loop_rules))]
 fn machines_in(
     alloc: Global,
     cluster: &mut Cluster,
@@ -183,8 +197,8 @@ fn machines_in(
     path: &PathRef,
 ) -> Result<(), InstanceFault>
     requires empty { cluster.old.given.machines ≡ [] }
-    requires few { length values.now ≤ 4096 }
-    ensures { Gives named (λ _. cluster.new.given) result
+    requires few { length values.now ≤ max_machines }
+    ensures { Gives instance_fault_of (λ _. cluster.new.given) result
         (each (machine_step (path_of path.now)) 0 cluster.old.given (map view values.now)) }
 {
     for (i, value) in values.iter().enumerate() {
@@ -193,8 +207,8 @@ fn machines_in(
     Ok(())
 }
 
-/// Adds the listed machines, at most 4,096.
-#[tactic(auto, unfolding(crate::specs::Elements::machines_of))]
+/// Adds the listed machines.
+#[tactic(auto, unfolding(crate::specs::Elements::machines_from))]
 pub(crate) fn add_machines(
     alloc: Global,
     cluster: &mut Cluster,
@@ -202,11 +216,11 @@ pub(crate) fn add_machines(
     path: &PathRef,
 ) -> Result<(), InstanceFault>
     requires { cluster.old.given.machines ≡ [] }
-    ensures { Gives named (λ _. cluster.new.given) result
-        (machines_of cluster.old.given (view value.now) (path_of path.now)) }
+    ensures { Gives instance_fault_of (λ _. cluster.new.given) result
+        (machines_from cluster.old.given (view value.now) (path_of path.now)) }
 {
     let values = json_walk::list_at(alloc, value, path)?;
-    if values.len() > 4096 {
+    if values.len() > MAX_MACHINES {
         return Err(InstanceFault::Limit(path.to_text(alloc)?));
     }
     machines_in(alloc, cluster, values, path)

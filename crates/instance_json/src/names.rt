@@ -7,14 +7,16 @@ ghost use Rattle.serde_json.specs.View.{view};
 ghost use Rattle.json_walk.specs.PathRef.{path_of};
 ghost use Rattle.json_walk.specs.Walk.{Gives};
 ghost use Rattle.json_walk.specs.Each.{each};
+ghost use Rattle.cluster.specs.Limits.{max_resources};
 ghost use Rattle.cluster.specs.Names.{is_name};
 ghost use Rattle.cluster.specs.Inventory.{is_taken, are_distinct};
-ghost use Rattle.instance_json.specs.Walk.{named};
-ghost use Rattle.instance_json.specs.Names.{name_text_of, new_name_of, resource_step, resources_of, listed_machine, listed_node, listed_resource};
+ghost use Rattle.instance_json.specs.Walk.{instance_fault_of};
+ghost use Rattle.instance_json.specs.Names.{name_from, new_name_from, resource_step, resources_from, listed_machine, listed_node, listed_resource};
 
 use crate::fault::InstanceFault;
 use cluster::ids::{Element, NodeId, VmId};
 use cluster::inventory::Cluster;
+use cluster::limits::MAX_RESOURCES;
 use cluster::names::{Name, NameFault, is_name_text};
 use json_walk::{FaultKind, PathRef};
 use memory::Memory;
@@ -22,9 +24,9 @@ use serde_json::Value;
 use std::alloc::Global;
 
 /// The text of a well-formed name.
-#[tactic(auto, unfolding(crate::specs::Names::name_text_of))]
+#[tactic(auto, unfolding(crate::specs::Names::name_from))]
 fn name_text<'a>(alloc: Global, value: &'a Value, path: &PathRef) -> Result<&'a str, InstanceFault>
-    ensures gives { Gives named (λ s. s.now) result (name_text_of (view value.now) (path_of path.now)) }
+    ensures gives { Gives instance_fault_of (λ s. s.now) result (name_from (view value.now) (path_of path.now)) }
     ensures well_formed { IfOk result (λ s. is_name s.now ≡ true) }
 {
     let text = json_walk::text_at(alloc, value, path)?;
@@ -49,15 +51,15 @@ fn name_of(alloc: Global, text: &str) -> Result<Name, Memory>
 // ---- names that are given
 
 /// The name of one more element.
-#[tactic(auto, unfolding(crate::specs::Names::new_name_of))]
+#[tactic(auto, unfolding(crate::specs::Names::new_name_from))]
 pub(crate) fn new_name(
     alloc: Global,
     cluster: &Cluster,
     value: &Value,
     path: &PathRef,
 ) -> Result<Name, InstanceFault>
-    ensures gives { Gives named (λ n. n) result
-        (new_name_of cluster.now.given (view value.now) (path_of path.now)) }
+    ensures gives { Gives instance_fault_of (λ n. n) result
+        (new_name_from cluster.now.given (view value.now) (path_of path.now)) }
     ensures free { IfOk result (λ n. is_taken cluster.now.given n ≡ false) }
 {
     let text = name_text(alloc, value, path)?;
@@ -83,7 +85,7 @@ fn push_resource(
     resources: &mut Vec<Name>,
     value: &Value,
 ) -> Result<(), InstanceFault>
-    ensures gives { Gives named (λ _. resources.new.items) result
+    ensures gives { Gives instance_fault_of (λ _. resources.new.items) result
         (resource_step (path_of path.now) place resources.old.items (view value.now)) }
     ensures differ { OnOk result (are_distinct resources.old.items ≡ true → are_distinct resources.new.items ≡ true) }
     ensures longer { OnOk result (length resources.new.items ≡ length resources.old.items + 1) }
@@ -97,9 +99,9 @@ fn push_resource(
     Ok(())
 }
 
-#[tactic(auto, using(json_walk::proofs::Each::loop_rules))]
+#[tactic(auto, using(json_walk::proofs::Public::loop_rules))]
 fn resources_in(alloc: Global, values: &[Value], path: &PathRef) -> Result<Vec<Name>, InstanceFault>
-    ensures gives { Gives named (λ v. v.items) result
+    ensures gives { Gives instance_fault_of (λ v. v.items) result
         (each (resource_step (path_of path.now)) 0 [] (map view values.now)) }
     ensures differ { IfOk result (λ v. are_distinct v.items ≡ true) }
     ensures as_many { IfOk result (λ v. length v.items ≡ length values.now) }
@@ -111,19 +113,19 @@ fn resources_in(alloc: Global, values: &[Value], path: &PathRef) -> Result<Vec<N
     Ok(resources)
 }
 
-/// The names of the resources, at most 8.
-#[tactic(auto, unfolding(crate::specs::Names::resources_of))]
+/// The names of the resources, not too many.
+#[tactic(auto, unfolding(crate::specs::Names::resources_from))]
 pub(crate) fn resources(
     alloc: Global,
     value: &Value,
     path: &PathRef,
 ) -> Result<Vec<Name>, InstanceFault>
-    ensures gives { Gives named (λ v. v.items) result (resources_of (view value.now) (path_of path.now)) }
+    ensures gives { Gives instance_fault_of (λ v. v.items) result (resources_from (view value.now) (path_of path.now)) }
     ensures differ { IfOk result (λ v. are_distinct v.items ≡ true) }
-    ensures few { IfOk result (λ v. length v.items ≤ 8) }
+    ensures few { IfOk result (λ v. length v.items ≤ max_resources) }
 {
     let values = json_walk::list_at(alloc, value, path)?;
-    if values.len() > 8 {
+    if values.len() > MAX_RESOURCES {
         return Err(InstanceFault::Limit(path.to_text(alloc)?));
     }
     resources_in(alloc, values, path)
@@ -139,7 +141,7 @@ pub(crate) fn machine(
     value: &Value,
     path: &PathRef,
 ) -> Result<VmId, InstanceFault>
-    ensures gives { Gives named (λ v. v) result
+    ensures gives { Gives instance_fault_of (λ v. v) result
         (listed_machine cluster.now.given (view value.now) (path_of path.now)) }
     ensures listed { IfOk result (λ v. v.0 < length cluster.now.given.machines) }
 {
@@ -158,7 +160,7 @@ pub(crate) fn node(
     value: &Value,
     path: &PathRef,
 ) -> Result<NodeId, InstanceFault>
-    ensures gives { Gives named (λ n. n) result
+    ensures gives { Gives instance_fault_of (λ n. n) result
         (listed_node cluster.now.given (view value.now) (path_of path.now)) }
     ensures listed { IfOk result (λ n. n.0 < length cluster.now.given.nodes) }
 {
@@ -183,8 +185,8 @@ pub(crate) fn resource(
     value: &Value,
     path: &PathRef,
 ) -> Result<u8, InstanceFault>
-    requires { length resources.now ≤ 8 }
-    ensures gives { Gives named (λ r. r) result
+    requires { length resources.now ≤ max_resources }
+    ensures gives { Gives instance_fault_of (λ r. r) result
         (listed_resource resources.now (view value.now) (path_of path.now)) }
     ensures listed { IfOk result (λ r. r < length resources.now) }
 {

@@ -3,18 +3,21 @@
 ghost use Rattle.std.specs.Prelude.{◌≡◌, ◌<◌, ◌≤◌, ◌+◌, ◌++◌, ◌∷◌, [], IfOk, OnOk, codes, length, map, true, false};
 ghost use Rattle.serde_json.specs.View.{view};
 ghost use Rattle.json_walk.specs.PathRef.{path_of};
-ghost use Rattle.json_walk.specs.Walk.{Gives, only_of};
+ghost use Rattle.json_walk.specs.Walk.{Gives};
 ghost use Rattle.json_walk.specs.Each.{each};
 ghost use Rattle.cluster.specs.Inventory.{is_taken, node_fits};
-ghost use Rattle.instance_json.specs.Walk.{named, looked, needed};
-ghost use Rattle.instance_json.specs.Names.{new_name_of};
-ghost use Rattle.instance_json.specs.Elements.{node_of, node_step, nodes_of};
+ghost use Rattle.cluster.specs.Limits.{max_nodes};
+ghost use Rattle.instance_json.specs.Walk.{instance_fault_of, field_by};
+ghost use Rattle.instance_json.specs.Names.{new_name_from};
+ghost use Rattle.instance_json.specs.Elements.{node_from, node_step, nodes_from};
 
 use crate::amounts::amounts_at;
-use crate::durations::node_durations;
+use crate::durations::{Owner, own_durations};
 use crate::fault::InstanceFault;
-use crate::{keys, names};
+use crate::keys::NODE_KEYS;
+use crate::names;
 use cluster::inventory::{AddFault, Cluster};
+use cluster::limits::MAX_NODES;
 use cluster::names::Name;
 use cluster::nodes::Node;
 use json_walk::PathRef;
@@ -29,31 +32,31 @@ pub(crate) fn element_name(
     value: &Value,
     path: &PathRef,
 ) -> Result<Name, InstanceFault>
-    ensures gives { Gives named (λ n. n) result
-        (needed (new_name_of cluster.now.given) (view value.now) (path_of path.now) (codes "name")) }
+    ensures gives { Gives instance_fault_of (λ n. n) result
+        (field_by (new_name_from cluster.now.given) (view value.now) (path_of path.now) (codes "name")) }
     ensures free { IfOk result (λ n. is_taken cluster.now.given n ≡ false) }
 {
     let found = json_walk::field_at(alloc, value, path, "name")?;
     names::new_name(alloc, cluster, found, &path.key("name"))
 }
 
-#[tactic(auto, unfolding(crate::specs::Elements::node_of))]
+#[tactic(auto, unfolding(crate::specs::Elements::node_from))]
 fn node(
     alloc: Global,
     cluster: &Cluster,
     value: &Value,
     path: &PathRef,
 ) -> Result<Node, InstanceFault>
-    ensures gives { Gives named (λ n. n) result
-        (node_of cluster.now.given (view value.now) (path_of path.now)) }
+    ensures gives { Gives instance_fault_of (λ n. n) result
+        (node_from cluster.now.given (view value.now) (path_of path.now)) }
     ensures free { IfOk result (λ n. is_taken cluster.now.given n.name ≡ false) }
     ensures fits { IfOk result (λ n. node_fits (length cluster.now.given.resources) n ≡ true) }
 {
     let name = element_name(alloc, cluster, value, path)?;
     let online = json_walk::optional_flag(alloc, value, path, "online", true)?;
     let capacity = amounts_at(alloc, cluster.resources(), value, path, "capacity")?;
-    let own = node_durations(alloc, cluster.resources(), value, path)?;
-    json_walk::only_at(alloc, value, path, &keys::node_keys())?;
+    let own = own_durations(alloc, cluster.resources(), Owner::Node, value, path)?;
+    json_walk::only_at(alloc, value, path, &NODE_KEYS)?;
     Ok(Node {
         name,
         online,
@@ -64,7 +67,7 @@ fn node(
 
 /// Adds a node that has no fault.
 fn add_node(cluster: &mut Cluster, node: Node) -> Result<(), Memory>
-    requires room { length cluster.old.given.nodes < 512 }
+    requires room { length cluster.old.given.nodes < max_nodes }
     requires free { is_taken cluster.old.given node.name ≡ false }
     requires fits { node_fits (length cluster.old.given.resources) node ≡ true }
     ensures { OnOk result (cluster.new.given ≡ record cluster.old.given { nodes = cluster.old.given.nodes ++ node ∷ [] }) }
@@ -84,8 +87,8 @@ fn push_node(
     cluster: &mut Cluster,
     value: &Value,
 ) -> Result<(), InstanceFault>
-    requires { length cluster.old.given.nodes < 512 }
-    ensures gives { Gives named (λ _. cluster.new.given) result
+    requires { length cluster.old.given.nodes < max_nodes }
+    ensures gives { Gives instance_fault_of (λ _. cluster.new.given) result
         (node_step (path_of path.now) place cluster.old.given (view value.now)) }
     ensures longer { OnOk result (length cluster.new.given.nodes ≡ length cluster.old.given.nodes + 1) }
     ensures machines { OnOk result (cluster.new.given.machines ≡ cluster.old.given.machines) }
@@ -95,7 +98,7 @@ fn push_node(
     Ok(())
 }
 
-#[tactic(auto, using(json_walk::proofs::Each::loop_rules))]
+#[tactic(auto, using(json_walk::proofs::Public::loop_rules))]
 fn nodes_in(
     alloc: Global,
     cluster: &mut Cluster,
@@ -103,8 +106,8 @@ fn nodes_in(
     path: &PathRef,
 ) -> Result<(), InstanceFault>
     requires empty { cluster.old.given.nodes ≡ [] }
-    requires few { length values.now ≤ 512 }
-    ensures gives { Gives named (λ _. cluster.new.given) result
+    requires few { length values.now ≤ max_nodes }
+    ensures gives { Gives instance_fault_of (λ _. cluster.new.given) result
         (each (node_step (path_of path.now)) 0 cluster.old.given (map view values.now)) }
     ensures machines { OnOk result (cluster.new.given.machines ≡ cluster.old.given.machines) }
 {
@@ -114,8 +117,8 @@ fn nodes_in(
     Ok(())
 }
 
-/// Adds the listed nodes, at most 512.
-#[tactic(auto, unfolding(crate::specs::Elements::nodes_of))]
+/// Adds the listed nodes.
+#[tactic(auto, unfolding(crate::specs::Elements::nodes_from))]
 pub(crate) fn add_nodes(
     alloc: Global,
     cluster: &mut Cluster,
@@ -123,12 +126,12 @@ pub(crate) fn add_nodes(
     path: &PathRef,
 ) -> Result<(), InstanceFault>
     requires { cluster.old.given.nodes ≡ [] }
-    ensures gives { Gives named (λ _. cluster.new.given) result
-        (nodes_of cluster.old.given (view value.now) (path_of path.now)) }
+    ensures gives { Gives instance_fault_of (λ _. cluster.new.given) result
+        (nodes_from cluster.old.given (view value.now) (path_of path.now)) }
     ensures machines { OnOk result (cluster.new.given.machines ≡ cluster.old.given.machines) }
 {
     let values = json_walk::list_at(alloc, value, path)?;
-    if values.len() > 512 {
+    if values.len() > MAX_NODES {
         return Err(InstanceFault::Limit(path.to_text(alloc)?));
     }
     nodes_in(alloc, cluster, values, path)

@@ -9,33 +9,40 @@ ghost use Rattle.json_walk.specs.PathRef.{path_of};
 ghost use Rattle.json_walk.specs.Walk.{Gives};
 ghost use Rattle.json_walk.specs.Json.{json_of};
 ghost use Rattle.cluster.specs.Inventory.{are_distinct, duration_fits};
-ghost use Rattle.instance_json.specs.Walk.{named, needed};
-ghost use Rattle.instance_json.specs.Rules.{constraints_of};
-ghost use Rattle.instance_json.specs.Instance.{base_of, inventory_in, problem_in, walk, instance_of};
+ghost use Rattle.cluster.specs.Limits.{max_resources};
+ghost use Rattle.instance_json.specs.Walk.{instance_fault_of, field_by};
+ghost use Rattle.instance_json.specs.Rules.{constraints_from};
+ghost use Rattle.instance_json.specs.Instance.{base_from, inventory_from, problem_from, walk, instance_of};
 ghost use Rattle.instance_json.specs.declared.fault.InstanceFault.TheVariants.{NotJson};
 
-use crate::durations::durations;
+use crate::durations::base_durations;
 use crate::fault::InstanceFault;
+use crate::keys::ROOT_KEYS;
 use crate::machines::add_machines;
+use crate::names;
 use crate::nodes::add_nodes;
 use crate::rules::add_constraints;
-use crate::{keys, names};
+use catalogue::limits::MAX_HORIZON;
 use catalogue::problem::Problem;
 use cluster::durations::Duration;
 use cluster::inventory::{AddFault, Cluster};
+use cluster::kinds::KIND_COUNT;
 use cluster::names::Name;
-use json_walk::{PathRef, ReadFault};
+use json_walk::{JsonFault, MAX_TEXT_BYTES, PathRef};
 use memory::Memory;
 use serde_json::Value;
 use std::alloc::Global;
+
+/// The greatest horizon.
+const LAST_INSTANT: u64 = MAX_HORIZON as u64;
 
 /// A cluster without nodes and machines.
 fn empty_cluster(
     alloc: Global,
     resources: Vec<Name>,
-    durations: [Duration; 10],
+    durations: [Duration; KIND_COUNT],
 ) -> Result<Cluster, Memory>
-    requires few { length resources.items ≤ 8 }
+    requires few { length resources.items ≤ max_resources }
     requires differ { are_distinct resources.items ≡ true }
     requires fit { list_all (duration_fits (length resources.items)) durations ≡ true }
     ensures { IfOk result (λ k. k.given ≡ record { resources = resources.items; durations = durations; nodes = []; machines = [] }) }
@@ -48,23 +55,23 @@ fn empty_cluster(
 }
 
 /// The members `resources` and `durations`.
-#[tactic(auto, unfolding(crate::specs::Instance::base_of))]
+#[tactic(auto, unfolding(crate::specs::Instance::base_from))]
 fn base(alloc: Global, value: &Value, path: &PathRef) -> Result<Cluster, InstanceFault>
-    ensures gives { Gives named (λ k. k.given) result (base_of (view value.now) (path_of path.now)) }
+    ensures gives { Gives instance_fault_of (λ k. k.given) result (base_from (view value.now) (path_of path.now)) }
     ensures nodes { IfOk result (λ k. k.given.nodes ≡ []) }
     ensures machines { IfOk result (λ k. k.given.machines ≡ []) }
 {
     let found = json_walk::field_at(alloc, value, path, "resources")?;
     let resources = names::resources(alloc, found, &path.key("resources"))?;
-    let durations = durations(alloc, &resources, value, path)?;
+    let durations = base_durations(alloc, &resources, value, path)?;
     Ok(empty_cluster(alloc, resources, durations)?)
 }
 
 /// The members `resources`, `durations`, `nodes` and `machines`.
-#[tactic(auto, unfolding(crate::specs::Instance::inventory_in))]
+#[tactic(auto, unfolding(crate::specs::Instance::inventory_from))]
 fn cluster(alloc: Global, value: &Value, path: &PathRef) -> Result<Cluster, InstanceFault>
-    ensures { Gives named (λ k. k.given) result
-        (inventory_in (view value.now) (path_of path.now)) }
+    ensures { Gives instance_fault_of (λ k. k.given) result
+        (inventory_from (view value.now) (path_of path.now)) }
 {
     let mut cluster = base(alloc, value, path)?;
     let nodes = json_walk::field_at(alloc, value, path, "nodes")?;
@@ -82,19 +89,19 @@ fn constraints(
     path: &PathRef,
 ) -> Result<(), InstanceFault>
     requires { problem.old.given.constraints ≡ [] }
-    ensures { Gives named (λ _. problem.new.given) result
-        (needed (constraints_of problem.old.given) (view value.now) (path_of path.now) (codes "constraints")) }
+    ensures { Gives instance_fault_of (λ _. problem.new.given) result
+        (field_by (constraints_from problem.old.given) (view value.now) (path_of path.now) (codes "constraints")) }
 {
     let found = json_walk::field_at(alloc, value, path, "constraints")?;
     add_constraints(alloc, problem, found, &path.key("constraints"))
 }
 
 /// All members.
-#[tactic(auto, unfolding(crate::specs::Instance::problem_in))]
+#[tactic(auto, unfolding(crate::specs::Instance::problem_from))]
 fn problem(alloc: Global, value: &Value, path: &PathRef) -> Result<Problem, InstanceFault>
-    ensures { Gives named (λ p. p.given) result (problem_in (view value.now) (path_of path.now)) }
+    ensures { Gives instance_fault_of (λ p. p.given) result (problem_from (view value.now) (path_of path.now)) }
 {
-    let horizon = json_walk::number_field(alloc, value, path, "horizon", 0, 1_000_000)?;
+    let horizon = json_walk::number_field(alloc, value, path, "horizon", 0, LAST_INSTANT)?;
     let cluster = cluster(alloc, value, path)?;
     let mut problem = Problem::new(alloc, cluster, horizon as u32);
     constraints(alloc, &mut problem, value, path)?;
@@ -104,36 +111,36 @@ fn problem(alloc: Global, value: &Value, path: &PathRef) -> Result<Problem, Inst
 /// All members, and no other key.
 #[tactic(auto, unfolding(crate::specs::Instance::walk))]
 fn walk(alloc: Global, value: &Value) -> Result<Problem, InstanceFault>
-    ensures { Gives named (λ p. p.given) result (walk (view value.now)) }
+    ensures { Gives instance_fault_of (λ p. p.given) result (walk (view value.now)) }
 {
     let problem = problem(alloc, value, &PathRef::Root)?;
-    json_walk::only_at(alloc, value, &PathRef::Root, &keys::root_keys())?;
+    json_walk::only_at(alloc, value, &PathRef::Root, &ROOT_KEYS)?;
     Ok(problem)
 }
 
 /// The value that the bytes have.
 fn value_of(alloc: Global, bytes: &[u8]) -> Result<Value, InstanceFault>
-    ensures { Gives named view result (ok_or (json_of bytes.now) NotJson) }
+    ensures { Gives instance_fault_of view result (ok_or (json_of bytes.now) NotJson) }
 {
     match json_walk::read_value(alloc, bytes) {
         Ok(value) => Ok(value),
-        Err(ReadFault::NotJson) => Err(InstanceFault::NotJson),
-        Err(ReadFault::Memory) => Err(InstanceFault::Memory),
+        Err(JsonFault::NotJson) => Err(InstanceFault::NotJson),
+        Err(JsonFault::Memory) => Err(InstanceFault::Memory),
     }
 }
 
 /// The problem that the bytes have, or their first fault.
 ///
 /// The bytes are one JSON object: the horizon, the names of the resources, durations, nodes,
-/// machines and constraints. More than 67,108,864 bytes are too long, and bytes without a value that
+/// machines and constraints. More than `json_walk::MAX_TEXT_BYTES` bytes are too long, and bytes without a value that
 /// `serde_json` reads are no JSON. Of all other faults the first one is answered in the order of the
 /// walk that `specs/Instance.antt` writes out, with its path. Want of memory may stand in the place
 /// of any answer.
 #[tactic(auto, unfolding(crate::specs::Instance::instance_of))]
 pub fn read_instance(alloc: Global, bytes: &[u8]) -> Result<Problem, InstanceFault>
-    ensures { Gives named (λ p. p.given) result (instance_of bytes.now) }
+    ensures { Gives instance_fault_of (λ p. p.given) result (instance_of bytes.now) }
 {
-    if bytes.len() > 67_108_864 {
+    if bytes.len() > MAX_TEXT_BYTES {
         return Err(InstanceFault::TooLong);
     }
     let value = value_of(alloc, bytes)?;

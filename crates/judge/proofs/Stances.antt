@@ -5,7 +5,7 @@ use Rattle.cluster.specs.declared.ids.NodeId.{NodeId}
 use Rattle.catalogue.specs.Instance.{Instance}
 use Rattle.slices.specs.declared.holding.Holding.{Holding}
 use Rattle.slices.specs.Elements.{node_count}
-use Rattle.slices.specs.Holdings.{image_in, is_in, IsHeldWithin, IsHoldingOf, IsNodeWithin}
+use Rattle.slices.specs.Holdings.{image_in, is_in, IsHoldingOf, IsNodeWithin}
 use Rattle.slices.specs.Snapshots.{Snapshot, stands_on}
 use Rattle.slices.specs.Stages.{one}
 use Rattle.placement_rules.proofs.Public.{in_within}

@@ -15,7 +15,8 @@ use Rattle.catalogue.specs.Instance.{Instance, IsElement, inventory_of}
 use Rattle.slices.specs.Elements.{machine_count, vm}
 use Rattle.slices.specs.Holds.{IsInPart, IsMember}
 use Rattle.slices.specs.Plans.{Choices}
-use Rattle.placement_rules.proofs.Public.{member_here, member_kept, member_split, part_within}
+use Rattle.slices.specs.Starts.{matters}
+use Rattle.placement_rules.proofs.Public.{member_here, member_kept, member_split, member_within}
 use Rattle.judge.specs.Starts.{AreMachines, IsInSome, IsNext, Matters}
 
 -- ---- sets of elements
@@ -119,8 +120,8 @@ of_part (vs ∷ parts) zero v h = list_any-append (λ x. x.0 == v) vs (all_of pa
 of_part (vs ∷ parts) (suc i) v h = list_any-append (λ x. x.0 == v) vs (all_of parts) ∙ or_right (is_member vs v) (is_member (all_of parts) v) (of_part parts i v h)
 
 -- the machines of the parts of a split
-pub parts_matter : (p : Instance) (plan : Choices) (t old new : ℕ) (parts : List (List VmId)) (b : Bool) → list_all (list_all (λ x. nat_lt x.0 (machine_count p))) parts ≡ true → IsNext plan (AreMachines (IsInSome parts (length parts))) t old new → IsNext plan (Matters p (Split parts b)) t old new
+pub parts_matter : (p : Instance) (plan : Choices) (t old new : ℕ) (parts : List (List VmId)) (b : Bool) → list_all (λ x. nat_lt x.0 (machine_count p)) (all_of parts) ≡ true → IsNext plan (AreMachines (IsInSome parts (length parts))) t old new → IsNext plan (Matters p (Split parts b)) t old new
 parts_matter p plan t old new parts b all =
     machines_matter p plan t old new (Split parts b) (IsInSome parts (length parts)) (λ n. refl)
-    (λ v m. (part_within parts m.0 v.0 (machine_count p) all m.2, of_part parts m.0 v.0 m.2))
+    (λ v m. let there = of_part parts m.0 v.0 m.2 in (member_within (all_of parts) (machine_count p) v.0 all there, there))
     (λ v low m. in_part parts v.0 m)

@@ -18,10 +18,10 @@ use cluster::choices::Instant;
 use cluster::ids::{NodeId, VmId};
 use cluster::limits::MAX_NODES;
 use placement_rules::holds;
+use slices::holding::{Held, Holding};
 use slices::plan::Plan;
 use slices::rule::Rule;
 use slices::snapshot::holding_at;
-use slices::holding::{Held, Holding};
 
 /// Whether what is held is on the node.
 fn is_on(held: Option<Held>, n: NodeId) -> bool
@@ -59,7 +59,13 @@ fn is_off(nodes: &[bool; MAX_NODES], now: Holding, n: NodeId) -> bool
 }
 
 /// The first node where a machine stands that is not usable.
-fn first_off(p: &Problem, plan: &Plan, nodes: &[bool; MAX_NODES], v: VmId, t: Instant) -> Option<NodeId>
+fn first_off(
+    p: &Problem,
+    plan: &Plan,
+    nodes: &[bool; MAX_NODES],
+    v: VmId,
+    t: Instant,
+) -> Option<NodeId>
     requires plan { IsPlanOf p.now.given plan.now }
     requires machine { v.0 < machine_count p.now.given }
     requires nodes { AreUsableNodes p.now.given (snapshot_at p.now.given (choices_of plan.now) t) nodes.now }

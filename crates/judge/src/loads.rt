@@ -1,5 +1,5 @@
 //! A table of the loads of all nodes.
-ghost use Rattle.std.specs.Prelude.{◌≡◌, ℕ, ◌+◌, ◌<◌, ◌≤◌, length, slice_index, slice_index_or};
+ghost use Rattle.std.specs.Prelude.{◌≡◌, ℕ, ◌+◌, ◌*◌, ◌<◌, ◌≤◌, length, slice_index, slice_index_or};
 ghost use Rattle.cluster.specs.Limits.{max_amount, max_nodes};
 ghost use Rattle.catalogue.specs.Cells.{cell};
 ghost use Rattle.catalogue.specs.Instance.{IsElement};
@@ -10,8 +10,7 @@ ghost use Rattle.slices.specs.declared.slice.Weight.TheVariants.{Amount};
 use catalogue::problem::Problem;
 use cluster::ids::{Element, VmId};
 use cluster::limits::{MAX_NODES, MAX_RESOURCES};
-use slices::holding::amount;
-use slices::holding::{Held, Holding};
+use slices::holding::{Held, Holding, amount};
 use slices::slice::What;
 
 /// The amounts of each resource, node by node, in the units of the resources.

@@ -1,12 +1,11 @@
 //! The next start after an instant: of all elements, or of those alone that matter to a constraint.
-ghost use Rattle.std.specs.Prelude.{◌≡◌, ◌+◌, ◌<◌, ◌≤◌, true, length, nat_lt, IfSome, IsTrue};
+ghost use Rattle.std.specs.Prelude.{◌≡◌, ◌+◌, ◌<◌, ◌≤◌, true, length, nat_lt, IsTrue};
 ghost use Rattle.std.specs.List.{list_all};
 ghost use Rattle.cluster.specs.Sets.{has_node};
 ghost use Rattle.catalogue.specs.Faults.{is_rule};
 ghost use Rattle.catalogue.specs.Instance.{IsElement, inventory_of};
 ghost use Rattle.slices.specs.Elements.{machine_count, node, node_count};
 ghost use Rattle.slices.specs.Holds.{IsMember};
-ghost use Rattle.slices.specs.Starts.{start_of};
 ghost use Rattle.slices.specs.Plans.{IsPlanOf, choices_of};
 ghost use Rattle.judge.specs.Starts.{AreMachines, AreNodes, IsInSome, IsNext, Matters};
 
@@ -14,23 +13,11 @@ use crate::standing::{machines_of, nodes_of};
 use catalogue::constraint::Constraint;
 use catalogue::lists::Vms;
 use catalogue::problem::Problem;
-use cluster::choices::{Choice, Instant};
+use cluster::choices::Instant;
 use cluster::ids::{Element, NodeId, VmId};
 use cluster::sets::NodeSet;
+use slices::actions::start;
 use slices::plan::Plan;
-
-/// The start of an element's action, if it has one.
-fn start_in(p: &Problem, plan: &Plan, e: Element) -> Option<Instant>
-    requires plan { IsPlanOf p.now.given plan.now }
-    requires element { IsElement p.now.given e }
-    ensures start { result ≡ start_of (choices_of plan.now e) }
-    ensures in_time { IfSome result (λ s. s ≤ p.now.given.horizon) }
-{
-    match plan.choice(e) {
-        Choice::Idle => None,
-        Choice::Act { place: _, start } => Some(start),
-    }
-}
 
 /// The start of an element's action, where that is after t and before next, or else next.
 fn sooner(p: &Problem, plan: &Plan, e: Element, t: Instant, next: u32) -> u32
@@ -39,12 +26,8 @@ fn sooner(p: &Problem, plan: &Plan, e: Element, t: Instant, next: u32) -> u32
     requires later { t < next }
     ensures { IsNext (choices_of plan.now) (λ x. x ≡ e) t next result }
 {
-    match start_in(p, plan, e) {
-        Some(start) => if t < start && start < next {
-            start
-        } else {
-            next
-        },
+    match start(plan.choice(e)) {
+        Some(at) => if t < at && at < next { at } else { next },
         None => next,
     }
 }

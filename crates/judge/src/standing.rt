@@ -15,9 +15,9 @@ use catalogue::problem::Problem;
 use cluster::choices::Instant;
 use cluster::ids::{NodeId, VmId};
 use cluster::limits::MAX_NODES;
+use slices::holding::{Held, Holding};
 use slices::plan::Plan;
 use slices::snapshot::{holding_at, usable};
-use slices::holding::{Held, Holding};
 
 /// How many machines there are.
 pub(crate) fn machines_of(p: &Problem) -> usize

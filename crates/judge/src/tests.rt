@@ -8,12 +8,12 @@ use catalogue::problem::Problem;
 use cluster::choices::{Choice, Instant, Place};
 use cluster::durations::Duration;
 use cluster::ids::{NodeId, VmId};
-use cluster::states::State;
 use cluster::inventory::Cluster;
-use cluster::names::Name;
 use cluster::machines::Machine;
+use cluster::names::Name;
 use cluster::nodes::Node;
 use cluster::sets::NodeSet;
+use cluster::states::State;
 use placement_rules::holds;
 use slices::plan::{Plan, is_plan};
 use slices::rule::{Broken, Rule};
@@ -352,7 +352,7 @@ static MEMBERS: [Case; 15] = cases! {
     [Given::Split(&[&[0, 1], &[2, 3]], true)] [(0, 1, 5)] [] [(5, true), (20, true)] Wanted::Valid;
 };
 
-static PLACES: [Case; 15] = cases! {
+static PLACES: [Case; 13] = cases! {
     [Given::Ban(&[0], &[1], true)] [(0, 1, 5)] [] [(4, true), (5, false)] Wanted::Rule(5, 0);
     [Given::Ban(&[0], &[1], false)] [(0, 1, 5)] [] [(4, true), (5, false)] Wanted::Rule(20, 0);
     [Given::Ban(&[0], &[2], true)] [(0, 1, 5)] [] [(5, true), (20, true)] Wanted::Valid;
@@ -367,9 +367,6 @@ static PLACES: [Case; 15] = cases! {
     [Given::Among(&[0, 1], &[&[0, 1], &[1, 2]], true)] [(0, 2, 5)] [] [(7, false), (8, true)] Wanted::Rule(5, 0);
     [Given::Among(&[0, 1], &[&[0, 1], &[1, 2]], false)] [(0, 2, 5)] [] [(7, false), (8, true)] Wanted::Valid;
     [Given::Among(&[2, 3], &[&[0]], true)] [] [] [(0, true), (20, true)] Wanted::Valid;
-    // without a group no presence is left
-    [Given::Among(&[2, 3], &[], true)] [] [] [(0, true), (20, true)] Wanted::Valid;
-    [Given::Among(&[0], &[], true)] [] [] [(0, false)] Wanted::Rule(0, 0);
 };
 
 /// A migration that starts at 5 is over at 8.

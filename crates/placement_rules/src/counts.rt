@@ -1,5 +1,6 @@
 //! Sums over machines and nodes.
 ghost use Rattle.std.specs.Prelude.{◌≡◌, ◌≤◌, ◌<◌, length};
+ghost use Rattle.cluster.specs.Limits.{max_amount};
 ghost use Rattle.cluster.specs.Sets.{has_node};
 ghost use Rattle.slices.specs.Elements.{machine_count, node_count};
 ghost use Rattle.slices.specs.Plans.{IsPlanOf, choices_of};
@@ -33,7 +34,7 @@ fn use_in(p: &Problem, v: VmId, held: Option<Held>, r: u8, nodes: &NodeSet) -> u
     requires machine { v.0 < machine_count p.now.given }
     requires resource { r < length p.now.given.resources }
     ensures value { result ≡ amount_in p.now.given v.0 r (has_node nodes.now) held }
-    ensures small { result ≤ 1_000_000_000 }
+    ensures small { result ≤ max_amount }
 {
     match held {
         Some(h) => {

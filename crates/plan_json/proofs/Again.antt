@@ -1,9 +1,8 @@
 -- One printed action is read again.
-use Rattle.std.proofs.Common.{◌≡◌, ℕ, zero, suc, ◌+◌, ◌<◌, ◌≤◌, ◌&&◌, Bool, true, false, List, [], ◌∷◌, length, map, nat_lt, nat_le, Option, Some, None, is_some, IsTrue, slice_set, slice_index_or, Ok, if◌then◌else◌, refl, arith}
+use Rattle.std.proofs.Common.{◌≡◌, ℕ, zero, suc, ◌+◌, ◌<◌, ◌≤◌, ◌&&◌, Bool, true, false, List, [], ◌∷◌, ◌++◌, length, map, nat_lt, nat_le, Option, Some, None, is_some, IsTrue, slice_index_or, unwrap_or, Ok, if◌then◌else◌, refl, arith}
 use Rattle.std.proofs.lemmas.Grind.{common_steps}
 use Rattle.std.proofs.lemmas.Bool.{and_parts, eq-eqb, ltb-true}
 use Rattle.std.proofs.lemmas.List.Elements.{All-head, All-tail}
-use Rattle.std.specs.List.{All}
 use Rattle.json_walk.specs.Path.{item_path}
 use Rattle.json_walk.specs.Walk.{optional, text_of, number_of as whole_of, number_field_of, field_of, only_of}
 use Rattle.cluster.specs.declared.choices.Choice.TheVariants.{Act}
@@ -14,46 +13,22 @@ use Rattle.cluster.specs.declared.kinds.Kind.TheVariants.{Forge, Boot, Shutdown,
 use Rattle.cluster.specs.declared.ids.NodeId.{NodeId}
 use Rattle.cluster.specs.declared.choices.Place.{Place}
 use Rattle.cluster.specs.declared.choices.Place.TheVariants.{Nowhere, At}
-use Rattle.cluster.specs.Kinds.{kind_number}
 use Rattle.cluster.specs.Names.{is_name}
 use Rattle.cluster.specs.Inventory.{Inventory, IsInventory, IsListed, name_of, is_online}
-use Rattle.cluster.proofs.Finding.{element_named-name_of}
+use Rattle.cluster.specs.Kinds.{kind_word, kind_number}
+use Rattle.cluster.proofs.Public.{element_named-name_of, is_name-name_of, kind_of_word-kind_word}
 use Rattle.catalogue.specs.declared.targets.Target.{Target}
 use Rattle.catalogue.specs.declared.targets.Target.TheVariants.{Online as ToOnline, Offline as ToOffline, Running as ToRunning, Sleeping as ToSleeping, Ready as ToReady, Killed as ToKilled}
 use Rattle.catalogue.specs.declared.targets.Wish.{Wish}
 use Rattle.catalogue.specs.declared.targets.Wish.TheVariants.{Keep, To, Clash}
 use Rattle.catalogue.specs.Instance.{Instance, IsInstance, IsElement, inventory_of}
 use Rattle.catalogue.specs.Values.{wanted_of}
-use Rattle.slices.specs.Elements.{number_of, node_count, state_of}
-use Rattle.slices.specs.Actions.{kind_of, node_kind, machine_kind, settled, is_raised, is_legal, end_of, lasts}
-use Rattle.plan_json.specs.Words.{kind_word, kind_named}
-use Rattle.plan_json.specs.Actions.{named_element, named_place, named_kind, action_keys, action_of}
-use Rattle.plan_json.specs.Plans.{Chosen, choice_at, action_step}
+use Rattle.slices.specs.Elements.{node_count, state_of}
+use Rattle.slices.specs.Actions.{kind_of, node_kind, machine_kind, wanted_state, is_raised, is_legal, end_of, action_duration}
+use Rattle.plan_json.specs.Actions.{listed_element, listed_place, kind_from, action_from}
+use Rattle.plan_json.specs.Plans.{action_for, action_step}
+use Rattle.plan_json.specs.declared.fields.Action.{Action}
 use Rattle.plan_json.specs.Print.{action_data}
-
--- ---- names and words
-
-name_at : {A : Type 0} (name : A → List ℕ) (xs : List A) (i : ℕ) → All (λ x. is_name (name x) ≡ true) xs → i < length xs → is_name (slice_index_or (map name xs) i []) ≡ true
-name_at name [] i h lt = absurd (omega arith)
-name_at name (x ∷ xs) zero h lt = All-head (λ y. is_name (name y) ≡ true) x xs h
-name_at name (x ∷ xs) (suc i) h lt = name_at name xs i (All-tail (λ y. is_name (name y) ≡ true) x xs h) (omega arith)
-
-is_name-name_of : (k : Inventory) (e : Element) → IsInventory k → IsListed k e → is_name (name_of k e) ≡ true
-is_name-name_of k (Vm v) is there = name_at (λ m. m.name) k.machines v.0 is.named_machines there
-is_name-name_of k (TheNode n) is there = name_at (λ m. m.name) k.nodes n.0 is.named_nodes there
-
-kind_named-kind_word : (kind : Kind) → kind_named (kind_word kind) ≡ Some kind
-unfolding kind_named kind_word
-kind_named-kind_word Forge = refl
-kind_named-kind_word Boot = refl
-kind_named-kind_word Shutdown = refl
-kind_named-kind_word Suspend = refl
-kind_named-kind_word Resume = refl
-kind_named-kind_word Migrate = refl
-kind_named-kind_word Allocate = refl
-kind_named-kind_word Kill = refl
-kind_named-kind_word NodeBoot = refl
-kind_named-kind_word NodeShutdown = refl
 
 -- ---- what a legal choice says
 
@@ -88,7 +63,7 @@ by_place false o a h = absurd (cc)
 on_node : (p : Instance) (e : Element) (n : NodeId) (kind : Kind) → kind_of p e (At n) ≡ Some kind → n.0 < node_count p
 unfolding kind_of
 on_node p (Vm v) n kind h =
-    ltb-true n.0 (node_count p) (by_place (nat_lt n.0 (node_count p)) (machine_kind (state_of p v.0) (settled (state_of p v.0) (wanted_of p (Vm v))) (is_raised p v.0) (At n)) kind h)
+    ltb-true n.0 (node_count p) (by_place (nat_lt n.0 (node_count p)) (machine_kind (state_of p v.0) (wanted_state p v.0) (is_raised p v.0) (At n)) kind h)
 on_node p (TheNode m) n kind h = absurd (no_place (is_online p.nodes m.0) (wanted_of p (TheNode m)) n kind h)
 
 pub record Acts (p : Instance) (e : Element) (place : Place) (start : ℕ) : Type 0 where
@@ -103,9 +78,9 @@ found (Some a) h = (a, refl)
 pub acts : (p : Instance) (e : Element) (place : Place) (start : ℕ) → IsInstance p → is_legal p e (Act place start) ≡ true → Acts p e place start
 unfolding is_legal end_of
 acts p e place start is legal =
-    let parts = and_parts (is_some (kind_of p e place)) (nat_le (start + lasts p e (Act place start)) p.horizon) legal in
+    let parts = and_parts (is_some (kind_of p e place)) (nat_le (start + action_duration p e place) p.horizon) legal in
     let kind = found (kind_of p e place) parts.0 in
-    let late : start + lasts p e (Act place start) ≤ p.horizon = grind (arith, common_steps) in
+    let late : start + action_duration p e place ≤ p.horizon = grind (arith, common_steps) in
     record { kind = kind.0; is = kind.1; early = omega (arith, is.horizon) }
 
 -- ---- one action
@@ -115,27 +90,31 @@ from_zero start le = grind (arith, common_steps)
 
 action_again : (p : Instance) (path : List ℕ) (e : Element) (place : Place) (start : ℕ) (kind : Kind) → IsInstance p → IsElement p e
     → kind_of p e place ≡ Some kind → start ≤ 1000000
-    → action_of (inventory_of p) (action_data p e place start) path ≡ Ok (record { element = e; kind = kind; place = place; start = start })
-unfolding action_of action_data action_keys named_element named_kind named_place field_of text_of number_field_of whole_of only_of optional
+    → action_from (inventory_of p) (action_data p e place start) path ≡ Ok (record { element = e; kind = kind; place = place; start = start })
+unfolding action_from action_data listed_element kind_from listed_place field_of text_of number_field_of whole_of only_of optional
 action_again p path e Nowhere start kind is there own early =
-    rw (is_name-name_of (inventory_of p) e is.inventory there, element_named-name_of (inventory_of p) e is.inventory there, own, kind_named-kind_word kind, from_zero start early) refl
+    rw (is_name-name_of (inventory_of p) e is.inventory there, element_named-name_of (inventory_of p) e is.inventory there, own, kind_of_word-kind_word kind, from_zero start early) refl
 action_again p path e (At n) start kind is there own early =
     let on : IsElement p (TheNode n) = on_node p e n kind own in
     rw (
       is_name-name_of (inventory_of p) e is.inventory there,
       element_named-name_of (inventory_of p) e is.inventory there,
       own,
-      kind_named-kind_word kind,
+      kind_of_word-kind_word kind,
       is_name-name_of (inventory_of p) (TheNode n) is.inventory on,
       element_named-name_of (inventory_of p) (TheNode n) is.inventory on,
       from_zero start early,
     ) refl
 
--- it gives its element's choice, where no action before did
-pub step_again : (p : Instance) (path : List ℕ) (place : ℕ) (chosen : Chosen) (e : Element) (where_at : Place) (start : ℕ) → IsInstance p → IsElement p e
-    → IsTrue (is_legal p e (Act where_at start)) → choice_at chosen (number_of p e) ≡ None
-    → action_step p path place chosen (action_data p e where_at start) ≡ Ok (slice_set chosen (number_of p e) (Some (Act where_at start)))
+-- the action of a choice of the element
+abbrev pub written_action : Instance → Element → Place → ℕ → Action
+written_action p e place start = record { element = e; kind = unwrap_or (kind_of p e place) Forge; place = place; start = start }
+
+-- it is read, where no action before is of its element
+pub step_again : (p : Instance) (path : List ℕ) (at : ℕ) (actions : List Action) (e : Element) (place : Place) (start : ℕ) → IsInstance p → IsElement p e
+    → IsTrue (is_legal p e (Act place start)) → action_for actions e ≡ None
+    → action_step p path at actions (action_data p e place start) ≡ Ok (actions ++ written_action p e place start ∷ [])
 unfolding action_step
-step_again p path place chosen e where_at start is there legal new =
-    let a = acts p e where_at start is legal in
-    rw (action_again p (item_path path place) e where_at start a.kind is there a.is a.early, new, a.is, eq-eqb (kind_number a.kind) (kind_number a.kind) refl, legal) refl
+step_again p path at actions e place start is there legal new =
+    let a = acts p e place start is legal in
+    rw (action_again p (item_path path at) e place start a.kind is there a.is a.early, new, a.is, eq-eqb (kind_number a.kind) (kind_number a.kind) refl, legal) refl

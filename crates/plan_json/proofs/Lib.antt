@@ -1,5 +1,7 @@
-pub mod Missing
-pub mod Legal
+pub mod NameLemmas
+pub mod Finding
+pub mod MarkLemmas
+pub mod ChoiceLemmas
 pub mod Printed
 pub mod Again
 pub mod ReadBack

@@ -9,20 +9,10 @@ use Rattle.cluster.specs.declared.choices.Choice.{Choice}
 use Rattle.cluster.specs.declared.choices.Choice.TheVariants.{Idle, Act}
 use Rattle.cluster.specs.declared.ids.Element.{Element}
 use Rattle.cluster.specs.declared.choices.Place.TheVariants.{Nowhere, At}
-use Rattle.catalogue.specs.Instance.{Instance}
-use Rattle.slices.specs.Elements.{element_count, element_at}
+use Rattle.catalogue.specs.Instance.{Instance, inventory_of}
+use Rattle.cluster.specs.Elements.{element_count, element_at}
 use Rattle.slices.specs.Plans.{PlanChoices, choices_of}
 use Rattle.plan_json.specs.Print.{action_data, choice_data, element_data, actions_data, plan_data}
-
-flat_map-more : {A : Type 0} (f : ℕ → List A) (a n m j : ℕ) → m ≡ suc n → a + n ≡ j → flat_map f (range_with_len a m) ≡ flat_map f (range_with_len a n) ++ f j
-flat_map-more f a zero m j e last = rw e (append-nil (f a) ∙ ap f (omega arith))
-flat_map-more f a (suc n) m j e last =
-    rw e (ap (λ (l : List _). f a ++ l) (flat_map-more f (a + 1) n (suc n) j refl (omega arith)) ∙ sym (append_assoc (f a) (flat_map f (range_with_len (a + 1) n)) (f j)))
-
--- one more element's action
-pub element_data_more : (p : Instance) (plan : PlanChoices) (x : ℕ)
-    → flat_map (element_data p plan) (range_with_len 0 (x + 1)) ≡ flat_map (element_data p plan) (range_with_len 0 x) ++ element_data p plan x
-element_data_more p plan x = flat_map-more (element_data p plan) 0 x (x + 1) x (omega arith) (omega arith)
 
 -- ---- no floats
 
@@ -35,9 +25,9 @@ plain_choice p e (Act (At n) start) rest h = h
 plain_choices : (p : Instance) (plan : PlanChoices) (a n : ℕ) → items_have_float (items_of (flat_map (element_data p plan) (range_with_len a n))) ≡ false
 plain_choices p plan a zero = refl
 plain_choices p plan a (suc n) =
-    plain_choice p (element_at p a) (choices_of plan (element_at p a)) (flat_map (element_data p plan) (range_with_len (a + 1) n)) (plain_choices p plan (a + 1) n)
+    plain_choice p (element_at (inventory_of p) a) (choices_of plan (element_at (inventory_of p) a)) (flat_map (element_data p plan) (range_with_len (a + 1) n)) (plain_choices p plan (a + 1) n)
 
 pub plain_plan : (p : Instance) (plan : Option PlanChoices) → has_float (plan_data p plan) ≡ false
 unfolding plan_data actions_data
 plain_plan p None = refl
-plain_plan p (Some plan) = rw (plain_choices p plan 0 (element_count p)) refl
+plain_plan p (Some plan) = rw (plain_choices p plan 0 (element_count (inventory_of p))) refl

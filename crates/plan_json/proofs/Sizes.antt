@@ -20,13 +20,13 @@ use Rattle.cluster.specs.declared.choices.Place.TheVariants.{Nowhere, At}
 use Rattle.cluster.specs.Names.{is_name}
 use Rattle.cluster.specs.Inventory.{Inventory, IsInventory, name_of}
 use Rattle.catalogue.specs.Instance.{Instance, IsInstance, inventory_of}
-use Rattle.slices.specs.Elements.{element_count, element_at}
+use Rattle.cluster.specs.Elements.{element_count, element_at}
+use Rattle.cluster.proofs.Public.{IsListed-element_at, length-name_of}
 use Rattle.slices.specs.Actions.{kind_of, is_legal}
 use Rattle.slices.specs.Plans.{PlanChoices, choices_of, IsPlanOf}
-use Rattle.plan_json.specs.Words.{kind_word}
+use Rattle.cluster.specs.Kinds.{kind_word, kind_words}
 use Rattle.plan_json.specs.Print.{name_data, word_at, action_data, choice_data, element_data, actions_data, plan_data, plan_text}
 use Rattle.plan_json.proofs.Again.{acts}
-use Rattle.plan_json.proofs.ReadBack.{is_there}
 
 -- ---- texts
 
@@ -65,24 +65,11 @@ length-member later k d ms a b c key value rest =
 
 -- ---- names and words
 
-short : (bs : List ℕ) → is_name bs ≡ true → length bs ≤ 64
-unfolding is_name
-short bs h = grind (arith, common_steps)
-
-short_at : {A : Type 0} (name : A → List ℕ) (xs : List A) (i : ℕ) → All (λ x. is_name (name x) ≡ true) xs → length (slice_index_or (map name xs) i []) ≤ 64
-short_at name [] i h = omega arith
-short_at name (x ∷ xs) zero h = short (name x) (All-head (λ y. is_name (name y) ≡ true) x xs h)
-short_at name (x ∷ xs) (suc i) h = short_at name xs i (All-tail (λ y. is_name (name y) ≡ true) x xs h)
-
-length-name_of : (k : Inventory) (e : Element) → IsInventory k → length (name_of k e) ≤ 64
-length-name_of k (Vm v) is = short_at (λ m. m.name) k.machines v.0 is.named_machines
-length-name_of k (TheNode n) is = short_at (λ n. n.name) k.nodes n.0 is.named_nodes
-
 length-name_data : (p : Instance) (e : Element) → IsInstance p → length (compact_text (name_data p e)) ≤ 386
 length-name_data p e is = length-quoted (name_of (inventory_of p) e) 64 (length-name_of (inventory_of p) e is.inventory)
 
 length-kind_word : (kind : Kind) → length (kind_word kind) ≤ 13
-unfolding kind_word
+unfolding kind_word kind_words
 length-kind_word Forge = omega arith
 length-kind_word Boot = omega arith
 length-kind_word Shutdown = omega arith
@@ -139,21 +126,21 @@ length-choice p later e (Act place start) rest n is legal le =
       le true,
     )
 
-length-choices : (p : Instance) (plan : PlanChoices) (later : Bool) (x k : ℕ) → IsInstance p → IsPlanOf p plan → x + k ≤ element_count p
+length-choices : (p : Instance) (plan : PlanChoices) (later : Bool) (x k : ℕ) → IsInstance p → IsPlanOf p plan → x + k ≤ element_count (inventory_of p)
     → length (items_text later (items_of (flat_map (element_data p plan) (range_with_len x k)))) ≤ 1004 * k + 1
 length-choices p plan later x zero is plan_is within = omega arith
 length-choices p plan later x (suc k) is plan_is within =
-    let e = element_at p x in
+    let e = element_at (inventory_of p) x in
     let h = length-choice p later e (choices_of plan e) (flat_map (element_data p plan) (range_with_len (x + 1) k)) (1004 * k + 1) is
-    (plan_is.legal e (is_there p x (omega arith)).0) (λ l. length-choices p plan l (x + 1) k is plan_is (omega arith)) in
+    (plan_is.legal e (IsListed-element_at (inventory_of p) x (omega arith))) (λ l. length-choices p plan l (x + 1) k is plan_is (omega arith)) in
     omega arith
 
 length-plan_data : (p : Instance) (plan : Option PlanChoices) → IsInstance p → IfSome plan (IsPlanOf p) → length (compact_text (plan_data p plan)) ≤ 4626483
 unfolding plan_data actions_data
 length-plan_data p None is plan_is = omega arith
 length-plan_data p (Some plan) is plan_is =
-    let list = array (items_of (flat_map (element_data p plan) (range_with_len 0 (element_count p)))) in
-    let items = length-choices p plan false 0 (element_count p) is plan_is (omega arith) in
+    let list = array (items_of (flat_map (element_data p plan) (range_with_len 0 (element_count (inventory_of p))))) in
+    let items = length-choices p plan false 0 (element_count (inventory_of p)) is plan_is (omega arith) in
     let all = length-member false (codes "actions") list no_members 7 4626434 1 (omega arith) (omega (arith, items, is.inventory.few_nodes, is.inventory.few_machines)) (omega arith) in
     omega arith
 

@@ -1,47 +1,56 @@
 -- The plan that bytes have for a problem, or their first fault.
-use Rattle.std.specs.Prelude.{◌≡◌, ℕ, List, [], ◌∷◌, length, map, replicate, nat_le, ◌==◌, ◌&&◌, Bool, false, not, Option, Some, None, is_some, is_none, option_map, unwrap_or, slice_index_or, slice_set, IfSome, IsTrue, Ok, Err, codes, if◌then◌else◌}
+use Rattle.std.specs.Prelude.{ℕ, ◌+◌, List, [], ◌∷◌, ◌++◌, length, map, nat_le, ◌==◌, ◌&&◌, Bool, true, false, not, Option, Some, None, is_some, is_none, option_map, slice_index_or, Ok, Err, codes, if◌then◌else◌}
 use Rattle.std.specs.List.{find, range_with_len}
-use Rattle.std.specs.Option.{ok_or}
+use Rattle.std.specs.Option.{ok_or, option_map_or}
 use Rattle.serde_json.specs.Data.{Data}
 use Rattle.serde_json.specs.Find.{as_null}
 use Rattle.json_walk.specs.declared.fault.FaultKind.TheVariants.{OutOfRange}
+use Rattle.json_walk.specs.declared.reading.TheConstants.{MAX_TEXT_BYTES}
 use Rattle.json_walk.specs.Path.{root, key_path, item_path}
-use Rattle.json_walk.specs.Walk.{◌>>=◌, ◌>>◌, wants, list_of, only_of}
+use Rattle.json_walk.specs.Walk.{◌>>=◌, ◌>>◌, wants, list_of}
 use Rattle.json_walk.specs.Json.{json_of}
 use Rattle.json_walk.specs.Each.{each}
 use Rattle.cluster.specs.declared.choices.Choice.{Choice}
 use Rattle.cluster.specs.declared.choices.Choice.TheVariants.{Idle, Act}
 use Rattle.cluster.specs.declared.ids.Element.{Element}
+use Rattle.cluster.specs.declared.ids.Element.TheVariants.{Vm, Node}
 use Rattle.cluster.specs.declared.kinds.Kind.{Kind}
+use Rattle.cluster.specs.Elements.{element_at, element_count}
 use Rattle.cluster.specs.Kinds.{kind_number}
+use Rattle.cluster.specs.Limits.{max_machines, max_nodes}
 use Rattle.catalogue.specs.Instance.{Instance, inventory_of}
-use Rattle.slices.specs.Elements.{element_count, number_of, element_at}
 use Rattle.slices.specs.Actions.{kind_of, is_legal}
 use Rattle.slices.specs.Plans.{PlanChoices, parted}
 use Rattle.plan_json.specs.declared.fault.PlanFault.TheVariants.{TooLong, NotJson, Twice, NotLegal, MustAct}
 use Rattle.plan_json.specs.declared.fields.Action.{Action}
-use Rattle.plan_json.specs.Walk.{Walk, Test, looked, bad, needed}
-use Rattle.plan_json.specs.Actions.{action_of}
+use Rattle.plan_json.specs.declared.reading.TheConstants.{PLAN_KEYS}
+use Rattle.plan_json.specs.Walk.{Walk, Test, as_walk, field_fault, only_keys, field_by}
+use Rattle.plan_json.specs.Actions.{action_from}
+
+-- ---- the choices that actions name
+
+abbrev pub is_same : Element → Element → Bool
+is_same (Vm v) (Vm w) = v.0 == w.0
+is_same (Vm v) (Node n) = false
+is_same (Node n) (Vm v) = false
+is_same (Node m) (Node n) = m.0 == n.0
+
+-- the action of an element, if there is one
+abbrev pub action_for : List Action → Element → Option Action
+action_for actions e = find (λ action. is_same e action.element) actions
+
+abbrev pub as_choice : Action → Choice
+as_choice action = Act action.place action.start
+
+-- the choice of an element: its action, and Idle where it has none
+abbrev pub choice_for : List Action → Element → Choice
+choice_for actions e = option_map_or as_choice (action_for actions e) Idle
+
+-- the choices of the elements in their order
+unfoldable pub choices_for : Instance → List Action → List Choice
+choices_for p actions = map (λ x. choice_for actions (element_at (inventory_of p) x)) (range_with_len 0 (element_count (inventory_of p)))
 
 -- ---- actions, one after the other
-
--- for each element in order the choice that an action names, if one does
-abbrev pub Chosen : Type 0
-Chosen = List (Option Choice)
-
-abbrev pub choice_at : Chosen → ℕ → Option Choice
-choice_at chosen x = slice_index_or chosen x None
-
-abbrev pub none_chosen : Instance → Chosen
-none_chosen p = replicate (element_count p) None
-
--- a choice for each element at most, each of them legal
-pub record IsChosen (p : Instance) (chosen : Chosen) : Type 0 where
-  pub places : length chosen ≡ element_count p
-  pub legal : (x : ℕ) → IfSome (choice_at chosen x) (λ c. IsTrue (is_legal p (element_at p x) c))
-
-abbrev pub choice_in : Action → Choice
-choice_in action = Act action.place action.start
 
 abbrev pub is_kind : Option Kind → Kind → Bool
 is_kind None kind = false
@@ -49,56 +58,54 @@ is_kind (Some own) kind = kind_number own == kind_number kind
 
 -- the action has the kind that its element takes at its place, and is a legal choice of it
 abbrev pub is_legal_action : Instance → Action → Bool
-is_legal_action p action = is_kind (kind_of p action.element action.place) action.kind && is_legal p action.element (choice_in action)
+is_legal_action p action = is_kind (kind_of p action.element action.place) action.kind && is_legal p action.element (as_choice action)
 
-unfoldable pub action_step : Instance → List ℕ → ℕ → Chosen → Data → Walk Chosen
-action_step p path place chosen d = do
-  action ← action_of (inventory_of p) d (item_path path place)
-  wants (is_none (choice_at chosen (number_of p action.element))) (Twice (key_path (item_path path place) (codes "element")))
+-- one more action, of an element that none is of
+unfoldable pub action_step : Instance → List ℕ → ℕ → List Action → Data → Walk (List Action)
+action_step p path place actions d = do
+  action ← action_from (inventory_of p) d (item_path path place)
+  wants (is_none (action_for actions action.element)) (Twice (key_path (item_path path place) (codes "element")))
   wants (is_legal_action p action) (NotLegal (item_path path place))
-  Ok (slice_set chosen (number_of p action.element) (Some (choice_in action)))
+  Ok (actions ++ action ∷ [])
 
-unfoldable pub actions_of : Instance → Test Chosen
-actions_of p d path = do
-  values ← looked (list_of d path)
-  wants (nat_le (length values) 4608) (bad path OutOfRange)
-  each (action_step p path) 0 (none_chosen p) values
+-- at most one action for each element that a problem may have
+unfoldable pub actions_from : Instance → Test (List Action)
+actions_from p d path = do
+  values ← as_walk (list_of d path)
+  wants (nat_le (length values) (max_machines + max_nodes)) (field_fault path OutOfRange)
+  each (action_step p path) 0 [] values
 
 -- ---- elements that no action names
 
--- no action names the element, and it may not be idle
-abbrev pub is_missing : Instance → Chosen → ℕ → Bool
-is_missing p chosen x = is_none (choice_at chosen x) && not (is_legal p (element_at p x) Idle)
+abbrev pub is_idle : Choice → Bool
+is_idle Idle = true
+is_idle (Act place start) = false
+
+-- the element of that number is idle, and may not be
+abbrev pub must_act : Instance → List Choice → ℕ → Bool
+must_act p choices x = is_idle (slice_index_or choices x Idle) && not (is_legal p (element_at (inventory_of p) x) Idle)
 
 -- the first such element
-unfoldable pub missing : Instance → Chosen → Option Element
-missing p chosen = option_map (element_at p) (find (is_missing p chosen) (range_with_len 0 (element_count p)))
+unfoldable pub first_to_act : Instance → List Choice → Option Element
+first_to_act p choices = option_map (element_at (inventory_of p)) (find (must_act p choices) (range_with_len 0 (element_count (inventory_of p))))
 
--- it must act, where there is one
-abbrev pub none_missing : Option Element → Walk (Unit {0})
-none_missing None = Ok tt
-none_missing (Some e) = Err (MustAct e)
+abbrev pub none_to_act : Option Element → Walk (Unit {0})
+none_to_act None = Ok tt
+none_to_act (Some e) = Err (MustAct e)
 
--- what stands for an element that no action names
-abbrev pub or_idle : Option Choice → Choice
-or_idle choice = unwrap_or choice Idle
-
--- all the choices, unless an element is missing
-unfoldable pub completed : Instance → Chosen → Walk PlanChoices
-completed p chosen = do
-  none_missing (missing p chosen)
-  Ok (parted p (map or_idle chosen))
+-- the plan of the actions
+unfoldable pub plan_with : Instance → List Action → Walk PlanChoices
+plan_with p actions = do
+  none_to_act (first_to_act p (choices_for p actions))
+  Ok (parted p (choices_for p actions))
 
 -- ---- the whole
 
-unfoldable pub plan_keys : List (List ℕ)
-plan_keys = codes "actions" ∷ []
-
 unfoldable pub walk : Instance → Data → Walk PlanChoices
 walk p d = do
-  chosen ← needed (actions_of p) d root (codes "actions")
-  looked (only_of d root plan_keys)
-  completed p chosen
+  actions ← field_by (actions_from p) d root (codes "actions")
+  only_keys (map (λ key. key.now) PLAN_KEYS) d root
+  plan_with p actions
 
 -- `null` is no plan
 unfoldable pub plan_or_none : Instance → Data → Walk (Option PlanChoices)
@@ -106,6 +113,6 @@ plan_or_none p d = if is_some (as_null d) then Ok None else (walk p d >>= λ pla
 
 unfoldable pub plan_of : Instance → List ℕ → Walk (Option PlanChoices)
 plan_of p bytes = do
-  wants (nat_le (length bytes) 67108864) TooLong
+  wants (nat_le (length bytes) MAX_TEXT_BYTES) TooLong
   d ← ok_or (json_of bytes) NotJson
   plan_or_none p d

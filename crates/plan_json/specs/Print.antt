@@ -13,10 +13,10 @@ use Rattle.cluster.specs.declared.choices.Place.{Place}
 use Rattle.cluster.specs.declared.choices.Place.TheVariants.{Nowhere, At}
 use Rattle.cluster.specs.Inventory.{name_of}
 use Rattle.catalogue.specs.Instance.{Instance, inventory_of}
-use Rattle.slices.specs.Elements.{element_count, element_at}
+use Rattle.cluster.specs.Elements.{element_count, element_at}
 use Rattle.slices.specs.Actions.{kind_of}
 use Rattle.slices.specs.Plans.{PlanChoices, choices_of}
-use Rattle.plan_json.specs.Words.{kind_word}
+use Rattle.cluster.specs.Kinds.{kind_word}
 
 abbrev pub name_data : Instance → Element → Data
 name_data p e = string (name_of (inventory_of p) e)
@@ -44,11 +44,11 @@ choice_data p e Idle = []
 choice_data p e (Act place start) = action_data p e place start ∷ []
 
 abbrev pub element_data : Instance → PlanChoices → ℕ → List Data
-element_data p plan x = choice_data p (element_at p x) (choices_of plan (element_at p x))
+element_data p plan x = choice_data p (element_at (inventory_of p) x) (choices_of plan (element_at (inventory_of p) x))
 
 -- all actions in the order of the elements
 unfoldable pub actions_data : Instance → PlanChoices → List Data
-actions_data p plan = flat_map (element_data p plan) (range_with_len 0 (element_count p))
+actions_data p plan = flat_map (element_data p plan) (range_with_len 0 (element_count (inventory_of p)))
 
 unfoldable pub plan_data : Instance → Option PlanChoices → Data
 plan_data p None = null

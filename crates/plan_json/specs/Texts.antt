@@ -1,17 +1,9 @@
 -- How a fault is printed.
 use Rattle.std.specs.Prelude.{ℕ, List, ◌++◌, codes}
-use Rattle.json_walk.specs.declared.fault.FaultKind.{FaultKind}
-use Rattle.json_walk.specs.declared.fault.FaultKind.TheVariants.{Missing, WrongKind, OutOfRange, Unknown}
+use Rattle.json_walk.specs.Texts.{kind_text}
 use Rattle.cluster.specs.Inventory.{Inventory, name_of}
 use Rattle.plan_json.specs.declared.fault.PlanFault.{PlanFault}
 use Rattle.plan_json.specs.declared.fault.PlanFault.TheVariants.{TooLong, NotJson, Field, NoSuch, Twice, NotLegal, MustAct, Memory}
-
--- what is wrong with one value
-unfoldable pub kind_text : FaultKind → List ℕ
-kind_text Missing = codes "missing"
-kind_text WrongKind = codes "wrong kind"
-kind_text OutOfRange = codes "out of range"
-kind_text Unknown = codes "unknown"
 
 -- the path or the element's name, where there is one, and what is wrong
 unfoldable pub fault_text : Inventory → PlanFault → List ℕ

@@ -1,24 +1,23 @@
 //! Why bytes are no plan of a problem.
 
 ghost use Rattle.std.specs.Prelude.{◌≡◌, ◌++◌, IfOk, codes, string_bytes};
-ghost use Rattle.plan_json.specs.Texts.{kind_text};
 
-use crate::words::name_of;
+use crate::names::name;
 use catalogue::problem::Problem;
 use cluster::ids::Element;
-use json_walk::{Fault, FaultKind, PathText, WalkFault};
+use json_walk::{Fault, PathText, WalkFault};
 use memory::Memory;
-use std::alloc::{AllocError, Global};
+use std::alloc::{AllocError, AllocFailed, Global};
 
 /// The first fault of a plan, with the path at which it stands, or the element that it leaves out.
 #[derive(Drop)]
 pub enum PlanFault {
-    /// More than 67,108,864 bytes.
+    /// More than `json_walk::MAX_TEXT_BYTES` bytes.
     TooLong,
     /// The bytes have no value that `serde_json` reads.
     NotJson,
     /// A value is missing, of the wrong kind, out of range or unknown; at `actions` also a list of
-    /// more than 4,608.
+    /// more actions than a problem may have elements.
     Field(Fault),
     /// A well-formed name that is not listed, or is not of this sort.
     NoSuch(PathText),
@@ -33,9 +32,9 @@ pub enum PlanFault {
 }
 
 impl From<WalkFault> for PlanFault {
-    ghost use Rattle.plan_json.specs.Walk.{lifted};
+    ghost use Rattle.plan_json.specs.Walk.{as_plan_fault};
 
-    ghost from_gives = { λ w e. e ≡ lifted w };
+    ghost from_gives = { λ w e. e ≡ as_plan_fault w };
 
     fn from(fault: WalkFault) -> PlanFault {
         match fault {
@@ -78,11 +77,11 @@ impl PlanFault {
         match self {
             PlanFault::TooLong => word(alloc, "too long"),
             PlanFault::NotJson => word(alloc, "not json"),
-            PlanFault::Field(fault) => after(alloc, fault.path.as_text(), kind_text(fault.kind)),
+            PlanFault::Field(fault) => after(alloc, fault.path.as_text(), fault.kind.as_text()),
             PlanFault::NoSuch(path) => after(alloc, path.as_text(), "no such name"),
             PlanFault::Twice(path) => after(alloc, path.as_text(), "twice"),
             PlanFault::NotLegal(path) => after(alloc, path.as_text(), "not legal"),
-            PlanFault::MustAct(e) => after(alloc, name_of(p.cluster(), *e), "must act"),
+            PlanFault::MustAct(e) => after(alloc, name(p.cluster(), *e), "must act"),
             PlanFault::Memory => word(alloc, "out of memory"),
         }
     }
@@ -99,16 +98,4 @@ fn after(alloc: Global, place: &str, what: &str) -> Result<String, Memory>
     ensures { IfOk result (λ s. string_bytes s ≡ place.now ++ codes " " ++ what.now) }
 {
     Ok(format!(in alloc; "{place} {what}")?)
-}
-
-#[tactic(auto, unfolding(crate::specs::Texts::kind_text))]
-fn kind_text(kind: FaultKind) -> &'static str
-    ensures { result.now ≡ kind_text kind }
-{
-    match kind {
-        FaultKind::Missing => "missing",
-        FaultKind::WrongKind => "wrong kind",
-        FaultKind::OutOfRange => "out of range",
-        FaultKind::Unknown => "unknown",
-    }
 }

@@ -1,29 +1,27 @@
 //! The fields of one action.
 
 ghost use Rattle.std.specs.Prelude.{◌≡◌, ◌≤◌, IfOk, codes, map};
-ghost use Rattle.serde_json.specs.Find.{get};
 ghost use Rattle.serde_json.specs.View.{view};
-ghost use Rattle.json_walk.specs.Path.{key_path};
 ghost use Rattle.json_walk.specs.PathRef.{path_of};
-ghost use Rattle.json_walk.specs.Walk.{Gives, optional};
+ghost use Rattle.json_walk.specs.Walk.{Gives};
 ghost use Rattle.cluster.specs.declared.choices.Place.TheVariants.{Nowhere};
 ghost use Rattle.cluster.specs.Inventory.{IsListed};
-ghost use Rattle.plan_json.specs.Walk.{named, needed};
-ghost use Rattle.plan_json.specs.Actions.{named_element, named_place, named_kind, action_keys, action_of};
+ghost use Rattle.plan_json.specs.Walk.{plan_fault_of, field_by, optional_by};
+ghost use Rattle.plan_json.specs.Actions.{listed_element, listed_place, kind_from, action_from};
 
 use crate::fault::PlanFault;
-use crate::words::kind_named;
+use catalogue::limits::MAX_HORIZON;
 use cluster::choices::{Instant, Place};
 use cluster::ids::Element;
-use cluster::kinds::Kind;
 use cluster::inventory::Cluster;
+use cluster::kinds::Kind;
 use cluster::names::is_name_text;
 use json_walk::{FaultKind, PathRef};
 use serde_json::Value;
 use std::alloc::Global;
 
 /// An action as it is written: which element takes it, its kind, where, and from when on.
-#[derive(Clone, Copy)]
+#[derive(Clone, Copy, Debug, PartialEq, Eq)]
 pub(crate) struct Action {
     pub element: Element,
     pub kind: Kind,
@@ -31,16 +29,22 @@ pub(crate) struct Action {
     pub start: Instant,
 }
 
+/// The greatest start.
+const LAST_INSTANT: u64 = MAX_HORIZON as u64;
+
+/// The keys of an action.
+pub(crate) const ACTION_KEYS: [&str; 4] = ["element", "kind", "place", "start"];
+
 /// The listed element that has the name.
-#[tactic(auto, unfolding(crate::specs::Actions::named_element))]
+#[tactic(auto, unfolding(crate::specs::Actions::listed_element))]
 fn element(
     alloc: Global,
     cluster: &Cluster,
     value: &Value,
     path: &PathRef,
 ) -> Result<Element, PlanFault>
-    ensures gives { Gives named (λ e. e) result
-        (named_element cluster.now.given (view value.now) (path_of path.now)) }
+    ensures gives { Gives plan_fault_of (λ e. e) result
+        (listed_element cluster.now.given (view value.now) (path_of path.now)) }
     ensures listed { IfOk result (IsListed cluster.now.given) }
 {
     let name = json_walk::text_at(alloc, value, path)?;
@@ -54,15 +58,15 @@ fn element(
 }
 
 /// The listed node that has the name.
-#[tactic(auto, unfolding(crate::specs::Actions::named_place))]
+#[tactic(auto, unfolding(crate::specs::Actions::listed_place))]
 fn place(
     alloc: Global,
     cluster: &Cluster,
     value: &Value,
     path: &PathRef,
 ) -> Result<Place, PlanFault>
-    ensures { Gives named (λ place. place) result
-        (named_place cluster.now.given (view value.now) (path_of path.now)) }
+    ensures { Gives plan_fault_of (λ place. place) result
+        (listed_place cluster.now.given (view value.now) (path_of path.now)) }
 {
     match element(alloc, cluster, value, path)? {
         Element::Node(n) => Ok(Place::At(n)),
@@ -71,12 +75,12 @@ fn place(
 }
 
 /// The kind that has the word.
-#[tactic(auto, unfolding(crate::specs::Actions::named_kind))]
+#[tactic(auto, unfolding(crate::specs::Actions::kind_from))]
 fn kind(alloc: Global, value: &Value, path: &PathRef) -> Result<Kind, PlanFault>
-    ensures { Gives named (λ kind. kind) result (named_kind (view value.now) (path_of path.now)) }
+    ensures { Gives plan_fault_of (λ kind. kind) result (kind_from (view value.now) (path_of path.now)) }
 {
     let word = json_walk::text_at(alloc, value, path)?;
-    match kind_named(word) {
+    match Kind::of_word(word) {
         Some(kind) => Ok(kind),
         None => Err(json_walk::fault_at(alloc, path, FaultKind::Unknown).into()),
     }
@@ -90,8 +94,8 @@ fn element_field(
     value: &Value,
     path: &PathRef,
 ) -> Result<Element, PlanFault>
-    ensures gives { Gives named (λ e. e) result
-        (needed (named_element cluster.now.given) (view value.now) (path_of path.now) (codes "element")) }
+    ensures gives { Gives plan_fault_of (λ e. e) result
+        (field_by (listed_element cluster.now.given) (view value.now) (path_of path.now) (codes "element")) }
     ensures listed { IfOk result (IsListed cluster.now.given) }
 {
     let found = json_walk::field_at(alloc, value, path, "element")?;
@@ -99,8 +103,8 @@ fn element_field(
 }
 
 fn kind_field(alloc: Global, value: &Value, path: &PathRef) -> Result<Kind, PlanFault>
-    ensures { Gives named (λ kind. kind) result
-        (needed named_kind (view value.now) (path_of path.now) (codes "kind")) }
+    ensures { Gives plan_fault_of (λ kind. kind) result
+        (field_by kind_from (view value.now) (path_of path.now) (codes "kind")) }
 {
     let found = json_walk::field_at(alloc, value, path, "kind")?;
     kind(alloc, found, &path.key("kind"))
@@ -114,9 +118,8 @@ fn place_field(
     value: &Value,
     path: &PathRef,
 ) -> Result<Place, PlanFault>
-    ensures { Gives named (λ place. place) result (optional Nowhere
-        (λ v. named_place cluster.now.given v (key_path (path_of path.now) (codes "place")))
-        (get (codes "place") (view value.now))) }
+    ensures { Gives plan_fault_of (λ place. place) result
+        (optional_by Nowhere (listed_place cluster.now.given) (view value.now) (path_of path.now) (codes "place")) }
 {
     match value.get("place") {
         None => Ok(Place::Nowhere),
@@ -124,30 +127,23 @@ fn place_field(
     }
 }
 
-#[tactic(auto, unfolding(crate::specs::Actions::action_keys))]
-fn action_keys() -> [&'static str; 4]
-    ensures { map (λ key. key.now) result ≡ action_keys }
-{
-    ["element", "kind", "place", "start"]
-}
-
 /// One action.
-#[tactic(auto, unfolding(crate::specs::Actions::action_of))]
+#[tactic(auto, unfolding(crate::specs::Actions::action_from))]
 pub(crate) fn one_action(
     alloc: Global,
     cluster: &Cluster,
     value: &Value,
     path: &PathRef,
 ) -> Result<Action, PlanFault>
-    ensures gives { Gives named (λ action. action) result
-        (action_of cluster.now.given (view value.now) (path_of path.now)) }
+    ensures gives { Gives plan_fault_of (λ action. action) result
+        (action_from cluster.now.given (view value.now) (path_of path.now)) }
     ensures listed { IfOk result (λ action. IsListed cluster.now.given action.element) }
 {
     let element = element_field(alloc, cluster, value, path)?;
     let kind = kind_field(alloc, value, path)?;
     let place = place_field(alloc, cluster, value, path)?;
-    let start = json_walk::number_field(alloc, value, path, "start", 0, 1_000_000)?;
-    json_walk::only_at(alloc, value, path, &action_keys())?;
+    let start = json_walk::number_field(alloc, value, path, "start", 0, LAST_INSTANT)?;
+    json_walk::only_at(alloc, value, path, &ACTION_KEYS)?;
     Ok(Action {
         element,
         kind,

@@ -3,11 +3,13 @@
 #![tactic(auto)]
 
 mod actions;
+mod choosing;
 mod fault;
 mod fields;
+mod marks;
+mod names;
 mod printing;
 mod reading;
-mod words;
 
 pub use fault::PlanFault;
 pub use printing::print_plan;

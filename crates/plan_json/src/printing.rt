@@ -5,12 +5,11 @@ ghost use Rattle.std.specs.Option.{option_copied};
 ghost use Rattle.serde_json.specs.View.{view};
 ghost use Rattle.json_text.specs.Out.{items};
 ghost use Rattle.catalogue.specs.Instance.{IsElement};
-ghost use Rattle.slices.specs.Elements.{element_count};
 ghost use Rattle.slices.specs.Plans.{IsPlanOf};
 ghost use Rattle.plan_json.specs.Plans.{plan_of};
 ghost use Rattle.plan_json.specs.Print.{name_data, word_at, action_data, choice_data, element_data, actions_data, plan_data, plan_text};
 
-use crate::words::{kind_word, name_of};
+use crate::names::name;
 use catalogue::problem::Problem;
 use cluster::choices::{Choice, Instant, Place};
 use cluster::ids::Element;
@@ -18,7 +17,6 @@ use json_text::{ListOut, ObjectOut, number, print, word};
 use memory::Memory;
 use serde_json::Value;
 use slices::actions::kind_of;
-use slices::elements::{count, element};
 use slices::plan::Plan;
 use std::alloc::Global;
 
@@ -26,7 +24,7 @@ use std::alloc::Global;
 fn name_value(alloc: Global, p: &Problem, e: Element) -> Result<Value, Memory>
     ensures { IfOk result (λ v. view v ≡ name_data p.now.given e) }
 {
-    word(alloc, name_of(p.cluster(), e))
+    word(alloc, name(p.cluster(), e))
 }
 
 /// The word of the kind that an element takes at a place.
@@ -35,7 +33,7 @@ fn word_at(p: &Problem, e: Element, place: Place) -> &'static str
     ensures { result.now ≡ word_at p.now.given e place }
 {
     match kind_of(p, e, place) {
-        Some(kind) => kind_word(kind),
+        Some(kind) => kind.word(),
         None => "",
     }
 }
@@ -80,14 +78,14 @@ fn push_choice(
 }
 
 /// All actions in the order of the elements.
-#[tactic(auto, using(crate::proofs::Printed::element_data_more), unfolding(crate::specs::Print::actions_data))]
+#[tactic(auto, using(sums::proofs::Ranges::pieces_more), unfolding(crate::specs::Print::actions_data))]
 fn actions_list(alloc: Global, p: &Problem, plan: &Plan) -> Result<ListOut, Memory>
     requires { IsPlanOf p.now.given plan.now }
     ensures { IfOk result (λ list. items list ≡ actions_data p.now.given plan.now) }
 {
     let mut list = ListOut::new(alloc);
-    for x in 0..count(p) {
-        let e = element(p, x);
+    for x in 0..p.cluster().element_count() {
+        let e = p.cluster().element(x);
         push_choice(alloc, p, e, plan.choice(e), &mut list)?;
     }
     Ok(list)

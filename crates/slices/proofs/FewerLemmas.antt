@@ -1,5 +1,5 @@
 -- A constraint of each kind still holds where there is less of what it speaks of.
-use Rattle.std.proofs.Common.{◌≡◌, inl, inr, ◌≤◌, Bool, true, false, List, IsTrue, cond, refl, sym, ◌∙◌, arith}
+use Rattle.std.proofs.Common.{inl, inr, List, cond, arith}
 use Rattle.sums.proofs.Sums.{sum_to-le}
 use Rattle.sums.proofs.Tests.{cond-implied, cond-le, fails_below}
 use Rattle.cluster.specs.declared.ids.VmId.{VmId}

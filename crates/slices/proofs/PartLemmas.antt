@@ -1,7 +1,6 @@
 -- A part of a snapshot keeps what the snapshot keeps, and earlier stages make a part.
-use Rattle.std.proofs.Common.{◌≡◌, ℕ, ◌≤◌, Bool, true, false, not, ◌&&◌, ◌||◌, ◌==◌, cond, if◌then◌else◌, nat_lt, Option, Some, None, IsTrue, slice_get, refl, sym, arith}
+use Rattle.std.proofs.Common.{ℕ, ◌≤◌, Bool, true, false, not, ◌&&◌, ◌||◌, ◌==◌, Option, Some, None, IsTrue, slice_get, refl, arith}
 use Rattle.std.proofs.lemmas.Bool.{false≢true}
-use Rattle.std.proofs.lemmas.Bool.Decides.{nat_tests}
 use Rattle.sums.proofs.Sums.{sum_to-le}
 use Rattle.sums.proofs.Tests.{cond-implied, positive_above}
 use Rattle.cluster.specs.declared.choices.Choice.{Choice}

@@ -1,5 +1,5 @@
 -- Lists of legal choices are plans, and a plan that is over is as it was planned.
-use Rattle.std.proofs.Common.{◌≡◌, ◌⊎◌, inl, inr, ℕ, ◌+◌, ◌<◌, ◌≤◌, Bool, true, nat_lt, ◌-◌, slice_index_or, IsTrue, IsSome, refl, ap, sym, ◌∙◌, subst, arith}
+use Rattle.std.proofs.Common.{◌≡◌, ◌⊎◌, inl, inr, ℕ, ◌+◌, ◌≤◌, true, nat_lt, ◌-◌, slice_index_or, IsTrue, IsSome, refl, ap, sym, ◌∙◌, subst, arith}
 use Rattle.std.proofs.lemmas.Bool.{and_parts, le-leb, leb-true, lt-ltb, le-ltb}
 use Rattle.std.proofs.lemmas.List.{get_or-drop, get_or-take, length-drop, length-take-le}
 use Rattle.cluster.specs.declared.choices.Choice.{Choice}
@@ -18,7 +18,7 @@ use Rattle.slices.specs.Actions.{action_duration, end_of, is_legal}
 use Rattle.slices.specs.Elements.{machine_count, node, state_of, vm}
 use Rattle.slices.specs.Legal.{LegalIsPlan}
 use Rattle.slices.specs.Parts.{AreOver, OverAsPlanned}
-use Rattle.slices.specs.Plans.{Choices, IsPlanOf, PlanChoices, choices_of, parted}
+use Rattle.slices.specs.Plans.{IsPlanOf, PlanChoices, choices_of, parted}
 use Rattle.slices.specs.Snapshots.{held_by, snapshot, stage_at, stages_at}
 use Rattle.slices.specs.Stages.{Nodes, idle_slices, powered_of, progress_of, slices_of, usable_of, weigh}
 use Rattle.slices.specs.Starts.{start_of}

@@ -17,7 +17,6 @@ use Rattle.cluster.specs.declared.machines.Machine.{Machine}
 use Rattle.cluster.specs.declared.nodes.Node.{Node}
 use Rattle.cluster.specs.Inventory.{is_online}
 use Rattle.cluster.specs.Kinds.{kind_number}
-use Rattle.cluster.specs.Limits.{max_amount, max_duration}
 use Rattle.catalogue.specs.declared.targets.Target.TheVariants.{Online as ToOnline, Offline as ToOffline, Running as ToRunning, Sleeping as ToSleeping, Ready as ToReady, Killed as ToKilled}
 use Rattle.catalogue.specs.declared.targets.Wish.{Wish}
 use Rattle.catalogue.specs.declared.targets.Wish.TheVariants.{Keep, To, Clash}
@@ -130,10 +129,6 @@ value_of d amounts = d.base + d.per * amount_at d.resource amounts
 -- how long an element's action of a kind lasts: by its own duration, or else by the cluster's
 unfoldable pub duration_of : Instance → Element → Kind → ℕ
 duration_of p e kind = value_of (unwrap_or (own_of p e kind) (common_of p kind)) (duration_amount p e)
-
--- the longest that an action can last
-abbrev pub longest : ℕ
-longest = max_duration + max_duration * max_amount
 
 -- ---- choices
 

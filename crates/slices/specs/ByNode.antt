@@ -1,12 +1,12 @@
 -- Helping only: laws of what a machine holds, by the nodes of a set, and how much it is at most.
-use Rattle.std.specs.Prelude.{◌≡◌, ℕ, ◌*◌, ◌<◌, ◌≤◌, false, if◌then◌else◌, IsTrue}
+use Rattle.std.specs.Prelude.{◌≡◌, ℕ, ◌<◌, ◌≤◌, false, if◌then◌else◌, IsTrue}
 use Rattle.cluster.specs.declared.choices.Choice.{Choice}
-use Rattle.cluster.specs.Limits.{max_amount}
 use Rattle.catalogue.specs.Instance.{Instance, IsInstance}
 use Rattle.sums.specs.Sums.{sum_to}
 use Rattle.slices.specs.declared.slice.Weight.{Weight}
 use Rattle.slices.specs.declared.slice.Weight.TheVariants.{Amount, Presence, Image}
 use Rattle.slices.specs.Elements.{node_count}
+use Rattle.slices.specs.Limits.{max_held}
 use Rattle.slices.specs.Snapshots.{held_at, present_at}
 use Rattle.slices.specs.Stages.{Nodes, one}
 
@@ -44,9 +44,9 @@ AbsentUsesNothing =
 
 -- ---- bounds
 
--- on two nodes at most, with the greatest amount at most on each, and one image
+-- on two nodes at most, with at most the greatest amount on each, and one image
 pub record IsSmall (p : Instance) (v : ℕ) (set : Nodes) (t : ℕ) (c : Choice) : Type 0 where
-  pub amounts : (r : ℕ) → held_at p v (Amount r) set t c ≤ 2 * max_amount
+  pub amounts : (r : ℕ) → held_at p v (Amount r) set t c ≤ max_held
   pub presences : held_at p v Presence set t c ≤ 2
   pub images : held_at p v Image set t c ≤ 1
 

@@ -8,6 +8,7 @@ pub mod Holds
 pub mod Rules
 pub mod Costs
 -- what the laws and the code's contracts say beside it
+pub mod Limits
 pub mod Holdings
 pub mod Legal
 pub mod Fewer

@@ -5,7 +5,8 @@ ghost use Rattle.cluster.proofs.Public.{IsDuration};
 ghost use Rattle.catalogue.specs.Instance.{IsElement};
 ghost use Rattle.catalogue.specs.Values.{demand_of, use_of, wanted_of};
 ghost use Rattle.slices.specs.Elements.{state_of};
-ghost use Rattle.slices.specs.Actions.{kind_of, end_wish, wanted_state, machine_kind, node_kind, may_machine_idle, may_node_idle, differs_in, is_raised, may_idle, own_of, common_of, duration_amount, amount_at, duration_of, longest, kind_duration, choice_duration, is_legal, end_of};
+ghost use Rattle.slices.specs.Actions.{kind_of, end_wish, wanted_state, machine_kind, node_kind, may_machine_idle, may_node_idle, differs_in, is_raised, may_idle, own_of, common_of, duration_amount, amount_at, duration_of, kind_duration, choice_duration, is_legal, end_of};
+ghost use Rattle.slices.specs.Limits.{max_action};
 ghost use Rattle.slices.specs.Snapshots.{stage_at};
 ghost use Rattle.slices.specs.Starts.{start_of};
 ghost use Rattle.slices.specs.Stages.{stage_from};
@@ -300,7 +301,7 @@ pub fn duration(p: &Problem, e: Element, kind: Kind) -> u64
     requires { IsElement p.now.given e }
     ensures duration { result ≡ duration_of p.now.given e kind }
     ensures lasting { 1 ≤ result }
-    ensures small { result ≤ longest }
+    ensures small { result ≤ max_action }
 {
     let d = duration_for(p, e, kind);
     u64::from(d.base) + u64::from(d.per) * amount_of(p, e, d.resource)
@@ -311,7 +312,7 @@ pub fn duration(p: &Problem, e: Element, kind: Kind) -> u64
 fn kind_duration(p: &Problem, e: Element, kind: Option<Kind>) -> u64
     requires { IsElement p.now.given e }
     ensures duration { result ≡ kind_duration p.now.given e kind }
-    ensures small { result ≤ longest }
+    ensures small { result ≤ max_action }
 {
     match kind {
         Some(kind) => duration(p, e, kind),
@@ -324,7 +325,7 @@ fn kind_duration(p: &Problem, e: Element, kind: Option<Kind>) -> u64
 fn choice_duration(p: &Problem, e: Element, c: Choice) -> u64
     requires { IsElement p.now.given e }
     ensures duration { result ≡ choice_duration p.now.given e c }
-    ensures small { result ≤ longest }
+    ensures small { result ≤ max_action }
 {
     match c {
         Choice::Idle => 0,

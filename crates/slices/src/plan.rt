@@ -1,9 +1,8 @@
 //! Plans: one legal choice for each element.
-ghost use Rattle.std.specs.Prelude.{◌≡◌, ◌+◌, ◌*◌, ◌↔◌, ◌≤◌, IsTrue};
-ghost use Rattle.cluster.specs.Limits.{max_machines, max_nodes};
+ghost use Rattle.std.specs.Prelude.{◌≡◌, ◌↔◌, ◌≤◌, IsTrue};
 ghost use Rattle.catalogue.specs.Instance.{IsElement};
-ghost use Rattle.catalogue.specs.Limits.{max_horizon};
 ghost use Rattle.slices.specs.Actions.{end_of};
+ghost use Rattle.slices.specs.Limits.{max_cost};
 ghost use Rattle.slices.specs.Plans.{choices_of, parted, HasElement, IsPlanOf};
 ghost use Rattle.slices.specs.Costs.{cost_of};
 
@@ -100,7 +99,7 @@ pub fn end_in(p: &Problem, plan: &Plan, e: Element) -> Instant
 pub fn cost(p: &Problem, plan: &Plan) -> u64
     requires { IsPlanOf p.now.given plan.now }
     ensures cost { result ≡ cost_of p.now.given (choices_of plan.now) }
-    ensures small { result ≤ (max_machines + max_nodes) * max_horizon }
+    ensures small { result ≤ max_cost }
 {
     let mut total = 0;
     for v in 0..p.cluster().machines().len() {

@@ -1,8 +1,9 @@
 //! What is where at an instant of a plan.
-ghost use Rattle.std.specs.Prelude.{◌≡◌, ◌*◌, ◌≤◌, ◌<◌, length, nat_lt};
-ghost use Rattle.cluster.specs.Limits.{max_amount, max_machines};
+ghost use Rattle.std.specs.Prelude.{◌≡◌, ◌≤◌, ◌<◌, length, nat_lt};
+ghost use Rattle.cluster.specs.Limits.{max_amount};
 ghost use Rattle.catalogue.specs.Instance.{IsElement};
 ghost use Rattle.slices.specs.Elements.{node_count};
+ghost use Rattle.slices.specs.Limits.{max_load};
 ghost use Rattle.slices.specs.Plans.{choices_of, IsPlanOf};
 ghost use Rattle.slices.specs.Stages.{one};
 ghost use Rattle.slices.specs.Holdings.{amount_in, is_in, image_in, IsHoldingOf};
@@ -58,7 +59,7 @@ pub fn used(p: &Problem, plan: &Plan, n: NodeId, r: u8, t: Instant) -> u64
     requires plan { IsPlanOf p.now.given plan.now }
     requires resource { r < length p.now.given.resources }
     ensures load { result ≡ load p.now.given (snapshot_at p.now.given (choices_of plan.now) t) r (one n.0) }
-    ensures small { result ≤ max_machines * (2 * max_amount) }
+    ensures small { result ≤ max_load }
 {
     let mut total = 0;
     for v in 0..p.cluster().machines().len() {

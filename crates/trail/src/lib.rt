@@ -6,4 +6,6 @@
 #![tactic(auto)]
 
 mod log;
+#[cfg(test)]
+mod tests;
 pub mod trail;

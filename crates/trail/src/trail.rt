@@ -5,7 +5,7 @@ ghost use Rattle.domains.specs.Parts.{on_side};
 ghost use Rattle.domains.specs.Sets.{HasElement, sets, keeping};
 ghost use Rattle.trail.specs.Logs.{Marked};
 
-use crate::log::{cut, keep, undo, Entry};
+use crate::log::{Entry, cut, keep, undo};
 use domains::parts::{Change, Side};
 use domains::region::Region;
 use memory::Memory;

@@ -1,6 +1,18 @@
 //! Instances on nodes with 4 of one resource each. A migration takes 3, the start of a node 4, and the
 //! actions of machines that are no migration take 1.
 
+/// Nothing at all.
+pub const EMPTY: &[u8] =
+    br#"{"horizon":5,"resources":[],"nodes":[],"machines":[],"constraints":[]}"#;
+
+/// One machine on one node.
+pub const ALONE: &[u8] =
+    br#"{"horizon":20,"resources":["cpu"],"nodes":[{"name":"n0","capacity":{"cpu":4}}],"machines":[{"name":"v0","state":"running","node":"n0","use":{"cpu":1}}],"constraints":[{"kind":"online","nodes":["n0"]}]}"#;
+
+/// Two machines on one node, which are to be apart at the end.
+pub const APART: &[u8] =
+    br#"{"horizon":20,"resources":["cpu"],"nodes":[{"name":"n0","capacity":{"cpu":4}}],"machines":[{"name":"v0","state":"running","node":"n0","use":{"cpu":1}},{"name":"v1","state":"running","node":"n0","use":{"cpu":1}}],"constraints":[{"kind":"online","nodes":["n0"]},{"kind":"spread","machines":["v0","v1"]}]}"#;
+
 /// Two machines, of which the first takes the place that the second leaves.
 pub const SWAP: &[u8] =
     br#"{"horizon":20,"resources":["cpu"],"durations":{"migrate":{"base":3},"allocate":{"base":1},"node_boot":{"base":4},"node_shutdown":{"base":2}},"nodes":[{"name":"n0","capacity":{"cpu":4}},{"name":"n1","capacity":{"cpu":4}},{"name":"n2","capacity":{"cpu":4}}],"machines":[{"name":"v0","state":"running","node":"n0","use":{"cpu":3}},{"name":"v1","state":"running","node":"n1","use":{"cpu":3}}],"constraints":[{"kind":"fence","machines":["v0"],"nodes":["n1"]},{"kind":"fence","machines":["v1"],"nodes":["n2"]},{"kind":"online","nodes":["n0","n1","n2"]}]}"#;

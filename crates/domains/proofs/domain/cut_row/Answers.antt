@@ -1,14 +1,14 @@
 use Rattle.std.proofs.Common.{sym, ap, ◌∙◌}
-use Rattle.domains.proofs.RowLemmas.{blank, Climbs-at, Climbs-set, Climbs-remove}
+use Rattle.domains.proofs.RowLemmas.{Climbs-at, Climbs-set, Climbs-remove}
 use Rattle.domains.proofs.PartLemmas.{outside_gap, outside_set, outside_remove}
 use Rattle.domains.proofs.UndoLemmas.{put-remove, put_set}
-use Rattle.domains.specs.Choices.{place_index}
+use Rattle.domains.specs.Choices.{no_row, place_index}
 use Rattle.domains.proofs.domain.cut_row.Goals as goal
 
 pub outside-requires : goal.outside-requires
 outside-requires c =
     let found = rw c.as_slice.ensures at c.in-Ok.ensures.found in
-    rw c.as_slice-in-Ok.ensures (Climbs-at 0 c.args.rows.now.items c.in-Ok.i blank c.requires.climbs found.within).1
+    rw c.as_slice-in-Ok.ensures (Climbs-at 0 c.args.rows.now.items c.in-Ok.i no_row c.requires.climbs found.within).1
 
 pub returns-in-Err-clause-set : goal.returns-in-Err-clause-set
 returns-in-Err-clause-set c =
@@ -17,7 +17,7 @@ returns-in-Err-clause-set c =
 pub returns-in-None-clause-set : goal.returns-in-None-clause-set
 returns-in-None-clause-set c =
     rw c.remove.ensures.items
-    (outside_remove c.args.rows.now.items c.args.place c.args.part c.requires.climbs c.requires.at c.in-Ok.i blank (rw c.as_slice.ensures at c.in-Ok.ensures.found)
+    (outside_remove c.args.rows.now.items c.args.place c.args.part c.requires.climbs c.requires.at c.in-Ok.i no_row (rw c.as_slice.ensures at c.in-Ok.ensures.found)
     (rw c.as_slice-in-Ok.ensures at c.in-None.ensures.set))
 
 pub returns-in-None-clause-climbs : goal.returns-in-None-clause-climbs
@@ -28,17 +28,17 @@ pub returns-in-None-clause-undone : goal.returns-in-None-clause-undone
 returns-in-None-clause-undone c =
     let found = rw c.as_slice.ensures at c.in-Ok.ensures.found in
     rw (c.remove.ensures.items, c.as_slice-in-Ok.ensures)
-    (sym (put-remove blank 0 c.args.rows.now.items c.in-Ok.i c.requires.climbs found.within))
+    (sym (put-remove no_row 0 c.args.rows.now.items c.in-Ok.i c.requires.climbs found.within))
 
 pub returns-in-None-clause-row : goal.returns-in-None-clause-row
 returns-in-None-clause-row c =
     let found = rw c.as_slice.ensures at c.in-Ok.ensures.found in
-    rw c.as_slice-in-Ok.ensures (Climbs-at 0 c.args.rows.now.items c.in-Ok.i blank c.requires.climbs found.within).1
+    rw c.as_slice-in-Ok.ensures (Climbs-at 0 c.args.rows.now.items c.in-Ok.i no_row c.requires.climbs found.within).1
 
 pub returns-in-Some-clause-set : goal.returns-in-Some-clause-set
 returns-in-Some-clause-set c =
     rw c.set_row.ensures.items
-    (outside_set c.args.rows.now.items c.args.place c.args.part c.requires.climbs c.requires.at c.in-Ok.i blank c.in-Some.left (rw c.as_slice.ensures at c.in-Ok.ensures.found)
+    (outside_set c.args.rows.now.items c.args.place c.args.part c.requires.climbs c.requires.at c.in-Ok.i no_row c.in-Some.left (rw c.as_slice.ensures at c.in-Ok.ensures.found)
     (rw c.as_slice-in-Ok.ensures at c.in-Some.ensures.set))
 
 pub returns-in-Some-clause-climbs : goal.returns-in-Some-clause-climbs
@@ -46,11 +46,11 @@ returns-in-Some-clause-climbs c =
     let found = rw c.as_slice.ensures at c.in-Ok.ensures.found in
     let row = rw c.as_slice-in-Ok.ensures at c.in-Some.ensures.row in
     rw c.set_row.ensures.items
-    (Climbs-set 0 c.args.rows.now.items c.in-Ok.i blank c.in-Some.left c.requires.climbs found.within (ap place_index row.at) row.holds_one)
+    (Climbs-set 0 c.args.rows.now.items c.in-Ok.i no_row c.in-Some.left c.requires.climbs found.within (ap place_index row.at) row.holds_one)
 
 pub returns-in-Some-clause-undone : goal.returns-in-Some-clause-undone
 returns-in-Some-clause-undone c =
     let found = rw c.as_slice.ensures at c.in-Ok.ensures.found in
     let row = rw c.as_slice-in-Ok.ensures at c.in-Some.ensures.row in
     rw (c.set_row.ensures.items, c.as_slice-in-Ok.ensures)
-    (sym (put_set blank c.in-Some.left c.args.rows.now.items c.in-Ok.i c.requires.climbs found.within (ap place_index row.at) row.holds_one))
+    (sym (put_set no_row c.in-Some.left c.args.rows.now.items c.in-Ok.i c.requires.climbs found.within (ap place_index row.at) row.holds_one))

@@ -1,12 +1,13 @@
+use Rattle.domains.specs.Choices.{no_row}
 use Rattle.std.proofs.Common.{◌≡◌, ◌∙◌, Some, arith}
 use Rattle.domains.specs.Parts.{stays}
-use Rattle.domains.proofs.RowLemmas.{blank, Climbs-at}
+use Rattle.domains.proofs.RowLemmas.{Climbs-at}
 use Rattle.domains.proofs.MeasureLemmas.{lowest_more, lowest_no_more, lowest_at_floor, same_some}
 use Rattle.domains.proofs.measure.lowest.Goals as goal
 use Rattle.domains.proofs.measure.lowest.Goals.{in-Some, in_default}
 
 pub without-requires : goal.without-requires
-without-requires g c = (Climbs-at 0 c.rows-row-items.result.now c.loop-row.row-index blank c.rows-row-items.ensures.climbs (omega arith)).1
+without-requires g c = (Climbs-at 0 c.rows-row-items.result.now c.loop-row.row-index no_row c.rows-row-items.ensures.climbs (omega arith)).1
 
 pub returns-then-eq : goal.returns-then-eq
 returns-then-eq g c =
@@ -24,10 +25,10 @@ loop-row-preserved g c =
       | in-Some w ↦
           w.best-is
           ∙ w.lower-best.ensures
-          ∙ lowest_more f (stays c.args.left_out) c.args.domain.now.idle rows c.loop-row.row-index blank c.loop-row.best (omega arith) c.loop-row.invariant
+          ∙ lowest_more f (stays c.args.left_out) c.args.domain.now.idle rows c.loop-row.row-index no_row c.loop-row.best (omega arith) c.loop-row.invariant
           w.in-Some.left w.least_of_row.result w.in-Some.ensures.set w.least_of_row.ensures
       | in_default w ↦
           w.best-is
-          ∙ lowest_no_more f (stays c.args.left_out) c.args.domain.now.idle rows c.loop-row.row-index blank c.loop-row.best (omega arith) c.loop-row.invariant
+          ∙ lowest_no_more f (stays c.args.left_out) c.args.domain.now.idle rows c.loop-row.row-index no_row c.loop-row.best (omega arith) c.loop-row.invariant
           w.in_default.ensures.set
     ]

@@ -10,10 +10,10 @@ pub returns-in-All : goal.returns-in-All
 returns-in-All g c =
     c.lowest.ensures
     ∙ ap (lowest_of (g.M.Measure.value_of c.args.m.now))
-    (filter_true (choices c.domain-domain.result.now) ∙ ap choices c.domain-domain.ensures.domain ∙ sym (c.in-All.ensures c.args.view.now.region.now))
+    (filter_true (choices c.domain-domain.result.now) ∙ ap choices c.domain-domain.ensures.domain ∙ sym (c.in-All.ensures.seen c.args.view.now.region.now))
 
 pub returns-in-In : goal.returns-in-In
 returns-in-In g c =
     c.lowest-in-In-2.ensures
     ∙ ap (lowest_of (g.M.Measure.value_of c.args.m.now))
-    (filter_true (choices c.inside.result) ∙ c.inside.ensures.set ∙ ap (λ d. filter (in_part c.in-In.part) (choices d)) c.domain-domain.ensures.domain ∙ sym (c.in-In.ensures c.args.view.now.region.now))
+    (filter_true (choices c.inside.result) ∙ c.inside.ensures.set ∙ ap (λ d. filter (in_part c.in-In.part) (choices d)) c.domain-domain.ensures.domain ∙ sym (c.in-In.ensures.seen c.args.view.now.region.now))

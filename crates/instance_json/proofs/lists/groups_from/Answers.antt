@@ -1,13 +1,13 @@
 use Rattle.std.proofs.Common.{rules, arith, [], ◌<◌, length}
 use Rattle.serde_json.specs.View.{view}
 use Rattle.json_walk.specs.PathRef.{path_of}
-use Rattle.json_walk.proofs.Each.{fails_in_loop}
-use Rattle.instance_json.specs.Walk.{named}
+use Rattle.json_walk.proofs.Public.{fails_in_loop}
+use Rattle.instance_json.specs.Walk.{instance_fault_of}
 use Rattle.instance_json.specs.Lists.{group_step}
 use Rattle.instance_json.proofs.lists.groups_from.Goals as goal
 
 pub returns-in_err-push_group-clause-gives : goal.returns-in_err-push_group-clause-gives
 returns-in_err-push_group-clause-gives c =
     let within : c.loop-i.i < length c.args.values.now = omega arith in
-    let fails = fails_in_loop (group_step c.args.cluster.now.given (path_of c.args.path.now)) view c.args.values.now c.loop-i.i c.loop-i.groups.items [] c.index-values-i.result (named c.in_err-push_group.field-0.0) within c.index-values-i.is c.loop-i.invariant.0 c.in_err-push_group.ensures.gives in
+    let fails = fails_in_loop (group_step c.args.cluster.now.given (path_of c.args.path.now)) view c.args.values.now c.loop-i.i c.loop-i.groups.items [] c.index-values-i.result (instance_fault_of c.in_err-push_group.field-0.0) within c.index-values-i.is c.loop-i.invariant.0 c.in_err-push_group.ensures.gives in
     search (rules, fails)

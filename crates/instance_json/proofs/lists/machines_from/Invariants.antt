@@ -1,10 +1,10 @@
 use Rattle.std.proofs.Common.{◌≡◌, [], true}
 use Rattle.serde_json.specs.View.{view}
 use Rattle.json_walk.specs.PathRef.{path_of}
-use Rattle.json_walk.proofs.Each.{StandsAt}
+use Rattle.json_walk.proofs.Public.{StandsAt}
 use Rattle.catalogue.specs.Faults.{are_machines, all_of}
 use Rattle.instance_json.specs.Lists.{machine_item}
 use Rattle.instance_json.proofs.lists.machines_from.Given as goal
 
 abbrev pub invariant-loop-i : goal.invariant-loop-i
-invariant-loop-i l = StandsAt (machine_item l.cluster.given (all_of l.initial.listing.done) (path_of l.path)) view l.values l.i l.listing.current [] × (l.listing.done ≡ l.initial.listing.done) × (are_machines l.cluster.given l.listing.current ≡ true)
+invariant-loop-i l = StandsAt (machine_item l.cluster.given (all_of l.initial.listing.before) (path_of l.path)) view l.values l.i l.listing.current [] × (l.listing.before ≡ l.initial.listing.before) × (are_machines l.cluster.given l.listing.current ≡ true)

@@ -1,11 +1,10 @@
 use Rattle.std.proofs.Common.{◌≡◌, [], length, true}
-use Rattle.std.specs.List.{list_all}
 use Rattle.serde_json.specs.View.{view}
 use Rattle.json_walk.specs.PathRef.{path_of}
-use Rattle.json_walk.proofs.Each.{StandsAt}
-use Rattle.catalogue.specs.Faults.{are_machines}
+use Rattle.json_walk.proofs.Public.{StandsAt}
+use Rattle.catalogue.specs.Faults.{are_machines, all_of}
 use Rattle.instance_json.specs.Lists.{part_step}
 use Rattle.instance_json.proofs.lists.parts_from.Given as goal
 
 abbrev pub invariant-loop-i : goal.invariant-loop-i
-invariant-loop-i l = StandsAt (part_step l.cluster.given (path_of l.path)) view l.values l.i l.listing.done [] × (l.listing.current ≡ []) × (list_all (are_machines l.cluster.given) l.listing.done ≡ true) × (length l.listing.done ≡ l.i)
+invariant-loop-i l = StandsAt (part_step l.cluster.given (path_of l.path)) view l.values l.i l.listing.before [] × (l.listing.current ≡ []) × (are_machines l.cluster.given (all_of l.listing.before) ≡ true) × (length l.listing.before ≡ l.i)

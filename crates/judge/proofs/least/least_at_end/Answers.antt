@@ -1,4 +1,4 @@
-use Rattle.std.proofs.Common.{arith, refl}
+use Rattle.std.proofs.Common.{arith}
 use Rattle.std.proofs.lemmas.Bool.{eq-eqb, iff_false, or_right}
 use Rattle.slices.specs.Plans.{choices_of}
 use Rattle.judge.proofs.Lowering.{discrete_met, suspect_met}

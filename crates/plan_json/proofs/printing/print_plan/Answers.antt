@@ -1,6 +1,7 @@
 use Rattle.std.proofs.Common.{◌≤◌, length, arith}
 use Rattle.std.specs.Option.{option_copied}
 use Rattle.serde_json.specs.View.{view}
+use Rattle.json_walk.specs.declared.reading.TheConstants.{MAX_TEXT_BYTES}
 use Rattle.slices.specs.Plans.{IsPlanOf}
 use Rattle.plan_json.specs.Print.{plan_text}
 use Rattle.plan_json.proofs.ReadBack.{lent, bytes_again}
@@ -13,6 +14,6 @@ returns-clause-reads_back c =
     let p = c.args.p.now.given in
     let plan = option_copied c.args.plan in
     let is = lent (IsPlanOf p) c.args.plan c.requires in
-    let small : length c.in_ok-print.field-0.items ≤ 67108864 =
+    let small : length c.in_ok-print.field-0.items ≤ MAX_TEXT_BYTES =
     rw (c.in_ok-print.ensures.text, c.in_ok-value.ensures) (omega (arith, length-plan_text p plan c.args.p.now.sound is)) in
     bytes_again p plan (view c.in_ok-value.value) c.in_ok-print.field-0.items c.args.p.now.sound is c.in_ok-value.ensures c.in_ok-print.ensures.reads_back small

@@ -1,6 +1,5 @@
 use Rattle.std.proofs.Common.{◌≡◌, ◌≤◌, ◌+◌, ℕ, true, cond, not, length, ap, ◌∙◌, refl, arith}
-use Rattle.domains.specs.Choices.{DomainView}
-use Rattle.domains.proofs.RowLemmas.{blank}
+use Rattle.domains.specs.Choices.{no_row, DomainView}
 use Rattle.domains.proofs.SizeLemmas.{row_one, not_one}
 use Rattle.domains.proofs.domain.Domain.is_one.Goals as goal
 
@@ -8,7 +7,7 @@ pub returns-then-not-self-clause-one : goal.returns-then-not-self-clause-one
 returns-then-not-self-clause-one c =
     let d : DomainView = record { idle = c.self.inside.idle; rows = c.self.inside.rows.items; slots = c.self.inside.slots } in
     let size : length c.self.inside.rows.items ≡ 1 = omega (arith, ap length c.as_slice.ensures) in
-    rw (c.as_slice.ensures, ← c.self.view_is) (row_one d blank c.self.invariant.climb size c.if-not-self.true)
+    rw (c.as_slice.ensures, ← c.self.view_is) (row_one d no_row c.self.invariant.climb size c.if-not-self.true)
 
 pub returns-else-not-self-clause-one : goal.returns-else-not-self-clause-one
 returns-else-not-self-clause-one c =

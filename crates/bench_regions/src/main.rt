@@ -1,0 +1,81 @@
+//! A start region is made, narrowed by many cuts under one mark, and had back: `bench_regions NODES MACHINES CUTS`.
+#![tactic(auto)]
+
+ghost use Rattle.std.specs.Prelude.{◌≡◌, ◌<◌, ◌≤◌, ◌^◌, IfOk, OnOk, length};
+ghost use Rattle.trail.specs.Logs.{Marked};
+
+use cluster::choices::Place;
+use cluster::ids::{Element, NodeId, VmId};
+use domains::domain::Domain;
+use domains::parts::{Change, Part, Row, Side};
+use domains::region::Region;
+use memory::Memory;
+use std::alloc::Global;
+use std::env;
+use std::process::ExitCode;
+use trail::trail::Trail;
+
+// a domain with a row of 100 starts at each node
+fn domain(alloc: Global, nodes: u32) -> Result<Domain, Memory> {
+    let mut domain = Domain::new(alloc, true);
+    for n in 0..nodes {
+        domain.push(Row {
+            place: Place::At(NodeId(n)),
+            lo: 0,
+            hi: 99,
+        })?;
+    }
+    Ok(domain)
+}
+
+fn start(alloc: Global, nodes: u32, machines: u32) -> Result<Region, Memory>
+    ensures { IfOk result (λ g. length g.machines ≡ machines) }
+{
+    let mut domains = Vec::new(alloc);
+    for m in 0..machines {
+        domains.push(domain(alloc, nodes)?)?;
+    }
+    Ok(Region::new(domains, Vec::new(alloc)))
+}
+
+// each third cut takes a row, the others a part of one
+fn cut(trail: &mut Trail, nodes: u32, machines: u32, k: u32) -> Result<(), Memory>
+    requires nodes { 0 < nodes }
+    requires machines { 0 < machines }
+    requires there { length trail.old.region.machines ≡ machines }
+    ensures there { length trail.new.region.machines ≡ machines }
+    ensures marks { trail.new.marks ≡ trail.old.marks }
+{
+    trail.apply(Change {
+        element: Element::Vm(VmId(k % machines)),
+        part: Part::From(Place::At(NodeId(k / machines % nodes)), k % 3 * 30),
+        side: Side::Outside,
+    })
+}
+
+fn run(alloc: Global, nodes: u32, machines: u32, cuts: u32) -> Result<(), Memory> {
+    let mut trail = Trail::new(alloc, start(alloc, nodes, machines)?);
+    if nodes > 0 && machines > 0 {
+        trail.mark()?;
+        for k in 0..cuts {
+            cut(&mut trail, nodes, machines, k)?;
+        }
+        trail.back();
+    }
+    Ok(())
+}
+
+fn main(rt: HostRuntime) -> ExitCode {
+    let mut numbers = [0; 3];
+    if let Ok(words) = env::args(&rt) {
+        for (place, word) in words.skip(1).take(3).enumerate() {
+            if place < 3 {
+                numbers[place] = word.parse::<u32>().unwrap_or(0);
+            }
+        }
+    }
+    match run(rt.alloc(), numbers[0], numbers[1], numbers[2]) {
+        Ok(()) => ExitCode::from(0),
+        Err(_) => ExitCode::from(1),
+    }
+}
