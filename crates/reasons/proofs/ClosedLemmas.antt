@@ -20,8 +20,8 @@ use Rattle.reasons.specs.declared.reason.ReasonKind.{ReasonKind}
 use Rattle.reasons.specs.Closed.{IsClosed, IsEnd, IsFree, IsUnrefuted}
 use Rattle.reasons.specs.Laws.{OnlyClosed}
 use Rattle.reasons.specs.Sure.{sure}
-use Rattle.reasons.proofs.FreeLemmas.{free-keeps, free-part, keeps-none, valid-free}
-use Rattle.reasons.proofs.PartLemmas.{part-in}
+use Rattle.reasons.proofs.FreeLemmas.{free-keeps, free_stays, keeps-none, valid-free}
+use Rattle.reasons.proofs.PartLemmas.{parts_are_in}
 use Rattle.reasons.proofs.SureLemmas.{sure-part}
 
 pub and-true : (x : Bool) → (x && true) ≡ x
@@ -32,7 +32,7 @@ and-true false = refl
 pub valid-unrefuted : (p : Instance) → IsInstance p → (s : Sets) (plan : Choices) → IsIn s plan → IsValid p plan → IsUnrefuted p s
 unfolding IsUnrefuted
 valid-unrefuted p sound s plan i valid kind t l =
-    free-part p (sure p s t) (snapshot_of p plan t) (part-in p _ _ (sure-part p s plan t i)) (t == p.horizon) kind (valid-free p sound plan valid t l kind)
+    free_stays p (sure p s t) (snapshot_of p plan t) (parts_are_in p _ _ (sure-part p s plan t i)) (t == p.horizon) kind (valid-free p sound plan valid t l kind)
 
 -- what is sure of one plan is the plan's snapshot
 sure-only : (p : Instance) (s : Sets) (plan : Choices) (t : ℕ) → IsOnly s plan → sure p s t ≡ snapshot_of p plan t

@@ -20,7 +20,7 @@ use Rattle.slices.specs.Stages.{one}
 use Rattle.reasons.specs.declared.reason.ReasonKind.{ReasonKind}
 use Rattle.reasons.specs.declared.reason.ReasonKind.TheVariants.{Empty, Bound, Load, Pair, Place, Group, SetLoad, Power, Usable, Hall}
 use Rattle.reasons.specs.Closed.{IsFree, all_nodes}
-use Rattle.reasons.specs.Laws.{IsPartIn}
+use Rattle.reasons.specs.Laws.{FreeStays}
 use Rattle.reasons.proofs.LoadLemmas.{no_overload, not_overload-le}
 use Rattle.reasons.proofs.PartLemmas.{group-part, overload-part, pair-part, place-part, power-part, set_load-part, unusable-part}
 use Rattle.reasons.proofs.PlanLemmas.{holds-no_group, holds-no_pair, holds-no_place, holds-no_power, holds-no_set_load, unbroken-holds}
@@ -28,22 +28,22 @@ use Rattle.reasons.proofs.RuleLemmas.{IsSoundRule, sound_rule}
 use Rattle.reasons.proofs.ValidLemmas.{holds-of, keeps-of}
 
 -- a part of a snapshot that is free is free
-pub free-part : (p : Instance) (s big : Snapshot) → IsPartIn p s big → (last : Bool) (kind : ReasonKind) → IsFree p big last kind → IsFree p s last kind
-free-part p s big part last Empty free = tt
-free-part p s big part last Bound free = tt
-free-part p s big part last Load free =
+pub free_stays : FreeStays
+free_stays p s big part last Empty free = tt
+free_stays p s big part last Bound free = tt
+free_stays p s big part last Load free =
     λ r i. record {
       each = λ n l over. (free r i).each n l (overload-part p s big part r (one n) over);
       all = λ over. (free r i).all (overload-part p s big part r (all_nodes p) over);
     }
-free-part p s big part last Pair free =
+free_stays p s big part last Pair free =
     λ c k e a x. free c k e a (x.0, x.1, x.2, x.3, x.4, x.5, pair-part p s big part k x.0 x.1 x.2 x.6)
-free-part p s big part last Place free = λ c k e a x. free c k e a (x.0, x.1, x.2, x.3, place-part p s big part k x.0 x.1 x.4)
-free-part p s big part last Group free = λ c k e a x. free c k e a (group-part p s big part k x)
-free-part p s big part last SetLoad free = λ c k e a x. free c k e a (set_load-part p s big part k x)
-free-part p s big part last Power free = λ c k e a x. free c k e a (power-part p s big part k x)
-free-part p s big part last Usable free = λ v n i j x. free v n i j (unusable-part p s big part v n i x)
-free-part p s big part last Hall free = tt
+free_stays p s big part last Place free = λ c k e a x. free c k e a (x.0, x.1, x.2, x.3, place-part p s big part k x.0 x.1 x.4)
+free_stays p s big part last Group free = λ c k e a x. free c k e a (group-part p s big part k x)
+free_stays p s big part last SetLoad free = λ c k e a x. free c k e a (set_load-part p s big part k x)
+free_stays p s big part last Power free = λ c k e a x. free c k e a (power-part p s big part k x)
+free_stays p s big part last Usable free = λ v n i j x. free v n i j (unusable-part p s big part v n i x)
+free_stays p s big part last Hall free = tt
 
 -- a valid plan's snapshot is free
 pub valid-free : (p : Instance) → IsInstance p → (plan : Choices) → IsValid p plan → (t : ℕ) → t ≤ p.horizon → (kind : ReasonKind) → IsFree p (snapshot_of p plan t) (t == p.horizon) kind

@@ -10,6 +10,10 @@ mod ValidLemmas
 mod FreeLemmas
 mod LawLemmas
 mod ClosedLemmas
+mod MemberLemmas
 mod MeasureLemmas
 mod TurnLemmas
 mod SettingLemmas
+mod RowLemmas
+mod StartLemmas
+mod StandardLemmas

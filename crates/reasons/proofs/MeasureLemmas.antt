@@ -1,5 +1,5 @@
 -- Measures that fall until a start and are least at the ends of a row: where no end starts, what is sure does not grow.
-use Rattle.std.proofs.Common.{◌≡◌, ◌⊎◌, inl, inr, ℕ, zero, suc, ◌<◌, ◌≤◌, Bool, true, false, cond, List, [], ◌∷◌, IsTrue, refl, ap, arith}
+use Rattle.std.proofs.Common.{◌≡◌, ◌⊎◌, inl, inr, ℕ, suc, ◌<◌, ◌≤◌, Bool, true, false, cond, List, [], ◌∷◌, IsTrue, refl, ap, arith}
 use Rattle.std.specs.List.{Contains}
 use Rattle.std.proofs.lemmas.Bool.{and_from, cases_lt, false≢true, or_cases}
 use Rattle.sums.specs.Least.{least, lower, lowest}
@@ -22,21 +22,7 @@ use Rattle.slices.proofs.Public.{action_at_ends, action_quiet, held_at_ends, hel
 use Rattle.domains.specs.Sets.{Sets, may, surely}
 use Rattle.domains.proofs.Public.{least_of_each, may_each, surely_each}
 use Rattle.reasons.specs.Sure.{sure}
-
--- ---- membership
-
-pub first-in : (c : Choice) (cs : List Choice) → Contains (c ∷ cs) c
-first-in c cs = (0, omega arith, refl)
-
-pub later-in : (c d : Choice) (cs : List Choice) → Contains cs d → Contains (c ∷ cs) d
-later-in c d cs (k, h, e) = (suc k, omega arith, e)
-
-pub cases-in : (c d : Choice) (cs : List Choice) → Contains (c ∷ cs) d → (c ≡ d) ⊎ Contains cs d
-cases-in c d cs (zero, h, e) = inl e
-cases-in c d cs (suc k, h, e) = inr (k, omega arith, e)
-
-pub none-in : (c : Choice) → ¬ Contains [] c
-none-in c (k, h, e) = omega arith
+use Rattle.reasons.proofs.MemberLemmas.{first-in, later-in}
 
 -- ---- measures
 

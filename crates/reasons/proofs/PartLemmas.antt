@@ -15,15 +15,13 @@ use Rattle.catalogue.specs.Values.{capacity_of}
 use Rattle.slices.specs.declared.stage.Progress.TheVariants.{Started, Unended, Acting}
 use Rattle.slices.specs.declared.slice.Weight.TheVariants.{Amount, Presence, Image}
 use Rattle.slices.specs.Elements.{machine_count, node_count}
-use Rattle.slices.specs.Parts.{IsPartOf}
 use Rattle.slices.specs.Snapshots.{Snapshot, load, room}
 use Rattle.slices.specs.Stages.{Nodes, one}
-use Rattle.reasons.specs.Laws.{IsPartIn}
+use Rattle.reasons.specs.Laws.{IsPartIn, PartsAreIn, PartsBreak}
 use Rattle.reasons.specs.Reasons.{AreBothActing, AreScattered, HasOutside, IsGroup, IsHall, IsOverload, IsPair, IsPlace, IsPower, IsSetLoad, IsUnusable}
 
--- a part is one as far as the machines of any instance go
-pub part-in : (p : Instance) (s big : Snapshot) → IsPartOf s big → IsPartIn p s big
-part-in p s big part = record {
+pub parts_are_in : PartsAreIn
+parts_are_in p s big part = record {
   held = λ v i w set. part.held v w set;
   present = part.present;
   usable = part.usable;
@@ -191,3 +189,15 @@ module _ (p : Instance) (s big : Snapshot) (part : IsPartIn p s big) where
   hall-part set (Sleeping vs) h = h
   hall-part set (Ready vs) h = h
   hall-part set (Killed vs) h = h
+
+pub parts_break : PartsBreak
+parts_break p s big part = record {
+  overload = overload-part p s big part;
+  pair = pair-part p s big part;
+  place = place-part p s big part;
+  group = group-part p s big part;
+  set_load = set_load-part p s big part;
+  power = power-part p s big part;
+  unusable = unusable-part p s big part;
+  hall = hall-part p s big part;
+}

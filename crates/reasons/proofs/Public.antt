@@ -1,6 +1,12 @@
--- What crates above may cite: the laws, by the names of their statements in specs/, and the two that hold of anything that parts keep.
+-- What crates above may cite: the laws, by the names of their statements in specs/; and `turns_decide_for` and `quiet_at_turns_for`, which
+-- hold of anything that a part of a snapshot keeps.
 pub use Rattle.reasons.proofs.LawLemmas.{empty_stays, refuted_excludes, refuted_excludes_all, stays_refuted}
 pub use Rattle.reasons.proofs.ClosedLemmas.{only_closed}
-pub use Rattle.reasons.proofs.SettingLemmas.{setting_apart, setting_grows, setting_load, setting_powered, setting_presences, setting_room, setting_sets, some_end}
-pub use Rattle.reasons.proofs.SureLemmas.{sure_grows}
-pub use Rattle.reasons.proofs.TurnLemmas.{quiet_at_turns, quiet_at_turns_for, turns_decide, turns_decide_for}
+pub use Rattle.reasons.proofs.StandardLemmas.{unrefuted_by_reasons}
+pub use Rattle.reasons.proofs.SureLemmas.{costs_at_least, least_cost_grows, only_costs, sure_grows}
+pub use Rattle.reasons.proofs.PartLemmas.{parts_are_in, parts_break}
+pub use Rattle.reasons.proofs.FreeLemmas.{free_stays}
+pub use Rattle.reasons.proofs.TurnLemmas.{closed_at_turns, closed_by_kinds, quiet_at_turns, quiet_at_turns_for, turns_decide, turns_decide_for, unrefuted_at_turns}
+pub use Rattle.reasons.proofs.SettingLemmas.{end_is_choice, machine_change, node_change, quiet_is_free, same_sets, setting_agrees, setting_grows, setting_load, setting_powered, setting_presences, setting_room, setting_sets, some_end}
+pub use Rattle.reasons.proofs.StartLemmas.{plan_is_in_start, start_is_legal, start_is_of}
+pub use Rattle.reasons.proofs.RowLemmas.{ends_of_rows, region_is_of, turns_of_rows}

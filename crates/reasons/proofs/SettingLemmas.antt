@@ -1,5 +1,5 @@
 -- What setting one element changes in what is sure.
-use Rattle.std.proofs.Common.{◌≡◌, ◌≢◌, inl, ℕ, ◌≤◌, Bool, true, false, cond, [], ◌∷◌, IsTrue, refl, sym, ap, subst, ◌∙◌, arith}
+use Rattle.std.proofs.Common.{◌≡◌, ◌==◌, ◌≢◌, inl, ℕ, ◌≤◌, Bool, true, false, cond, [], ◌∷◌, IsTrue, refl, sym, ap, subst, ◌∙◌, arith}
 use Rattle.std.specs.List.{Contains}
 use Rattle.std.proofs.lemmas.Bool.{eq-eqb, false_from_ne_true}
 use Rattle.std.proofs.Math.Bool.{or-false}
@@ -16,10 +16,13 @@ use Rattle.slices.specs.Elements.{machine_count, node_count, node, vm}
 use Rattle.slices.specs.Snapshots.{action_at, held_at, powered_at, present_at, usable_at}
 use Rattle.domains.specs.Sets.{Sets, may, same_element, setting, surely}
 use Rattle.domains.proofs.Public.{least_of_each, may_each, same_is, surely_each}
-use Rattle.reasons.specs.Settings.{IsMachineUnder, IsNodeUnder, IsSameMachine, IsSameNode, SettingApart, SettingGrows, SettingLoad, SettingPowered, SettingPresences, SettingRoom, SettingSets, SomeEnd}
+use Rattle.reasons.specs.Quiet.{QuietIsFree}
+use Rattle.reasons.specs.Settings.{EndIsChoice, IsMachineUnder, IsNodeUnder, IsSameMachine, IsSameNode, MachineChange, NodeChange, SameSets, SettingAgrees, SettingGrows, SettingLoad, SettingPowered, SettingPresences, SettingRoom, SettingSets, SomeEnd, powered_in, room_at}
 use Rattle.reasons.specs.Sure.{sure}
-use Rattle.reasons.proofs.ClosedLemmas.{and-true}
-use Rattle.reasons.proofs.MeasureLemmas.{first-in}
+use Rattle.reasons.proofs.ClosedLemmas.{and-true, end-contained}
+use Rattle.reasons.proofs.FreeLemmas.{free_stays}
+use Rattle.reasons.proofs.PartLemmas.{parts_are_in}
+use Rattle.reasons.proofs.MemberLemmas.{first-in}
 use Rattle.reasons.proofs.TurnLemmas.{low_of}
 
 self : (x : Element) → same_element x x ≡ true
@@ -95,12 +98,20 @@ setting_grows p s x c t i = record {
     at-may test e true h maybe = may_each test (s e) c (in_set e h) (sym (or-false (test c)) ∙ maybe)
     at-may test e false h maybe = maybe
 
+pub end_is_choice : EndIsChoice
+end_is_choice cs c end = end-contained cs c end
+
 pub some_end : SomeEnd
 some_end [] ne = absurd (ne refl)
 some_end (Idle ∷ cs) ne = (Idle, first-in Idle cs)
 some_end (Act place s ∷ cs) ne =
     let low = low_of (Act place s ∷ cs) place s (first-in (Act place s) cs) in
     (Act place low.0, (low.1.0, inl low.1.1))
+
+pub quiet_is_free : QuietIsFree
+quiet_is_free p s kind e there some quiet t l =
+    let end = some_end (s e) (some e there) in
+    free_stays p (sure p s t) (sure p (setting e end.0 s) t) (parts_are_in p _ _ (setting_grows p s e end.0 t (end-contained (s e) end.0 end.1))) (t == p.horizon) kind (quiet.quiet e end.0 there end.1 t l)
 
 -- ---- sums
 
@@ -123,44 +134,56 @@ node-differs k n ne e = ne (ap number e)
 vm-node : (v n : ℕ) → vm v ≢ node n
 vm-node v n e = let bad : true ≡ false = ap is_vm e in cc
 
+pub setting_agrees : SettingAgrees
+setting_agrees s x c e ne = setting-other x e c s ne
+
+pub machine_change : MachineChange
+machine_change p s old v t l agree = record {
+  of_load = λ r set. sum_to-change (machine_count p) (λ k. (sure p s t).held k (Amount r) set) (λ k. (sure p old t).held k (Amount r) set) v l (λ k ne. (others k ne).held (Amount r) set);
+  of_presences = λ set. sum_to-change (machine_count p) (λ k. (sure p s t).held k Presence set) (λ k. (sure p old t).held k Presence set) v l (λ k ne. (others k ne).held Presence set);
+  of_room = λ r set. sum_to-same (node_count p) (room_at p (sure p s t) r set) (room_at p (sure p old t) r set) (λ n i. ap (λ b. cond (set n) (cond b (capacity_of p n r) 0) 0) (nodes n).usable);
+  of_powered = λ set. sum_to-same (node_count p) (powered_in (sure p s t) set) (powered_in (sure p old t) set) (λ n i. ap (λ b. cond (set n) (cond b 1 0) 0) (nodes n).powered);
+}
+  where
+    others : (k : ℕ) → k ≢ v → IsSameMachine (sure p s t) (sure p old t) k
+    others k ne = same-machine p s old t k (agree (vm k) (vm-differs k v ne))
+
+    nodes : (n : ℕ) → IsSameNode (sure p s t) (sure p old t) n
+    nodes n = same-node p s old t n (agree (node n) (λ e. vm-node v n (sym e)))
+
+pub node_change : NodeChange
+node_change p s old n t l agree = record {
+  of_load = λ r set. sum_to-same (machine_count p) (λ v. (sure p s t).held v (Amount r) set) (λ v. (sure p old t).held v (Amount r) set) (λ v i. (machines v).held (Amount r) set);
+  of_presences = λ set. sum_to-same (machine_count p) (λ v. (sure p s t).held v Presence set) (λ v. (sure p old t).held v Presence set) (λ v i. (machines v).held Presence set);
+  of_room = λ r set. sum_to-change (node_count p) (room_at p (sure p s t) r set) (room_at p (sure p old t) r set) n l (λ k ne. ap (λ b. cond (set k) (cond b (capacity_of p k r) 0) 0) (others k ne).usable);
+  of_powered = λ set. sum_to-change (node_count p) (powered_in (sure p s t) set) (powered_in (sure p old t) set) n l (λ k ne. ap (λ b. cond (set k) (cond b 1 0) 0) (others k ne).powered);
+}
+  where
+    others : (k : ℕ) → k ≢ n → IsSameNode (sure p s t) (sure p old t) k
+    others k ne = same-node p s old t k (agree (node k) (node-differs k n ne))
+
+    machines : (v : ℕ) → IsSameMachine (sure p s t) (sure p old t) v
+    machines v = same-machine p s old t v (agree (vm v) (vm-node v n))
+
+pub same_sets : SameSets
+same_sets p s old t = record { of_machine = same-machine p s old t; of_node = same-node p s old t }
+
 pub setting_load : SettingLoad
 setting_load p s v c t r set l =
-    let set_to = setting_sets p s (vm v) c t in
-    let here = (set_to.set_machine v refl).held (Amount r) set in
-    let change = sum_to-change (machine_count p) (λ k. (sure p (setting (vm v) c s) t).held k (Amount r) set) (λ k. (sure p s t).held k (Amount r) set) v l
-    (λ k ne. (set_to.other_machines k (vm-differs k v ne)).held (Amount r) set) in
-    omega (arith, here, change)
+    let here = ((setting_sets p s (vm v) c t).set_machine v refl).held (Amount r) set in
+    omega (arith, here, (machine_change p (setting (vm v) c s) s v t l (setting_agrees s (vm v) c)).of_load r set)
 
 pub setting_presences : SettingPresences
 setting_presences p s v c t set l =
-    let set_to = setting_sets p s (vm v) c t in
-    let here = (set_to.set_machine v refl).held Presence set in
-    let change = sum_to-change (machine_count p) (λ k. (sure p (setting (vm v) c s) t).held k Presence set) (λ k. (sure p s t).held k Presence set) v l
-    (λ k ne. (set_to.other_machines k (vm-differs k v ne)).held Presence set) in
-    omega (arith, here, change)
+    let here = ((setting_sets p s (vm v) c t).set_machine v refl).held Presence set in
+    omega (arith, here, (machine_change p (setting (vm v) c s) s v t l (setting_agrees s (vm v) c)).of_presences set)
 
 pub setting_room : SettingRoom
 setting_room p s n c t r set l =
-    let set_to = setting_sets p s (node n) c t in
-    let here = ap (λ b. cond (set n) (cond b (capacity_of p n r) 0) 0) (set_to.set_node n refl).usable in
-    let change = sum_to-change (node_count p) (λ k. cond (set k) (cond ((sure p (setting (node n) c s) t).usable k) (capacity_of p k r) 0) 0) (λ k. cond (set k) (cond ((sure p s t).usable k) (capacity_of p k r) 0) 0) n l
-    (λ k ne. ap (λ b. cond (set k) (cond b (capacity_of p k r) 0) 0) (set_to.other_nodes k (node-differs k n ne)).usable) in
-    omega (arith, here, change)
+    let here = ap (λ b. cond (set n) (cond b (capacity_of p n r) 0) 0) ((setting_sets p s (node n) c t).set_node n refl).usable in
+    omega (arith, here, (node_change p (setting (node n) c s) s n t l (setting_agrees s (node n) c)).of_room r set)
 
 pub setting_powered : SettingPowered
 setting_powered p s n c t set l =
-    let set_to = setting_sets p s (node n) c t in
-    let here : ◌≡◌ {A = ℕ} (cond (set n) (cond ((sure p (setting (node n) c s) t).powered n) 1 0) 0) (cond (set n) (cond (powered_at p n t c) 1 0) 0) = ap (λ b. cond (set n) (cond b 1 0) 0) (set_to.set_node n refl).powered in
-    let change = sum_to-change (node_count p) (λ k. cond (set k) (cond ((sure p (setting (node n) c s) t).powered k) 1 0) 0) (λ k. cond (set k) (cond ((sure p s t).powered k) 1 0) 0) n l
-    (λ k ne. ap (λ b. cond (set k) (cond b 1 0) 0) (set_to.other_nodes k (node-differs k n ne)).powered) in
-    omega (arith, here, change)
-
-pub setting_apart : SettingApart
-setting_apart p s c t = record {
-  same_load = λ n r set. sum_to-same (machine_count p) (λ v. (sure p (setting (node n) c s) t).held v (Amount r) set) (λ v. (sure p s t).held v (Amount r) set) (λ v l. ((setting_sets p s (node n) c t).other_machines v (vm-node v n)).held (Amount r) set);
-  same_presences = λ n set. sum_to-same (machine_count p) (λ v. (sure p (setting (node n) c s) t).held v Presence set) (λ v. (sure p s t).held v Presence set) (λ v l. ((setting_sets p s (node n) c t).other_machines v (vm-node v n)).held Presence set);
-  same_room = λ v r set. sum_to-same (node_count p) (λ n. cond (set n) (cond ((sure p (setting (vm v) c s) t).usable n) (capacity_of p n r) 0) 0) (λ n. cond (set n) (cond ((sure p s t).usable n) (capacity_of p n r) 0) 0)
-      (λ n l. ap (λ b. cond (set n) (cond b (capacity_of p n r) 0) 0) ((setting_sets p s (vm v) c t).other_nodes n (λ e. vm-node v n (sym e))).usable);
-  same_powered = λ v set. sum_to-same (node_count p) (λ n. cond (set n) (cond ((sure p (setting (vm v) c s) t).powered n) 1 0) 0) (λ n. cond (set n) (cond ((sure p s t).powered n) 1 0) 0)
-      (λ n l. ap (λ b. cond (set n) (cond b 1 0) 0) ((setting_sets p s (vm v) c t).other_nodes n (λ e. vm-node v n (sym e))).powered);
-}
+    let here : ◌≡◌ {A = ℕ} (powered_in (sure p (setting (node n) c s) t) set n) (cond (set n) (cond (powered_at p n t c) 1 0) 0) = ap (λ b. cond (set n) (cond b 1 0) 0) ((setting_sets p s (node n) c t).set_node n refl).powered in
+    omega (arith, here, (node_change p (setting (node n) c s) s n t l (setting_agrees s (node n) c)).of_powered set)

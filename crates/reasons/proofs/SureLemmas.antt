@@ -1,11 +1,10 @@
 -- What is sure is a part of what each plan has, and grows in narrower sets.
-use Rattle.std.proofs.Common.{ℕ, ◌≤◌, arith}
+use Rattle.std.proofs.Common.{◌≤◌, ℕ, ap, refl, arith}
 use Rattle.std.specs.Prelude.{Option, Some, None, IsSomeAnd}
 use Rattle.sums.specs.Least.{least}
-use Rattle.sums.proofs.Sums.{sum_to-le}
+use Rattle.sums.proofs.Sums.{sum_to-le, sum_to-same}
 use Rattle.catalogue.specs.Instance.{Instance}
 use Rattle.slices.specs.Actions.{end_of}
-use Rattle.slices.specs.Costs.{cost_of}
 use Rattle.slices.specs.Elements.{machine_count, node_count, node, vm}
 use Rattle.slices.specs.Ends.{snapshot_of}
 use Rattle.slices.specs.Parts.{IsPartOf}
@@ -13,7 +12,7 @@ use Rattle.slices.specs.Plans.{Choices}
 use Rattle.slices.specs.Snapshots.{action_at, held_at, powered_at, present_at, usable_at}
 use Rattle.domains.specs.Sets.{Sets, IsIn}
 use Rattle.domains.proofs.Public.{least_grows, least_of_each, may_each, may_stays, surely_each, surely_stays}
-use Rattle.reasons.specs.Laws.{AreNarrower, HaveChoices, SureGrows}
+use Rattle.reasons.specs.Laws.{CostsAtLeast, LeastCostGrows, OnlyCosts, SureGrows}
 use Rattle.reasons.specs.Sure.{least_cost, sure}
 
 -- each plan of the sets has at least what is sure
@@ -38,19 +37,27 @@ sure_grows p s narrow fewer some t = record {
 }
 
 -- and costs at least the sum of the least ends
-pub least_cost-le : (p : Instance) (s : Sets) (plan : Choices) → IsIn s plan → least_cost p s ≤ cost_of p plan
+pub costs_at_least : CostsAtLeast
 unfolding least_cost
-least_cost-le p s plan i =
+costs_at_least p s plan i =
     let machines = sum_to-le (machine_count p) (λ v. least (end_of p (vm v)) (s (vm v))) (λ v. end_of p (vm v) (plan (vm v)))
     (λ v l. least_of_each (end_of p (vm v)) (s (vm v)) (plan (vm v)) (i (vm v))) in
     let nodes = sum_to-le (node_count p) (λ n. least (end_of p (node n)) (s (node n))) (λ n. end_of p (node n) (plan (node n)))
     (λ n l. least_of_each (end_of p (node n)) (s (node n)) (plan (node n)) (i (node n))) in
     omega (arith, machines, nodes)
 
--- that sum grows in narrower sets
-pub least_cost-grows : (p : Instance) (s narrow : Sets) → AreNarrower narrow s → HaveChoices p narrow → least_cost p s ≤ least_cost p narrow
+pub only_costs : OnlyCosts
 unfolding least_cost
-least_cost-grows p s narrow fewer some =
+only_costs p s plan only =
+    rw (
+      sum_to-same (machine_count p) (λ v. least (end_of p (vm v)) (s (vm v))) (λ v. end_of p (vm v) (plan (vm v))) (λ v l. ap (least (end_of p (vm v))) (only (vm v))),
+      sum_to-same (node_count p) (λ n. least (end_of p (node n)) (s (node n))) (λ n. end_of p (node n) (plan (node n))) (λ n l. ap (least (end_of p (node n))) (only (node n))),
+    ) refl
+
+-- that sum grows in narrower sets
+pub least_cost_grows : LeastCostGrows
+unfolding least_cost
+least_cost_grows p s narrow fewer some =
     let machines = sum_to-le (machine_count p) (λ v. least (end_of p (vm v)) (s (vm v))) (λ v. least (end_of p (vm v)) (narrow (vm v)))
     (λ v l. least_grows (end_of p (vm v)) (narrow (vm v)) (s (vm v)) (fewer (vm v)) (some (vm v) l)) in
     let nodes = sum_to-le (node_count p) (λ n. least (end_of p (node n)) (s (node n))) (λ n. least (end_of p (node n)) (narrow (node n)))

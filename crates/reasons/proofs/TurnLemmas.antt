@@ -15,13 +15,14 @@ use Rattle.slices.specs.Snapshots.{Snapshot}
 use Rattle.slices.specs.Starts.{start_of}
 use Rattle.domains.specs.Sets.{Sets, same_element, setting}
 use Rattle.domains.proofs.Public.{same_is}
-use Rattle.reasons.specs.Closed.{IsEnd, IsFree}
-use Rattle.reasons.specs.Quiet.{AreOf, IsEndStart, IsTurn, QuietAtTurns, TurnsDecide}
+use Rattle.reasons.specs.Closed.{IsEnd, IsFree, IsUnrefuted}
+use Rattle.reasons.specs.Quiet.{AreOf, ClosedAtTurns, ClosedByKinds, IsEndStart, IsTurn, QuietAtTurns, TurnsDecide, UnrefutedAtTurns}
 use Rattle.reasons.specs.Sure.{sure}
-use Rattle.reasons.proofs.FreeLemmas.{free-part}
+use Rattle.reasons.proofs.FreeLemmas.{free_stays}
 use Rattle.reasons.proofs.ClosedLemmas.{contains-one, end-contained}
-use Rattle.reasons.proofs.MeasureLemmas.{IsFine, cases-in, first-in, later-in, none-in, sure-next}
-use Rattle.reasons.proofs.PartLemmas.{part-in}
+use Rattle.reasons.proofs.MeasureLemmas.{IsFine, sure-next}
+use Rattle.reasons.proofs.MemberLemmas.{cases-in, first-in, later-in, none-in}
+use Rattle.reasons.proofs.PartLemmas.{parts_are_in}
 use Rattle.reasons.proofs.PlanLemmas.{search_to}
 
 -- ---- the ends of a set at a place
@@ -187,7 +188,7 @@ turns_decide_for A keeps p s of given (suc u) l =
 
 pub turns_decide : TurnsDecide
 turns_decide p s kind of given t l =
-    turns_decide_for (λ b last. IsFree p b last kind) (λ b big last part free. free-part p b big (part-in p b big part) last kind free) p s of given t l
+    turns_decide_for (λ b last. IsFree p b last kind) (λ b big last part free. free_stays p b big (parts_are_in p b big part) last kind free) p s of given t l
 
 -- ---- an element set to an end
 
@@ -217,5 +218,21 @@ quiet_at_turns_for A keeps p s of e c there end given =
 pub quiet_at_turns : QuietAtTurns
 quiet_at_turns p s kind of given = record {
   quiet = λ e c there end.
-      quiet_at_turns_for (λ b last. IsFree p b last kind) (λ b big last part free. free-part p b big (part-in p b big part) last kind free) p s of e c there end (λ t l turn. given t l turn e c there end);
+      quiet_at_turns_for (λ b last. IsFree p b last kind) (λ b big last part free. free_stays p b big (parts_are_in p b big part) last kind free) p s of e c there end (λ t l turn. given t l turn e c there end);
 }
+
+-- ---- closed, by kinds and by turns
+
+pub closed_by_kinds : ClosedByKinds
+unfolding IsUnrefuted
+closed_by_kinds p s = (
+  λ closed. (closed.some, λ kind. record { quiet = λ e c there end. closed.ends e c there end kind }),
+  λ kinds. record { some = kinds.0; ends = λ e c there end kind. (kinds.1 kind).quiet e c there end },
+)
+
+pub unrefuted_at_turns : UnrefutedAtTurns
+unfolding IsUnrefuted
+unrefuted_at_turns p s of given kind = turns_decide p s kind of (given kind)
+
+pub closed_at_turns : ClosedAtTurns
+closed_at_turns p s of some given = (closed_by_kinds p s).1 (some, λ kind. quiet_at_turns p s kind of (given kind))

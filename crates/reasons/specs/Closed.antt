@@ -54,9 +54,13 @@ IsEnd cs Idle = Contains cs Idle
 IsEnd cs (Act place s) =
     Contains cs (Act place s) × (((u : ℕ) → Contains cs (Act place u) → s ≤ u) ⊎ ((u : ℕ) → Contains cs (Act place u) → u ≤ s))
 
+-- each element of the instance has a choice
+abbrev pub HaveChoices : Instance → Sets → Type 0
+HaveChoices p s = (e : Element) → IsElement p e → s e ≢ []
+
 -- each element has a choice, and with any one set to an end of its choices no standard reason refutes the region
 pub record IsClosed (p : Instance) (s : Sets) : Type 0 where
-  pub some : (e : Element) → IsElement p e → s e ≢ []
+  pub some : HaveChoices p s
   pub ends : (e : Element) (c : Choice) → IsElement p e → IsEnd (s e) c → IsUnrefuted p (setting e c s)
 
 -- no standard reason of one kind refutes the region with an element set to an end of its choices

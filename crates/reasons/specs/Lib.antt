@@ -7,3 +7,4 @@ pub mod Start
 pub mod Laws
 pub mod Quiet
 pub mod Settings
+pub mod Regions

@@ -1,5 +1,5 @@
 -- Helping only: at which instants what is sure in a region can grow.
-use Rattle.std.specs.Prelude.{◌≡◌, ◌⊎◌, ℕ, ◌≤◌, ◌==◌, [], ◌∷◌, Some}
+use Rattle.std.specs.Prelude.{◌≡◌, ◌⊎◌, ◌↔◌, ℕ, ◌≤◌, ◌==◌, [], ◌∷◌, Some}
 use Rattle.cluster.specs.declared.choices.Choice.{Choice}
 use Rattle.cluster.specs.declared.choices.Choice.TheVariants.{Idle}
 use Rattle.cluster.specs.declared.ids.Element.{Element}
@@ -7,7 +7,7 @@ use Rattle.catalogue.specs.Instance.{Instance, IsElement}
 use Rattle.slices.specs.Starts.{start_of}
 use Rattle.domains.specs.Sets.{Sets, setting}
 use Rattle.reasons.specs.declared.reason.ReasonKind.{ReasonKind}
-use Rattle.reasons.specs.Closed.{IsEnd, IsFree, IsQuietKind}
+use Rattle.reasons.specs.Closed.{HaveChoices, IsClosed, IsEnd, IsFree, IsQuietKind, IsUnrefuted}
 use Rattle.reasons.specs.Sure.{sure}
 
 -- an element that the instance has not can only stay
@@ -39,3 +39,22 @@ IsQuietAt p s kind t = (e : Element) (c : Choice) → IsElement p e → IsEnd (s
 abbrev pub QuietAtTurns : Type 0
 QuietAtTurns =
     (p : Instance) (s : Sets) (kind : ReasonKind) → AreOf p s → ((t : ℕ) → t ≤ p.horizon → IsTurn p s t → IsQuietAt p s kind t) → IsQuietKind p s kind
+
+-- sets are closed where each element has a choice and each kind is quiet
+abbrev pub ClosedByKinds : Type 0
+ClosedByKinds = (p : Instance) (s : Sets) → IsClosed p s ↔ (HaveChoices p s × ((kind : ReasonKind) → IsQuietKind p s kind))
+
+-- so turns decide whether sets are unrefuted, and whether they are closed
+abbrev pub UnrefutedAtTurns : Type 0
+UnrefutedAtTurns =
+    (p : Instance) (s : Sets) → AreOf p s → ((kind : ReasonKind) (t : ℕ) → t ≤ p.horizon → IsTurn p s t → IsFree p (sure p s t) (t == p.horizon) kind) → IsUnrefuted p s
+
+abbrev pub ClosedAtTurns : Type 0
+ClosedAtTurns =
+    (p : Instance) (s : Sets) → AreOf p s → HaveChoices p s → ((kind : ReasonKind) (t : ℕ) → t ≤ p.horizon → IsTurn p s t → IsQuietAt p s kind t) → IsClosed p s
+
+-- where the instance has an element, a quiet kind has no reason in the sets as they are
+abbrev pub QuietIsFree : Type 0
+QuietIsFree =
+    (p : Instance) (s : Sets) (kind : ReasonKind) (e : Element) → IsElement p e → HaveChoices p s → IsQuietKind p s kind → (t : ℕ) → t ≤ p.horizon →
+    IsFree p (sure p s t) (t == p.horizon) kind

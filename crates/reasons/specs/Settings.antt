@@ -56,7 +56,56 @@ SettingGrows = (p : Instance) (s : Sets) (x : Element) (c : Choice) (t : ℕ) �
 abbrev pub SomeEnd : Type 0
 SomeEnd = (cs : List Choice) → cs ≢ [] → (c : Choice) × IsEnd cs c
 
--- ---- sums: the part of the element that is set changes, and nothing else
+-- an end is a choice
+abbrev pub EndIsChoice : Type 0
+EndIsChoice = (cs : List Choice) (c : Choice) → IsEnd cs c → Contains cs c
+
+-- ---- sums, where sets differ at one element: its part changes, and nothing else
+
+-- sets that are the same but at one element
+abbrev pub AgreeBut : Element → Sets → Sets → Type 0
+AgreeBut x s old = (e : Element) → e ≢ x → s e ≡ old e
+
+-- sets that are the same at an element have the same of it
+pub record AreSameAt (p : Instance) (s old : Sets) (t : ℕ) : Type 0 where
+  pub of_machine : (v : ℕ) → s (vm v) ≡ old (vm v) → IsSameMachine (sure p s t) (sure p old t) v
+  pub of_node : (n : ℕ) → s (node n) ≡ old (node n) → IsSameNode (sure p s t) (sure p old t) n
+
+abbrev pub SameSets : Type 0
+SameSets = (p : Instance) (s old : Sets) (t : ℕ) → AreSameAt p s old t
+
+-- another set of a machine changes loads and presences by its own
+pub record IsMachineChange (p : Instance) (s old : Sets) (v t : ℕ) : Type 0 where
+  pub of_load : (r : ℕ) (set : Nodes) →
+      load p (sure p s t) r set + (sure p old t).held v (Amount r) set ≡ load p (sure p old t) r set + (sure p s t).held v (Amount r) set
+  pub of_presences : (set : Nodes) →
+      presences p (sure p s t) set + (sure p old t).held v Presence set ≡ presences p (sure p old t) set + (sure p s t).held v Presence set
+  pub of_room : (r : ℕ) (set : Nodes) → room p (sure p s t) r set ≡ room p (sure p old t) r set
+  pub of_powered : (set : Nodes) → powered_nodes p (sure p s t) set ≡ powered_nodes p (sure p old t) set
+
+abbrev pub MachineChange : Type 0
+MachineChange = (p : Instance) (s old : Sets) (v t : ℕ) → v < machine_count p → AgreeBut (vm v) s old → IsMachineChange p s old v t
+
+-- what a node of a set adds to the room, and to the powered nodes
+abbrev pub room_at : Instance → Snapshot → ℕ → Nodes → ℕ → ℕ
+room_at p s r set n = if set n then (if s.usable n then capacity_of p n r else 0) else 0
+
+abbrev pub powered_in : Snapshot → Nodes → ℕ → ℕ
+powered_in s set n = if set n then (if s.powered n then 1 else 0) else 0
+
+-- another set of a node changes room and powered nodes by its own
+pub record IsNodeChange (p : Instance) (s old : Sets) (n t : ℕ) : Type 0 where
+  pub of_load : (r : ℕ) (set : Nodes) → load p (sure p s t) r set ≡ load p (sure p old t) r set
+  pub of_presences : (set : Nodes) → presences p (sure p s t) set ≡ presences p (sure p old t) set
+  pub of_room : (r : ℕ) (set : Nodes) →
+      room p (sure p s t) r set + room_at p (sure p old t) r set n ≡ room p (sure p old t) r set + room_at p (sure p s t) r set n
+  pub of_powered : (set : Nodes) →
+      powered_nodes p (sure p s t) set + powered_in (sure p old t) set n ≡ powered_nodes p (sure p old t) set + powered_in (sure p s t) set n
+
+abbrev pub NodeChange : Type 0
+NodeChange = (p : Instance) (s old : Sets) (n t : ℕ) → n < node_count p → AgreeBut (node n) s old → IsNodeChange p s old n t
+
+-- ---- sums, where an element is set: a choice takes the place of the least
 
 abbrev pub SettingLoad : Type 0
 SettingLoad =
@@ -71,21 +120,15 @@ SettingPresences =
 abbrev pub SettingRoom : Type 0
 SettingRoom =
     (p : Instance) (s : Sets) (n : ℕ) (c : Choice) (t r : ℕ) (set : Nodes) → n < node_count p →
-    room p (sure p (setting (node n) c s) t) r set + (if set n then (if (sure p s t).usable n then capacity_of p n r else 0) else 0) ≡
+    room p (sure p (setting (node n) c s) t) r set + room_at p (sure p s t) r set n ≡
     room p (sure p s t) r set + (if set n then (if usable_at p n t c then capacity_of p n r else 0) else 0)
 
 abbrev pub SettingPowered : Type 0
 SettingPowered =
     (p : Instance) (s : Sets) (n : ℕ) (c : Choice) (t : ℕ) (set : Nodes) → n < node_count p →
-    powered_nodes p (sure p (setting (node n) c s) t) set + (if set n then (if (sure p s t).powered n then 1 else 0) else 0) ≡
+    powered_nodes p (sure p (setting (node n) c s) t) set + powered_in (sure p s t) set n ≡
     powered_nodes p (sure p s t) set + (if set n then (if powered_at p n t c then 1 else 0) else 0)
 
--- setting a node changes no load and no presences, and setting a machine no room and no powered nodes
-pub record IsApart (p : Instance) (s : Sets) (c : Choice) (t : ℕ) : Type 0 where
-  pub same_load : (n r : ℕ) (set : Nodes) → load p (sure p (setting (node n) c s) t) r set ≡ load p (sure p s t) r set
-  pub same_presences : (n : ℕ) (set : Nodes) → presences p (sure p (setting (node n) c s) t) set ≡ presences p (sure p s t) set
-  pub same_room : (v r : ℕ) (set : Nodes) → room p (sure p (setting (vm v) c s) t) r set ≡ room p (sure p s t) r set
-  pub same_powered : (v : ℕ) (set : Nodes) → powered_nodes p (sure p (setting (vm v) c s) t) set ≡ powered_nodes p (sure p s t) set
-
-abbrev pub SettingApart : Type 0
-SettingApart = (p : Instance) (s : Sets) (c : Choice) (t : ℕ) → IsApart p s c t
+-- sets of which one is set are the same but there
+abbrev pub SettingAgrees : Type 0
+SettingAgrees = (s : Sets) (x : Element) (c : Choice) → AgreeBut x (setting x c s) s

@@ -1,8 +1,9 @@
 //! Laws of the definitions: each is the contract of a function that does nothing, and a lemma of the
 //! same name in proofs/Public proves it.
-ghost use Rattle.reasons.specs.Laws.{EmptyStays, OnlyClosed, RefutedExcludes, RefutedExcludesAll, StaysRefuted, SureGrows};
-ghost use Rattle.reasons.specs.Quiet.{QuietAtTurns, TurnsDecide};
-ghost use Rattle.reasons.specs.Settings.{SettingApart, SettingGrows, SettingLoad, SettingPowered, SettingPresences, SettingRoom, SettingSets, SomeEnd};
+ghost use Rattle.reasons.specs.Laws.{CostsAtLeast, EmptyStays, FreeStays, LeastCostGrows, OnlyClosed, OnlyCosts, PartsAreIn, PartsBreak, RefutedExcludes, RefutedExcludesAll, StaysRefuted, SureGrows, UnrefutedByReasons};
+ghost use Rattle.reasons.specs.Quiet.{ClosedAtTurns, ClosedByKinds, QuietAtTurns, QuietIsFree, TurnsDecide, UnrefutedAtTurns};
+ghost use Rattle.reasons.specs.Settings.{EndIsChoice, MachineChange, NodeChange, SameSets, SettingAgrees, SettingGrows, SettingLoad, SettingPowered, SettingPresences, SettingRoom, SettingSets, SomeEnd};
+ghost use Rattle.reasons.specs.Regions.{EndsOfRows, PlanIsInStart, RegionIsOf, StartIsLegal, StartIsOf, TurnsOfRows};
 
 /// What is refuted holds no valid plan that costs less than the one handed in, and none at all
 /// where no plan is handed in.
@@ -17,10 +18,38 @@ pub fn refuted_excludes_all()
     ensures { RefutedExcludesAll }
 {}
 
+/// No plan of the sets costs less than the sum of the least ends.
+#[tactic(auto, using(crate::proofs::Public::costs_at_least))]
+pub fn costs_at_least()
+    ensures { CostsAtLeast }
+{}
+
+/// Sets that are one plan have its cost as the sum of the least ends.
+#[tactic(auto, using(crate::proofs::Public::only_costs))]
+pub fn only_costs()
+    ensures { OnlyCosts }
+{}
+
+/// Sets that are one plan are closed exactly where the plan is valid.
+pub fn only_closed()
+    ensures { OnlyClosed }
+{}
+
+/// Sets are unrefuted exactly where no standard reason refutes them.
+pub fn unrefuted_by_reasons()
+    ensures { UnrefutedByReasons }
+{}
+
 /// In narrower sets, none of which is empty, no less is sure.
 #[tactic(auto, using(crate::proofs::Public::sure_grows))]
 pub fn sure_grows()
     ensures { SureGrows }
+{}
+
+/// In narrower sets, none of which is empty, the sum of the least ends is no less.
+#[tactic(auto, using(crate::proofs::Public::least_cost_grows))]
+pub fn least_cost_grows()
+    ensures { LeastCostGrows }
 {}
 
 /// What is refuted stays refuted by the same reason in narrower sets, none of which is empty.
@@ -34,10 +63,22 @@ pub fn empty_stays()
     ensures { EmptyStays }
 {}
 
-/// Sets that are one plan are closed exactly where the plan is valid.
-#[tactic(auto, using(crate::proofs::Public::only_closed))]
-pub fn only_closed()
-    ensures { OnlyClosed }
+/// What is broken in a part of a snapshot is broken in the whole.
+#[tactic(auto, using(crate::proofs::Public::parts_break))]
+pub fn parts_break()
+    ensures { PartsBreak }
+{}
+
+/// A part of what is free of a kind of reason is free of it.
+#[tactic(auto, using(crate::proofs::Public::free_stays))]
+pub fn free_stays()
+    ensures { FreeStays }
+{}
+
+/// A part is one as far as the machines of an instance go.
+#[tactic(auto, using(crate::proofs::Public::parts_are_in))]
+pub fn parts_are_in()
+    ensures { PartsAreIn }
 {}
 
 /// What is free of a kind of standard reason at each turn is so at each instant.
@@ -50,6 +91,29 @@ pub fn turns_decide()
 #[tactic(auto, using(crate::proofs::Public::quiet_at_turns))]
 pub fn quiet_at_turns()
     ensures { QuietAtTurns }
+{}
+
+/// Sets are closed exactly where each element has a choice and each kind is quiet.
+pub fn closed_by_kinds()
+    ensures { ClosedByKinds }
+{}
+
+/// Where there is no standard reason at any turn, the sets are unrefuted.
+#[tactic(auto, using(crate::proofs::Public::unrefuted_at_turns))]
+pub fn unrefuted_at_turns()
+    ensures { UnrefutedAtTurns }
+{}
+
+/// Where there is none with any element set to any end, at any turn, the sets are closed.
+#[tactic(auto, using(crate::proofs::Public::closed_at_turns))]
+pub fn closed_at_turns()
+    ensures { ClosedAtTurns }
+{}
+
+/// A quiet kind has no reason in the sets as they are, where the instance has an element.
+#[tactic(auto, using(crate::proofs::Public::quiet_is_free))]
+pub fn quiet_is_free()
+    ensures { QuietIsFree }
 {}
 
 /// An element that is set has what it has under its choice, and all others have what they had.
@@ -68,6 +132,36 @@ pub fn setting_grows()
 #[tactic(auto, using(crate::proofs::Public::some_end))]
 pub fn some_end()
     ensures { SomeEnd }
+{}
+
+/// An end is a choice.
+#[tactic(auto, using(crate::proofs::Public::end_is_choice))]
+pub fn end_is_choice()
+    ensures { EndIsChoice }
+{}
+
+/// Sets that are the same at an element have the same of it.
+#[tactic(auto, using(crate::proofs::Public::same_sets))]
+pub fn same_sets()
+    ensures { SameSets }
+{}
+
+/// Another set of a machine changes loads and presences by its own, and nothing else.
+#[tactic(auto, using(crate::proofs::Public::machine_change))]
+pub fn machine_change()
+    ensures { MachineChange }
+{}
+
+/// Another set of a node changes room and powered nodes by its own, and nothing else.
+#[tactic(auto, using(crate::proofs::Public::node_change))]
+pub fn node_change()
+    ensures { NodeChange }
+{}
+
+/// Sets of which one is set are the same but there.
+#[tactic(auto, using(crate::proofs::Public::setting_agrees))]
+pub fn setting_agrees()
+    ensures { SettingAgrees }
 {}
 
 /// Setting a machine changes a load by what the machine uses.
@@ -94,9 +188,36 @@ pub fn setting_powered()
     ensures { SettingPowered }
 {}
 
-/// Setting a node changes no load and no presences, and setting a machine no room and no powered
-/// nodes.
-#[tactic(auto, using(crate::proofs::Public::setting_apart))]
-pub fn setting_apart()
-    ensures { SettingApart }
+/// The start region has exactly the legal choices of each element.
+pub fn start_is_legal()
+    ensures { StartIsLegal }
+{}
+
+/// Each plan is in the start region.
+#[tactic(auto, using(crate::proofs::Public::plan_is_in_start))]
+pub fn plan_is_in_start()
+    ensures { PlanIsInStart }
+{}
+
+/// In the start region an element that the instance has not can only stay.
+#[tactic(auto, using(crate::proofs::Public::start_is_of))]
+pub fn start_is_of()
+    ensures { StartIsOf }
+{}
+
+/// The ends of a domain's choices are the ends of its rows, and Idle where it is held.
+pub fn ends_of_rows()
+    ensures { EndsOfRows }
+{}
+
+/// In a region of an instance an element that the instance has not can only stay.
+#[tactic(auto, using(crate::proofs::Public::region_is_of))]
+pub fn region_is_of()
+    ensures { RegionIsOf }
+{}
+
+/// The turns of a region are 0, the horizon, and both ends of each row.
+#[tactic(auto, using(crate::proofs::Public::turns_of_rows))]
+pub fn turns_of_rows()
+    ensures { TurnsOfRows }
 {}

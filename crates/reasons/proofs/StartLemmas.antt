@@ -1,0 +1,86 @@
+-- The start region has exactly the legal choices.
+use Rattle.std.proofs.Common.{◌≡◌, inl, inr, ◌+◌, ◌<◌, Bool, true, false, cond, nat_le, nat_lt, [], None, is_some, IsTrue, refl, arith}
+use Rattle.std.specs.List.{Contains, range_with_len}
+use Rattle.std.proofs.lemmas.Bool.{and_parts, cases_lt, false≢true, le-ltb, leb-true, lt-ltb, ltb-true}
+use Rattle.cluster.specs.declared.choices.Choice.{Choice}
+use Rattle.cluster.specs.declared.choices.Choice.TheVariants.{Idle, Act}
+use Rattle.cluster.specs.declared.choices.Place.{Place}
+use Rattle.cluster.specs.declared.choices.Place.TheVariants.{Nowhere, At}
+use Rattle.cluster.specs.declared.ids.Element.{Element}
+use Rattle.cluster.specs.declared.ids.Element.TheVariants.{Vm, Node as TheNode}
+use Rattle.cluster.specs.declared.ids.NodeId.{NodeId}
+use Rattle.cluster.specs.Inventory.{is_online}
+use Rattle.catalogue.specs.declared.targets.Wish.{Wish}
+use Rattle.catalogue.specs.declared.targets.Wish.TheVariants.{Keep, To, Clash}
+use Rattle.catalogue.specs.Instance.{Instance, IsElement}
+use Rattle.catalogue.specs.Values.{wanted_of}
+use Rattle.slices.specs.Actions.{action_duration, end_of, is_legal, is_raised, kind_of, machine_kind, node_kind, wanted_state}
+use Rattle.slices.specs.Elements.{machine_count, node_count, state_of}
+use Rattle.domains.specs.Choices.{starts_from}
+use Rattle.reasons.specs.Regions.{PlanIsInStart, StartIsLegal, StartIsOf}
+use Rattle.reasons.specs.Start.{every_choice, is_element, places, start_sets}
+use Rattle.reasons.proofs.MemberLemmas.{filter-in, first-in, flat_map-in, in-filter, later-in, map-in, range-in}
+use Rattle.reasons.proofs.RowLemmas.{starts-in}
+
+-- ---- each legal choice is one of all
+
+node_acts_nowhere : (online : Bool) (wish : Wish) (n : NodeId) → ¬ (is_some (node_kind online wish (At n)) ≡ true)
+node_acts_nowhere true Keep n h = false≢true h
+node_acts_nowhere true (To t) n h = false≢true h
+node_acts_nowhere true Clash n h = false≢true h
+node_acts_nowhere false Keep n h = false≢true h
+node_acts_nowhere false (To t) n h = false≢true h
+node_acts_nowhere false Clash n h = false≢true h
+
+placed : (p : Instance) (e : Element) (n : NodeId) → is_some (kind_of p e (At n)) ≡ true → n.0 < node_count p
+unfolding kind_of
+placed p (Vm v) n h = at (nat_lt n.0 (node_count p)) refl h
+  where
+    at : (b : Bool) → nat_lt n.0 (node_count p) ≡ b → is_some (cond b (machine_kind (state_of p v.0) (wanted_state p v.0) (is_raised p v.0) (At n)) None) ≡ true → n.0 < node_count p
+    at true e h = ltb-true n.0 (node_count p) e
+    at false e h = absurd (false≢true h)
+placed p (TheNode m) n h = absurd (node_acts_nowhere (is_online p.nodes m.0) (wanted_of p (TheNode m)) n h)
+
+place-in : (p : Instance) (e : Element) (place : Place) → is_some (kind_of p e place) ≡ true → Contains (places p) place
+place-in p e Nowhere h = first-in Nowhere _
+place-in p e (At n) h =
+    later-in Nowhere (At n) _ (map-in (λ k. At (record { 0 = k })) (range_with_len 0 (node_count p)) n.0 (range-in (node_count p) n.0 (placed p e n h)))
+
+choice-in : (p : Instance) (e : Element) (c : Choice) → IsTrue (is_legal p e c) → Contains (every_choice p) c
+unfolding is_legal end_of
+choice-in p e Idle legal = first-in Idle _
+choice-in p e (Act place s) legal =
+    let parts = and_parts (is_some (kind_of p e place)) (nat_le (s + action_duration p e place) p.horizon) legal in
+    let early = leb-true (s + action_duration p e place) p.horizon parts.1 in
+    later-in Idle (Act place s) _
+    (flat_map-in (λ q. starts_from q 0 (p.horizon + 1)) (places p) place (Act place s) (place-in p e place parts.0) (starts-in place 0 (p.horizon + 1) s (omega arith) (omega (arith, early))))
+
+-- ---- the start region
+
+element-true : (p : Instance) (e : Element) → IsElement p e → is_element p e ≡ true
+element-true p (Vm v) h = lt-ltb v.0 (machine_count p) h
+element-true p (TheNode n) h = lt-ltb n.0 (node_count p) h
+
+pub start_is_of : StartIsOf
+unfolding start_sets
+start_is_of p (Vm v) =
+    elim (cases_lt v.0 (machine_count p)) [ inl there ↦ inl there | inr past ↦ inr (rw (le-ltb v.0 (machine_count p) past) refl) ]
+start_is_of p (TheNode n) =
+    elim (cases_lt n.0 (node_count p)) [ inl there ↦ inl there | inr past ↦ inr (rw (le-ltb n.0 (node_count p) past) refl) ]
+
+pub start_is_legal : StartIsLegal
+unfolding start_sets
+start_is_legal p e there c =
+    let is = element-true p e there in
+    rw is (λ h. in-filter (is_legal p e) (every_choice p) c h, λ legal. filter-in (is_legal p e) (every_choice p) c (choice-in p e c legal) legal)
+
+pub plan_is_in_start : PlanIsInStart
+plan_is_in_start p plan legal past e =
+    elim (past e) [
+      | inl there ↦ (start_is_legal p e there (plan e)).1 (legal e there)
+      | inr idle ↦
+          elim (start_is_of p e) [
+            | inl there ↦ (start_is_legal p e there (plan e)).1 (legal e there)
+            | inr only ↦ rw (only, idle) (first-in Idle [])
+          ]
+    ]
