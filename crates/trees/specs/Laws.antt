@@ -1,0 +1,76 @@
+-- Helping only: what trees say of plans, and how large they are.
+use Rattle.std.specs.Prelude.{◌≡◌, ◌⊎◌, ℕ, ◌+◌, ◌≤◌, max, Bool, true, false, List, [], ◌∷◌, Option, Some, None, IsSomeAnd}
+use Rattle.catalogue.specs.Instance.{Instance, IsInstance}
+use Rattle.slices.specs.Costs.{cost_of, IsInfeasible, IsOptimal}
+use Rattle.slices.specs.Elements.{machine_count, node_count}
+use Rattle.slices.specs.Plans.{Choices, IsPlan}
+use Rattle.slices.specs.Rules.{IsValid}
+use Rattle.domains.specs.Sets.{Sets, IsIn}
+use Rattle.domains.specs.Sizes.{size}
+use Rattle.reasons.specs.Laws.{Excludes}
+use Rattle.reasons.specs.Start.{start_sets}
+use Rattle.trees.specs.declared.steps.Goal.TheVariants.{Optimal, Infeasible, Undecided}
+use Rattle.trees.specs.Trees.{Tree, steps_of}
+use Rattle.trees.specs.Proving.{Proves}
+use Rattle.trees.specs.Goals.{decisions, has_left, least_shown, left_sets, shown}
+use Rattle.trees.specs.Searching.{IsLean}
+
+-- ---- what a tree says of the plans in the sets that it is over
+
+-- where nothing is left, no valid plan costs less than the one that was handed in, and none is valid without one
+abbrev pub ProvedExcludes : Type 0
+ProvedExcludes =
+    (p : Instance) → IsInstance p → (bound : Option ℕ) (s : Sets) (t : Tree) → Proves p bound s t → has_left (steps_of t) ≡ false → Excludes p bound s
+
+-- the plan is in one of the sets
+abbrev pub IsInSome : Choices → List Sets → Type 0
+IsInSome plan [] = ⊥
+IsInSome plan (s ∷ rest) = IsIn s plan ⊎ IsInSome plan rest
+
+-- a valid plan costs no less than the one that was handed in, or is in sets that are left
+abbrev pub ProvedLeaves : Type 0
+ProvedLeaves =
+    (p : Instance) → IsInstance p → (bound : Option ℕ) (s : Sets) (t : Tree) → Proves p bound s t → (plan : Choices) → IsIn s plan → IsValid p plan →
+    IsSomeAnd bound (λ known. known ≤ cost_of p plan) ⊎ IsInSome plan (left_sets s t)
+
+-- so no valid plan costs less than the least that is shown
+abbrev pub LeastHolds : Type 0
+LeastHolds =
+    (p : Instance) → IsInstance p → (bound : Option ℕ) (s : Sets) (t : Tree) (n : ℕ) → Proves p bound s t → least_shown p bound s t ≡ Some n →
+    (plan : Choices) → IsIn s plan → IsValid p plan → n ≤ cost_of p plan
+
+-- a least is shown exactly where sets are left
+abbrev pub LeastIsShown : Type 0
+LeastIsShown = (p : Instance) (bound : Option ℕ) (s : Sets) (t : Tree) → has_left (steps_of t) ≡ true → (n : ℕ) × (least_shown p bound s t ≡ Some n)
+
+-- ---- what each goal says, of a tree over all legal choices
+
+-- optimal: the plan that was handed in is, and that is its cost
+abbrev pub OptimalHolds : Type 0
+OptimalHolds =
+    (p : Instance) → IsInstance p → (plan : Choices) → IsPlan p plan → IsValid p plan → (t : Tree) → Proves p (Some (cost_of p plan)) (start_sets p) t →
+    (cost : ℕ) → shown (Some (cost_of p plan)) (steps_of t) ≡ Optimal cost → IsOptimal p plan × (cost_of p plan ≡ cost)
+
+-- infeasible: no plan is valid
+abbrev pub InfeasibleHolds : Type 0
+InfeasibleHolds =
+    (p : Instance) → IsInstance p → (bound : Option ℕ) (t : Tree) → Proves p bound (start_sets p) t → shown bound (steps_of t) ≡ Infeasible → IsInfeasible p
+
+-- undecided: no valid plan costs less than the least that is shown
+abbrev pub UndecidedHolds : Type 0
+UndecidedHolds =
+    (p : Instance) → IsInstance p → (bound : Option ℕ) (t : Tree) → Proves p bound (start_sets p) t → (count : ℕ) → shown bound (steps_of t) ≡ Undecided count →
+    (n : ℕ) × (least_shown p bound (start_sets p) t ≡ Some n) × ((plan : Choices) → IsPlan p plan → IsValid p plan → n ≤ cost_of p plan)
+
+-- ---- how large trees are
+
+-- so many decisions, with or without sets that are left, fit sets with so many plans
+pub record DecisionsFit (count : ℕ) (some_left : Bool) (plans : ℕ) : Type 0 where
+  pub fit : count + 1 ≤ max 1 plans
+  pub more : some_left ≡ true → count + 2 ≤ plans
+
+-- a lean tree has fewer decisions than there are plans in the sets that it proves, and two fewer where some are left
+abbrev pub LeanTreesFit : Type 0
+LeanTreesFit =
+    (p : Instance) (bound : Option ℕ) (s : Sets) (t : Tree) → Proves p bound s t → IsLean p s t →
+    DecisionsFit (decisions (steps_of t)) (has_left (steps_of t)) (size (machine_count p) (node_count p) s)

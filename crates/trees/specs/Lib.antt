@@ -1,0 +1,7 @@
+-- what a reader must believe
+pub mod Trees
+pub mod Proving
+pub mod Goals
+pub mod Searching
+-- what the laws say beside it
+pub mod Laws
