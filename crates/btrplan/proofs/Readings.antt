@@ -6,12 +6,12 @@ use Rattle.json_walk.specs.Walk.{Fails}
 use Rattle.slices.specs.Plans.{PlanChoices, choices_of}
 use Rattle.instance_json.specs.Instance.{instance_of}
 use Rattle.instance_json.specs.Texts.{fault_text as instance_fault_text}
-use Rattle.instance_json.specs.Walk.{named as instance_named}
+use Rattle.instance_json.specs.Walk.{instance_fault_of}
 use Rattle.instance_json.specs.declared.fault.InstanceFault.{InstanceFault}
 use Rattle.instance_json.specs.declared.fault.InstanceFault.TheVariants as of_instance
 use Rattle.plan_json.specs.Plans.{plan_of}
 use Rattle.plan_json.specs.Texts.{fault_text as plan_fault_text}
-use Rattle.plan_json.specs.Walk.{named as plan_named}
+use Rattle.plan_json.specs.Walk.{plan_fault_of}
 use Rattle.plan_json.specs.declared.fault.PlanFault.{PlanFault}
 use Rattle.plan_json.specs.declared.fault.PlanFault.TheVariants as of_plan
 use Rattle.json_walk.specs.declared.reading.TheConstants.{MAX_TEXT_BYTES}
@@ -50,7 +50,7 @@ long_line input bytes line = by_size (nat_le (length bytes) MAX_TEXT_BYTES) refl
 -- ---- an instance
 
 -- a fault that is not want of memory is the instance's first one
-pub first_instance_fault : (bytes : List ℕ) (f : InstanceFault) → ¬ (f ≡ of_instance.Memory) → Fails (instance_named f) (instance_of bytes) → reading_of bytes ≡ Err (instance_line (instance_fault_text f))
+pub first_instance_fault : (bytes : List ℕ) (f : InstanceFault) → ¬ (f ≡ of_instance.Memory) → Fails (instance_fault_of f) (instance_of bytes) → reading_of bytes ≡ Err (instance_line (instance_fault_text f))
 unfolding reading_of
 first_instance_fault bytes of_instance.TooLong other h = ap lined h
 first_instance_fault bytes of_instance.NotJson other h = ap lined h
@@ -81,7 +81,7 @@ unfolding plan_reading_of
 no_plan p bytes h = ap (plan_lined p) h
 
 -- a fault that is not want of memory is the plan's first one
-pub first_plan_fault : (p : Instance) (bytes : List ℕ) (f : PlanFault) → ¬ (f ≡ of_plan.Memory) → Fails (plan_named f) (plan_of p bytes) → plan_reading_of p bytes ≡ Err (plan_line (plan_fault_text (inventory_of p) f))
+pub first_plan_fault : (p : Instance) (bytes : List ℕ) (f : PlanFault) → ¬ (f ≡ of_plan.Memory) → Fails (plan_fault_of f) (plan_of p bytes) → plan_reading_of p bytes ≡ Err (plan_line (plan_fault_text (inventory_of p) f))
 unfolding plan_reading_of
 first_plan_fault p bytes of_plan.TooLong other h = ap (plan_lined p) h
 first_plan_fault p bytes of_plan.NotJson other h = ap (plan_lined p) h
