@@ -57,6 +57,6 @@ prefix_of_report instance plan_file source before after printed now p plan kept 
     result = verdict_status cut.answer;
     answered = replayed instance plan_file source (outside before printed) (outside after (printed ++ report_text p plan cut.answer)) p plan (verdict_status cut.answer) read plan_read
         (record { answer = cut.answer; verdict = cut.verdict; printed = refl; status = refl; files = kept });
-    prefix = cut.front;
+    prefix = cut.prefix;
   }),
 )
