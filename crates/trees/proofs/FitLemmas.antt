@@ -17,7 +17,7 @@ use Rattle.trees.specs.declared.steps.Step.TheVariants.{Decide, Cut}
 use Rattle.trees.specs.Trees.{Tree, fail_leaf, plan_leaf, left_leaf, cut_then, decide_both, steps_of, inside, outside, AtEach}
 use Rattle.trees.specs.Proving.{Proves, StepHolds}
 use Rattle.trees.specs.Goals.{decisions, has_left}
-use Rattle.trees.specs.Searching.{AreFixed, IsDecidable, IsLean, LeanAt}
+use Rattle.trees.specs.Searching.{AreFixed, IsUndecided, IsLean, LeanAt}
 use Rattle.trees.specs.Laws.{DecisionsFit, LeanTreesFit}
 use Rattle.trees.proofs.CountLemmas.{decisions_append, has_left_append}
 
@@ -55,8 +55,8 @@ module _ (p : Instance) where
       at e h true same = λ none. kept (ap (λ y. filter test (s y)) (sym (same_is e x same)) ∙ none)
       at e h false other = some e (element_of p e h)
 
-  -- sets that are decided on hold two plans
-  two_plans : (e : List Step) (s : Sets) → IsDecidable p e s → 2 ≤ plans_in s
+  -- undecided sets hold two plans
+  two_plans : (e : List Step) (s : Sets) → IsUndecided p e s → 2 ≤ plans_in s
   two_plans e s d =
       open_has_two (machine_count p) (node_count p) s (λ x h. d.closed.some x (element_of p x h)) (λ fixed. d.not_one (λ x h. fixed x (one_of p x h)))
 

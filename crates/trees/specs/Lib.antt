@@ -5,3 +5,4 @@ pub mod Goals
 pub mod Searching
 -- what the laws say beside it
 pub mod Laws
+pub mod Finding
