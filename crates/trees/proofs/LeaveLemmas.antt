@@ -35,7 +35,7 @@ contains_one c d (suc k, h, e) = absurd (omega arith)
 pub only_plan : (s : Sets) (one plan : Choices) → IsOnly s one → IsIn s plan → plan ≡ one
 only_plan s one plan only i = fun_ext (λ e. contains_one (one e) (plan e) (subst (λ cs. Contains cs (plan e)) (only e) (i e)))
 
-at_plan : (p : Instance) (bound : Option ℕ) (s : Sets) (cost : ℕ) → IsPlanLeaf p bound s cost → (plan : Choices) → IsIn s plan → IsSomeAnd bound (λ known. known ≤ cost_of p plan)
+pub at_plan : (p : Instance) (bound : Option ℕ) (s : Sets) (cost : ℕ) → IsPlanLeaf p bound s cost → (plan : Choices) → IsIn s plan → IsSomeAnd bound (λ known. known ≤ cost_of p plan)
 at_plan p bound s cost leaf plan i =
     let same : cost ≡ cost_of p plan = sym leaf.one.costs ∙ ap (cost_of p) (sym (only_plan s leaf.one.plan plan leaf.one.only i)) in
     subst (λ n. IsSomeAnd bound (λ known. known ≤ n)) same leaf.handed_in

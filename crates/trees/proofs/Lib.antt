@@ -9,6 +9,7 @@ mod LeastLemmas
 mod WithinLemmas
 mod StartLemmas
 mod GoalLemmas
+mod PlanLemmas
 mod GatherLemmas
 mod FoundLemmas
 mod FitLemmas

@@ -1,7 +1,7 @@
 //! Laws of the definitions: each is the contract of a function that does nothing, and a lemma of the
 //! same name in proofs/Public proves it.
 ghost use Rattle.trees.specs.Finding.{FoundIsLean, FoundIsSearched, FoundProves, StayingProves};
-ghost use Rattle.trees.specs.Laws.{InfeasibleHolds, LeanTreesFit, LeastHolds, LeastIsShown, OptimalHolds, ProvedExcludes, ProvedLeaves, UndecidedHolds};
+ghost use Rattle.trees.specs.Laws.{CertificatesHold, LeanTreesFit, LeastHolds, LeastIsShown, PlansFoundHold, ProvedExcludes, ProvedLeaves};
 
 /// A tree that proves sets, and leaves nothing, leaves no valid plan in them that costs less than
 /// the one handed in, and none at all where no plan is handed in.
@@ -29,23 +29,17 @@ pub fn least_is_shown()
     ensures { LeastIsShown }
 {}
 
-/// Where a tree over all legal choices shows `optimal`, the plan handed in is optimal and costs so
-/// much.
-#[tactic(auto, using(crate::proofs::Public::optimal_holds))]
-pub fn optimal_holds()
-    ensures { OptimalHolds }
+/// What the goal of a certificate says is so: the plan is optimal and costs so much, no plan is
+/// valid, or no valid plan costs less than the least that is shown.
+#[tactic(auto, using(crate::proofs::Public::certificates_hold))]
+pub fn certificates_hold()
+    ensures { CertificatesHold }
 {}
 
-/// Where it shows `infeasible`, no plan is valid.
-#[tactic(auto, using(crate::proofs::Public::infeasible_holds))]
-pub fn infeasible_holds()
-    ensures { InfeasibleHolds }
-{}
-
-/// Where it shows `undecided`, no valid plan costs less than the least that it shows.
-#[tactic(auto, using(crate::proofs::Public::undecided_holds))]
-pub fn undecided_holds()
-    ensures { UndecidedHolds }
+/// A plan of a plan leaf is a valid plan of the instance, and costs no less than the one handed in.
+#[tactic(auto, using(crate::proofs::Public::plans_found_hold))]
+pub fn plans_found_hold()
+    ensures { PlansFoundHold }
 {}
 
 /// A lean tree has fewer decisions than the sets that it proves hold plans, and two fewer where it
