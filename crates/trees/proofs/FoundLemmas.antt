@@ -1,5 +1,5 @@
 -- What a search found is a tree that proves, is lean and was searched.
-use Rattle.std.proofs.Common.{◌≡◌, ◌≢◌, ◌⊎◌, inl, inr, ℕ, ◌≤◌, List, [], ◌∷◌, ◌++◌, refl, sym, ap, subst, ◌∙◌, arith, Option, Some, None}
+use Rattle.std.proofs.Common.{◌≡◌, ◌≢◌, ◌⊎◌, inl, inr, ℕ, ◌≤◌, List, [], ◌∷◌, ◌++◌, refl, sym, subst, arith, Option, Some, None}
 use Rattle.std.specs.Option.{IsSomeAnd}
 use Rattle.catalogue.specs.Instance.{Instance}
 use Rattle.domains.specs.Sets.{Sets}
@@ -9,10 +9,10 @@ use Rattle.reasons.specs.Reasons.{Refutes}
 use Rattle.reasons.specs.Sure.{least_cost}
 use Rattle.trees.specs.declared.steps.Step.{Step}
 use Rattle.trees.specs.declared.steps.Step.TheVariants.{Decide, Cut, Fail, Plan, Left}
-use Rattle.trees.specs.Trees.{Tree, AtEach, fail_leaf, inside, steps_of}
-use Rattle.trees.specs.Proving.{Proves, StepHolds}
-use Rattle.trees.specs.Searching.{IsLean, LeanAt, SearchedAt, SomeUpto, plan_costs}
-use Rattle.trees.specs.Finding.{AllFrom, FoundAt, FoundIsLean, FoundIsSearched, FoundProves, IsFailed, IsLow, StayingProves}
+use Rattle.trees.specs.Trees.{inside}
+use Rattle.trees.specs.Proving.{StepHolds}
+use Rattle.trees.specs.Searching.{LeanAt, SearchedAt, SomeUpto, plan_costs}
+use Rattle.trees.specs.Finding.{FoundAt, FoundIsLean, FoundIsSearched, FoundProves, IsLow, StayingProves}
 use Rattle.trees.proofs.CountLemmas.{plan_costs_append}
 use Rattle.trees.proofs.TurnLemmas.{at_each_turn}
 

@@ -1,8 +1,8 @@
 -- What is listed of each step, along steps and over trees.
-use Rattle.std.proofs.Common.{◌≡◌, ℕ, List, [], ◌∷◌, ◌++◌, refl, sym, ap, subst, ◌∙◌, append_assoc, append-nil}
+use Rattle.std.proofs.Common.{◌≡◌, List, [], ◌∷◌, ◌++◌, refl, sym, ap, subst, ◌∙◌, append_assoc, append-nil}
 use Rattle.domains.specs.Sets.{Sets}
 use Rattle.trees.specs.declared.steps.Step.{Step}
-use Rattle.trees.specs.declared.steps.Step.TheVariants.{Decide, Cut, Fail, Plan, Left}
+use Rattle.trees.specs.declared.steps.Step.TheVariants.{Decide, Cut}
 use Rattle.trees.specs.Trees.{Tree, fail_leaf, plan_leaf, left_leaf, cut_then, decide_both, steps_of, inside, outside, Fact, Leads, children, gathered, gathered_along}
 
 module _ {A : Type 0} (f : Sets → Step → List A) where
@@ -24,10 +24,10 @@ module _ {A : Type 0} (f : Sets → Step → List A) where
       ∙ sym (append_assoc (f s (Cut x part reason)) (gathered f (outside x part s) t) (gathered_along f rest steps))
   gathered_tree (decide_both x part t u) s rest steps =
       ap (λ k. f s (Decide x part) ++ k) (
-        ap (λ k. gathered_along f (inside x part s ∷ outside x part s ∷ rest) k) (append_assoc (steps_of t) (steps_of u) steps)
-        ∙ gathered_tree t (inside x part s) (outside x part s ∷ rest) (steps_of u ++ steps)
-        ∙ ap (λ k. gathered f (inside x part s) t ++ k) (gathered_tree u (outside x part s) rest steps)
-        ∙ sym (append_assoc (gathered f (inside x part s) t) (gathered f (outside x part s) u) (gathered_along f rest steps))
+      ap (λ k. gathered_along f (inside x part s ∷ outside x part s ∷ rest) k) (append_assoc (steps_of t) (steps_of u) steps)
+      ∙ gathered_tree t (inside x part s) (outside x part s ∷ rest) (steps_of u ++ steps)
+      ∙ ap (λ k. gathered f (inside x part s) t ++ k) (gathered_tree u (outside x part s) rest steps)
+      ∙ sym (append_assoc (gathered f (inside x part s) t) (gathered f (outside x part s) u) (gathered_along f rest steps))
       )
       ∙ sym (append_assoc (f s (Decide x part)) (gathered f (inside x part s) t ++ gathered f (outside x part s) u) (gathered_along f rest steps))
 

@@ -1,5 +1,5 @@
 -- What each goal says of all plans of the instance.
-use Rattle.std.proofs.Common.{◌≡◌, ℕ, ◌≤◌, refl, sym, ap, subst, ◌∙◌, arith, Option, Some, None, Bool, true, false}
+use Rattle.std.proofs.Common.{◌≡◌, ℕ, ◌≤◌, refl, sym, subst, Option, Some, None, Bool, true, false}
 use Rattle.std.specs.Option.{IsSomeAnd}
 use Rattle.catalogue.specs.Instance.{Instance, IsInstance}
 use Rattle.slices.specs.Costs.{cost_of}

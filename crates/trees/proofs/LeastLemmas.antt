@@ -1,5 +1,5 @@
 -- The least that a tree shows where sets are left.
-use Rattle.std.proofs.Common.{◌≡◌, ◌⊎◌, inl, inr, ℕ, ◌≤◌, min, List, [], ◌∷◌, ◌++◌, refl, sym, ap, subst, ◌∙◌, arith, Option, Some, None, Bool, true, false, ◌||◌}
+use Rattle.std.proofs.Common.{◌≡◌, ◌⊎◌, inl, inr, ℕ, ◌≤◌, min, List, [], ◌∷◌, ◌++◌, refl, sym, ◌∙◌, arith, Option, Some, None, Bool, false, ◌||◌}
 use Rattle.std.specs.Option.{IsSomeAnd}
 use Rattle.std.proofs.lemmas.Bool.{false≢true}
 use Rattle.sums.specs.Least.{lower, lowest}
@@ -48,10 +48,10 @@ lower_of_under (Some known) (Some m) n cost e (inr h) = let same : min m known �
 pub least_holds : LeastHolds
 least_holds p sound bound s t n a shown plan i valid =
     lower_of_under bound (lowest (least_cost p) (left_sets s t)) n (cost_of p plan) shown (
-      elim (proved_leaves p sound bound s t a plan i valid) [
-        | inl h ↦ inl h
-        | inr h ↦ inr (lowest_under p sound plan valid (left_sets s t) h)
-      ]
+    elim (proved_leaves p sound bound s t a plan i valid) [
+      | inl h ↦ inl h
+      | inr h ↦ inr (lowest_under p sound plan valid (left_sets s t) h)
+    ]
     )
 
 -- ---- it is shown where sets are left

@@ -1,11 +1,10 @@
 -- The plans of plan leaves.
-use Rattle.std.proofs.Common.{◌≡◌, ◌⊎◌, inl, inr, ℕ, ◌≤◌, List, [], ◌∷◌, ◌++◌, sym, subst, Option}
+use Rattle.std.proofs.Common.{◌⊎◌, inl, inr, ℕ, ◌≤◌, List, [], ◌∷◌, ◌++◌, sym, subst, Option}
 use Rattle.std.specs.Option.{IsSomeAnd}
 use Rattle.std.specs.List.{Contains}
-use Rattle.cluster.specs.declared.choices.Choice.{Choice}
 use Rattle.catalogue.specs.Instance.{Instance}
 use Rattle.slices.specs.Costs.{cost_of}
-use Rattle.slices.specs.Plans.{Choices, IsPlan}
+use Rattle.slices.specs.Plans.{Choices}
 use Rattle.slices.specs.Rules.{IsValid}
 use Rattle.domains.specs.Parts.{in_part, out_of_part}
 use Rattle.domains.specs.Sets.{Sets, IsIn, IsOnly}
@@ -15,7 +14,7 @@ use Rattle.reasons.specs.Start.{start_sets}
 use Rattle.trees.specs.declared.steps.Step.{Step}
 use Rattle.trees.specs.declared.steps.Step.TheVariants.{Decide, Cut}
 use Rattle.trees.specs.Trees.{Tree, fail_leaf, plan_leaf, left_leaf, cut_then, decide_both, steps_of, inside, outside, AtEach}
-use Rattle.trees.specs.Proving.{IsPlanLeaf, Proves, StepHolds}
+use Rattle.trees.specs.Proving.{IsPlanLeaf, StepHolds}
 use Rattle.trees.specs.Searching.{IsPlanOfSome, plan_sets}
 use Rattle.trees.specs.Laws.{PlansFoundHold}
 use Rattle.trees.proofs.LeaveLemmas.{at_plan, only_plan}

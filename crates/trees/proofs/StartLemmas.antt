@@ -1,5 +1,5 @@
 -- The plans in all legal choices.
-use Rattle.std.proofs.Common.{◌≡◌, ℕ, zero, suc, ◌+◌, ◌<◌, ◌≤◌, nat_le, ◌&&◌, List, [], ◌∷◌, ◌++◌, length, map, refl, sym, ap, subst, ◌∙◌, arith, Option, Some, None, is_some, Bool, true, false, cond, IsTrue}
+use Rattle.std.proofs.Common.{◌≡◌, ℕ, zero, suc, ◌+◌, ◌<◌, ◌≤◌, nat_le, List, [], ◌∷◌, map, refl, sym, ap, subst, ◌∙◌, arith, Option, None, is_some, Bool, true, false, cond, IsTrue}
 use Rattle.std.specs.List.{Contains, filter, flat_map, range_with_len}
 use Rattle.std.proofs.lemmas.Bool.{and_parts, false≢true, leb-true, ltb-true}
 use Rattle.std.proofs.lemmas.List.Elements.{Contains-append_left, Contains-append_right, Contains-get_or}
@@ -15,16 +15,15 @@ use Rattle.cluster.specs.declared.kinds.Kind.{Kind}
 use Rattle.cluster.specs.Inventory.{is_online}
 use Rattle.catalogue.specs.declared.targets.Wish.{Wish}
 use Rattle.catalogue.specs.declared.targets.Wish.TheVariants.{Keep, To, Clash}
-use Rattle.catalogue.specs.declared.targets.Target.TheVariants.{Online, Offline, Running, Sleeping, Ready, Killed}
-use Rattle.catalogue.specs.Instance.{Instance, IsElement}
+use Rattle.catalogue.specs.Instance.{Instance}
 use Rattle.catalogue.specs.Values.{wanted_of}
-use Rattle.slices.specs.Actions.{action_duration, end_of, is_legal, is_raised, kind_of, machine_kind, node_kind, wanted_state}
+use Rattle.slices.specs.Actions.{end_of, is_legal, is_raised, kind_of, machine_kind, node_kind, wanted_state}
 use Rattle.slices.specs.Elements.{is_place, node_count, state_of}
 use Rattle.slices.specs.Plans.{Choices, IsPlan}
 use Rattle.slices.proofs.Public.{ends_by_duration}
 use Rattle.domains.specs.Choices.{starts_from}
 use Rattle.domains.specs.Sets.{IsIn}
-use Rattle.domains.proofs.SplitLemmas.{contains_filter, contains_here, contains_later, filter_contains}
+use Rattle.domains.proofs.SplitLemmas.{contains_filter, contains_here, filter_contains}
 use Rattle.reasons.specs.Start.{every_choice, is_element, places, start_sets}
 use Rattle.trees.proofs.WithinLemmas.{is_element_true, true_is_element, within}
 

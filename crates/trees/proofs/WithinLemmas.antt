@@ -1,13 +1,11 @@
 -- What a plan has for elements that the instance has not makes no difference.
-use Rattle.std.proofs.Common.{◌≡◌, ℕ, ◌+◌, ◌<◌, ◌≤◌, ◌||◌, ◌==◌, nat_lt, List, [], ◌∷◌, refl, sym, ap, subst, ◌∙◌, arith, Option, Some, None, Bool, true, false, cond, IsTrue, slice_get}
+use Rattle.std.proofs.Common.{◌≡◌, ℕ, ◌<◌, ◌||◌, ◌==◌, nat_lt, refl, sym, ap, subst, ◌∙◌, arith, Option, Bool, true, false, cond, IsTrue, slice_get}
 use Rattle.std.specs.Option.{ForSome}
 use Rattle.std.proofs.lemmas.Bool.{false≢true, lt-ltb, ltb-true}
 use Rattle.sums.proofs.Sums.{sum_to-same}
-use Rattle.cluster.specs.declared.choices.Choice.{Choice}
 use Rattle.cluster.specs.declared.choices.Choice.TheVariants.{Idle}
 use Rattle.cluster.specs.declared.ids.Element.{Element}
 use Rattle.cluster.specs.declared.ids.Element.TheVariants.{Vm, Node}
-use Rattle.cluster.specs.Sets.{has_node}
 use Rattle.catalogue.specs.declared.constraint.Constraint.{Constraint}
 use Rattle.catalogue.specs.declared.constraint.Constraint.TheVariants.{Spread, Ban, Fence, Gather, Lonely, Among, Split, Root, Precedence, Serialize, Preserve, ResourceCapacity, RunningCapacity, MaxOnline, Overbook, Online, Offline, Running, Sleeping, Ready, Killed}
 use Rattle.catalogue.specs.Instance.{Instance, IsElement}
@@ -23,10 +21,10 @@ use Rattle.slices.specs.Elements.{machine_count, node_count, node, vm}
 use Rattle.slices.specs.Ends.{snapshot_of}
 use Rattle.slices.specs.Fewer.{HoldsLess, IsLessFar, IsLessFor, IsLessPresent}
 use Rattle.slices.specs.Holds.{Holds}
-use Rattle.slices.specs.Plans.{Choices, IsPlan}
+use Rattle.slices.specs.Plans.{Choices}
 use Rattle.slices.specs.Rules.{InRange, IsValid, Keeps}
 use Rattle.slices.specs.Snapshots.{Snapshot, action_at, held_at, powered_at, present_at, usable_at}
-use Rattle.slices.specs.Stages.{Nodes, one}
+use Rattle.slices.specs.Stages.{one}
 use Rattle.slices.proofs.Public.{is_pointwise, less_holds}
 use Rattle.reasons.specs.Start.{is_element}
 

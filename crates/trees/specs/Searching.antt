@@ -6,13 +6,12 @@ use Rattle.catalogue.specs.Instance.{Instance, IsElement}
 use Rattle.slices.specs.Plans.{Choices}
 use Rattle.slices.specs.Rules.{IsValid}
 use Rattle.domains.specs.Sets.{Sets, IsOnly}
-use Rattle.reasons.specs.declared.reason.Reason.{Reason}
 use Rattle.reasons.specs.declared.reason.Reason.TheVariants.{Bound}
 use Rattle.reasons.specs.Closed.{IsClosed}
 use Rattle.reasons.specs.Sure.{least_cost}
 use Rattle.trees.specs.declared.steps.Step.{Step}
 use Rattle.trees.specs.declared.steps.Step.TheVariants.{Decide, Cut, Fail, Plan, Left}
-use Rattle.trees.specs.Trees.{Tree, fail_leaf, AtEach, gathered, steps_of}
+use Rattle.trees.specs.Trees.{Tree, fail_leaf, AtEach, gathered}
 
 -- the costs of the plans that the steps name
 abbrev pub plan_costs : List Step → List ℕ
