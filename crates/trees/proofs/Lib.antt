@@ -12,4 +12,5 @@ mod GoalLemmas
 mod PlanLemmas
 mod GatherLemmas
 mod FoundLemmas
+mod CheapLemmas
 mod FitLemmas

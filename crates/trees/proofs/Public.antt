@@ -12,3 +12,4 @@ pub use Rattle.trees.proofs.TurnLemmas.{at_each_both, at_each_turn, leads_turn}
 pub use Rattle.trees.proofs.CountLemmas.{decisions_append, has_left_append, plan_costs_append}
 pub use Rattle.trees.proofs.GatherLemmas.{gathered_push, gathered_whole}
 pub use Rattle.trees.proofs.FoundLemmas.{bound_or, found_is_lean, found_is_searched, found_proves, refutes_any, staying_proves}
+pub use Rattle.trees.proofs.CheapLemmas.{IsAbove, above_cheapest, cheapest_is_low, lowest_push, same_sets, upto_cheapest}
