@@ -14,7 +14,7 @@ use Rattle.trees.specs.Proving.{StepHolds}
 use Rattle.trees.specs.Searching.{LeanAt, SearchedAt, SomeUpto, plan_costs}
 use Rattle.trees.specs.Finding.{FoundAt, FoundIsLean, FoundIsSearched, FoundProves, IsLow, StayingProves}
 use Rattle.trees.proofs.CountLemmas.{plan_costs_append}
-use Rattle.trees.proofs.TurnLemmas.{at_each_turn}
+use Rattle.trees.proofs.TurnLemmas.{at_each_map, at_each_turn}
 
 -- ---- reasons
 
@@ -92,29 +92,29 @@ module _ (p : Instance) (bound : Option ℕ) where
       record { one = found; handed_in = low_last bound (plan_costs e) cost (subst (IsLow bound) (plan_costs_append e (Plan cost ∷ [])) low) }
   step_holds e s Left low found = tt
 
-lean_at : (p : Instance) (e : List Step) (s : Sets) (step : Step) → Unit {0} → FoundAt p e s step → LeanAt p e s step
-lean_at p e s (Decide x part) any found = found.undecided
-lean_at p e s (Cut x part reason) any found = tt
-lean_at p e s (Fail reason) any found = tt
-lean_at p e s (Plan cost) any found = tt
-lean_at p e s Left any found = found
+lean_at : (p : Instance) (e : List Step) (s : Sets) (step : Step) → FoundAt p e s step → LeanAt p e s step
+lean_at p e s (Decide x part) found = found.undecided
+lean_at p e s (Cut x part reason) found = tt
+lean_at p e s (Fail reason) found = tt
+lean_at p e s (Plan cost) found = tt
+lean_at p e s Left found = found
 
-searched_at : (p : Instance) (e : List Step) (s : Sets) (step : Step) → Unit {0} → FoundAt p e s step → SearchedAt p e s step
-searched_at p e s (Decide x part) any found = tt
-searched_at p e s (Cut x part reason) any found = not_bound p (inside x part s) reason found.refuted
-searched_at p e s (Fail reason) any found = found.met
-searched_at p e s (Plan cost) any found = tt
-searched_at p e s Left any found = tt
+searched_at : (p : Instance) (e : List Step) (s : Sets) (step : Step) → FoundAt p e s step → SearchedAt p e s step
+searched_at p e s (Decide x part) found = tt
+searched_at p e s (Cut x part reason) found = not_bound p (inside x part s) reason found.refuted
+searched_at p e s (Fail reason) found = found.met
+searched_at p e s (Plan cost) found = tt
+searched_at p e s Left found = tt
 
 pub found_proves : FoundProves
 found_proves p bound s t low found =
     at_each_turn (FoundAt p) (λ e. StepHolds p bound) (AreLow p bound) (are_low_front p bound) (step_holds p bound) t [] s low found
 
 pub found_is_lean : FoundIsLean
-found_is_lean p s t found = at_each_turn (FoundAt p) (LeanAt p) (λ _. Unit {0}) (λ a b h. tt) (lean_at p) t [] s tt found
+found_is_lean p s t found = at_each_map (FoundAt p) (LeanAt p) (lean_at p) t [] s found
 
 pub found_is_searched : FoundIsSearched
-found_is_searched p s t found = at_each_turn (FoundAt p) (SearchedAt p) (λ _. Unit {0}) (λ a b h. tt) (searched_at p) t [] s tt found
+found_is_searched p s t found = at_each_map (FoundAt p) (SearchedAt p) (searched_at p) t [] s found
 
 pub staying_proves : StayingProves
 staying_proves p s = record { named = tt; says = omega arith }

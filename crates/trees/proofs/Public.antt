@@ -8,7 +8,7 @@ pub use Rattle.trees.proofs.StartLemmas.{start_has, start_is_plan}
 pub use Rattle.trees.proofs.WithinLemmas.{cost_within, within, within_same, within_valid}
 pub use Rattle.trees.proofs.StepLemmas.{leads_append, leads_push, leads_same, leads_split, leads_tree}
 pub use Rattle.trees.proofs.GrowLemmas.{IsOneTree, tree_of}
-pub use Rattle.trees.proofs.TurnLemmas.{at_each_both, at_each_turn, leads_turn}
+pub use Rattle.trees.proofs.TurnLemmas.{at_each_both, at_each_map, at_each_turn, leads_map, leads_turn}
 pub use Rattle.trees.proofs.CountLemmas.{decisions_append, has_left_append, plan_costs_append}
 pub use Rattle.trees.proofs.GatherLemmas.{gathered_push, gathered_whole}
 pub use Rattle.trees.proofs.FoundLemmas.{bound_or, found_is_lean, found_is_searched, found_proves, refutes_any, staying_proves}
