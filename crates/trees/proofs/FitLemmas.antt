@@ -1,5 +1,5 @@
 -- How many decisions a lean tree has.
-use Rattle.std.proofs.Common.{◌≡◌, ◌≢◌, ℕ, ◌+◌, ◌≤◌, max, List, [], ◌∷◌, ◌++◌, length, refl, sym, ap, subst, ◌∙◌, arith, Option, Bool, true, false, cond, ◌||◌}
+use Rattle.std.proofs.Common.{◌≡◌, ◌≢◌, ℕ, ◌+◌, ◌≤◌, List, [], ◌∷◌, ◌++◌, refl, sym, ap, ◌∙◌, arith, Option, Bool, true, false, cond, ◌||◌}
 use Rattle.std.specs.List.{filter}
 use Rattle.std.proofs.lemmas.Bool.{false≢true}
 use Rattle.cluster.specs.declared.choices.Choice.{Choice}
@@ -7,7 +7,6 @@ use Rattle.cluster.specs.declared.ids.Element.{Element}
 use Rattle.cluster.specs.declared.ids.Element.TheVariants.{Vm, Node}
 use Rattle.catalogue.specs.Instance.{Instance, IsElement}
 use Rattle.slices.specs.Elements.{machine_count, node_count}
-use Rattle.domains.specs.declared.parts.Part.{Part}
 use Rattle.domains.specs.Parts.{in_part, out_of_part}
 use Rattle.domains.specs.Sets.{Sets, keeping, same_element}
 use Rattle.domains.specs.Sizes.{size, IsOneOf}
@@ -15,9 +14,9 @@ use Rattle.domains.proofs.Public.{open_has_two, same_is, size_falls, size_is_pos
 use Rattle.trees.specs.declared.steps.Step.{Step}
 use Rattle.trees.specs.declared.steps.Step.TheVariants.{Decide, Cut}
 use Rattle.trees.specs.Trees.{Tree, fail_leaf, plan_leaf, left_leaf, cut_then, decide_both, steps_of, inside, outside, AtEach}
-use Rattle.trees.specs.Proving.{Proves, StepHolds}
+use Rattle.trees.specs.Proving.{StepHolds}
 use Rattle.trees.specs.Goals.{decisions, has_left}
-use Rattle.trees.specs.Searching.{AreFixed, IsDecidable, IsLean, LeanAt}
+use Rattle.trees.specs.Searching.{IsUndecided, LeanAt}
 use Rattle.trees.specs.Laws.{DecisionsFit, LeanTreesFit}
 use Rattle.trees.proofs.CountLemmas.{decisions_append, has_left_append}
 
@@ -55,8 +54,8 @@ module _ (p : Instance) where
       at e h true same = λ none. kept (ap (λ y. filter test (s y)) (sym (same_is e x same)) ∙ none)
       at e h false other = some e (element_of p e h)
 
-  -- sets that are decided on hold two plans
-  two_plans : (e : List Step) (s : Sets) → IsDecidable p e s → 2 ≤ plans_in s
+  -- undecided sets hold two plans
+  two_plans : (e : List Step) (s : Sets) → IsUndecided p e s → 2 ≤ plans_in s
   two_plans e s d =
       open_has_two (machine_count p) (node_count p) s (λ x h. d.closed.some x (element_of p x h)) (λ fixed. d.not_one (λ x h. fixed x (one_of p x h)))
 
@@ -69,10 +68,10 @@ module _ (p : Instance) where
       (fits bound t (e ++ Cut x part reason ∷ []) (outside x part s) a.1 l.1) (size_falls (machine_count p) (node_count p) s x (out_of_part part))
   fits bound (decide_both x part t u) e s a l =
       let both =
-          fit_decide (decisions (steps_of t)) (decisions (steps_of u)) (has_left (steps_of t)) (has_left (steps_of u)) (plans_in (inside x part s)) (plans_in (outside x part s))
-          (fits bound t (e ++ Decide x part ∷ []) (inside x part s) a.1 l.1)
-          (fits bound u ((e ++ Decide x part ∷ []) ++ steps_of t) (outside x part s) a.2 l.2)
-          (kept_some s x (in_part part) l.0.closed.some a.0.some_inside) (kept_some s x (out_of_part part) l.0.closed.some a.0.some_outside) in
+      fit_decide (decisions (steps_of t)) (decisions (steps_of u)) (has_left (steps_of t)) (has_left (steps_of u)) (plans_in (inside x part s)) (plans_in (outside x part s))
+      (fits bound t (e ++ Decide x part ∷ []) (inside x part s) a.1 l.1)
+      (fits bound u ((e ++ Decide x part ∷ []) ++ steps_of t) (outside x part s) a.2 l.2)
+      (kept_some s x (in_part part) l.0.closed.some a.0.some_inside) (kept_some s x (out_of_part part) l.0.closed.some a.0.some_outside) in
       rw (decisions_append (steps_of t) (steps_of u), has_left_append (steps_of t) (steps_of u), ← split_adds_up (machine_count p) (node_count p) s x part (one_of p x a.0.element)) both
 
 pub lean_trees_fit : LeanTreesFit

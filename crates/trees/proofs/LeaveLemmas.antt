@@ -1,10 +1,9 @@
 -- What a tree that proves sets leaves of their valid plans.
 use mathlib.Core.Path.{fun_ext}
-use Rattle.std.proofs.Common.{◌≡◌, ◌⊎◌, inl, inr, ℕ, zero, suc, ◌≤◌, List, [], ◌∷◌, ◌++◌, length, refl, sym, ap, subst, ◌∙◌, arith, Option, Some, None, Bool, true, false, ◌||◌}
+use Rattle.std.proofs.Common.{◌≡◌, ◌⊎◌, inl, inr, ℕ, zero, suc, ◌≤◌, List, [], ◌∷◌, ◌++◌, refl, sym, ap, subst, ◌∙◌, arith, Option, Bool, true, false, ◌||◌}
 use Rattle.std.specs.List.{Contains}
 use Rattle.std.specs.Option.{IsSomeAnd}
 use Rattle.std.proofs.lemmas.Bool.{false≢true}
-use Rattle.sums.specs.Least.{lower, lowest}
 use Rattle.cluster.specs.declared.choices.Choice.{Choice}
 use Rattle.catalogue.specs.Instance.{Instance, IsInstance}
 use Rattle.slices.specs.Costs.{cost_of}
@@ -12,17 +11,13 @@ use Rattle.slices.specs.Plans.{Choices}
 use Rattle.slices.specs.Rules.{IsValid}
 use Rattle.domains.specs.Sets.{Sets, IsIn, IsOnly}
 use Rattle.domains.proofs.Public.{plan_splits}
-use Rattle.reasons.specs.declared.reason.Reason.TheVariants.{Bound}
-use Rattle.reasons.specs.Laws.{Excludes}
-use Rattle.reasons.specs.Reasons.{Refutes}
-use Rattle.reasons.specs.Sure.{least_cost}
 use Rattle.reasons.proofs.Public.{refuted_excludes}
 use Rattle.trees.specs.declared.steps.Step.{Step}
 use Rattle.trees.specs.declared.steps.Step.TheVariants.{Decide, Cut}
 use Rattle.trees.specs.Trees.{Tree, fail_leaf, plan_leaf, left_leaf, cut_then, decide_both, steps_of, inside, outside, AtEach}
-use Rattle.trees.specs.Proving.{IsPlanLeaf, Proves, StepHolds}
-use Rattle.trees.specs.Goals.{has_left, least_shown, left_sets, lower_of}
-use Rattle.trees.specs.Laws.{IsInSome, LeastHolds, LeastIsShown, ProvedExcludes, ProvedLeaves}
+use Rattle.trees.specs.Proving.{IsPlanLeaf, StepHolds}
+use Rattle.trees.specs.Goals.{has_left, left_sets}
+use Rattle.trees.specs.Laws.{IsInSome, ProvedExcludes, ProvedLeaves}
 use Rattle.trees.proofs.CountLemmas.{has_left_append}
 
 -- ---- at leaves
@@ -35,7 +30,7 @@ contains_one c d (suc k, h, e) = absurd (omega arith)
 pub only_plan : (s : Sets) (one plan : Choices) → IsOnly s one → IsIn s plan → plan ≡ one
 only_plan s one plan only i = fun_ext (λ e. contains_one (one e) (plan e) (subst (λ cs. Contains cs (plan e)) (only e) (i e)))
 
-at_plan : (p : Instance) (bound : Option ℕ) (s : Sets) (cost : ℕ) → IsPlanLeaf p bound s cost → (plan : Choices) → IsIn s plan → IsSomeAnd bound (λ known. known ≤ cost_of p plan)
+pub at_plan : (p : Instance) (bound : Option ℕ) (s : Sets) (cost : ℕ) → IsPlanLeaf p bound s cost → (plan : Choices) → IsIn s plan → IsSomeAnd bound (λ known. known ≤ cost_of p plan)
 at_plan p bound s cost leaf plan i =
     let same : cost ≡ cost_of p plan = sym leaf.one.costs ∙ ap (cost_of p) (sym (only_plan s leaf.one.plan plan leaf.one.only i)) in
     subst (λ n. IsSomeAnd bound (λ known. known ≤ n)) same leaf.handed_in
@@ -73,10 +68,10 @@ module _ (p : Instance) (sound : IsInstance p) (bound : Option ℕ) where
       ]
   leaves (decide_both x part t u) e s a plan i valid =
       out_either plan (left_sets (inside x part s) t) (left_sets (outside x part s) u) (
-        elim (plan_splits s plan x part i) [
-          | inl k ↦ inl (leaves t (e ++ Decide x part ∷ []) (inside x part s) a.1 plan k valid)
-          | inr k ↦ inr (leaves u ((e ++ Decide x part ∷ []) ++ steps_of t) (outside x part s) a.2 plan k valid)
-        ]
+      elim (plan_splits s plan x part i) [
+        | inl k ↦ inl (leaves t (e ++ Decide x part ∷ []) (inside x part s) a.1 plan k valid)
+        | inr k ↦ inr (leaves u ((e ++ Decide x part ∷ []) ++ steps_of t) (outside x part s) a.2 plan k valid)
+      ]
       )
 
 pub proved_leaves : ProvedLeaves

@@ -1,11 +1,8 @@
 -- Trees and their steps in order, for any fact at each step.
-use Rattle.std.proofs.Common.{◌≡◌, ℕ, List, [], ◌∷◌, ◌++◌, refl, sym, ap, subst, ◌∙◌, append_assoc, append-nil}
-use Rattle.cluster.specs.declared.ids.Element.{Element}
-use Rattle.domains.specs.declared.parts.Part.{Part}
+use Rattle.std.proofs.Common.{◌≡◌, List, [], ◌∷◌, ◌++◌, refl, sym, subst, ◌∙◌, append_assoc, append-nil}
 use Rattle.domains.specs.Sets.{Sets}
-use Rattle.reasons.specs.declared.reason.Reason.{Reason}
 use Rattle.trees.specs.declared.steps.Step.{Step}
-use Rattle.trees.specs.declared.steps.Step.TheVariants.{Decide, Cut, Fail, Plan, Left}
+use Rattle.trees.specs.declared.steps.Step.TheVariants.{Decide, Cut}
 use Rattle.trees.specs.Trees.{Tree, fail_leaf, plan_leaf, left_leaf, cut_then, decide_both, steps_of, inside, outside, Fact, AtEach, Leads, children}
 
 module _ (fact : Fact) where
@@ -15,6 +12,14 @@ module _ (fact : Fact) where
   leads_append (step ∷ steps) e [] mid more now a b = a
   leads_append (step ∷ steps) e (s ∷ rest) mid more now a b =
       (a.0, leads_append steps (e ++ step ∷ []) (children s step ++ rest) mid more now a.1 (subst (λ k. Leads fact k mid more now) (sym (append_assoc e (step ∷ []) steps)) b))
+
+  -- and back: where steps and more lead on, the steps alone lead to the sets that the others go on from
+  pub leads_split : (steps e : List Step) (from : List Sets) (more : List Step) (now : List Sets) → Leads fact e from (steps ++ more) now → (mid : List Sets) × Leads fact e from steps mid × Leads fact (e ++ steps) mid more now
+  leads_split [] e from more now a = (from, refl, subst (λ k. Leads fact k from more now) (sym (append-nil e)) a)
+  leads_split (step ∷ steps) e [] more now a = absurd a
+  leads_split (step ∷ steps) e (s ∷ rest) more now a =
+      let h = leads_split steps (e ++ step ∷ []) (children s step ++ rest) more now a.1 in
+      (h.0, (a.0, h.1), subst (λ k. Leads fact k h.0 more now) (append_assoc e (step ∷ []) steps) h.2)
 
   -- one more step at the end
   pub leads_push : (steps : List Step) (from : List Sets) (s : Sets) (rest : List Sets) (step : Step) → Leads fact [] from steps (s ∷ rest) → fact steps s step → Leads fact [] from (steps ++ step ∷ []) (children s step ++ rest)

@@ -1,5 +1,5 @@
 -- From one fact at each step to another.
-use Rattle.std.proofs.Common.{◌≡◌, ℕ, List, [], ◌∷◌, ◌++◌, sym, subst, append_assoc}
+use Rattle.std.proofs.Common.{List, [], ◌∷◌, ◌++◌, sym, subst, append_assoc}
 use Rattle.domains.specs.Sets.{Sets}
 use Rattle.trees.specs.declared.steps.Step.{Step}
 use Rattle.trees.specs.declared.steps.Step.TheVariants.{Decide, Cut, Fail, Plan, Left}
@@ -31,6 +31,13 @@ module _ (fact other : Fact) (property : List Step → Type 0) (front : (a b : L
         at_each_turn t (e ++ Decide x part ∷ []) (inside x part s) (front ((e ++ Decide x part ∷ []) ++ steps_of t) (steps_of u) r) a.1,
         at_each_turn u ((e ++ Decide x part ∷ []) ++ steps_of t) (outside x part s) r a.2,
       )
+
+-- one fact from another, at each step
+pub leads_map : (fact other : Fact) → ((e : List Step) (s : Sets) (step : Step) → fact e s step → other e s step) → (steps e : List Step) (from now : List Sets) → Leads fact e from steps now → Leads other e from steps now
+leads_map fact other turn steps e from now a = leads_turn fact other (λ _. Unit {0}) (λ b c h. tt) (λ b s step h x. turn b s step x) steps e from now tt a
+
+pub at_each_map : (fact other : Fact) → ((e : List Step) (s : Sets) (step : Step) → fact e s step → other e s step) → (t : Tree) (e : List Step) (s : Sets) → AtEach fact e s t → AtEach other e s t
+at_each_map fact other turn t e s a = at_each_turn fact other (λ _. Unit {0}) (λ b c h. tt) (λ b g step h x. turn b g step x) t e s tt a
 
 -- two facts at each step
 pub at_each_both : (fact other : Fact) (t : Tree) (e : List Step) (s : Sets) → AtEach fact e s t → AtEach other e s t → AtEach (λ e' s' step. fact e' s' step × other e' s' step) e s t

@@ -1,7 +1,7 @@
 -- Helping only: what trees say of plans, and how large they are.
-use Rattle.std.specs.Prelude.{◌≡◌, ◌⊎◌, ℕ, ◌+◌, ◌≤◌, max, Bool, true, false, List, [], ◌∷◌, Option, Some, None, IsSomeAnd}
+use Rattle.std.specs.Prelude.{◌≡◌, ◌⊎◌, ℕ, ◌+◌, ◌≤◌, max, Bool, true, false, List, [], ◌∷◌, Option, Some, IsSomeAnd}
 use Rattle.catalogue.specs.Instance.{Instance, IsInstance}
-use Rattle.slices.specs.Costs.{cost_of, IsInfeasible, IsOptimal}
+use Rattle.slices.specs.Costs.{cost_of}
 use Rattle.slices.specs.Elements.{machine_count, node_count}
 use Rattle.slices.specs.Plans.{Choices, IsPlan}
 use Rattle.slices.specs.Rules.{IsValid}
@@ -9,11 +9,12 @@ use Rattle.domains.specs.Sets.{Sets, IsIn}
 use Rattle.domains.specs.Sizes.{size}
 use Rattle.reasons.specs.Laws.{Excludes}
 use Rattle.reasons.specs.Start.{start_sets}
-use Rattle.trees.specs.declared.steps.Goal.TheVariants.{Optimal, Infeasible, Undecided}
+use Rattle.trees.specs.declared.steps.Goal.{Goal}
 use Rattle.trees.specs.Trees.{Tree, steps_of}
 use Rattle.trees.specs.Proving.{Proves}
-use Rattle.trees.specs.Goals.{decisions, has_left, least_shown, left_sets, shown}
-use Rattle.trees.specs.Searching.{IsLean}
+use Rattle.trees.specs.Goals.{decisions, has_left, least_shown, left_sets}
+use Rattle.trees.specs.Searching.{IsLean, IsPlanOfSome, plan_sets}
+use Rattle.trees.specs.Certificates.{GoalHolds, IsCertificate, IsHandedIn, least_of}
 
 -- ---- what a tree says of the plans in the sets that it is over
 
@@ -43,24 +44,19 @@ LeastHolds =
 abbrev pub LeastIsShown : Type 0
 LeastIsShown = (p : Instance) (bound : Option ℕ) (s : Sets) (t : Tree) → has_left (steps_of t) ≡ true → (n : ℕ) × (least_shown p bound s t ≡ Some n)
 
--- ---- what each goal says, of a tree over all legal choices
+-- ---- certificates
 
--- optimal: the plan that was handed in is, and that is its cost
-abbrev pub OptimalHolds : Type 0
-OptimalHolds =
-    (p : Instance) → IsInstance p → (plan : Choices) → IsPlan p plan → IsValid p plan → (t : Tree) → Proves p (Some (cost_of p plan)) (start_sets p) t →
-    (cost : ℕ) → shown (Some (cost_of p plan)) (steps_of t) ≡ Optimal cost → IsOptimal p plan × (cost_of p plan ≡ cost)
+-- what a certificate's goal says is so
+abbrev pub CertificatesHold : Type 0
+CertificatesHold =
+    (p : Instance) → IsInstance p → (plan : Option Choices) → IsHandedIn p plan → (goal : Goal) (t : Tree) → IsCertificate p plan goal t →
+    GoalHolds p plan (least_of p plan t) goal
 
--- infeasible: no plan is valid
-abbrev pub InfeasibleHolds : Type 0
-InfeasibleHolds =
-    (p : Instance) → IsInstance p → (bound : Option ℕ) (t : Tree) → Proves p bound (start_sets p) t → shown bound (steps_of t) ≡ Infeasible → IsInfeasible p
-
--- undecided: no valid plan costs less than the least that is shown
-abbrev pub UndecidedHolds : Type 0
-UndecidedHolds =
-    (p : Instance) → IsInstance p → (bound : Option ℕ) (t : Tree) → Proves p bound (start_sets p) t → (count : ℕ) → shown bound (steps_of t) ≡ Undecided count →
-    (n : ℕ) × (least_shown p bound (start_sets p) t ≡ Some n) × ((plan : Choices) → IsPlan p plan → IsValid p plan → n ≤ cost_of p plan)
+-- a plan of one of the plan leaves is a valid plan of the instance, and costs no less than the one that was handed in
+abbrev pub PlansFoundHold : Type 0
+PlansFoundHold =
+    (p : Instance) (bound : Option ℕ) (t : Tree) → Proves p bound (start_sets p) t → (plan : Choices) → IsPlanOfSome plan (plan_sets (start_sets p) t) →
+    IsPlan p plan × IsValid p plan × IsSomeAnd bound (λ known. known ≤ cost_of p plan)
 
 -- ---- how large trees are
 

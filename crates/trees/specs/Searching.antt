@@ -6,13 +6,12 @@ use Rattle.catalogue.specs.Instance.{Instance, IsElement}
 use Rattle.slices.specs.Plans.{Choices}
 use Rattle.slices.specs.Rules.{IsValid}
 use Rattle.domains.specs.Sets.{Sets, IsOnly}
-use Rattle.reasons.specs.declared.reason.Reason.{Reason}
 use Rattle.reasons.specs.declared.reason.Reason.TheVariants.{Bound}
 use Rattle.reasons.specs.Closed.{IsClosed}
 use Rattle.reasons.specs.Sure.{least_cost}
 use Rattle.trees.specs.declared.steps.Step.{Step}
 use Rattle.trees.specs.declared.steps.Step.TheVariants.{Decide, Cut, Fail, Plan, Left}
-use Rattle.trees.specs.Trees.{Tree, fail_leaf, AtEach, gathered, steps_of}
+use Rattle.trees.specs.Trees.{Tree, fail_leaf, AtEach, gathered}
 
 -- the costs of the plans that the steps name
 abbrev pub plan_costs : List Step → List ℕ
@@ -40,18 +39,18 @@ AreFixed p s = (e : Element) → IsElement p e → length (s e) ≡ 1
 -- ---- lean trees
 
 -- the sets are closed, are not one plan, and the sum of their least ends is below the cost of each plan named so far
-pub record IsDecidable (p : Instance) (e : List Step) (s : Sets) : Type 0 where
+pub record IsUndecided (p : Instance) (e : List Step) (s : Sets) : Type 0 where
   pub closed : IsClosed p s
   pub not_one : ¬ AreFixed p s
   pub below : AllAbove (least_cost p s) (plan_costs e)
 
--- so it is where something is decided or left
+-- so they are where something is decided or left
 abbrev pub LeanAt : Instance → List Step → Sets → Step → Type 0
-LeanAt p e s (Decide x part) = IsDecidable p e s
+LeanAt p e s (Decide x part) = IsUndecided p e s
 LeanAt p e s (Cut x part reason) = Unit {0}
 LeanAt p e s (Fail reason) = Unit {0}
 LeanAt p e s (Plan cost) = Unit {0}
-LeanAt p e s Left = IsDecidable p e s
+LeanAt p e s Left = IsUndecided p e s
 
 abbrev pub IsLean : Instance → Sets → Tree → Type 0
 IsLean p s t = AtEach (LeanAt p) [] s t

@@ -1,0 +1,81 @@
+-- The least that a tree shows where sets are left.
+use Rattle.std.proofs.Common.{◌≡◌, ◌⊎◌, inl, inr, ℕ, ◌≤◌, min, List, [], ◌∷◌, ◌++◌, refl, sym, ◌∙◌, arith, Option, Some, None, Bool, false, ◌||◌}
+use Rattle.std.specs.Option.{IsSomeAnd}
+use Rattle.std.proofs.lemmas.Bool.{false≢true}
+use Rattle.sums.specs.Least.{lower, lowest}
+use Rattle.sums.proofs.Least.{lower-le}
+use Rattle.catalogue.specs.Instance.{Instance, IsInstance}
+use Rattle.slices.specs.Costs.{cost_of}
+use Rattle.slices.specs.Plans.{Choices}
+use Rattle.slices.specs.Rules.{IsValid}
+use Rattle.domains.specs.Sets.{Sets, IsIn}
+use Rattle.reasons.specs.declared.reason.Reason.TheVariants.{Bound}
+use Rattle.reasons.specs.Sure.{least_cost}
+use Rattle.reasons.proofs.Public.{refuted_excludes}
+use Rattle.trees.specs.Trees.{Tree, fail_leaf, plan_leaf, left_leaf, cut_then, decide_both, steps_of, inside, outside}
+use Rattle.trees.specs.Goals.{has_left, left_sets, lower_of}
+use Rattle.trees.specs.Laws.{IsInSome, LeastHolds, LeastIsShown}
+use Rattle.trees.proofs.CountLemmas.{has_left_append}
+use Rattle.trees.proofs.LeaveLemmas.{proved_leaves}
+
+-- ---- no valid plan costs less
+
+-- no valid plan of sets costs less than the sum of their least ends
+least_cost_under : (p : Instance) → IsInstance p → (s : Sets) (plan : Choices) → IsIn s plan → IsValid p plan → least_cost p s ≤ cost_of p plan
+least_cost_under p sound s plan i valid =
+    refuted_excludes p sound (Some (least_cost p s)) s Bound (record { named = tt; says = omega arith }) plan i valid
+
+lower_other : (a n : ℕ) (o : Option ℕ) → IsSomeAnd o (λ m. m ≤ n) → lower a o ≤ n
+lower_other a n None h = absurd h
+lower_other a n (Some b) h = omega arith
+
+lowest_under : (p : Instance) → IsInstance p → (plan : Choices) → IsValid p plan → (sets : List Sets) → IsInSome plan sets → IsSomeAnd (lowest (least_cost p) sets) (λ n. n ≤ cost_of p plan)
+lowest_under p sound plan valid [] h = absurd h
+lowest_under p sound plan valid (s ∷ rest) (inl i) =
+    let first = least_cost_under p sound s plan i valid in
+    let low = lower-le (least_cost p s) (lowest (least_cost p) rest) in
+    omega arith
+lowest_under p sound plan valid (s ∷ rest) (inr h) =
+    lower_other (least_cost p s) (cost_of p plan) (lowest (least_cost p) rest) (lowest_under p sound plan valid rest h)
+
+lower_of_under : (bound low : Option ℕ) (n cost : ℕ) → lower_of bound low ≡ Some n → IsSomeAnd bound (λ known. known ≤ cost) ⊎ IsSomeAnd low (λ m. m ≤ cost) → n ≤ cost
+lower_of_under bound None n cost e h = absurd (cc)
+lower_of_under None (Some m) n cost e (inl h) = absurd h
+lower_of_under None (Some m) n cost e (inr h) = let same : m ≡ n = cc in omega arith
+lower_of_under (Some known) (Some m) n cost e (inl h) = let same : min m known ≡ n = cc in omega arith
+lower_of_under (Some known) (Some m) n cost e (inr h) = let same : min m known ≡ n = cc in omega arith
+
+pub least_holds : LeastHolds
+least_holds p sound bound s t n a shown plan i valid =
+    lower_of_under bound (lowest (least_cost p) (left_sets s t)) n (cost_of p plan) shown (
+    elim (proved_leaves p sound bound s t a plan i valid) [
+      | inl h ↦ inl h
+      | inr h ↦ inr (lowest_under p sound plan valid (left_sets s t) h)
+    ]
+    )
+
+-- ---- it is shown where sets are left
+
+both_none : (a b : List Sets) → a ++ b ≡ [] → (a ≡ []) × (b ≡ [])
+both_none [] b h = (refl, h)
+both_none (s ∷ rest) b h = absurd (cc)
+
+neither_is : (a b : Bool) → a ≡ false → b ≡ false → (a || b) ≡ false
+neither_is a b h k = rw (h, k) refl
+
+nothing_left : (t : Tree) (s : Sets) → left_sets s t ≡ [] → has_left (steps_of t) ≡ false
+nothing_left (fail_leaf reason) s none = refl
+nothing_left (plan_leaf cost) s none = refl
+nothing_left left_leaf s none = absurd (cc)
+nothing_left (cut_then x part reason t) s none = nothing_left t (outside x part s) none
+nothing_left (decide_both x part t u) s none =
+    let both = both_none (left_sets (inside x part s) t) (left_sets (outside x part s) u) none in
+    has_left_append (steps_of t) (steps_of u)
+    ∙ neither_is (has_left (steps_of t)) (has_left (steps_of u)) (nothing_left t (inside x part s) both.0) (nothing_left u (outside x part s) both.1)
+
+pub least_is_shown : LeastIsShown
+least_is_shown p bound s t some = at (left_sets s t) refl
+  where
+    at : (sets : List Sets) → left_sets s t ≡ sets → (n : ℕ) × (lower_of bound (lowest (least_cost p) sets) ≡ Some n)
+    at [] none = absurd (false≢true (sym (nothing_left t s none) ∙ some))
+    at (g ∷ rest) is = (lower (lower (least_cost p g) (lowest (least_cost p) rest)) bound, refl)
