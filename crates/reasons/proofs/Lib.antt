@@ -17,3 +17,4 @@ mod SettingLemmas
 mod RowLemmas
 mod StartLemmas
 mod StandardLemmas
+mod WithinLemmas

@@ -8,5 +8,6 @@ pub use Rattle.reasons.proofs.PartLemmas.{parts_are_in, parts_break}
 pub use Rattle.reasons.proofs.FreeLemmas.{free_stays}
 pub use Rattle.reasons.proofs.TurnLemmas.{closed_at_turns, closed_by_kinds, quiet_at_turns, quiet_at_turns_for, turns_decide, turns_decide_for, unrefuted_at_turns}
 pub use Rattle.reasons.proofs.SettingLemmas.{end_is_choice, machine_change, node_change, quiet_is_free, same_sets, setting_agrees, setting_grows, setting_load, setting_powered, setting_presences, setting_room, setting_sets, some_end}
-pub use Rattle.reasons.proofs.StartLemmas.{plan_is_in_start, start_is_legal, start_is_of}
+pub use Rattle.reasons.proofs.StartLemmas.{cost_within, start_has, start_is_legal, start_is_of, start_is_plan}
+pub use Rattle.reasons.proofs.WithinLemmas.{within_valid}
 pub use Rattle.reasons.proofs.RowLemmas.{ends_of_rows, region_is_of, turns_of_rows}

@@ -13,10 +13,10 @@ use Rattle.catalogue.specs.Instance.{Instance, IsElement}
 use Rattle.slices.specs.Elements.{machine_count, node_count}
 use Rattle.slices.specs.Starts.{start_of}
 use Rattle.domains.specs.declared.parts.Row.{Row}
-use Rattle.domains.specs.Choices.{Climbs, DomainView, choices, place_index, row_choices, starts_from, staying}
+use Rattle.domains.specs.Choices.{Climbs, DomainView, choices, place_index, row_choices, starts_from, staying, no_row}
 use Rattle.domains.specs.Sets.{RegionView, HasElement, domain_at, sets}
 use Rattle.reasons.specs.Closed.{IsEnd}
-use Rattle.reasons.specs.Regions.{EndsOfRows, IsRegionOf, IsRowEnd, IsRowTurn, RegionIsOf, TurnsOfRows, no_row, row_at}
+use Rattle.reasons.specs.Regions.{EndsOfRows, IsRegionOf, IsRowEnd, IsRowTurn, RegionIsOf, TurnsOfRows, row_at}
 use Rattle.reasons.proofs.ClosedLemmas.{end-contained}
 use Rattle.reasons.proofs.MemberLemmas.{cases-in, first-in, later-in, none-in}
 

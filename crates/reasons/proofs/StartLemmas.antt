@@ -1,7 +1,8 @@
 -- The start region has exactly the legal choices.
-use Rattle.std.proofs.Common.{◌≡◌, inl, inr, ◌+◌, ◌<◌, Bool, true, false, cond, nat_le, nat_lt, [], None, is_some, IsTrue, refl, arith}
-use Rattle.std.specs.List.{Contains, range_with_len}
+use Rattle.std.proofs.Common.{◌≡◌, inl, inr, ◌+◌, ◌<◌, Bool, true, false, cond, nat_le, nat_lt, [], None, is_some, IsTrue, refl, arith, ap, ◌∷◌}
+use Rattle.std.specs.List.{Contains, range_with_len, filter}
 use Rattle.std.proofs.lemmas.Bool.{and_parts, cases_lt, false≢true, le-ltb, leb-true, lt-ltb, ltb-true}
+use Rattle.sums.proofs.Sums.{sum_to-same}
 use Rattle.cluster.specs.declared.choices.Choice.{Choice}
 use Rattle.cluster.specs.declared.choices.Choice.TheVariants.{Idle, Act}
 use Rattle.cluster.specs.declared.choices.Place.{Place}
@@ -15,10 +16,11 @@ use Rattle.catalogue.specs.declared.targets.Wish.TheVariants.{Keep, To, Clash}
 use Rattle.catalogue.specs.Instance.{Instance, IsElement}
 use Rattle.catalogue.specs.Values.{wanted_of}
 use Rattle.slices.specs.Actions.{action_duration, end_of, is_legal, is_raised, kind_of, machine_kind, node_kind, wanted_state}
-use Rattle.slices.specs.Elements.{machine_count, node_count, state_of}
+use Rattle.slices.specs.Elements.{machine_count, node, node_count, state_of, vm}
+use Rattle.slices.specs.Plans.{Choices}
 use Rattle.domains.specs.Choices.{starts_from}
-use Rattle.reasons.specs.Regions.{PlanIsInStart, StartIsLegal, StartIsOf}
-use Rattle.reasons.specs.Start.{every_choice, is_element, places, start_sets}
+use Rattle.reasons.specs.Regions.{CostWithin, StartHas, StartIsLegal, StartIsOf, StartIsPlan}
+use Rattle.reasons.specs.Start.{every_choice, is_element, places, start_sets, within}
 use Rattle.reasons.proofs.MemberLemmas.{filter-in, first-in, flat_map-in, in-filter, later-in, map-in, range-in}
 use Rattle.reasons.proofs.RowLemmas.{starts-in}
 
@@ -74,13 +76,31 @@ start_is_legal p e there c =
     let is = element-true p e there in
     rw is (λ h. in-filter (is_legal p e) (every_choice p) c h, λ legal. filter-in (is_legal p e) (every_choice p) c (choice-in p e c legal) legal)
 
-pub plan_is_in_start : PlanIsInStart
-plan_is_in_start p plan legal past e =
-    elim (past e) [
-      | inl there ↦ (start_is_legal p e there (plan e)).1 (legal e there)
-      | inr idle ↦
-          elim (start_is_of p e) [
-            | inl there ↦ (start_is_legal p e there (plan e)).1 (legal e there)
-            | inr only ↦ rw (only, idle) (first-in Idle [])
-          ]
-    ]
+pub start_is_plan : StartIsPlan
+start_is_plan p plan i e there = (start_is_legal p e there (plan e)).0 (i e)
+
+-- ---- a plan, with all else idle
+
+true-element : (p : Instance) (e : Element) → is_element p e ≡ true → IsElement p e
+true-element p (Vm v) h = ltb-true v.0 (machine_count p) h
+true-element p (TheNode n) h = ltb-true n.0 (node_count p) h
+
+pub start_has : StartHas
+unfolding start_sets
+start_has p plan legal e = at (is_element p e) refl
+  where
+    at : (b : Bool) → is_element p e ≡ b → Contains (cond b (filter (is_legal p e) (every_choice p)) (Idle ∷ [])) (cond b (plan e) Idle)
+    at true h =
+        let there = legal e (true-element p e h) in
+        filter-in (is_legal p e) (every_choice p) (plan e) (choice-in p e (plan e) there) there
+    at false h = first-in Idle []
+
+pub within-same : (p : Instance) (plan : Choices) (e : Element) → IsElement p e → within p plan e ≡ plan e
+within-same p plan e there = rw (element-true p e there) refl
+
+pub cost_within : CostWithin
+cost_within p plan =
+    rw (
+      sum_to-same (machine_count p) (λ v. end_of p (vm v) (within p plan (vm v))) (λ v. end_of p (vm v) (plan (vm v))) (λ v l. ap (end_of p (vm v)) (within-same p plan (vm v) l)),
+      sum_to-same (node_count p) (λ n. end_of p (node n) (within p plan (node n))) (λ n. end_of p (node n) (plan (node n))) (λ n l. ap (end_of p (node n)) (within-same p plan (node n) l)),
+    ) refl

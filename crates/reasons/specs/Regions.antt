@@ -3,18 +3,19 @@ use Rattle.std.specs.Prelude.{◌≡◌, ◌⊎◌, ◌↔◌, ℕ, ◌<◌, tru
 use Rattle.std.specs.List.{Contains}
 use Rattle.cluster.specs.declared.choices.Choice.{Choice}
 use Rattle.cluster.specs.declared.choices.Choice.TheVariants.{Idle, Act}
-use Rattle.cluster.specs.declared.choices.Place.TheVariants.{Nowhere}
 use Rattle.cluster.specs.declared.ids.Element.{Element}
 use Rattle.catalogue.specs.Instance.{Instance, IsElement}
 use Rattle.slices.specs.Actions.{is_legal}
+use Rattle.slices.specs.Costs.{cost_of}
 use Rattle.slices.specs.Elements.{machine_count, node_count}
 use Rattle.slices.specs.Plans.{Choices, IsPlan}
-use Rattle.domains.specs.Choices.{DomainView, Climbs, choices}
+use Rattle.slices.specs.Rules.{IsValid}
+use Rattle.domains.specs.Choices.{DomainView, Climbs, choices, no_row}
 use Rattle.domains.specs.declared.parts.Row.{Row}
 use Rattle.domains.specs.Sets.{RegionView, HasElement, IsIn, domain_at, sets}
 use Rattle.reasons.specs.Closed.{IsEnd}
 use Rattle.reasons.specs.Quiet.{AreOf, IsTurn}
-use Rattle.reasons.specs.Start.{start_sets}
+use Rattle.reasons.specs.Start.{start_sets, within}
 
 -- ---- the start region
 
@@ -22,19 +23,26 @@ use Rattle.reasons.specs.Start.{start_sets}
 abbrev pub StartIsLegal : Type 0
 StartIsLegal = (p : Instance) (e : Element) → IsElement p e → (c : Choice) → Contains (start_sets p e) c ↔ IsTrue (is_legal p e c)
 
--- so each plan is in it
-abbrev pub PlanIsInStart : Type 0
-PlanIsInStart = (p : Instance) (plan : Choices) → IsPlan p plan → ((e : Element) → IsElement p e ⊎ (plan e ≡ Idle)) → IsIn (start_sets p) plan
+-- so each plan is in it, with all else idle
+abbrev pub StartHas : Type 0
+StartHas = (p : Instance) (plan : Choices) → IsPlan p plan → IsIn (start_sets p) (within p plan)
+
+-- which costs as much, and is valid where the plan is
+abbrev pub CostWithin : Type 0
+CostWithin = (p : Instance) (plan : Choices) → cost_of p (within p plan) ≡ cost_of p plan
+
+abbrev pub WithinValid : Type 0
+WithinValid = (p : Instance) (plan : Choices) → IsValid p plan → IsValid p (within p plan)
+
+-- what is in it is a plan
+abbrev pub StartIsPlan : Type 0
+StartIsPlan = (p : Instance) (plan : Choices) → IsIn (start_sets p) plan → IsPlan p plan
 
 -- and no element that the instance has not can act
 abbrev pub StartIsOf : Type 0
 StartIsOf = (p : Instance) → AreOf p (start_sets p)
 
 -- ---- rows
-
--- what is read where there is no row
-abbrev pub no_row : Row
-no_row = record { place = Nowhere; lo = 0; hi = 0 }
 
 abbrev pub row_at : DomainView → ℕ → Row
 row_at d i = slice_index_or d.rows i no_row
@@ -67,6 +75,6 @@ pub record IsRowTurn (g : RegionView) (t : ℕ) : Type 0 where
   pub within : row < length (domain_at g element).rows
   pub turns : ((row_at (domain_at g element) row).lo ≡ t) ⊎ ((row_at (domain_at g element) row).hi ≡ t)
 
--- the turns of a region are 0, the horizon, and both ends of each row
+-- each turn of a region is 0, the horizon, or an end of a row
 abbrev pub TurnsOfRows : Type 0
 TurnsOfRows = (p : Instance) (g : RegionView) → IsRegionOf p g → (t : ℕ) → IsTurn p (sets g) t → (t ≡ 0) ⊎ ((t ≡ p.horizon) ⊎ IsRowTurn g t)

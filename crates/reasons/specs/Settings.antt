@@ -1,4 +1,4 @@
--- Helping only: what setting one element to a choice changes in what is sure.
+-- Helping only: what changes in what is sure where one element has another set of choices, or is set to one choice.
 use Rattle.std.specs.Prelude.{◌≡◌, ◌≢◌, ℕ, ◌+◌, ◌<◌, List, [], if◌then◌else◌}
 use Rattle.std.specs.List.{Contains}
 use Rattle.cluster.specs.declared.choices.Choice.{Choice}

@@ -10,6 +10,7 @@ use Rattle.cluster.specs.declared.ids.Element.TheVariants.{Vm, Node as TheNode}
 use Rattle.catalogue.specs.Instance.{Instance}
 use Rattle.slices.specs.Actions.{is_legal}
 use Rattle.slices.specs.Elements.{machine_count, node_count}
+use Rattle.slices.specs.Plans.{Choices}
 use Rattle.domains.specs.Choices.{starts_from}
 use Rattle.domains.specs.Sets.{Sets}
 
@@ -29,3 +30,7 @@ is_element p (TheNode n) = nat_lt n.0 (node_count p)
 -- an element's legal choices; one that the instance has not can only stay
 unfoldable pub start_sets : Instance → Sets
 start_sets p e = if is_element p e then filter (is_legal p e) (every_choice p) else Idle ∷ []
+
+-- a plan, with all that the instance has not idle: what it has for that makes no difference
+abbrev pub within : Instance → Choices → Choices
+within p plan e = if is_element p e then plan e else Idle

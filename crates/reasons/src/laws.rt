@@ -3,7 +3,7 @@
 ghost use Rattle.reasons.specs.Laws.{CostsAtLeast, EmptyStays, FreeStays, LeastCostGrows, OnlyClosed, OnlyCosts, PartsAreIn, PartsBreak, RefutedExcludes, RefutedExcludesAll, StaysRefuted, SureGrows, UnrefutedByReasons};
 ghost use Rattle.reasons.specs.Quiet.{ClosedAtTurns, ClosedByKinds, QuietAtTurns, QuietIsFree, TurnsDecide, UnrefutedAtTurns};
 ghost use Rattle.reasons.specs.Settings.{EndIsChoice, MachineChange, NodeChange, SameSets, SettingAgrees, SettingGrows, SettingLoad, SettingPowered, SettingPresences, SettingRoom, SettingSets, SomeEnd};
-ghost use Rattle.reasons.specs.Regions.{EndsOfRows, PlanIsInStart, RegionIsOf, StartIsLegal, StartIsOf, TurnsOfRows};
+ghost use Rattle.reasons.specs.Regions.{CostWithin, EndsOfRows, RegionIsOf, StartHas, StartIsLegal, StartIsOf, StartIsPlan, TurnsOfRows, WithinValid};
 
 /// What is refuted holds no valid plan that costs less than the one handed in, and none at all
 /// where no plan is handed in.
@@ -193,10 +193,28 @@ pub fn start_is_legal()
     ensures { StartIsLegal }
 {}
 
-/// Each plan is in the start region.
-#[tactic(auto, using(crate::proofs::Public::plan_is_in_start))]
-pub fn plan_is_in_start()
-    ensures { PlanIsInStart }
+/// Each plan is in the start region, with all idle that the instance has not.
+#[tactic(auto, using(crate::proofs::Public::start_has))]
+pub fn start_has()
+    ensures { StartHas }
+{}
+
+/// A plan costs as much with all idle that the instance has not.
+#[tactic(auto, using(crate::proofs::Public::cost_within))]
+pub fn cost_within()
+    ensures { CostWithin }
+{}
+
+/// A valid plan is valid with all idle that the instance has not.
+#[tactic(auto, using(crate::proofs::Public::within_valid))]
+pub fn within_valid()
+    ensures { WithinValid }
+{}
+
+/// What is in the start region is a plan.
+#[tactic(auto, using(crate::proofs::Public::start_is_plan))]
+pub fn start_is_plan()
+    ensures { StartIsPlan }
 {}
 
 /// In the start region an element that the instance has not can only stay.
@@ -216,7 +234,7 @@ pub fn region_is_of()
     ensures { RegionIsOf }
 {}
 
-/// The turns of a region are 0, the horizon, and both ends of each row.
+/// Each turn of a region is 0, the horizon, or an end of a row.
 #[tactic(auto, using(crate::proofs::Public::turns_of_rows))]
 pub fn turns_of_rows()
     ensures { TurnsOfRows }
