@@ -14,7 +14,7 @@ use Rattle.trees.specs.Goals.{decisions, goal_of, has_left, least_shown, shown}
 use Rattle.trees.specs.Certificates.{bound_of, GoalHolds, IsHandedIn, least_of, NoneUndercuts}
 use Rattle.trees.specs.Laws.{CertificatesHold}
 use Rattle.trees.proofs.LeaveLemmas.{proved_excludes}
-use Rattle.trees.proofs.LeastLemmas.{least_holds, least_is_shown}
+use Rattle.trees.proofs.LeastLemmas.{least_holds, number_shown}
 use Rattle.trees.proofs.StartLemmas.{start_has}
 use Rattle.trees.proofs.WithinLemmas.{cost_within, within, within_valid}
 
@@ -56,7 +56,7 @@ certificate p sound plan handed Infeasible t a goal =
     let is = is_infeasible (has_left (steps_of t)) (decisions (steps_of t)) (bound_of p plan) (sym goal) in
     λ other legal valid. subst (λ b. IsSomeAnd b (λ known. known ≤ cost_of p other)) is.1 (no_plan_under p sound (bound_of p plan) t a is.0 other legal valid)
 certificate p sound plan handed (Undecided count) t a goal =
-    let least = least_is_shown p (bound_of p plan) (start_sets p) t (is_undecided (has_left (steps_of t)) (decisions (steps_of t)) count (bound_of p plan) (sym goal)) in
+    let least = number_shown p (bound_of p plan) (start_sets p) t (is_undecided (has_left (steps_of t)) (decisions (steps_of t)) count (bound_of p plan) (sym goal)) in
     subst (λ o. IsSomeAnd o (NoneUndercuts p)) (sym least.1) (none_undercuts p sound (bound_of p plan) t a least.0 least.1)
 
 pub certificates_hold : CertificatesHold

@@ -1,5 +1,5 @@
 -- The least that a tree shows where sets are left.
-use Rattle.std.proofs.Common.{◌≡◌, ◌⊎◌, inl, inr, ℕ, ◌≤◌, min, List, [], ◌∷◌, ◌++◌, refl, sym, ◌∙◌, arith, Option, Some, None, Bool, false, ◌||◌}
+use Rattle.std.proofs.Common.{◌≡◌, ◌⊎◌, inl, inr, ℕ, ◌≤◌, min, List, [], ◌∷◌, ◌++◌, refl, sym, ◌∙◌, arith, Option, Some, None, is_some, Bool, true, false, ◌||◌}
 use Rattle.std.specs.Option.{IsSomeAnd}
 use Rattle.std.proofs.lemmas.Bool.{false≢true}
 use Rattle.sums.specs.Least.{lower, lowest}
@@ -13,10 +13,10 @@ use Rattle.reasons.specs.declared.reason.Reason.TheVariants.{Bound}
 use Rattle.reasons.specs.Sure.{least_cost}
 use Rattle.reasons.proofs.Public.{refuted_excludes}
 use Rattle.trees.specs.Trees.{Tree, fail_leaf, plan_leaf, left_leaf, cut_then, decide_both, steps_of, inside, outside}
-use Rattle.trees.specs.Goals.{has_left, left_sets, lower_of}
+use Rattle.trees.specs.Goals.{has_left, least_shown, left_sets, lower_of}
 use Rattle.trees.specs.Laws.{IsInSome, LeastHolds, LeastIsShown}
 use Rattle.trees.proofs.CountLemmas.{has_left_append}
-use Rattle.trees.proofs.LeaveLemmas.{proved_leaves}
+use Rattle.trees.proofs.LeaveLemmas.{none_left, proved_leaves}
 
 -- ---- no valid plan costs less
 
@@ -54,7 +54,7 @@ least_holds p sound bound s t n a shown plan i valid =
     ]
     )
 
--- ---- it is shown where sets are left
+-- ---- it is shown exactly where sets are left
 
 both_none : (a b : List Sets) → a ++ b ≡ [] → (a ≡ []) × (b ≡ [])
 both_none [] b h = (refl, h)
@@ -74,8 +74,17 @@ nothing_left (decide_both x part t u) s none =
     ∙ neither_is (has_left (steps_of t)) (has_left (steps_of u)) (nothing_left t (inside x part s) both.0) (nothing_left u (outside x part s) both.1)
 
 pub least_is_shown : LeastIsShown
-least_is_shown p bound s t some = at (left_sets s t) refl
+least_is_shown p bound s t = at (left_sets s t) refl (has_left (steps_of t)) refl
   where
-    at : (sets : List Sets) → left_sets s t ≡ sets → (n : ℕ) × (lower_of bound (lowest (least_cost p) sets) ≡ Some n)
-    at [] none = absurd (false≢true (sym (nothing_left t s none) ∙ some))
-    at (g ∷ rest) is = (lower (lower (least_cost p g) (lowest (least_cost p) rest)) bound, refl)
+    at : (sets : List Sets) → left_sets s t ≡ sets → (b : Bool) → has_left (steps_of t) ≡ b → is_some (lower_of bound (lowest (least_cost p) sets)) ≡ b
+    at [] none b h = sym (nothing_left t s none) ∙ h
+    at (g ∷ rest) is true h = refl
+    at (g ∷ rest) is false h = let none : left_sets s t ≡ [] = none_left t s h in absurd (cc)
+
+-- and then it is a number
+some_number : (o : Option ℕ) → is_some o ≡ true → (n : ℕ) × (o ≡ Some n)
+some_number None h = absurd (false≢true h)
+some_number (Some n) h = (n, refl)
+
+pub number_shown : (p : Instance) (bound : Option ℕ) (s : Sets) (t : Tree) → has_left (steps_of t) ≡ true → (n : ℕ) × (least_shown p bound s t ≡ Some n)
+number_shown p bound s t some = some_number (least_shown p bound s t) (least_is_shown p bound s t ∙ some)

@@ -83,7 +83,7 @@ neither : (a b : Bool) → (a || b) ≡ false → (a ≡ false) × (b ≡ false)
 neither true b h = absurd (false≢true (sym h))
 neither false b h = (refl, h)
 
-none_left : (t : Tree) (s : Sets) → has_left (steps_of t) ≡ false → left_sets s t ≡ []
+pub none_left : (t : Tree) (s : Sets) → has_left (steps_of t) ≡ false → left_sets s t ≡ []
 none_left (fail_leaf reason) s none = refl
 none_left (plan_leaf cost) s none = refl
 none_left left_leaf s none = absurd (false≢true (sym none))

@@ -20,13 +20,26 @@ use Rattle.trees.specs.Laws.{PlansFoundHold}
 use Rattle.trees.proofs.LeaveLemmas.{at_plan, only_plan}
 use Rattle.trees.proofs.StartLemmas.{start_is_plan}
 
-only_in : (s : Sets) (plan : Choices) → IsOnly s plan → IsIn s plan
+pub only_in : (s : Sets) (plan : Choices) → IsOnly s plan → IsIn s plan
 only_in s plan only e = subst (λ cs. Contains cs (plan e)) (sym (only e)) (contains_here (plan e) [])
+
+-- ---- lists of leaves
+
+pub plan_in_front : (plan : Choices) (leaves more : List Sets) → IsPlanOfSome plan leaves → IsPlanOfSome plan (leaves ++ more)
+plan_in_front plan [] more h = absurd h
+plan_in_front plan (s ∷ rest) more (inl h) = inl h
+plan_in_front plan (s ∷ rest) more (inr h) = inr (plan_in_front plan rest more h)
+
+pub plan_at_last : (plan : Choices) (leaves : List Sets) (s : Sets) → IsOnly s plan → IsPlanOfSome plan (leaves ++ s ∷ [])
+plan_at_last plan [] s h = inl h
+plan_at_last plan (other ∷ rest) s h = inr (plan_at_last plan rest s h)
 
 either_of : (plan : Choices) (a b : List Sets) → IsPlanOfSome plan (a ++ b) → IsPlanOfSome plan a ⊎ IsPlanOfSome plan b
 either_of plan [] b h = inr h
 either_of plan (s ∷ rest) b (inl h) = inl (inl h)
 either_of plan (s ∷ rest) b (inr h) = elim (either_of plan rest b h) [ inl k ↦ inl (inr k) | inr k ↦ inr k ]
+
+-- ---- over the whole tree
 
 module _ (p : Instance) (bound : Option ℕ) (plan : Choices) where
   -- the plan is in the sets, is valid, and costs no less than the one that was handed in

@@ -2,7 +2,7 @@
 pub use Rattle.trees.proofs.LeaveLemmas.{only_plan, proved_excludes, proved_leaves}
 pub use Rattle.trees.proofs.LeastLemmas.{least_holds, least_is_shown}
 pub use Rattle.trees.proofs.GoalLemmas.{certificates_hold}
-pub use Rattle.trees.proofs.PlanLemmas.{plans_found_hold}
+pub use Rattle.trees.proofs.PlanLemmas.{only_in, plan_at_last, plan_in_front, plans_found_hold}
 pub use Rattle.trees.proofs.FitLemmas.{lean_trees_fit}
 pub use Rattle.trees.proofs.StartLemmas.{start_has, start_is_plan}
 pub use Rattle.trees.proofs.WithinLemmas.{cost_within, within, within_same, within_valid}

@@ -1,5 +1,5 @@
 -- Helping only: what trees say of plans, and how large they are.
-use Rattle.std.specs.Prelude.{◌≡◌, ◌⊎◌, ℕ, ◌+◌, ◌≤◌, max, Bool, true, false, List, [], ◌∷◌, Option, Some, IsSomeAnd}
+use Rattle.std.specs.Prelude.{◌≡◌, ◌⊎◌, ℕ, ◌+◌, ◌≤◌, max, Bool, true, false, List, [], ◌∷◌, Option, Some, is_some, IsSomeAnd}
 use Rattle.catalogue.specs.Instance.{Instance, IsInstance}
 use Rattle.slices.specs.Costs.{cost_of}
 use Rattle.slices.specs.Elements.{machine_count, node_count}
@@ -42,7 +42,7 @@ LeastHolds =
 
 -- a least is shown exactly where sets are left
 abbrev pub LeastIsShown : Type 0
-LeastIsShown = (p : Instance) (bound : Option ℕ) (s : Sets) (t : Tree) → has_left (steps_of t) ≡ true → (n : ℕ) × (least_shown p bound s t ≡ Some n)
+LeastIsShown = (p : Instance) (bound : Option ℕ) (s : Sets) (t : Tree) → is_some (least_shown p bound s t) ≡ has_left (steps_of t)
 
 -- ---- certificates
 
@@ -65,7 +65,7 @@ pub record DecisionsFit (count : ℕ) (some_left : Bool) (plans : ℕ) : Type 0 
   pub fit : count + 1 ≤ max 1 plans
   pub more : some_left ≡ true → count + 2 ≤ plans
 
--- a lean tree has fewer decisions than there are plans in the sets that it proves, and two fewer where some are left
+-- a lean tree has no decision, or fewer than there are plans in the sets that it proves; and at least two fewer where some are left
 abbrev pub LeanTreesFit : Type 0
 LeanTreesFit =
     (p : Instance) (bound : Option ℕ) (s : Sets) (t : Tree) → Proves p bound s t → IsLean p s t →

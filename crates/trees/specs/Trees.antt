@@ -23,7 +23,7 @@ steps_of (fail_leaf reason) = Fail reason ∷ []
 steps_of (plan_leaf cost) = Plan cost ∷ []
 steps_of left_leaf = Left ∷ []
 steps_of (cut_then x part reason rest) = Cut x part reason ∷ steps_of rest
-steps_of (decide_both x part within without) = Decide x part ∷ (steps_of within ++ steps_of without)
+steps_of (decide_both x part inner outer) = Decide x part ∷ (steps_of inner ++ steps_of outer)
 
 -- the sets with the element inside the part, and outside it
 abbrev pub inside : Element → Part → Sets → Sets
@@ -43,9 +43,9 @@ AtEach fact e s (plan_leaf cost) = fact e s (Plan cost)
 AtEach fact e s left_leaf = fact e s Left
 AtEach fact e s (cut_then x part reason rest) =
     fact e s (Cut x part reason) × AtEach fact (e ++ Cut x part reason ∷ []) (outside x part s) rest
-AtEach fact e s (decide_both x part within without) =
-    fact e s (Decide x part) × AtEach fact (e ++ Decide x part ∷ []) (inside x part s) within
-    × AtEach fact ((e ++ Decide x part ∷ []) ++ steps_of within) (outside x part s) without
+AtEach fact e s (decide_both x part inner outer) =
+    fact e s (Decide x part) × AtEach fact (e ++ Decide x part ∷ []) (inside x part s) inner
+    × AtEach fact ((e ++ Decide x part ∷ []) ++ steps_of inner) (outside x part s) outer
 
 -- what is listed of each step of a tree over the sets, in order
 abbrev pub gathered : {A : Type 0} → (Sets → Step → List A) → Sets → Tree → List A
@@ -53,8 +53,8 @@ gathered f s (fail_leaf reason) = f s (Fail reason)
 gathered f s (plan_leaf cost) = f s (Plan cost)
 gathered f s left_leaf = f s Left
 gathered f s (cut_then x part reason rest) = f s (Cut x part reason) ++ gathered f (outside x part s) rest
-gathered f s (decide_both x part within without) =
-    f s (Decide x part) ++ (gathered f (inside x part s) within ++ gathered f (outside x part s) without)
+gathered f s (decide_both x part inner outer) =
+    f s (Decide x part) ++ (gathered f (inside x part s) inner ++ gathered f (outside x part s) outer)
 
 -- ---- the same, a step at a time
 

@@ -23,7 +23,7 @@ pub fn least_holds()
     ensures { LeastHolds }
 {}
 
-/// A tree that leaves sets shows a least.
+/// A tree shows a least exactly where it leaves sets.
 #[tactic(auto, using(crate::proofs::Public::least_is_shown))]
 pub fn least_is_shown()
     ensures { LeastIsShown }
@@ -42,8 +42,8 @@ pub fn plans_found_hold()
     ensures { PlansFoundHold }
 {}
 
-/// A lean tree has fewer decisions than the sets that it proves hold plans, and two fewer where it
-/// leaves some.
+/// A lean tree has no decision, or fewer than the sets that it proves hold plans; and at least two
+/// fewer where it leaves some.
 #[tactic(auto, using(crate::proofs::Public::lean_trees_fit))]
 pub fn lean_trees_fit()
     ensures { LeanTreesFit }
