@@ -1,0 +1,14 @@
+use Rattle.std.proofs.Common.{ap, sym, ◌∙◌}
+use Rattle.slices.specs.declared.slice.Weight.TheVariants.{Presence}
+use Rattle.slices.specs.Snapshots.{held_at}
+use Rattle.relax.proofs.LeastLemmas.{surely_positive}
+use Rattle.slices.specs.Elements.{vm}
+use Rattle.domains.specs.Laws.{is_above_none}
+use Rattle.domains.specs.Views.{seen}
+use Rattle.reasons.specs.Sure.{sure}
+use Rattle.relax.specs.Areas.{nodes_of}
+use Rattle.relax.proofs.sure.surely_in.Goals as goal
+
+pub returns : goal.returns
+unfolding sure
+returns c = c.is_above.ensures ∙ ap is_above_none c.lowest_seen.ensures ∙ sym (surely_positive (held_at c.args.p.now.given c.args.v.0 Presence (nodes_of c.args.p.now.given c.args.area.now) c.args.t) (seen c.args.view.now.region.now c.args.view.now.lens (vm c.args.v.0)))

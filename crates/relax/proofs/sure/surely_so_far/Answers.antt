@@ -1,0 +1,12 @@
+use Rattle.std.proofs.Common.{ap, sym, ◌∙◌}
+use Rattle.slices.specs.Snapshots.{action_at}
+use Rattle.domains.proofs.Public.{surely_by_least}
+use Rattle.slices.specs.Elements.{vm}
+use Rattle.domains.specs.Laws.{is_above_none}
+use Rattle.domains.specs.Views.{seen}
+use Rattle.reasons.specs.Sure.{sure}
+use Rattle.relax.proofs.sure.surely_so_far.Goals as goal
+
+pub returns : goal.returns
+unfolding sure
+returns c = c.is_above.ensures ∙ ap is_above_none c.lowest_seen.ensures ∙ sym (surely_by_least (action_at c.args.p.now.given c.args.v.0 c.args.far c.args.t) (seen c.args.view.now.region.now c.args.view.now.lens (vm c.args.v.0)))

@@ -1,0 +1,13 @@
+use Rattle.std.proofs.Common.{◌≡◌, ◌*◌, ◌^◌, ◌≤◌}
+use Rattle.sums.specs.Least.{least}
+use Rattle.sums.specs.Sums.{sum_to}
+use Rattle.slices.specs.Actions.{end_of}
+use Rattle.slices.specs.Elements.{vm}
+use Rattle.domains.specs.Views.{seen}
+use Rattle.relax.proofs.totals.machine_ends.Given as goal
+
+abbrev pub invariant-loop-v : goal.invariant-loop-v
+invariant-loop-v l = record {
+  total : l.total ≡ sum_to l.v (λ v. least (end_of l.p.given (vm v)) (seen l.view.region.now l.view.lens (vm v)));
+  small : l.total ≤ l.v * 2 ^ 64;
+}

@@ -1,0 +1,39 @@
+-- Sets of nodes as they are asked for, and what may be asked.
+use Rattle.std.specs.Prelude.{◌≡◌, ◌<◌, not, length, IsTrue}
+use Rattle.std.specs.List.{Contains}
+use Rattle.cluster.specs.declared.choices.Choice.{Choice}
+use Rattle.cluster.specs.declared.ids.Element.{Element}
+use Rattle.cluster.specs.Sets.{has_node}
+use Rattle.catalogue.specs.Instance.{Instance, IsElement}
+use Rattle.slices.specs.declared.slice.Weight.{Weight}
+use Rattle.slices.specs.declared.slice.Weight.TheVariants.{Amount, Presence, Image}
+use Rattle.slices.specs.Actions.{is_legal}
+use Rattle.slices.specs.Elements.{machine_count, node_count}
+use Rattle.slices.specs.Stages.{Nodes, one}
+use Rattle.domains.specs.Sets.{RegionView, Sets}
+use Rattle.reasons.specs.Closed.{all_nodes}
+use Rattle.relax.specs.declared.area.Area.{Area}
+use Rattle.relax.specs.declared.area.Area.TheVariants.{One, All, In, OutsideOne, Outside}
+
+-- the nodes of an area
+abbrev pub nodes_of : Instance → Area → Nodes
+nodes_of p (One n) = one n.0
+nodes_of p All = all_nodes p
+nodes_of p (In set) = has_node set
+nodes_of p (OutsideOne n) = λ m. not (one n.0 m)
+nodes_of p (Outside set) = λ m. not (has_node set m)
+
+-- a resource whose amount is asked for is one of the instance
+abbrev pub IsWeight : Instance → Weight → Type 0
+IsWeight p (Amount r) = r < length p.resources
+IsWeight p Presence = Unit {0}
+IsWeight p Image = Unit {0}
+
+-- the region has a domain for each element of the instance, and no more
+pub record IsSized (p : Instance) (g : RegionView) : Type 0 where
+  pub machines : length g.machines ≡ machine_count p
+  pub nodes : length g.nodes ≡ node_count p
+
+-- each choice of an element of the instance is legal
+abbrev pub AreLegal : Instance → Sets → Type 0
+AreLegal p s = (e : Element) → IsElement p e → (c : Choice) → Contains (s e) c → IsTrue (is_legal p e c)

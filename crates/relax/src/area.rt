@@ -1,0 +1,30 @@
+//! Sets of nodes as looks ask for them.
+ghost use Rattle.std.specs.Prelude.{◌≡◌};
+ghost use Rattle.relax.specs.Areas.{nodes_of};
+
+use catalogue::problem::Problem;
+use cluster::ids::NodeId;
+use cluster::sets::NodeSet;
+
+/// Nodes: one, all of the problem, those of a set, or those that are not one or not in a set.
+#[derive(Clone, Copy)]
+pub enum Area {
+    One(NodeId),
+    All,
+    In(NodeSet),
+    OutsideOne(NodeId),
+    Outside(NodeSet),
+}
+
+/// Whether a node is in an area.
+pub fn has(p: &Problem, area: &Area, n: NodeId) -> bool
+    ensures { result ≡ nodes_of p.now.given area.now n.0 }
+{
+    match area {
+        Area::One(m) => n.0 == m.0,
+        Area::All => (n.0 as usize) < p.cluster().nodes().len(),
+        Area::In(set) => set.has(n),
+        Area::OutsideOne(m) => n.0 != m.0,
+        Area::Outside(set) => !set.has(n),
+    }
+}

@@ -1,0 +1,157 @@
+//! What is sure in what is seen of a region.
+ghost use Rattle.std.specs.Prelude.{◌≡◌, ◌≤◌, ◌↔◌, ◌<◌, [], nat_lt, length, IsTrue, Option as AnyOption};
+ghost use Rattle.sums.specs.Least.{lowest as lowest_of, least};
+ghost use Rattle.catalogue.specs.Instance.{IsElement};
+ghost use Rattle.slices.specs.Actions.{end_of};
+ghost use Rattle.slices.specs.Limits.{max_held};
+ghost use Rattle.slices.specs.declared.slice.Weight.TheVariants.{Image as ImageOf};
+ghost use Rattle.domains.specs.Laws.{is_above_none, is_nought};
+ghost use Rattle.domains.specs.Views.{seen};
+ghost use Rattle.reasons.specs.Sure.{sure};
+ghost use Rattle.relax.specs.Areas.{IsSized, IsWeight, nodes_of};
+
+use crate::area::Area;
+use crate::measures::{EndOf, HeldIn, IsPowered, IsSoFar, IsUnusable};
+use catalogue::problem::Problem;
+use cluster::choices::Instant;
+use cluster::ids::{Element, NodeId, VmId};
+use domains::measure::Nought;
+use domains::view::{View, lowest_seen};
+use slices::slice::Weight;
+use slices::stage::Progress;
+
+// whether a value, if there is one, is above 0
+fn is_above(lowest: Option<u64>) -> bool
+    ensures { result ≡ is_above_none lowest }
+{
+    match lowest {
+        None => true,
+        Some(x) => x > 0,
+    }
+}
+
+// whether there is a value, and it is 0
+fn is_zero(lowest: Option<u64>) -> bool
+    ensures { result ≡ is_nought lowest }
+{
+    match lowest {
+        None => false,
+        Some(x) => x == 0,
+    }
+}
+
+/// The least that a machine holds on the nodes of an area at an instant; 0 where it has no choice.
+#[tactic(auto, using(crate::proofs::LeastLemmas::least_held_small), unfolding(reasons::specs::Sure::sure))]
+pub fn least_held(p: &Problem, view: &View, v: VmId, weight: Weight, area: &Area, t: Instant) -> u64
+    requires region { IsSized p.now.given view.now.region.now }
+    requires machine { IsElement p.now.given (Element.Vm v) }
+    requires weight { IsWeight p.now.given weight }
+    ensures held { result ≡ (sure p.now.given (seen view.now.region.now view.now.lens) t).held v.0 weight (nodes_of p.now.given area.now) }
+    ensures small { result ≤ max_held }
+{
+    let measure = HeldIn {
+        problem: p,
+        machine: v,
+        weight,
+        area,
+        at: t,
+    };
+    lowest_seen(view, Element::Vm(v), &measure).unwrap_or(0)
+}
+
+/// Whether a machine is present on a node of an area under each of its choices.
+pub fn surely_in(p: &Problem, view: &View, v: VmId, area: &Area, t: Instant) -> bool
+    requires region { IsSized p.now.given view.now.region.now }
+    requires machine { IsElement p.now.given (Element.Vm v) }
+    ensures { result ≡ (sure p.now.given (seen view.now.region.now view.now.lens) t).present v.0 (nodes_of p.now.given area.now) }
+{
+    let measure = HeldIn {
+        problem: p,
+        machine: v,
+        weight: Weight::Presence,
+        area,
+        at: t,
+    };
+    is_above(lowest_seen(view, Element::Vm(v), &measure))
+}
+
+/// Whether a machine has its image on a node of an area under each of its choices, of which there is one.
+pub fn surely_has_image(p: &Problem, view: &View, v: VmId, area: &Area, t: Instant) -> bool
+    requires region { IsSized p.now.given view.now.region.now }
+    requires machine { IsElement p.now.given (Element.Vm v) }
+    ensures { result ≡ nat_lt 0 ((sure p.now.given (seen view.now.region.now view.now.lens) t).held v.0 ImageOf (nodes_of p.now.given area.now)) }
+{
+    least_held(p, view, v, Weight::Image, area, t) > 0
+}
+
+/// Whether a node is usable under some choice.
+pub fn may_be_usable(p: &Problem, view: &View, n: NodeId, t: Instant) -> bool
+    requires region { IsSized p.now.given view.now.region.now }
+    requires node { IsElement p.now.given (Element.Node n) }
+    ensures { result ≡ (sure p.now.given (seen view.now.region.now view.now.lens) t).usable n.0 }
+{
+    let measure = IsUnusable {
+        problem: p,
+        node: n,
+        at: t,
+    };
+    is_zero(lowest_seen(view, Element::Node(n), &measure))
+}
+
+/// Whether a node is powered under each of its choices.
+pub fn surely_powered(p: &Problem, view: &View, n: NodeId, t: Instant) -> bool
+    requires region { IsSized p.now.given view.now.region.now }
+    requires node { IsElement p.now.given (Element.Node n) }
+    ensures { result ≡ (sure p.now.given (seen view.now.region.now view.now.lens) t).powered n.0 }
+{
+    let measure = IsPowered {
+        problem: p,
+        node: n,
+        at: t,
+    };
+    is_above(lowest_seen(view, Element::Node(n), &measure))
+}
+
+/// Whether a machine's action is so far under each of its choices.
+pub fn surely_so_far(p: &Problem, view: &View, v: VmId, far: Progress, t: Instant) -> bool
+    requires region { IsSized p.now.given view.now.region.now }
+    requires machine { IsElement p.now.given (Element.Vm v) }
+    ensures { result ≡ (sure p.now.given (seen view.now.region.now view.now.lens) t).action v.0 far }
+{
+    let progress = IsSoFar {
+        problem: p,
+        machine: v,
+        far,
+        at: t,
+    };
+    is_above(lowest_seen(view, Element::Vm(v), &progress))
+}
+
+/// The least instant at which an element's action ends, None where it has no choice.
+pub fn least_end(p: &Problem, view: &View, e: Element) -> Option<u64>
+    requires region { IsSized p.now.given view.now.region.now }
+    requires element { IsElement p.now.given e }
+    ensures { result ≡ lowest_of (end_of p.now.given e) (seen view.now.region.now view.now.lens e) }
+{
+    lowest_seen(
+        view,
+        e,
+        &EndOf {
+            problem: p,
+            element: e,
+        },
+    )
+}
+
+/// Whether an element has no choice.
+#[tactic(auto, using(crate::proofs::LeastLemmas::none_is_empty, crate::proofs::LeastLemmas::some_is_not))]
+pub fn has_none(p: &Problem, view: &View, e: Element) -> bool
+    requires region { IsSized p.now.given view.now.region.now }
+    requires element { IsElement p.now.given e }
+    ensures { IsTrue result ↔ (seen view.now.region.now view.now.lens e ≡ []) }
+{
+    match lowest_seen(view, e, &Nought) {
+        None => true,
+        Some(_) => false,
+    }
+}
