@@ -1,0 +1,5 @@
+pub mod StepLemmas
+pub mod SafeLemmas
+pub mod GoingOn
+pub mod TableLemmas
+pub mod Public

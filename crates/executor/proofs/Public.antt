@@ -1,0 +1,4 @@
+-- What crates above may cite: the laws, by the names of their statements in specs/Laws.
+pub use Rattle.executor.proofs.StepLemmas.{begins_well, steps_keep}
+pub use Rattle.executor.proofs.SafeLemmas.{every_run_is_safe, executions_are_safe}
+pub use Rattle.executor.proofs.GoingOn.{ends_as_planned, never_stands_still}

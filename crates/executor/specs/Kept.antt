@@ -1,0 +1,22 @@
+-- What a monitor keeps.
+use Rattle.std.specs.Prelude.{◌≡◌, length}
+use Rattle.cluster.specs.Elements.{element_count}
+use Rattle.catalogue.specs.Instance.{inventory_of}
+use Rattle.slices.specs.Plans.{IsPlanOf, choices_of}
+use Rattle.slices.specs.Rules.{IsValid}
+use Rattle.executor.specs.declared.monitor.Monitor.TheInside.{Inside}
+use Rattle.executor.specs.Steps.{IsExecution}
+use Rattle.executor.specs.Phases.{phases_in}
+use Rattle.executor.specs.Tables.{AreTimes}
+use Rattle.executor.specs.Views.{Execution}
+
+abbrev pub execution_of : Inside → Execution
+execution_of m = record { problem = m.problem.now; plan = m.plan.now; phases = m.phases.items }
+
+-- its plan is valid, its phases are those of an execution, and the times are those of the plan
+pub record IsKept (m : Inside) : Type 0 where
+  pub plan : IsPlanOf m.problem.now.given m.plan.now
+  pub valid : IsValid m.problem.now.given (choices_of m.plan.now)
+  pub execution : IsExecution m.problem.now.given (choices_of m.plan.now) (phases_in m.problem.now.given m.phases.items)
+  pub rows : length m.phases.items ≡ element_count (inventory_of m.problem.now.given)
+  pub times : AreTimes m.problem.now.given (choices_of m.plan.now) m.times.items

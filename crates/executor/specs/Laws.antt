@@ -1,0 +1,65 @@
+-- The laws of executions.
+use Rattle.std.specs.Prelude.{◌≡◌, ◌≢◌, List, IsTrue, false}
+use Rattle.cluster.specs.declared.ids.Element.{Element}
+use Rattle.catalogue.specs.Instance.{Instance, IsInstance}
+use Rattle.slices.specs.declared.rule.Rule.{Rule}
+use Rattle.slices.specs.Plans.{Choices, PlanChoices, IsPlanOf, choices_of}
+use Rattle.slices.specs.Rules.{InRange, IsValid, Keeps}
+use Rattle.slices.specs.Snapshots.{snapshot, snapshot_at}
+use Rattle.executor.specs.declared.phase.Phase.TheVariants.{Waiting, Running, Failed}
+use Rattle.executor.specs.Phases.{AllEnded, Phases, first_phases, stages_in}
+use Rattle.executor.specs.Steps.{Event, IsExecution, IsStep, MayStart, Runs}
+
+-- ---- every execution is one at each moment
+
+abbrev pub BeginsWell : Type 0
+BeginsWell = (p : Instance) (plan : Choices) → IsExecution p plan (first_phases plan)
+
+abbrev pub StepsKeep : Type 0
+StepsKeep =
+    (p : Instance) (plan : Choices) (before after : Phases) (e : Event) → IsExecution p plan before → IsStep p plan before e after →
+    IsExecution p plan after
+
+-- ---- it keeps the rules
+
+-- no node is over a capacity, every machine that is present and every image is on a usable node, and every continuous constraint holds
+abbrev pub IsSafe : Instance → Choices → Phases → Type 0
+IsSafe p plan phases = (r : Rule) → InRange p r → Keeps p (snapshot p plan (stages_in phases)) false r
+
+-- so it is at each moment of an execution of a valid plan
+abbrev pub ExecutionsAreSafe : Type 0
+ExecutionsAreSafe =
+    (p : Instance) → IsInstance p → (plan : PlanChoices) → IsPlanOf p plan → IsValid p (choices_of plan) →
+    (phases : Phases) → IsExecution p (choices_of plan) phases → IsSafe p (choices_of plan) phases
+
+-- hence after every list of events; the beginnings of a list are lists, so it is so after each event
+abbrev pub EveryRunIsSafe : Type 0
+EveryRunIsSafe =
+    (p : Instance) → IsInstance p → (plan : PlanChoices) → IsPlanOf p plan → IsValid p (choices_of plan) →
+    (events : List Event) (after : Phases) → Runs p (choices_of plan) (first_phases (choices_of plan)) events after →
+    IsSafe p (choices_of plan) after
+
+-- ---- it goes on, and it ends where the plan does
+
+-- nothing runs, nothing has failed, and an action waits
+pub record IsIdle (phases : Phases) : Type 0 where
+  pub none_runs : (e : Element) → phases e ≢ Running
+  pub none_failed : (e : Element) → phases e ≢ Failed
+  pub waiting : Element
+  pub waits : phases waiting ≡ Waiting
+
+-- then an action may start
+abbrev pub NeverStandsStill : Type 0
+NeverStandsStill =
+    (p : Instance) → IsInstance p → (plan : PlanChoices) → IsPlanOf p plan → (phases : Phases) →
+    IsExecution p (choices_of plan) phases → IsIdle phases → (a : Element) × MayStart p (choices_of plan) phases a
+
+-- all is where the plan has it at the horizon
+abbrev pub IsAtTheEnd : Instance → Choices → Phases → Type 0
+IsAtTheEnd p plan phases = snapshot p plan (stages_in phases) ≡ snapshot_at p plan p.horizon
+
+-- so it is when all actions have ended
+abbrev pub EndsAsPlanned : Type 0
+EndsAsPlanned =
+    (p : Instance) (plan : PlanChoices) → IsPlanOf p plan → (phases : Phases) → IsExecution p (choices_of plan) phases →
+    AllEnded phases → IsAtTheEnd p (choices_of plan) phases

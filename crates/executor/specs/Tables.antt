@@ -1,0 +1,62 @@
+-- The tables of a monitor, by the numbers of elements: how far each action is, and when it starts and ends in the plan.
+use Rattle.std.specs.Prelude.{◌≡◌, ℕ, ◌<◌, Bool, true, false, not, ◌&&◌, nat_le, List, length, slice_index_or, Option, Some, None, IsTrue}
+use Rattle.cluster.specs.declared.choices.Choice.{Choice}
+use Rattle.cluster.specs.declared.choices.Choice.TheVariants.{Idle, Act}
+use Rattle.cluster.specs.declared.ids.Element.{Element}
+use Rattle.cluster.specs.Elements.{element_at, element_count}
+use Rattle.catalogue.specs.Instance.{Instance, inventory_of}
+use Rattle.slices.specs.Actions.{end_of}
+use Rattle.slices.specs.Plans.{Choices}
+use Rattle.executor.specs.declared.phase.Phase.{Phase}
+use Rattle.executor.specs.declared.phase.Phase.TheVariants.{None as NoAction, Waiting, Running, Ended, Failed}
+use Rattle.executor.specs.declared.times.Times.{Times}
+use Rattle.executor.specs.Phases.{phase_at}
+
+-- ---- phases
+
+abbrev pub is_ended : Phase → Bool
+is_ended NoAction = false
+is_ended Waiting = false
+is_ended Running = false
+is_ended Ended = true
+is_ended Failed = false
+
+-- ---- times
+
+-- when the action of a choice starts and ends
+abbrev pub times_of : Instance → Element → Choice → Option Times
+times_of p e Idle = None
+times_of p e (Act place start) = Some (record { start = start; end = end_of p e (Act place start) })
+
+-- the table tells when each action of the plan starts and ends
+pub record AreTimes (p : Instance) (plan : Choices) (table : List (Option Times)) : Type 0 where
+  pub count : length table ≡ element_count (inventory_of p)
+  pub each : (x : ℕ) → x < element_count (inventory_of p) →
+      slice_index_or table x None ≡ times_of p (element_at (inventory_of p) x) (plan (element_at (inventory_of p) x))
+
+-- both are actions, and the second ends by the start of the first
+abbrev pub waits_between : Option Times → Option Times → Bool
+waits_between None b = false
+waits_between (Some a) None = false
+waits_between (Some a) (Some b) = nat_le b.end a.start
+
+abbrev pub waits_at : List (Option Times) → ℕ → ℕ → Bool
+waits_at times a b = waits_between (slice_index_or times a None) (slice_index_or times b None)
+
+-- a waits for b, which has not ended
+abbrev pub is_open_at : List (Option Times) → List Phase → ℕ → ℕ → Bool
+is_open_at times phases a b = waits_at times a b && not (is_ended (phase_at phases b))
+
+-- ---- places
+
+-- the first place below the count with a property, if there is one
+abbrev pub IsFirstPlace : ℕ → (ℕ → Type 0) → Option ℕ → Type 0
+IsFirstPlace count those None = (y : ℕ) → y < count → ¬ those y
+IsFirstPlace count those (Some x) = (x < count) × those x × ((y : ℕ) → y < x → ¬ those y)
+
+-- ---- readiness
+
+-- the action of a place waits, and all that it waits for has ended
+pub record IsReadyAt (times : List (Option Times)) (phases : List Phase) (x : ℕ) : Type 0 where
+  pub waiting : phase_at phases x ≡ Waiting
+  pub none_open : (b : ℕ) → b < length phases → ¬ IsTrue (is_open_at times phases x b)
