@@ -1,4 +1,8 @@
 -- What other crates may cite.
+
+-- which choices are in a list, and in what a filter keeps of it
+pub use Rattle.domains.proofs.SplitLemmas.{contains_here, contains_one, contains_filter, filter_contains}
+
 use Rattle.std.proofs.Common.{◌≡◌, ◌⊎◌, inl, inr, ℕ, ◌≤◌, ◌==◌, ◌&&◌, ◌||◌, nat_lt, min, not, Bool, true, false, cond, Option, Some, None, ◌+◌, ◌-◌, List, [], ◌∷◌, ◌++◌, length, refl, sym, ap, ◌∙◌, arith}
 use Rattle.std.specs.List.{filter, flat_map, Contains}
 use Rattle.std.proofs.lemmas.List.Elements.{filter-append}
@@ -20,7 +24,7 @@ use Rattle.domains.proofs.MeasureLemmas.{filter_true}
 use Rattle.domains.specs.Sets.{RegionView, Sets, domain_at, sets, keeping, same_element, surely, may, IsIn}
 use Rattle.domains.specs.Sizes.{size, IsOneOf}
 use Rattle.domains.specs.Laws.{PartsCover, PartsAreDisjoint, PlanSplits, PlanStays, SplitAddsUp, SizeFalls, SizeIsPositive, OpenHasTwo, CountFalls, CountFallsBelow, LeastOfEach, SurelyEach, MayEach, FilterIsFewer, SurelyStays, MayStays, LeastGrows, SurelyByLeast, MayByLeast, is_above_none, is_nought}
-use Rattle.domains.proofs.SplitLemmas.{contains_none, contains_cases, contains_here, contains_later, contains_filter, filter_contains, size-split, size-le, size-positive, size-two, count-le, count-lt}
+use Rattle.domains.proofs.SplitLemmas.{contains_none, contains_cases, contains_later, size-split, size-le, size-positive, size-two, count-le, count-lt}
 
 -- a test is true or false
 either : (b : Bool) → (b ≡ true) ⊎ (not b ≡ true)
