@@ -1,6 +1,7 @@
 pub mod Public
 pub mod StartLemmas
 pub mod RowLemmas
+pub mod SlotLemmas
 pub mod PartLemmas
 pub mod UndoLemmas
 pub mod SizeLemmas

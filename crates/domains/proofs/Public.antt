@@ -2,7 +2,6 @@
 
 -- which choices are in a list, and in what a filter keeps of it
 pub use Rattle.domains.proofs.SplitLemmas.{contains_here, contains_one, contains_filter, filter_contains}
-
 use Rattle.std.proofs.Common.{◌≡◌, ◌⊎◌, inl, inr, ℕ, ◌≤◌, ◌==◌, ◌&&◌, ◌||◌, nat_lt, min, not, Bool, true, false, cond, Option, Some, None, ◌+◌, ◌-◌, List, [], ◌∷◌, ◌++◌, length, refl, sym, ap, ◌∙◌, arith}
 use Rattle.std.specs.List.{filter, flat_map, Contains}
 use Rattle.std.proofs.lemmas.List.Elements.{filter-append}

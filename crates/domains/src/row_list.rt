@@ -1,0 +1,202 @@
+//! The rows of a domain in memory.
+ghost use Rattle.std.specs.Prelude.{◌≡◌, ◌+◌, ◌<◌, ◌≤◌, max, [], ◌∷◌, ◌++◌, length, drop, insert, remove, slice_set, OnOk, OnErr, IfOk};
+ghost use Rattle.smallvec.specs.SmallVec.{HasRoomFor};
+ghost use Rattle.domains.specs.declared.parts.Row.{Row as AnyRow};
+
+use crate::parts::Row;
+use memory::Memory;
+use smallvec::SmallVec;
+use std::alloc::Global;
+use std::marker::Model;
+
+/// Rows in their order, and memory for some more.
+///
+/// There are free slots before the first row too, so that only the shorter side moves where a row is taken out or
+/// put in.
+#[derive(Drop)]
+pub struct RowList {
+    // free slots, and then the rows
+    slots: SmallVec<Row, 1>,
+    free: usize,
+    // for so many rows there is memory
+    most: usize,
+}
+
+impl Model for RowList {
+    ghost use Rattle.std.specs.Prelude.{drop};
+    ghost use Rattle.domains.specs.Kept.{RowsView, HaveRoom};
+
+    ghost Value = { RowsView };
+
+    ghost view = { λ l. record { rows = drop l.free l.slots.items; slots = l.most } };
+
+    ghost invariant = { λ l. HaveRoom l.slots.items l.slots.capacity l.free l.most };
+}
+
+impl RowList {
+    /// No row.
+    pub fn new(alloc: Global) -> RowList
+        ensures { result ≡ record { rows = []; slots = 0 } }
+    {
+        RowList {
+            slots: SmallVec::new(alloc),
+            free: 0,
+            most: 0,
+        }
+    }
+
+    /// One row. It takes no memory.
+    pub fn one(alloc: Global, row: Row) -> RowList
+        ensures { result ≡ record { rows = row ∷ []; slots = 1 } }
+    {
+        RowList {
+            slots: SmallVec::from_buf(alloc, [row]),
+            free: 0,
+            most: 1,
+        }
+    }
+
+    /// What its memory comes from.
+    pub fn allocator(&self) -> Global {
+        *self.slots.allocator()
+    }
+
+    /// How many rows there are.
+    pub fn len(&self) -> usize
+        ensures { result ≡ length self.now.rows }
+    {
+        self.slots.len() - self.free
+    }
+
+    /// The rows.
+    pub fn as_slice(&self) -> &[Row]
+        ensures { result.now ≡ self.now.rows }
+    {
+        &self.slots.as_slice()[self.free..]
+    }
+
+    /// Adds a row after all others.
+    pub fn push(&mut self, row: Row) -> Result<(), Memory>
+        ensures ok { OnOk result (self.new ≡ record { rows = self.old.rows ++ row ∷ []; slots = max self.old.slots (length self.old.rows + 1) }) }
+        ensures err { OnErr result (self.new ≡ self.old) }
+    {
+        self.slots.push(row)?;
+        self.most = self.most.max(self.slots.len() - self.free);
+        Ok(())
+    }
+
+    /// An equal list.
+    pub fn copy(&self) -> Result<RowList, Memory>
+        ensures { IfOk result (λ l. l ≡ self.now) }
+    {
+        let rows = self.as_slice();
+        let mut slots = SmallVec::from_slice(*self.slots.allocator(), rows)?;
+        slots.reserve_exact(self.most - rows.len())?;
+        Ok(RowList {
+            slots,
+            free: 0,
+            most: self.most,
+        })
+    }
+
+    /// Becomes equal to another list, in the memory that it has where that is enough.
+    pub fn copy_from(&mut self, other: &RowList) -> Result<(), Memory>
+        ensures ok { OnOk result (self.new ≡ other.now) }
+        ensures err { OnErr result (self.new ≡ self.old) }
+    {
+        if self.slots.capacity() < other.most {
+            *self = other.copy()?;
+            return Ok(());
+        }
+        self.free = 0;
+        self.most = other.most;
+        copy_rows(&mut self.slots, other.as_slice());
+        Ok(())
+    }
+
+    /// Writes a row in the place of another.
+    pub fn set(&mut self, i: usize, row: Row)
+        requires { i < length self.old.rows }
+        ensures { self.new ≡ record { rows = slice_set self.old.rows i row; slots = self.old.slots } }
+    {
+        set_slot(&mut self.slots, self.free + i, row);
+    }
+
+    /// Takes a row out.
+    pub fn remove(&mut self, i: usize)
+        requires { i < length self.old.rows }
+        ensures { self.new ≡ record { rows = remove self.old.rows i; slots = self.old.slots } }
+    {
+        if i < self.slots.len() - self.free - i {
+            move_up(&mut self.slots, self.free, i);
+            self.free += 1;
+        } else {
+            let _ = self.slots.remove(self.free + i);
+        }
+    }
+
+    /// Puts a row in, for which there is memory.
+    pub fn insert(&mut self, i: usize, row: Row)
+        requires within { i ≤ length self.old.rows }
+        requires room { length self.old.rows + 1 ≤ self.old.slots }
+        ensures { self.new ≡ record { rows = insert self.old.rows i row; slots = self.old.slots } }
+    {
+        let full = self.slots.len() == self.slots.capacity();
+        if self.free > 0 && (full || i <= self.slots.len() - self.free - i) {
+            self.free -= 1;
+            move_down(&mut self.slots, self.free, i);
+            set_slot(&mut self.slots, self.free + i, row);
+        } else {
+            insert_slot(&mut self.slots, self.free + i, row);
+        }
+    }
+}
+
+// copies rows into memory that is there
+fn copy_rows(slots: &mut SmallVec<Row, 1>, others: &[Row])
+    requires { length others.now ≤ slots.old.capacity }
+    ensures items { slots.new.items ≡ others.now }
+    ensures capacity { slots.old.capacity ≤ slots.new.capacity }
+{
+    slots.clear();
+    let _had_room = slots.extend_from_slice(others);
+}
+
+fn set_slot(slots: &mut SmallVec<Row, 1>, i: usize, row: Row)
+    requires { i < length slots.old.items }
+    ensures items { slots.new.items ≡ slice_set slots.old.items i row }
+    ensures capacity { slots.new.capacity ≡ slots.old.capacity }
+{
+    slots.as_mut_slice()[i] = row;
+}
+
+// moves so many slots up by one, from one on
+fn move_up(slots: &mut SmallVec<Row, 1>, from: usize, count: usize)
+    requires { from + count < length slots.old.items }
+    ensures items { drop (from + 1) slots.new.items ≡ remove (drop from slots.old.items) count }
+    ensures len { length slots.new.items ≡ length slots.old.items }
+    ensures capacity { slots.new.capacity ≡ slots.old.capacity }
+{
+    slots
+        .as_mut_slice()
+        .copy_within(from..from + count, from + 1);
+}
+
+// moves so many slots down by one, to one on
+fn move_down(slots: &mut SmallVec<Row, 1>, to: usize, count: usize)
+    requires { to + count < length slots.old.items }
+    ensures items { (row : AnyRow) → drop to (slice_set slots.new.items (to + count) row) ≡ insert (drop (to + 1) slots.old.items) count row }
+    ensures len { length slots.new.items ≡ length slots.old.items }
+    ensures capacity { slots.new.capacity ≡ slots.old.capacity }
+{
+    slots.as_mut_slice().copy_within(to + 1..to + 1 + count, to);
+}
+
+fn insert_slot(slots: &mut SmallVec<Row, 1>, i: usize, row: Row)
+    requires within { i ≤ length slots.old.items }
+    requires room { HasRoomFor slots.old 1 }
+    ensures items { slots.new.items ≡ insert slots.old.items i row }
+    ensures capacity { slots.new.capacity ≡ slots.old.capacity }
+{
+    let _had_room = slots.insert(i, row);
+}
