@@ -48,7 +48,7 @@ enum Order {
     Same,
 }
 
-fn order(word: &str) -> Order {
+fn order_of(word: &str) -> Order {
     match word {
         "descending" => Order::Descending,
         "spread" => Order::Spread,
@@ -110,7 +110,7 @@ fn main(rt: HostRuntime) -> ExitCode {
             if place < 3 {
                 numbers[place] = word.parse::<u32>().unwrap_or(0);
             } else {
-                way = order(word);
+                way = order_of(word.as_str());
             }
         }
     }

@@ -67,7 +67,8 @@ impl Domain {
         ensures ok { OnOk result (self.new ≡ record { idle = self.old.idle; rows = self.old.rows ++ row ∷ []; slots = max self.old.slots (length self.old.rows + 1) }) }
         ensures err { OnErr result (self.new ≡ self.old) }
     {
-        self.rows.push(row)
+        self.rows.push(row)?;
+        Ok(())
     }
 
     /// An equal domain.

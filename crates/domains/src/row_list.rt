@@ -1,7 +1,6 @@
 //! The rows of a domain in memory.
 ghost use Rattle.std.specs.Prelude.{◌≡◌, ◌+◌, ◌<◌, ◌≤◌, max, [], ◌∷◌, ◌++◌, length, drop, insert, remove, slice_set, OnOk, OnErr, IfOk};
 ghost use Rattle.smallvec.specs.SmallVec.{HasRoomFor};
-ghost use Rattle.domains.specs.declared.parts.Row.{Row as AnyRow};
 
 use crate::parts::Row;
 use memory::Memory;
@@ -115,20 +114,22 @@ impl RowList {
     }
 
     /// Writes a row in the place of another.
+    #[tactic(auto, using(crate::proofs::SlotLemmas::drop_set))]
     pub fn set(&mut self, i: usize, row: Row)
         requires { i < length self.old.rows }
         ensures { self.new ≡ record { rows = slice_set self.old.rows i row; slots = self.old.slots } }
     {
-        set_slot(&mut self.slots, self.free + i, row);
+        set_slot(&mut self.slots, self.free, i, row);
     }
 
     /// Takes a row out.
+    #[tactic(auto, using(crate::proofs::SlotLemmas::drop_remove))]
     pub fn remove(&mut self, i: usize)
         requires { i < length self.old.rows }
         ensures { self.new ≡ record { rows = remove self.old.rows i; slots = self.old.slots } }
     {
         if i < self.slots.len() - self.free - i {
-            move_up(&mut self.slots, self.free, i);
+            remove_up(&mut self.slots, self.free, i);
             self.free += 1;
         } else {
             let _ = self.slots.remove(self.free + i);
@@ -136,6 +137,7 @@ impl RowList {
     }
 
     /// Puts a row in, for which there is memory.
+    #[tactic(auto, using(crate::proofs::SlotLemmas::drop_insert))]
     pub fn insert(&mut self, i: usize, row: Row)
         requires within { i ≤ length self.old.rows }
         requires room { length self.old.rows + 1 ≤ self.old.slots }
@@ -144,10 +146,9 @@ impl RowList {
         let full = self.slots.len() == self.slots.capacity();
         if self.free > 0 && (full || i <= self.slots.len() - self.free - i) {
             self.free -= 1;
-            move_down(&mut self.slots, self.free, i);
-            set_slot(&mut self.slots, self.free + i, row);
+            insert_down(&mut self.slots, self.free, i, row);
         } else {
-            insert_slot(&mut self.slots, self.free + i, row);
+            insert_up(&mut self.slots, self.free + i, row);
         }
     }
 }
@@ -162,37 +163,40 @@ fn copy_rows(slots: &mut SmallVec<Row, 1>, others: &[Row])
     let _had_room = slots.extend_from_slice(others);
 }
 
-fn set_slot(slots: &mut SmallVec<Row, 1>, i: usize, row: Row)
-    requires { i < length slots.old.items }
-    ensures items { slots.new.items ≡ slice_set slots.old.items i row }
+// writes a row
+fn set_slot(slots: &mut SmallVec<Row, 1>, free: usize, i: usize, row: Row)
+    requires { free + i < length slots.old.items }
+    ensures items { slots.new.items ≡ slice_set slots.old.items (free + i) row }
     ensures capacity { slots.new.capacity ≡ slots.old.capacity }
 {
-    slots.as_mut_slice()[i] = row;
+    let all = slots.as_mut_slice();
+    all[free + i] = row;
 }
 
-// moves so many slots up by one, from one on
-fn move_up(slots: &mut SmallVec<Row, 1>, from: usize, count: usize)
-    requires { from + count < length slots.old.items }
-    ensures items { drop (from + 1) slots.new.items ≡ remove (drop from slots.old.items) count }
+// takes a row out, and moves those before it up: one slot more is free
+fn remove_up(slots: &mut SmallVec<Row, 1>, free: usize, i: usize)
+    requires { free + i < length slots.old.items }
+    ensures rows { drop (free + 1) slots.new.items ≡ remove (drop free slots.old.items) i }
     ensures len { length slots.new.items ≡ length slots.old.items }
     ensures capacity { slots.new.capacity ≡ slots.old.capacity }
 {
-    slots
-        .as_mut_slice()
-        .copy_within(from..from + count, from + 1);
+    slots.as_mut_slice().copy_within(free..free + i, free + 1);
 }
 
-// moves so many slots down by one, to one on
-fn move_down(slots: &mut SmallVec<Row, 1>, to: usize, count: usize)
-    requires { to + count < length slots.old.items }
-    ensures items { (row : AnyRow) → drop to (slice_set slots.new.items (to + count) row) ≡ insert (drop (to + 1) slots.old.items) count row }
+// puts a row in, and moves those before it down: one slot less is free, and so many are
+fn insert_down(slots: &mut SmallVec<Row, 1>, free: usize, i: usize, row: Row)
+    requires { free + i < length slots.old.items }
+    ensures rows { drop free slots.new.items ≡ insert (drop (free + 1) slots.old.items) i row }
     ensures len { length slots.new.items ≡ length slots.old.items }
     ensures capacity { slots.new.capacity ≡ slots.old.capacity }
 {
-    slots.as_mut_slice().copy_within(to + 1..to + 1 + count, to);
+    let all = slots.as_mut_slice();
+    all.copy_within(free + 1..free + 1 + i, free);
+    all[free + i] = row;
 }
 
-fn insert_slot(slots: &mut SmallVec<Row, 1>, i: usize, row: Row)
+// puts a row in, and moves those after it up
+fn insert_up(slots: &mut SmallVec<Row, 1>, i: usize, row: Row)
     requires within { i ≤ length slots.old.items }
     requires room { HasRoomFor slots.old 1 }
     ensures items { slots.new.items ≡ insert slots.old.items i row }
