@@ -9,7 +9,7 @@ ghost use Rattle.domains.specs.Undo.{restored, CanRestore, put_row, put_back};
 use crate::measure::{Nought, lowest};
 use crate::parts::{Part, Row, Side};
 use crate::row_list::RowList;
-use crate::rows::{find, inside, outside};
+use crate::rows::{inside, outside};
 use crate::undo::Lost;
 use cluster::choices::Place;
 use memory::Memory;
@@ -122,9 +122,7 @@ impl Domain {
                 rows: RowList::new(alloc),
             },
             Part::Upto(place, _) | Part::From(place, _) => match row_inside(
-                self.rows.as_slice(),
-                place,
-                part,
+                &self.rows, place, part,
             ) {
                 None => Domain::new(alloc, false),
                 Some(row) => Domain {
@@ -189,14 +187,14 @@ impl Domain {
 }
 
 // the row at the place, as far as it is in the part
-fn row_inside(rows: &[Row], place: Place, part: Part) -> Option<Row>
-    requires climbs { Climbs 0 rows.now }
+fn row_inside(rows: &RowList, place: Place, part: Part) -> Option<Row>
+    requires climbs { Climbs 0 rows.now.rows }
     requires at { IsPartAt place part }
-    ensures set { option_choices result ≡ filter (in_part part) (flat_map row_choices rows.now) }
+    ensures set { option_choices result ≡ filter (in_part part) (flat_map row_choices rows.now.rows) }
     ensures row { IfSome result (λ r. r.lo ≤ r.hi) }
 {
-    match find(rows, place) {
-        Ok(i) => inside(rows[i], part),
+    match rows.find(place) {
+        Ok(i) => inside(rows.as_slice()[i], part),
         Err(_) => None,
     }
 }
@@ -212,7 +210,7 @@ fn cut_row(rows: &mut RowList, place: Place, part: Part) -> Option<Row>
     ensures shorter { length rows.new.rows ≤ length rows.old.rows }
     ensures slots { rows.new.slots ≡ rows.old.slots }
 {
-    match find(rows.as_slice(), place) {
+    match rows.find(place) {
         Err(_) => None,
         Ok(i) => {
             let row = rows.as_slice()[i];
@@ -234,7 +232,7 @@ fn put(rows: &mut RowList, row: Row)
     ensures climbs { Climbs 0 rows.new.rows }
     ensures slots { rows.new.slots ≡ rows.old.slots }
 {
-    match find(rows.as_slice(), row.place) {
+    match rows.find(row.place) {
         Ok(i) => rows.set(i, row),
         Err(i) => rows.insert(i, row),
     }

@@ -1,8 +1,12 @@
 //! The rows of a domain in memory.
-ghost use Rattle.std.specs.Prelude.{◌≡◌, ◌+◌, ◌<◌, ◌≤◌, max, [], ◌∷◌, ◌++◌, length, drop, insert, remove, slice_set, OnOk, OnErr, IfOk};
+ghost use Rattle.std.specs.Prelude.{◌≡◌, ◌+◌, ◌<◌, ◌≤◌, max, [], ◌∷◌, ◌++◌, length, drop, insert, remove, slice_set, OnOk, OnErr, IfOk, IfErr};
 ghost use Rattle.smallvec.specs.SmallVec.{HasRoomFor};
+ghost use Rattle.domains.specs.Choices.{Climbs, place_index};
+ghost use Rattle.domains.specs.Rows.{IsFound, IsGap};
 
 use crate::parts::Row;
+use crate::rows::find;
+use cluster::choices::Place;
 use memory::Memory;
 use smallvec::SmallVec;
 use std::alloc::Global;
@@ -72,6 +76,15 @@ impl RowList {
         ensures { result.now ≡ self.now.rows }
     {
         &self.slots.as_slice()[self.free..]
+    }
+
+    /// Where the row at a place stands, or else where it would.
+    pub fn find(&self, place: Place) -> Result<usize, usize>
+        requires { Climbs 0 self.now.rows }
+        ensures found { IfOk result (IsFound self.now.rows (place_index place)) }
+        ensures gap { IfErr result (IsGap self.now.rows (place_index place)) }
+    {
+        find(self.as_slice(), place, self.most)
     }
 
     /// Adds a row after all others.
