@@ -4,6 +4,7 @@ pub mod RowLemmas
 pub mod SlotLemmas
 pub mod PartLemmas
 pub mod UndoLemmas
+pub mod BeforeLemmas
 pub mod SizeLemmas
 pub mod ListingLemmas
 pub mod RegionLemmas

@@ -14,7 +14,7 @@ use Rattle.domains.specs.declared.parts.Row.{Row}
 use Rattle.domains.specs.Choices.{starts_from, row_choices, choices, DomainView}
 use Rattle.domains.specs.Measures.{lower_option}
 
-lowest-append : (f : Choice → ℕ) (xs ys : List Choice) → lowest f (xs ++ ys) ≡ lower_option (lowest f xs) (lowest f ys)
+pub lowest-append : (f : Choice → ℕ) (xs ys : List Choice) → lowest f (xs ++ ys) ≡ lower_option (lowest f xs) (lowest f ys)
 lowest-append f [] ys = refl
 lowest-append f (x ∷ xs) ys = rw (lowest-append f xs ys) (step (f x) (lowest f xs) (lowest f ys))
   where
