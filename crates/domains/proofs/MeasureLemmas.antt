@@ -62,6 +62,14 @@ starts-at f p m from (suc count) at h l u e =
           rw (starts-at f p m (from + 1) count at rest later (omega arith) e) (ap Some (omega arith))
     ]
 
+-- a row without a start has no least value
+pub lowest_no_row : (f : Choice → ℕ) (r : Row) → r.hi < r.lo → None ≡ lowest f (row_choices r)
+lowest_no_row f r l = by (r.hi + 1 - r.lo) (omega arith)
+  where
+    by : (n : ℕ) → n ≡ 0 → None ≡ lowest f (starts_from r.place r.lo n)
+    by zero e = refl
+    by (suc n) e = absurd (omega arith)
+
 -- over a row a measure is least at an end
 pub lowest_row : (f : Choice → ℕ) (r : Row) → ((p : Place) (lo s hi : ℕ) → lo ≤ s → s ≤ hi → min (f (Act p lo)) (f (Act p hi)) ≤ f (Act p s)) → r.lo ≤ r.hi → lowest f (row_choices r) ≡ Some (min (f (Act r.place r.lo)) (f (Act r.place r.hi)))
 lowest_row f r ends h =
