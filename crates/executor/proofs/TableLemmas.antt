@@ -119,7 +119,7 @@ no_wait p b None h = false≢true h
 no_wait p b (Some start) h = false≢true h
 
 -- what is waited for is listed
-waited_is_listed : (p : Instance) (plan : PlanChoices) → IsPlanOf p plan → (a b : Element) → IsTrue (waits p (choices_of plan) a b) → IsElement p b
+pub waited_is_listed : (p : Instance) (plan : PlanChoices) → IsPlanOf p plan → (a b : Element) → IsTrue (waits p (choices_of plan) a b) → IsElement p b
 waited_is_listed p plan is a b w =
     elim (past-idle p plan is b) [
       | inl there ↦ there

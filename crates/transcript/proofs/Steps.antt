@@ -1,0 +1,153 @@
+-- What the parts of a run do to where it stands.
+use Rattle.std.proofs.Common.{◌≡◌, ◌≢◌, ◌⊎◌, inl, inr, ℕ, suc, ◌+◌, List, ◌++◌, Bool, true, false, Option, Some, None, Result, Ok, Err, IsTrue, refl, sym, subst, ◌∙◌}
+use Rattle.std.proofs.lemmas.Bool.{false≢true}
+use Rattle.std.specs.Io.{StartsWith}
+use Rattle.cluster.specs.declared.ids.Element.{Element}
+use Rattle.cluster.specs.Inventory.{element_named}
+use Rattle.cluster.proofs.Public.{listed-element_named}
+use Rattle.catalogue.specs.Instance.{Instance, inventory_of}
+use Rattle.slices.specs.Plans.{Choices, PlanChoices, choices_of}
+use Rattle.executor.specs.declared.phase.Phase.TheVariants.{Running}
+use Rattle.executor.specs.declared.phase.StepFault.{StepFault}
+use Rattle.executor.specs.declared.phase.StepFault.TheVariants.{Already, NotReady, NotRunning}
+use Rattle.executor.specs.Answers.{IsFirst, IsHindrance, StartGives as Starts, StopGives as Stops}
+use Rattle.executor.specs.declared.phase.Phase.{Phase}
+use Rattle.executor.specs.Phases.{AllEnded, Phases}
+use Rattle.executor.specs.Steps.{IsStep, MayStart, Start}
+use Rattle.transcript.specs.declared.ending.Ending.{Ending}
+use Rattle.transcript.specs.declared.ending.Ending.TheVariants.{Done, StoppedFail, StoppedEnd, Refused}
+use Rattle.transcript.specs.declared.ending.EventFault.{EventFault}
+use Rattle.transcript.specs.declared.ending.EventFault.TheVariants as fault
+use Rattle.transcript.specs.declared.lines.EventKind.{EventKind}
+use Rattle.transcript.specs.declared.lines.EventKind.TheVariants.{End, Fail}
+use Rattle.transcript.specs.declared.lines.Line.TheVariants as found
+use Rattle.transcript.specs.Lines.{IsEvent, ReadsLine, start_line}
+use Rattle.transcript.specs.Parts.{EventGives, StartGives, TakeGives}
+use Rattle.transcript.specs.Transcript.{IsDue, Point, Reaches, TakesEvent, point}
+
+-- ---- a start
+
+-- what may start is not hindered
+not_hindered : (p : Instance) (plan : Choices) (phases : Phases) (a e : Element) → MayStart p plan phases a → ¬ IsHindrance p plan phases a e
+not_hindered p plan phases a e may (inl failed) = may.none_failed e failed.here
+not_hindered p plan phases a e may (inr still) = still.1.here.1 (may.ended e still.1.here.0)
+
+-- a start that is due is taken
+pub starts : {T : Type 0} (p : Instance) (plan : Choices) (before after : Phases) (e : Element) (result : Result T StepFault) → IsFirst p (MayStart p plan before) e →
+    Starts p plan before e after result → IsStep p plan before (Start e) after
+starts p plan before after e (Ok done) first step = step
+starts p plan before after e (Err Already) first step = absurd (step.0 first.here.waiting)
+starts p plan before after e (Err (NotReady x)) first step = absurd (not_hindered p plan before e x first.here step.1.0)
+starts p plan before after e (Err NotRunning) first step = absurd step
+
+-- ---- an event
+
+-- what is refused does not run
+pub stops_not : {T : Type 0} (before after : Phases) (e : Element) (f : Phase) (fault : StepFault) → Stops {T = T} before e f after (Err fault) → before e ≢ Running
+stops_not before after e f Already h = absurd h
+stops_not before after e f (NotReady x) h = absurd h
+stops_not before after e f NotRunning h = h.0
+
+-- the event of a line that was taken
+taken : (p : Instance) (plan : Choices) (phases : Phases) (lines : ℕ) (bytes text rest written name : List ℕ) (kind : EventKind) (e : Element) → IsDue p plan phases →
+    ReadsLine bytes found.Whole text rest → IsEvent text kind name → element_named (inventory_of p) name ≡ Some e → TakesEvent p plan (point phases lines bytes written) kind e rest
+taken p plan phases lines bytes text rest written name kind e due line event named =
+    record { due = due; text = text; name = name; line = line; event = event; named = named }
+
+-- what a whole line does
+pub takes_event : (told : Bool) (p : Instance) (plan : Choices) (number : ℕ) (before after : Phases) (bytes text rest : List ℕ) (given : Option Ending) → IsDue p plan before →
+    (IsTrue told → ReadsLine bytes found.Whole text rest) → EventGives p before number text after given → TakeGives told p plan number before bytes after rest (Ok given)
+takes_event told p plan number before after bytes text rest None due line event = (
+  event.1,
+  (listed-element_named (inventory_of p) event.0 event.1 event.3).0,
+  (event.4, event.5),
+  λ t lines written. taken p plan before lines bytes text rest written event.0 End event.1 due (line t) event.2 event.3,
+)
+takes_event told p plan number before after bytes text rest (Some Done) due line event = absurd event
+takes_event told p plan number before after bytes text rest (Some (StoppedFail e)) due line event = λ t lines written is. (
+  taken p plan before lines bytes text rest written event.0 Fail e due (line t) event.1 event.2,
+  event.3,
+)
+takes_event told p plan number before after bytes text rest (Some StoppedEnd) due line event = absurd event
+takes_event told p plan number before after bytes text rest (Some (Refused n fault.NotALine)) due line event = λ t lines written is. (
+  due,
+  event.0 ∙ is,
+  (text, inr (line t, event.1)),
+)
+takes_event told p plan number before after bytes text rest (Some (Refused n fault.TooLong)) due line event = absurd event
+takes_event told p plan number before after bytes text rest (Some (Refused n fault.NoSuchName)) due line event = λ t lines written is. (
+  due,
+  event.0 ∙ is,
+  (text, event.1, event.2, line t, event.3, event.4),
+)
+takes_event told p plan number before after bytes text rest (Some (Refused n fault.NotRunning)) due line event = λ t lines written is. (
+  due,
+  event.0 ∙ is,
+  (event.1, event.3, taken p plan before lines bytes text rest written event.2 event.1 event.3 due (line t) event.4 event.5, event.6),
+)
+
+-- a line that is too long, that is cut short, or that is not there
+pub takes_long : (told : Bool) (p : Instance) (plan : Choices) (number : ℕ) (before : Phases) (bytes text rest : List ℕ) → IsDue p plan before →
+    (IsTrue told → ReadsLine bytes found.TooLong text rest) → TakeGives told p plan number before bytes before rest (Ok (Some (Refused number fault.TooLong)))
+takes_long told p plan number before bytes text rest due line = λ t lines written is. (due, is, (text, line t))
+
+pub takes_short : (told : Bool) (p : Instance) (plan : Choices) (number : ℕ) (before : Phases) (bytes text rest : List ℕ) → IsDue p plan before →
+    (IsTrue told → ReadsLine bytes found.Short text rest) → TakeGives told p plan number before bytes before rest (Ok (Some (Refused number fault.NotALine)))
+takes_short told p plan number before bytes text rest due line = λ t lines written is. (due, is, (text, inl (line t)))
+
+pub takes_nothing : (told : Bool) (p : Instance) (plan : Choices) (number : ℕ) (before : Phases) (bytes text rest : List ℕ) → IsDue p plan before →
+    (IsTrue told → ReadsLine bytes found.Nothing text rest) → TakeGives told p plan number before bytes before rest (Ok (Some StoppedEnd))
+takes_nothing told p plan number before bytes text rest due line = λ t lines written is. (due, ((line t).0, (line t).1, refl))
+
+-- ---- turns
+
+-- a start was written and made
+pub after_start : (told : Bool) (p : Instance) (plan other : PlanChoices) (first : Point) (before after : Phases) (lines : ℕ) (rest old new : List ℕ) (started : Bool) →
+    other ≡ plan → StartGives told p (choices_of other) before old after new (Ok started) → started ≡ true → IsTrue told →
+    Reaches p (choices_of plan) first (point before lines rest old) → Reaches p (choices_of plan) first (point after lines rest new)
+after_start told p plan other first before after lines rest old new false same gives is t reached = absurd (false≢true is)
+after_start told p plan other first before after lines rest old new true same gives is t reached =
+    let h : StartGives told p (choices_of plan) before old after new (Ok true) =
+    subst (λ (x : PlanChoices). StartGives told p (choices_of x) before old after new (Ok true)) same gives
+    in (
+      suc reached.0,
+      (
+        point before lines rest old,
+        reached.1,
+        inl (record { element = h.0; ready = h.1; step = h.2; lines = refl; rest = refl; written = h.3 t }),
+      ),
+    )
+
+-- nothing could start
+pub after_quiet : (told : Bool) (p : Instance) (plan other : PlanChoices) (first : Point) (before after : Phases) (lines : ℕ) (rest old new : List ℕ) (started : Bool) →
+    StartGives told p (choices_of other) before old after new (Ok started) → started ≡ false → IsTrue told →
+    Reaches p (choices_of plan) first (point before lines rest old) → Reaches p (choices_of plan) first (point after lines rest new)
+after_quiet told p plan other first before after lines rest old new true gives is t reached = absurd (false≢true (sym is))
+after_quiet told p plan other first before after lines rest old new false gives is t reached =
+    subst (λ (x : List ℕ). Reaches p (choices_of plan) first (point after lines rest x)) (sym (gives.2 t))
+    (subst (λ (x : Phases). Reaches p (choices_of plan) first (point x lines rest old)) (sym gives.1) reached)
+
+-- where nothing could start and an action has not ended, an event line is due
+pub due_after : (told : Bool) (p : Instance) (plan other : PlanChoices) (before after : Phases) (old new : List ℕ) (started : Bool) →
+    other ≡ plan → StartGives told p (choices_of other) before old after new (Ok started) → started ≡ false → ¬ AllEnded before → IsDue p (choices_of plan) after
+due_after told p plan other before after old new true same gives is unended = absurd (false≢true (sym is))
+due_after told p plan other before after old new false same gives is unended =
+    let due : IsDue p (choices_of other) before = record { quiet = gives.0; unended = unended } in
+    subst (λ (x : Phases). IsDue p (choices_of plan) x) (sym gives.1) (subst (λ (x : PlanChoices). IsDue p (choices_of x) before) same due)
+
+-- the line of an end was taken
+pub after_end : (told : Bool) (p : Instance) (plan other : PlanChoices) (first : Point) (before after : Phases) (lines number : ℕ) (old new written : List ℕ) (given : Option Ending) →
+    other ≡ plan → TakeGives told p (choices_of other) number before old after new (Ok given) → given ≡ None → IsTrue told →
+    Reaches p (choices_of plan) first (point before lines old written) → Reaches p (choices_of plan) first (point after (lines + 1) new written)
+after_end told p plan other first before after lines number old new written (Some ending) same gives is t reached = cc
+after_end told p plan other first before after lines number old new written None same gives is t reached =
+    let h : TakeGives told p (choices_of plan) number before old after new (Ok None) =
+    subst (λ (x : PlanChoices). TakeGives told p (choices_of x) number before old after new (Ok None)) same gives
+    in (
+      suc reached.0,
+      (
+        point before lines old written,
+        reached.1,
+        inr (record { element = h.0; event = h.3 t lines written; step = h.2; lines = refl; written = refl }),
+      ),
+    )
