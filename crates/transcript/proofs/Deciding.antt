@@ -1,5 +1,5 @@
 -- What can be told of an execution: which action may start first, and whether all have ended.
-use Rattle.std.proofs.Common.{◌≡◌, ◌≢◌, ◌⊎◌, inl, inr, ℕ, zero, suc, ◌<◌, ◌≤◌, Bool, true, false, IsNone, IsTrue, refl, sym, ap, subst, ◌∙◌, arith}
+use Rattle.std.proofs.Common.{◌≡◌, ◌≢◌, ◌⊎◌, ◌↔◌, inl, inr, ℕ, zero, suc, ◌<◌, ◌≤◌, Bool, true, false, IsNone, IsTrue, refl, sym, ap, subst, ◌∙◌, arith}
 use Rattle.std.proofs.lemmas.Bool.{cases_Bool, cases_eq, false≢true}
 use Rattle.cluster.specs.declared.choices.Choice.TheVariants.{Idle}
 use Rattle.cluster.specs.declared.ids.Element.{Element}
@@ -48,18 +48,18 @@ is_or_not Failed Failed = inl refl
 
 -- ---- one phase is changed
 
-same_or_not : (x y : Element) → (x ≡ y) ⊎ (x ≢ y)
+pub same_or_not : (x y : Element) → (x ≡ y) ⊎ (x ≢ y)
 same_or_not (Vm v) (Vm w) = elim (cases_eq v.0 w.0) [ inl e ↦ inl (λ i. Vm (record { 0 = e i })) | inr n ↦ inr (λ q. n (cc)) ]
 same_or_not (Vm v) (TheNode n) = inr (λ q. cc)
 same_or_not (TheNode n) (Vm v) = inr (λ q. cc)
 same_or_not (TheNode n) (TheNode m) = elim (cases_eq n.0 m.0) [ inl e ↦ inl (λ i. TheNode (record { 0 = e i })) | inr n ↦ inr (λ q. n (cc)) ]
 
-pick : {x e : Element} → (x ≡ e) ⊎ (x ≢ e) → Phase → Phase → Phase
+abbrev pick : {x e : Element} → (x ≡ e) ⊎ (x ≢ e) → Phase → Phase → Phase
 pick (inl same) f g = f
 pick (inr other) f g = g
 
 -- the phases after the action of an element goes on to another
-pub moved_to : Phases → Element → Phase → Phases
+abbrev pub moved_to : Phases → Element → Phase → Phases
 moved_to phases e f x = pick (same_or_not x e) f (phases x)
 
 pub moves : (phases : Phases) (e : Element) (f : Phase) → Moves phases e f (moved_to phases e f)

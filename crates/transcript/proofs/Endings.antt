@@ -12,12 +12,12 @@ use Rattle.executor.specs.Answers.{IsFirst}
 use Rattle.executor.specs.Phases.{AllEnded, Phases}
 use Rattle.executor.specs.Steps.{End as AnEnd, Event, IsExecution, IsStep, MayStart, Start}
 use Rattle.executor.proofs.Public.{begins_well, executions_are_safe, steps_keep}
-use Rattle.transcript.specs.declared.ending.Ending.{Ending}
-use Rattle.transcript.specs.declared.ending.Ending.TheVariants.{Done, StoppedFail, StoppedEnd, Refused}
-use Rattle.transcript.specs.declared.ending.EventFault.{EventFault}
-use Rattle.transcript.specs.declared.ending.EventFault.TheVariants as fault
-use Rattle.transcript.specs.declared.ending.ExecuteFault.{ExecuteFault}
-use Rattle.transcript.specs.declared.ending.ExecuteFault.TheVariants.{NotValid, ReadFault, WriteFault, Memory}
+use Rattle.transcript.specs.declared.conclusion.Conclusion.{Conclusion}
+use Rattle.transcript.specs.declared.conclusion.Conclusion.TheVariants.{Done, StoppedFail, StoppedEnd, Refused}
+use Rattle.transcript.specs.declared.conclusion.EventFault.{EventFault}
+use Rattle.transcript.specs.declared.conclusion.EventFault.TheVariants as fault
+use Rattle.transcript.specs.declared.conclusion.ExecuteFault.{ExecuteFault}
+use Rattle.transcript.specs.declared.conclusion.ExecuteFault.TheVariants.{NotValid, ReadFault, WriteFault, Memory}
 use Rattle.transcript.specs.declared.lines.EventKind.{EventKind}
 use Rattle.transcript.specs.declared.lines.EventKind.TheVariants.{End, Fail}
 use Rattle.transcript.specs.declared.lines.Line.{Line}
@@ -26,7 +26,7 @@ use Rattle.transcript.specs.Laws.{AlwaysEnds, EveryPointIsSafe, FaultsLeaveABegi
 use Rattle.transcript.specs.Lines.{IsEvent, ReadsLine, start_line}
 use Rattle.transcript.specs.Transcript.{EndsAt, EndsFrom, IsDue, IsTurn, Point, Reaches, RunGives, StopsAtTurn, StopsInEvent, StopsInStart, TakesEvent, Turns, first_point, point}
 use Rattle.transcript.proofs.Deciding.{ended_or_not, is_or_not, moved_to, moves, ready_or_quiet}
-use Rattle.transcript.proofs.Lines.{event_or_not, takes_line}
+use Rattle.transcript.proofs.EventLines.{event_or_not, takes_line}
 use Rattle.transcript.proofs.Measure.{end_left, start_left, steps_left}
 
 -- ---- turns
@@ -62,42 +62,42 @@ module _ (p : Instance) (plan : Choices) where
   turns_keep zero a b turns ex = subst (λ (x : Point). IsExecution p plan x.phases) (sym turns) ex
   turns_keep (suc k) a b turns ex = turn_keeps turns.0 b turns.2 (turns_keep k a turns.0 turns.1 ex)
 
-  -- an ending at a point
-  ends_here : (a : Point) (ending : Ending) (rest : List ℕ) → EndsAt p plan a ending rest → IsBegun p plan a a.written
-  ends_here a ending rest ends = record {
-    ending = ending;
+  -- an conclusion at a point
+  ends_here : (a : Point) (conclusion : Conclusion) (rest : List ℕ) → EndsAt p plan a conclusion rest → IsBegun p plan a a.written
+  ends_here a conclusion rest ends = record {
+    conclusion = conclusion;
     rest = rest;
     whole = a.written;
-    ends = record { last = a; reached = (0, refl); ends = ends; written = refl };
+    ends = record { last = a; reached = (0, refl); ends = ends; all = refl };
     prefix = all_of_it a.written;
   }
 
-  -- an ending after a turn
+  -- an conclusion after a turn
   ends_after_turn : (a b : Point) → IsTurn p plan a b → IsBegun p plan b b.written → IsBegun p plan a a.written
   ends_after_turn a b turn begun = record {
-    ending = begun.ending;
+    conclusion = begun.conclusion;
     rest = begun.rest;
     whole = begun.whole;
     ends = record {
       last = begun.ends.last;
       reached = (suc begun.ends.reached.0, turn_before begun.ends.reached.0 a b begun.ends.last turn begun.ends.reached.1);
       ends = begun.ends.ends;
-      written = begun.ends.written;
+      all = begun.ends.all;
     };
     prefix = further a.written b.written begun.whole (turn_writes a b turn) begun.prefix;
   }
 
-  -- an ending after what was reached
+  -- an conclusion after what was reached
   ends_after : (first a : Point) (written : List ℕ) → Reaches p plan first a → StartsWith a.written written → IsBegun p plan a a.written → IsBegun p plan first written
   ends_after first a written reached prefix begun = record {
-    ending = begun.ending;
+    conclusion = begun.conclusion;
     rest = begun.rest;
     whole = begun.whole;
     ends = record {
       last = begun.ends.last;
       reached = turns_after begun.ends.reached.0 first a begun.ends.last reached begun.ends.reached.1;
       ends = begun.ends.ends;
-      written = begun.ends.written;
+      all = begun.ends.all;
     };
     prefix = further written a.written begun.whole prefix begun.prefix;
   }
@@ -204,10 +204,10 @@ in_start p plan is first ex rest written stops =
 
 pub faults_leave_a_beginning : FaultsLeaveABeginning
 faults_leave_a_beginning p plan is first ex (NotValid broken) rest written gives = absurd gives
-faults_leave_a_beginning p plan is first ex ReadFault rest written gives = at_turn p plan is first ex gives.last written gives.reached gives.written
+faults_leave_a_beginning p plan is first ex ReadFault rest written gives = at_turn p plan is first ex gives.last written gives.reached gives.all
 faults_leave_a_beginning p plan is first ex WriteFault rest written gives = in_start p plan is first ex rest written gives
-faults_leave_a_beginning p plan is first ex Memory rest written (inl gives) = at_turn p plan is first ex gives.last written gives.reached gives.written
-faults_leave_a_beginning p plan is first ex Memory rest written (inr (inl gives)) = at_turn p plan is first ex gives.last written gives.reached gives.written
+faults_leave_a_beginning p plan is first ex Memory rest written (inl gives) = at_turn p plan is first ex gives.last written gives.reached gives.all
+faults_leave_a_beginning p plan is first ex Memory rest written (inr (inl gives)) = at_turn p plan is first ex gives.last written gives.reached gives.all
 faults_leave_a_beginning p plan is first ex Memory rest written (inr (inr gives)) = in_start p plan is first ex rest written gives
 
 -- ---- safety

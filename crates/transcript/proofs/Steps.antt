@@ -14,10 +14,10 @@ use Rattle.executor.specs.Answers.{IsFirst, IsHindrance, StartGives as Starts, S
 use Rattle.executor.specs.declared.phase.Phase.{Phase}
 use Rattle.executor.specs.Phases.{AllEnded, Phases}
 use Rattle.executor.specs.Steps.{IsStep, MayStart, Start}
-use Rattle.transcript.specs.declared.ending.Ending.{Ending}
-use Rattle.transcript.specs.declared.ending.Ending.TheVariants.{Done, StoppedFail, StoppedEnd, Refused}
-use Rattle.transcript.specs.declared.ending.EventFault.{EventFault}
-use Rattle.transcript.specs.declared.ending.EventFault.TheVariants as fault
+use Rattle.transcript.specs.declared.conclusion.Conclusion.{Conclusion}
+use Rattle.transcript.specs.declared.conclusion.Conclusion.TheVariants.{Done, StoppedFail, StoppedEnd, Refused}
+use Rattle.transcript.specs.declared.conclusion.EventFault.{EventFault}
+use Rattle.transcript.specs.declared.conclusion.EventFault.TheVariants as fault
 use Rattle.transcript.specs.declared.lines.EventKind.{EventKind}
 use Rattle.transcript.specs.declared.lines.EventKind.TheVariants.{End, Fail}
 use Rattle.transcript.specs.declared.lines.Line.TheVariants as found
@@ -37,16 +37,16 @@ pub starts : {T : Type 0} (p : Instance) (plan : Choices) (before after : Phases
     Starts p plan before e after result → IsStep p plan before (Start e) after
 starts p plan before after e (Ok done) first step = step
 starts p plan before after e (Err Already) first step = absurd (step.0 first.here.waiting)
-starts p plan before after e (Err (NotReady x)) first step = absurd (not_hindered p plan before e x first.here step.1.0)
+starts p plan before after e (Err (NotReady x)) first step = absurd (not_hindered p plan before e x first.here step.1)
 starts p plan before after e (Err NotRunning) first step = absurd step
 
 -- ---- an event
 
 -- what is refused does not run
-pub stops_not : {T : Type 0} (before after : Phases) (e : Element) (f : Phase) (fault : StepFault) → Stops {T = T} before e f after (Err fault) → before e ≢ Running
-stops_not before after e f Already h = absurd h
-stops_not before after e f (NotReady x) h = absurd h
-stops_not before after e f NotRunning h = h.0
+pub stops_not : (T : Type 0) (before after : Phases) (e : Element) (f : Phase) (fault : StepFault) → Stops {T = T} before e f after (Err fault) → before e ≢ Running
+stops_not T before after e f Already h = absurd h
+stops_not T before after e f (NotReady x) h = absurd h
+stops_not T before after e f NotRunning h = h.0
 
 -- the event of a line that was taken
 taken : (p : Instance) (plan : Choices) (phases : Phases) (lines : ℕ) (bytes text rest written name : List ℕ) (kind : EventKind) (e : Element) → IsDue p plan phases →
@@ -55,7 +55,7 @@ taken p plan phases lines bytes text rest written name kind e due line event nam
     record { due = due; text = text; name = name; line = line; event = event; named = named }
 
 -- what a whole line does
-pub takes_event : (told : Bool) (p : Instance) (plan : Choices) (number : ℕ) (before after : Phases) (bytes text rest : List ℕ) (given : Option Ending) → IsDue p plan before →
+pub takes_event : (told : Bool) (p : Instance) (plan : Choices) (number : ℕ) (before after : Phases) (bytes text rest : List ℕ) (given : Option Conclusion) → IsDue p plan before →
     (IsTrue told → ReadsLine bytes found.Whole text rest) → EventGives p before number text after given → TakeGives told p plan number before bytes after rest (Ok given)
 takes_event told p plan number before after bytes text rest None due line event = (
   event.1,
@@ -64,40 +64,49 @@ takes_event told p plan number before after bytes text rest None due line event 
   λ t lines written. taken p plan before lines bytes text rest written event.0 End event.1 due (line t) event.2 event.3,
 )
 takes_event told p plan number before after bytes text rest (Some Done) due line event = absurd event
-takes_event told p plan number before after bytes text rest (Some (StoppedFail e)) due line event = λ t lines written is. (
-  taken p plan before lines bytes text rest written event.0 Fail e due (line t) event.1 event.2,
-  event.3,
+takes_event told p plan number before after bytes text rest (Some (StoppedFail e)) due line event = (
+  (listed-element_named (inventory_of p) event.0 e event.2).0,
+  λ t lines written is. (taken p plan before lines bytes text rest written event.0 Fail e due (line t) event.1 event.2, event.3),
 )
 takes_event told p plan number before after bytes text rest (Some StoppedEnd) due line event = absurd event
-takes_event told p plan number before after bytes text rest (Some (Refused n fault.NotALine)) due line event = λ t lines written is. (
-  due,
-  event.0 ∙ is,
-  (text, inr (line t, event.1)),
+takes_event told p plan number before after bytes text rest (Some (Refused n fault.NotALine)) due line event = (
+  tt,
+  λ t lines written is. (
+    due,
+    event.0 ∙ is,
+    (text, inr (line t, event.1)),
+  ),
 )
 takes_event told p plan number before after bytes text rest (Some (Refused n fault.TooLong)) due line event = absurd event
-takes_event told p plan number before after bytes text rest (Some (Refused n fault.NoSuchName)) due line event = λ t lines written is. (
-  due,
-  event.0 ∙ is,
-  (text, event.1, event.2, line t, event.3, event.4),
+takes_event told p plan number before after bytes text rest (Some (Refused n fault.NoSuchName)) due line event = (
+  tt,
+  λ t lines written is. (
+    due,
+    event.0 ∙ is,
+    (text, event.1, event.2, line t, event.3, event.4),
+  ),
 )
-takes_event told p plan number before after bytes text rest (Some (Refused n fault.NotRunning)) due line event = λ t lines written is. (
-  due,
-  event.0 ∙ is,
-  (event.1, event.3, taken p plan before lines bytes text rest written event.2 event.1 event.3 due (line t) event.4 event.5, event.6),
+takes_event told p plan number before after bytes text rest (Some (Refused n fault.NotRunning)) due line event = (
+  tt,
+  λ t lines written is. (
+    due,
+    event.0 ∙ is,
+    (event.1, event.3, taken p plan before lines bytes text rest written event.2 event.1 event.3 due (line t) event.4 event.5, event.6),
+  ),
 )
 
 -- a line that is too long, that is cut short, or that is not there
 pub takes_long : (told : Bool) (p : Instance) (plan : Choices) (number : ℕ) (before : Phases) (bytes text rest : List ℕ) → IsDue p plan before →
     (IsTrue told → ReadsLine bytes found.TooLong text rest) → TakeGives told p plan number before bytes before rest (Ok (Some (Refused number fault.TooLong)))
-takes_long told p plan number before bytes text rest due line = λ t lines written is. (due, is, (text, line t))
+takes_long told p plan number before bytes text rest due line = (tt, λ t lines written is. (due, is, (text, line t)))
 
 pub takes_short : (told : Bool) (p : Instance) (plan : Choices) (number : ℕ) (before : Phases) (bytes text rest : List ℕ) → IsDue p plan before →
     (IsTrue told → ReadsLine bytes found.Short text rest) → TakeGives told p plan number before bytes before rest (Ok (Some (Refused number fault.NotALine)))
-takes_short told p plan number before bytes text rest due line = λ t lines written is. (due, is, (text, inl (line t)))
+takes_short told p plan number before bytes text rest due line = (tt, λ t lines written is. (due, is, (text, inl (line t))))
 
 pub takes_nothing : (told : Bool) (p : Instance) (plan : Choices) (number : ℕ) (before : Phases) (bytes text rest : List ℕ) → IsDue p plan before →
     (IsTrue told → ReadsLine bytes found.Nothing text rest) → TakeGives told p plan number before bytes before rest (Ok (Some StoppedEnd))
-takes_nothing told p plan number before bytes text rest due line = λ t lines written is. (due, ((line t).0, (line t).1, refl))
+takes_nothing told p plan number before bytes text rest due line = (tt, λ t lines written is. (due, ((line t).0, (line t).1, refl)))
 
 -- ---- turns
 
@@ -136,10 +145,10 @@ due_after told p plan other before after old new false same gives is unended =
     subst (λ (x : Phases). IsDue p (choices_of plan) x) (sym gives.1) (subst (λ (x : PlanChoices). IsDue p (choices_of x) before) same due)
 
 -- the line of an end was taken
-pub after_end : (told : Bool) (p : Instance) (plan other : PlanChoices) (first : Point) (before after : Phases) (lines number : ℕ) (old new written : List ℕ) (given : Option Ending) →
+pub after_end : (told : Bool) (p : Instance) (plan other : PlanChoices) (first : Point) (before after : Phases) (lines number : ℕ) (old new written : List ℕ) (given : Option Conclusion) →
     other ≡ plan → TakeGives told p (choices_of other) number before old after new (Ok given) → given ≡ None → IsTrue told →
     Reaches p (choices_of plan) first (point before lines old written) → Reaches p (choices_of plan) first (point after (lines + 1) new written)
-after_end told p plan other first before after lines number old new written (Some ending) same gives is t reached = cc
+after_end told p plan other first before after lines number old new written (Some conclusion) same gives is t reached = cc
 after_end told p plan other first before after lines number old new written None same gives is t reached =
     let h : TakeGives told p (choices_of plan) number before old after new (Ok None) =
     subst (λ (x : PlanChoices). TakeGives told p (choices_of x) number before old after new (Ok None)) same gives

@@ -6,18 +6,18 @@ use Rattle.slices.specs.Plans.{Choices, IsPlanOf, PlanChoices, choices_of}
 use Rattle.slices.specs.Rules.{IsValid}
 use Rattle.executor.specs.Laws.{IsSafe}
 use Rattle.executor.specs.Steps.{IsExecution}
-use Rattle.transcript.specs.declared.ending.Ending.{Ending}
-use Rattle.transcript.specs.declared.ending.ExecuteFault.{ExecuteFault}
+use Rattle.transcript.specs.declared.conclusion.Conclusion.{Conclusion}
+use Rattle.transcript.specs.declared.conclusion.ExecuteFault.{ExecuteFault}
 use Rattle.transcript.specs.Transcript.{EndsFrom, Point, Reaches, RunGives, first_point}
 
 -- ---- every text has one transcript
 
 -- from a point there is a transcript, of which this is a beginning
 pub record IsBegun (p : Instance) (plan : Choices) (first : Point) (written : List ℕ) : Type 0 where
-  pub ending : Ending
+  pub conclusion : Conclusion
   pub rest : List ℕ
   pub whole : List ℕ
-  pub ends : EndsFrom p plan first ending rest whole
+  pub ends : EndsFrom p plan first conclusion rest whole
   pub prefix : StartsWith whole written
 
 -- so it is from each point of an execution
@@ -36,7 +36,7 @@ FaultsLeaveABeginning =
 -- two transcripts of one text are the same
 abbrev pub TranscriptIsOne : Type 0
 TranscriptIsOne =
-    (p : Instance) (plan : Choices) (first : Point) (a b : Ending) (rest rest' written written' : List ℕ) →
+    (p : Instance) (plan : Choices) (first : Point) (a b : Conclusion) (rest rest' written written' : List ℕ) →
     EndsFrom p plan first a rest written → EndsFrom p plan first b rest' written' → (a ≡ b) × (rest ≡ rest') × (written ≡ written')
 
 -- ---- it is safe

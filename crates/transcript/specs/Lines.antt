@@ -5,8 +5,8 @@ use Rattle.cluster.specs.declared.ids.Element.{Element}
 use Rattle.cluster.specs.Inventory.{name_of}
 use Rattle.cluster.specs.Names.{is_name}
 use Rattle.catalogue.specs.Instance.{Instance, inventory_of}
-use Rattle.transcript.specs.declared.ending.EventFault.{EventFault}
-use Rattle.transcript.specs.declared.ending.EventFault.TheVariants as fault
+use Rattle.transcript.specs.declared.conclusion.EventFault.{EventFault}
+use Rattle.transcript.specs.declared.conclusion.EventFault.TheVariants as fault
 use Rattle.transcript.specs.declared.lines.EventKind.{EventKind}
 use Rattle.transcript.specs.declared.lines.EventKind.TheVariants.{End, Fail}
 use Rattle.transcript.specs.declared.lines.Line.{Line}
@@ -25,8 +25,8 @@ kind_text Fail = codes "fail "
 
 -- the text says that the action of the element of this name has ended or failed
 pub record IsEvent (text : List ℕ) (kind : EventKind) (name : List ℕ) : Type 0 where
-  pub text : text ≡ kind_text kind ++ name
-  pub name : IsTrue (is_name name)
+  pub says : text ≡ kind_text kind ++ name
+  pub good : IsTrue (is_name name)
 
 unfoldable pub fault_text : EventFault → List ℕ
 fault_text fault.NotALine = codes "not a line"

@@ -12,11 +12,11 @@ use Rattle.executor.specs.declared.phase.Phase.TheVariants.{Running, Ended}
 use Rattle.executor.specs.Answers.{IsFirst}
 use Rattle.executor.specs.Phases.{Moves, Phases}
 use Rattle.executor.specs.Steps.{IsStep, MayStart, Start, End as AnEnd}
-use Rattle.transcript.specs.declared.ending.Ending.{Ending}
-use Rattle.transcript.specs.declared.ending.Ending.TheVariants.{Done, StoppedFail, StoppedEnd, Refused}
-use Rattle.transcript.specs.declared.ending.EventFault.TheVariants as fault
-use Rattle.transcript.specs.declared.ending.ExecuteFault.{ExecuteFault}
-use Rattle.transcript.specs.declared.ending.ExecuteFault.TheVariants.{NotValid, ReadFault, WriteFault, Memory}
+use Rattle.transcript.specs.declared.conclusion.Conclusion.{Conclusion}
+use Rattle.transcript.specs.declared.conclusion.Conclusion.TheVariants.{Done, StoppedFail, StoppedEnd, Refused}
+use Rattle.transcript.specs.declared.conclusion.EventFault.TheVariants as fault
+use Rattle.transcript.specs.declared.conclusion.ExecuteFault.{ExecuteFault}
+use Rattle.transcript.specs.declared.conclusion.ExecuteFault.TheVariants.{NotValid, ReadFault, WriteFault, Memory}
 use Rattle.transcript.specs.declared.lines.EventKind.{EventKind}
 use Rattle.transcript.specs.declared.lines.EventKind.TheVariants.{End, Fail}
 use Rattle.transcript.specs.declared.lines.Line.{Line}
@@ -28,12 +28,27 @@ out_fault out.Failed = WriteFault
 out_fault out.Memory = Memory
 
 -- the plan is judged: it is valid unless what is broken first is the answer
-abbrev pub IsJudged : Instance → Choices → Result Ending ExecuteFault → Type 0
-IsJudged p plan (Ok ending) = IsValid p plan
+abbrev pub IsJudged : Instance → Choices → Result Conclusion ExecuteFault → Type 0
+IsJudged p plan (Ok conclusion) = IsValid p plan
 IsJudged p plan (Err (NotValid broken)) = IsFirstBroken p plan broken
 IsJudged p plan (Err ReadFault) = IsValid p plan
 IsJudged p plan (Err WriteFault) = IsValid p plan
 IsJudged p plan (Err Memory) = IsValid p plan
+
+-- the element that a conclusion names is one of the problem
+abbrev pub NamesListed : Instance → Conclusion → Type 0
+NamesListed p Done = Unit {0}
+NamesListed p (StoppedFail e) = IsElement p e
+NamesListed p StoppedEnd = Unit {0}
+NamesListed p (Refused number f) = Unit {0}
+
+-- where the plan is not valid nothing is touched
+abbrev pub StaysIfNotValid : {S : Type 0} → Result Conclusion ExecuteFault → S → S → Type 0
+StaysIfNotValid (Ok conclusion) before after = Unit {0}
+StaysIfNotValid (Err (NotValid broken)) before after = after ≡ before
+StaysIfNotValid (Err ReadFault) before after = Unit {0}
+StaysIfNotValid (Err WriteFault) before after = Unit {0}
+StaysIfNotValid (Err Memory) before after = Unit {0}
 
 -- ---- a line is read
 
@@ -64,8 +79,8 @@ StartGives told p plan before old after new (Err Memory) = BeginsStart p plan to
 
 -- ---- an event line is taken, where it is due
 
--- what a whole line does: an end goes on, and all else is an ending
-abbrev pub EventGives : Instance → Phases → ℕ → List ℕ → Phases → Option Ending → Type 0
+-- what a whole line does: an end goes on, and all else is a conclusion
+abbrev pub EventGives : Instance → Phases → ℕ → List ℕ → Phases → Option Conclusion → Type 0
 EventGives p before number text after None =
     (name : List ℕ) × (e : Element) × IsEvent text End name × (element_named (inventory_of p) name ≡ Some e) × (before e ≡ Running) × Moves before e Ended after
 EventGives p before number text after (Some Done) = ⊥
@@ -80,11 +95,11 @@ EventGives p before number text after (Some (Refused n fault.NotRunning)) =
     (n ≡ number) × (kind : EventKind) × (name : List ℕ) × (e : Element) × IsEvent text kind name × (element_named (inventory_of p) name ≡ Some e) × (before e ≢ Running)
 
 -- what the line that is due does, if it can be taken
-abbrev pub TakeGives : Bool → Instance → Choices → ℕ → Phases → List ℕ → Phases → List ℕ → Result (Option Ending) ExecuteFault → Type 0
+abbrev pub TakeGives : Bool → Instance → Choices → ℕ → Phases → List ℕ → Phases → List ℕ → Result (Option Conclusion) ExecuteFault → Type 0
 TakeGives told p plan number before old after new (Ok None) =
     (e : Element) × IsElement p e × IsStep p plan before (AnEnd e) after × (IsTrue told → (lines : ℕ) (written : List ℕ) → TakesEvent p plan (point before lines old written) End e new)
-TakeGives told p plan number before old after new (Ok (Some ending)) =
-    IsTrue told → (lines : ℕ) (written : List ℕ) → number ≡ lines + 1 → EndsAt p plan (point before lines old written) ending new
+TakeGives told p plan number before old after new (Ok (Some conclusion)) =
+    NamesListed p conclusion × (IsTrue told → (lines : ℕ) (written : List ℕ) → number ≡ lines + 1 → EndsAt p plan (point before lines old written) conclusion new)
 TakeGives told p plan number before old after new (Err (NotValid broken)) = ⊥
 TakeGives told p plan number before old after new (Err ReadFault) = IsTrue told → BeginsLine old new
 TakeGives told p plan number before old after new (Err WriteFault) = ⊥

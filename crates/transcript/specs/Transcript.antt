@@ -10,12 +10,12 @@ use Rattle.executor.specs.declared.phase.Phase.TheVariants.{Running}
 use Rattle.executor.specs.Answers.{IsFirst}
 use Rattle.executor.specs.Phases.{AllEnded, Phases, first_phases}
 use Rattle.executor.specs.Steps.{IsStep, MayStart, Start, End as AnEnd}
-use Rattle.transcript.specs.declared.ending.Ending.{Ending}
-use Rattle.transcript.specs.declared.ending.Ending.TheVariants.{Done, StoppedFail, StoppedEnd, Refused}
-use Rattle.transcript.specs.declared.ending.EventFault.{EventFault}
-use Rattle.transcript.specs.declared.ending.EventFault.TheVariants as fault
-use Rattle.transcript.specs.declared.ending.ExecuteFault.{ExecuteFault}
-use Rattle.transcript.specs.declared.ending.ExecuteFault.TheVariants.{NotValid, ReadFault, WriteFault, Memory}
+use Rattle.transcript.specs.declared.conclusion.Conclusion.{Conclusion}
+use Rattle.transcript.specs.declared.conclusion.Conclusion.TheVariants.{Done, StoppedFail, StoppedEnd, Refused}
+use Rattle.transcript.specs.declared.conclusion.EventFault.{EventFault}
+use Rattle.transcript.specs.declared.conclusion.EventFault.TheVariants as fault
+use Rattle.transcript.specs.declared.conclusion.ExecuteFault.{ExecuteFault}
+use Rattle.transcript.specs.declared.conclusion.ExecuteFault.TheVariants.{NotValid, ReadFault, WriteFault, Memory}
 use Rattle.transcript.specs.declared.lines.EventKind.{EventKind}
 use Rattle.transcript.specs.declared.lines.EventKind.TheVariants.{End, Fail}
 use Rattle.transcript.specs.declared.lines.Line.TheVariants as found
@@ -91,27 +91,27 @@ IsRefused p plan a fault.NoSuchName rest =
 IsRefused p plan a fault.NotRunning rest = (kind : EventKind) × (element : Element) × TakesEvent p plan a kind element rest × (a.phases element ≢ Running)
 
 -- how it ends at a point, and what is then left of the bytes
-abbrev pub EndsAt : Instance → Choices → Point → Ending → List ℕ → Type 0
+abbrev pub EndsAt : Instance → Choices → Point → Conclusion → List ℕ → Type 0
 EndsAt p plan a Done rest = AllEnded a.phases × (rest ≡ a.rest)
 EndsAt p plan a (StoppedFail element) rest = TakesEvent p plan a Fail element rest × (a.phases element ≡ Running)
 EndsAt p plan a StoppedEnd rest = IsDue p plan a.phases × ReadsLine a.rest found.Nothing [] rest
 EndsAt p plan a (Refused number f) rest = IsDue p plan a.phases × (number ≡ a.lines + 1) × IsRefused p plan a f rest
 
--- the transcript from a point on: turn after turn, and an ending
-pub record EndsFrom (p : Instance) (plan : Choices) (first : Point) (ending : Ending) (rest written : List ℕ) : Type 0 where
+-- the transcript from a point on: turn after turn, and a conclusion
+pub record EndsFrom (p : Instance) (plan : Choices) (first : Point) (conclusion : Conclusion) (rest written : List ℕ) : Type 0 where
   pub last : Point
   pub reached : Reaches p plan first last
-  pub ends : EndsAt p plan last ending rest
-  pub written : written ≡ last.written
+  pub ends : EndsAt p plan last conclusion rest
+  pub all : written ≡ last.written
 
--- ---- where it stops without an ending
+-- ---- where it stops without a conclusion
 
 -- between two turns
 pub record StopsAtTurn (p : Instance) (plan : Choices) (first : Point) (rest written : List ℕ) : Type 0 where
   pub last : Point
   pub reached : Reaches p plan first last
-  pub rest : rest ≡ last.rest
-  pub written : written ≡ last.written
+  pub left : rest ≡ last.rest
+  pub all : written ≡ last.written
 
 -- in the event line that is due: each line that was due before is written, and no byte past this line is taken
 pub record StopsInEvent (p : Instance) (plan : Choices) (first : Point) (rest written : List ℕ) : Type 0 where
@@ -119,7 +119,7 @@ pub record StopsInEvent (p : Instance) (plan : Choices) (first : Point) (rest wr
   pub reached : Reaches p plan first last
   pub due : IsDue p plan last.phases
   pub begun : BeginsLine last.rest rest
-  pub written : written ≡ last.written
+  pub all : written ≡ last.written
 
 -- in the line of a start: each line before it is written, a prefix of it is, and no byte is taken that is read after it
 pub record StopsInStart (p : Instance) (plan : Choices) (first : Point) (rest written : List ℕ) : Type 0 where
@@ -127,15 +127,15 @@ pub record StopsInStart (p : Instance) (plan : Choices) (first : Point) (rest wr
   pub reached : Reaches p plan first last
   pub element : Element
   pub ready : IsFirst p (MayStart p plan last.phases) element
-  pub rest : rest ≡ last.rest
+  pub left : rest ≡ last.rest
   pub begun : StartsWith written last.written
   pub cut : StartsWith (last.written ++ start_line p element) written
 
 -- ---- the whole
 
 -- what is left of the bytes and what is written by a run from a point
-abbrev pub RunGives : Instance → Choices → Point → Result Ending ExecuteFault → List ℕ → List ℕ → Type 0
-RunGives p plan first (Ok ending) rest written = EndsFrom p plan first ending rest written
+abbrev pub RunGives : Instance → Choices → Point → Result Conclusion ExecuteFault → List ℕ → List ℕ → Type 0
+RunGives p plan first (Ok conclusion) rest written = EndsFrom p plan first conclusion rest written
 RunGives p plan first (Err (NotValid broken)) rest written = ⊥
 RunGives p plan first (Err ReadFault) rest written = StopsInEvent p plan first rest written
 RunGives p plan first (Err WriteFault) rest written = StopsInStart p plan first rest written
@@ -143,8 +143,8 @@ RunGives p plan first (Err Memory) rest written =
     StopsAtTurn p plan first rest written ⊎ (StopsInEvent p plan first rest written ⊎ StopsInStart p plan first rest written)
 
 -- of a plan that is not valid nothing starts; any other is run from the point at which all actions wait
-abbrev pub ExecuteGives : Instance → Choices → List ℕ → List ℕ → Result Ending ExecuteFault → List ℕ → List ℕ → Type 0
-ExecuteGives p plan bytes before (Ok ending) rest written = IsValid p plan × RunGives p plan (first_point plan bytes before) (Ok ending) rest written
+abbrev pub ExecuteGives : Instance → Choices → List ℕ → List ℕ → Result Conclusion ExecuteFault → List ℕ → List ℕ → Type 0
+ExecuteGives p plan bytes before (Ok conclusion) rest written = IsValid p plan × RunGives p plan (first_point plan bytes before) (Ok conclusion) rest written
 ExecuteGives p plan bytes before (Err (NotValid broken)) rest written = IsFirstBroken p plan broken × (rest ≡ bytes) × (written ≡ before)
 ExecuteGives p plan bytes before (Err ReadFault) rest written = IsValid p plan × RunGives p plan (first_point plan bytes before) (Err ReadFault) rest written
 ExecuteGives p plan bytes before (Err WriteFault) rest written = IsValid p plan × RunGives p plan (first_point plan bytes before) (Err WriteFault) rest written

@@ -2,11 +2,11 @@
 //! that say which action has ended or failed.
 #![tactic(auto)]
 
-mod ending;
+mod conclusion;
 pub mod laws;
 mod lines;
 mod running;
 
-pub use ending::{Ending, EventFault, ExecuteFault};
+pub use conclusion::{Conclusion, EventFault, ExecuteFault};
 pub use lines::MAX_LINE_BYTES;
 pub use running::execute;

@@ -7,7 +7,7 @@ ghost use Rattle.transcript.specs.Causes.{ReadCauses};
 ghost use Rattle.transcript.specs.Lines.{IsEvent};
 ghost use Rattle.transcript.specs.Parts.{LineGives};
 
-use crate::ending::ExecuteFault;
+use crate::conclusion::ExecuteFault;
 use cluster::names::is_name_text;
 use plan_io::{Failed, Source};
 

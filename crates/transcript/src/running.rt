@@ -1,15 +1,15 @@
 //! The run of a plan: starts are written to a sink, and event lines are read from a source.
 ghost use Rattle.std.specs.Prelude.{◌≡◌, IsTrue, IfOk, IfErr};
+ghost use Rattle.std.specs.Io.{StartsWith};
 ghost use Rattle.catalogue.specs.Instance.{IsElement};
 ghost use Rattle.slices.specs.Plans.{IsPlanOf, choices_of};
-ghost use Rattle.slices.specs.Rules.{IsValid};
 ghost use Rattle.executor.specs.Views.{IsSameWork, phases_of};
 ghost use Rattle.transcript.specs.Causes.{ReadCauses, WriteCauses};
 ghost use Rattle.transcript.specs.Lines.{start_line};
-ghost use Rattle.transcript.specs.Parts.{EventGives, IsJudged, IsOfRunning, StartGives, TakeGives};
+ghost use Rattle.transcript.specs.Parts.{EventGives, IsJudged, IsOfRunning, NamesListed, StartGives, StaysIfNotValid, TakeGives};
 ghost use Rattle.transcript.specs.Transcript.{ExecuteGives, IsDue, RunGives, first_point, point};
 
-use crate::ending::{Ending, EventFault, ExecuteFault};
+use crate::conclusion::{Conclusion, EventFault, ExecuteFault};
 use crate::lines::{EventKind, Line, event_of, read_line};
 use catalogue::problem::Problem;
 use cluster::ids::Element;
@@ -31,7 +31,7 @@ fn put_start(line: &mut Vec<u8>, p: &Problem, e: Element) -> Result<(), AllocErr
 }
 
 /// Writes the first action that may start, and starts it; whether there is one.
-#[tactic(auto, using(crate::proofs::Steps::starts))]
+#[tactic(auto, using(crate::proofs::Steps::starts, sums::proofs::Prefixes::whole))]
 fn start_next<O: Sink>(
     p: &Problem,
     m: &mut Monitor<'_>,
@@ -40,6 +40,7 @@ fn start_next<O: Sink>(
 ) -> Result<bool, ExecuteFault>
     requires { m.old.problem ≡ p.now }
     ensures turn { StartGives O.tells p.now.given (choices_of m.old.plan) (phases_of m.old) (O.written out.old) (phases_of m.new) (O.written out.new) result }
+    ensures stays { IsTrue O.tells → StartsWith (O.written out.new) (O.written out.old) }
     ensures work { IsSameWork m.old m.new }
     ensures causes { WriteCauses (O.faults out.old) (O.faults out.new) result }
 {
@@ -57,25 +58,25 @@ fn start_next<O: Sink>(
 
 /// What an event line does: after an end the execution goes on, and all else ends it.
 #[tactic(auto, using(crate::proofs::Steps::stops_not))]
-fn apply(p: &Problem, m: &mut Monitor<'_>, number: u32, text: &[u8]) -> Option<Ending>
+fn apply(p: &Problem, m: &mut Monitor<'_>, number: u32, text: &[u8]) -> Option<Conclusion>
     requires { m.old.problem ≡ p.now }
     ensures event { EventGives p.now.given (phases_of m.old) number text.now (phases_of m.new) result }
     ensures work { IsSameWork m.old m.new }
 {
     let Some((kind, name)) = event_of(text) else {
-        return Some(Ending::Refused(number, EventFault::NotALine));
+        return Some(Conclusion::Refused(number, EventFault::NotALine));
     };
     let Some(e) = p.cluster().find(name) else {
-        return Some(Ending::Refused(number, EventFault::NoSuchName));
+        return Some(Conclusion::Refused(number, EventFault::NoSuchName));
     };
     match kind {
         EventKind::End => match m.ended(e) {
             Ok(()) => None,
-            Err(_) => Some(Ending::Refused(number, EventFault::NotRunning)),
+            Err(_) => Some(Conclusion::Refused(number, EventFault::NotRunning)),
         },
         EventKind::Fail => match m.failed(e) {
-            Ok(()) => Some(Ending::StoppedFail(e)),
-            Err(_) => Some(Ending::Refused(number, EventFault::NotRunning)),
+            Ok(()) => Some(Conclusion::StoppedFail(e)),
+            Err(_) => Some(Conclusion::Refused(number, EventFault::NotRunning)),
         },
     }
 }
@@ -88,7 +89,7 @@ fn take_event<I: Source>(
     number: u32,
     line: &mut Vec<u8>,
     input: &mut I,
-) -> Result<Option<Ending>, ExecuteFault>
+) -> Result<Option<Conclusion>, ExecuteFault>
     requires problem { m.old.problem ≡ p.now }
     requires due { IsDue p.now.given (choices_of m.old.plan) (phases_of m.old) }
     ensures turn { TakeGives I.tells p.now.given (choices_of m.old.plan) number (phases_of m.old) (I.rest input.old) (phases_of m.new) (I.rest input.new) result }
@@ -97,9 +98,9 @@ fn take_event<I: Source>(
 {
     match read_line(input, line)? {
         Line::Whole => Ok(apply(p, m, number, line)),
-        Line::TooLong => Ok(Some(Ending::Refused(number, EventFault::TooLong))),
-        Line::Short => Ok(Some(Ending::Refused(number, EventFault::NotALine))),
-        Line::Nothing => Ok(Some(Ending::StoppedEnd)),
+        Line::TooLong => Ok(Some(Conclusion::Refused(number, EventFault::TooLong))),
+        Line::Short => Ok(Some(Conclusion::Refused(number, EventFault::NotALine))),
+        Line::Nothing => Ok(Some(Conclusion::StoppedEnd)),
     }
 }
 
@@ -111,13 +112,15 @@ fn follow<I: Source, O: Sink>(
     m: &mut Monitor<'_>,
     input: &mut I,
     out: &mut O,
-) -> Result<Ending, ExecuteFault>
+) -> Result<Conclusion, ExecuteFault>
     requires { m.old.problem ≡ p.now }
     ensures run { let first = point (phases_of m.old) 0 (I.rest input.old) (O.written out.old) in
         IsTrue I.tells → IsTrue O.tells
         → RunGives p.now.given (choices_of m.old.plan) first result (I.rest input.new) (O.written out.new) }
+    ensures stays { IsTrue O.tells → StartsWith (O.written out.new) (O.written out.old) }
     ensures reads { ReadCauses (I.faults input.old) (I.faults input.new) result }
     ensures writes { WriteCauses (O.faults out.old) (O.faults out.new) result }
+    ensures listed { IfOk result (NamesListed p.now.given) }
     ensures kind { IfErr result IsOfRunning }
 {
     let mut line = Vec::new(alloc);
@@ -126,12 +129,12 @@ fn follow<I: Source, O: Sink>(
         if start_next(p, m, &mut line, out)? {
             continue;
         }
-        if let Some(ending) = take_event(p, m, lines + 1, &mut line, input)? {
-            return Ok(ending);
+        if let Some(conclusion) = take_event(p, m, lines + 1, &mut line, input)? {
+            return Ok(conclusion);
         }
         lines += 1;
     }
-    Ok(Ending::Done)
+    Ok(Conclusion::Done)
 }
 
 /// Carries out a plan: writes `start NAME` for each action that may start, in the order of the elements,
@@ -147,13 +150,15 @@ pub fn execute<I: Source, O: Sink>(
     plan: &Plan,
     input: &mut I,
     out: &mut O,
-) -> Result<Ending, ExecuteFault>
+) -> Result<Conclusion, ExecuteFault>
     requires { IsPlanOf p.now.given plan.now }
     ensures transcript { IsTrue I.tells → IsTrue O.tells
         → ExecuteGives p.now.given (choices_of plan.now) (I.rest input.old) (O.written out.old) result (I.rest input.new) (O.written out.new) }
     ensures judged { IsJudged p.now.given (choices_of plan.now) result }
-    ensures source { ¬ IsValid p.now.given (choices_of plan.now) → input.new ≡ input.old }
-    ensures sink { ¬ IsValid p.now.given (choices_of plan.now) → out.new ≡ out.old }
+    ensures listed { IfOk result (NamesListed p.now.given) }
+    ensures source { StaysIfNotValid result input.old input.new }
+    ensures sink { StaysIfNotValid result out.old out.new }
+    ensures stays { IsTrue O.tells → StartsWith (O.written out.new) (O.written out.old) }
     ensures reads { ReadCauses (I.faults input.old) (I.faults input.new) result }
     ensures writes { WriteCauses (O.faults out.old) (O.faults out.new) result }
 {

@@ -20,6 +20,12 @@ one_more x text other one c =
       | inr tail ↦ one tail
     ]
 
+pub contains_here : (x : ℕ) (text : List ℕ) → x ≡ 10 → Contains (x ∷ text) 10
+contains_here x text e = (0, omega arith, e)
+
+pub later_line : (x : ℕ) (text : List ℕ) → IsOneLine (x ∷ text) → IsOneLine text
+later_line x text one c = one (suc c.0, omega (arith, c.1), c.2)
+
 none_in : IsOneLine []
 none_in c = omega (arith, c.1)
 
@@ -83,7 +89,7 @@ split_prefix (x ∷ prefix) (y ∷ text) =
 
 -- a text begins as one kind alone
 ends_not : (a b : List ℕ) → (101 ∷ 110 ∷ 100 ∷ 32 ∷ a) ≢ (102 ∷ 97 ∷ 105 ∷ 108 ∷ 32 ∷ b)
-ends_not a b q = let h : 101 ≡ 102 = cc in omega (arith, h)
+ends_not a b q = let h : ◌≡◌ {A = ℕ} 101 102 = cc in omega (arith, h)
 
 end_is : (a b : List ℕ) → (101 ∷ 110 ∷ 100 ∷ 32 ∷ a) ≡ (101 ∷ 110 ∷ 100 ∷ 32 ∷ b) → a ≡ b
 end_is a b q = cc
@@ -102,11 +108,11 @@ event_with : (text : List ℕ) (kind : EventKind) (name : List ℕ) → text ≡
     ((kind : EventKind) × (name : List ℕ) × IsEvent text kind name) ⊎ ((kind : EventKind) (name : List ℕ) → ¬ IsEvent text kind name)
 event_with text kind name is =
     elim (cases_Bool (is_name name)) [
-      | inl good ↦ inl (kind, name, record { text = is; name = good })
+      | inl good ↦ inl (kind, name, record { says = is; good = good })
       | inr bad ↦
           inr (λ other name' event.
-          let same = same_event text kind other name name' is event.text in
-          false≢true (sym bad ∙ ap is_name same.1 ∙ event.name))
+          let same = same_event text kind other name name' is event.says in
+          false≢true (sym bad ∙ ap is_name same.1 ∙ event.good))
     ]
 
 -- each text says an event or none
@@ -122,5 +128,5 @@ event_or_not text =
     ]
   where
     none : ((rest : List ℕ) → text ≢ kind_text End ++ rest) → ((rest : List ℕ) → text ≢ kind_text Fail ++ rest) → (kind : EventKind) (name : List ℕ) → ¬ IsEvent text kind name
-    none no_end no_fail End name event = no_end name event.text
-    none no_end no_fail Fail name event = no_fail name event.text
+    none no_end no_fail End name event = no_end name event.says
+    none no_end no_fail Fail name event = no_fail name event.says

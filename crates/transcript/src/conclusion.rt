@@ -1,7 +1,7 @@
-//! How an execution ends, and why it gives no ending.
+//! How an execution ends, and why it gives no conclusion.
 ghost use Rattle.std.specs.Prelude.{◌≡◌};
 ghost use Rattle.transcript.specs.Lines.{fault_text};
-ghost use Rattle.transcript.specs.declared.ending.ExecuteFault.TheVariants as faults;
+ghost use Rattle.transcript.specs.declared.conclusion.ExecuteFault.TheVariants as faults;
 ghost use Rattle.transcript.specs.Parts.{out_fault};
 
 use cluster::ids::Element;
@@ -10,7 +10,7 @@ use slices::rule::Broken;
 
 /// How an execution ends.
 #[derive(Clone, Copy, Debug, PartialEq, Eq)]
-pub enum Ending {
+pub enum Conclusion {
     /// All actions have ended.
     Done,
     /// The action of this element has failed.
@@ -48,7 +48,7 @@ impl EventFault {
     }
 }
 
-/// Why an execution gives no ending.
+/// Why an execution gives no conclusion.
 #[derive(Clone, Copy, Debug, PartialEq, Eq)]
 pub enum ExecuteFault {
     /// The plan is not valid, and nothing was started: its first broken rule.
