@@ -1,5 +1,5 @@
 -- Which line is taken of some bytes, and which event it says.
-use Rattle.std.proofs.Common.{◌≡◌, ◌≢◌, ◌⊎◌, inl, inr, ℕ, zero, suc, ◌+◌, ◌<◌, ◌≤◌, Bool, true, false, List, [], ◌∷◌, ◌++◌, length, codes, IsTrue, refl, sym, ap, subst, ◌∙◌, arith}
+use Rattle.std.proofs.Common.{◌≡◌, ◌≢◌, ◌⊎◌, inl, inr, ℕ, zero, suc, ◌+◌, ◌<◌, ◌≤◌, Bool, true, false, List, [], ◌∷◌, ◌++◌, length, codes, IsTrue, refl, sym, ap, subst, ◌∙◌, append_assoc, arith, length-append}
 use Rattle.std.specs.List.{Contains}
 use Rattle.std.proofs.lemmas.Bool.{cases_Bool, cases_eq, cases_lt, false≢true}
 use Rattle.std.proofs.lemmas.List.Elements.{Contains-append_cases}
@@ -9,7 +9,7 @@ use Rattle.transcript.specs.declared.lines.EventKind.TheVariants.{End, Fail}
 use Rattle.transcript.specs.declared.lines.Line.{Line}
 use Rattle.transcript.specs.declared.lines.Line.TheVariants.{Whole, TooLong, Short, Nothing}
 use Rattle.transcript.specs.declared.lines.TheConstants.{MAX_LINE_BYTES}
-use Rattle.transcript.specs.Lines.{IsEvent, IsOneLine, ReadsLine, kind_text}
+use Rattle.transcript.specs.Lines.{BeginsLine, IsEvent, IsOneLine, ReadsLine, kind_text}
 
 -- ---- which line
 
@@ -28,6 +28,19 @@ later_line x text one c = one (suc c.0, omega (arith, c.1), c.2)
 
 none_in : IsOneLine []
 none_in c = omega (arith, c.1)
+
+-- a line was begun, and one byte more of it was taken
+pub begins_more : (bytes text rest rest' : List ℕ) (b : ℕ) → bytes ≡ text ++ rest → rest ≡ b ∷ rest' → IsOneLine text → b ≢ 10 → length text ≤ MAX_LINE_BYTES → BeginsLine bytes rest'
+begins_more bytes text rest rest' b all next one other few = record {
+  text = text ++ b ∷ [];
+  taken = all ∙ ap (λ (l : List ℕ). text ++ l) next ∙ sym (append_assoc text (b ∷ []) rest');
+  one = λ c.
+      elim (Contains-append_cases text (b ∷ []) 10 c) [
+        | inl before ↦ one before
+        | inr here ↦ let first : here.0 ≡ 0 = omega (arith, here.1) in other (rw first at here.2)
+      ];
+  few = omega (arith, few, length-append text (b ∷ []));
+}
 
 -- what is taken of the bytes where a line may have k bytes
 data Taken (k : ℕ) (bytes : List ℕ) : Type 0 where

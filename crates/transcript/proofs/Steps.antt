@@ -1,5 +1,5 @@
 -- What the parts of a run do to where it stands.
-use Rattle.std.proofs.Common.{◌≡◌, ◌≢◌, ◌⊎◌, inl, inr, ℕ, suc, ◌+◌, List, ◌++◌, Bool, true, false, Option, Some, None, Result, Ok, Err, IsTrue, refl, sym, subst, ◌∙◌}
+use Rattle.std.proofs.Common.{◌≡◌, ◌≢◌, ◌⊎◌, inl, inr, ℕ, suc, ◌+◌, List, ◌++◌, Bool, true, false, Option, Some, None, Result, Ok, Err, IsTrue, refl, sym, ap, subst, ◌∙◌}
 use Rattle.std.proofs.lemmas.Bool.{false≢true}
 use Rattle.std.specs.Io.{StartsWith}
 use Rattle.cluster.specs.declared.ids.Element.{Element}
@@ -7,23 +7,27 @@ use Rattle.cluster.specs.Inventory.{element_named}
 use Rattle.cluster.proofs.Public.{listed-element_named}
 use Rattle.catalogue.specs.Instance.{Instance, inventory_of}
 use Rattle.slices.specs.Plans.{Choices, PlanChoices, choices_of}
+use Rattle.slices.specs.Rules.{IsValid}
 use Rattle.executor.specs.declared.phase.Phase.TheVariants.{Running}
 use Rattle.executor.specs.declared.phase.StepFault.{StepFault}
 use Rattle.executor.specs.declared.phase.StepFault.TheVariants.{Already, NotReady, NotRunning}
 use Rattle.executor.specs.Answers.{IsFirst, IsHindrance, StartGives as Starts, StopGives as Stops}
 use Rattle.executor.specs.declared.phase.Phase.{Phase}
-use Rattle.executor.specs.Phases.{AllEnded, Phases}
+use Rattle.executor.specs.Phases.{AllEnded, Phases, first_phases}
 use Rattle.executor.specs.Steps.{IsStep, MayStart, Start}
 use Rattle.transcript.specs.declared.conclusion.Conclusion.{Conclusion}
 use Rattle.transcript.specs.declared.conclusion.Conclusion.TheVariants.{Done, StoppedFail, StoppedEnd, Refused}
 use Rattle.transcript.specs.declared.conclusion.EventFault.{EventFault}
 use Rattle.transcript.specs.declared.conclusion.EventFault.TheVariants as fault
+use Rattle.transcript.specs.declared.conclusion.ExecuteFault.{ExecuteFault}
+use Rattle.transcript.specs.declared.conclusion.ExecuteFault.TheVariants.{NotValid, ReadFault, WriteFault, Memory}
 use Rattle.transcript.specs.declared.lines.EventKind.{EventKind}
 use Rattle.transcript.specs.declared.lines.EventKind.TheVariants.{End, Fail}
 use Rattle.transcript.specs.declared.lines.Line.TheVariants as found
-use Rattle.transcript.specs.Lines.{IsEvent, ReadsLine, start_line}
-use Rattle.transcript.specs.Parts.{EventGives, StartGives, TakeGives}
-use Rattle.transcript.specs.Transcript.{IsDue, Point, Reaches, TakesEvent, point}
+use Rattle.transcript.specs.Lines.{BeginsLine, IsEvent, ReadsLine, start_line}
+use Rattle.transcript.specs.Parts.{BeginsStart, EventGives, StartGives, TakeGives}
+use Rattle.transcript.specs.Transcript.{EndsAt, ExecuteGives, IsDue, Point, Reaches, RunGives, StopsInEvent, StopsInStart, TakesEvent, first_point, point}
+use Rattle.transcript.proofs.Measure.{end_left, start_left, steps_left}
 
 -- ---- a start
 
@@ -160,3 +164,106 @@ after_end told p plan other first before after lines number old new written None
         inr (record { element = h.0; event = h.3 t lines written; step = h.2; lines = refl; written = refl }),
       ),
     )
+
+-- ---- how it stops
+
+-- all have ended
+pub all_done : (p : Instance) (plan : Choices) (first : Point) (phases : Phases) (lines : ℕ) (rest written : List ℕ) → AllEnded phases →
+    Reaches p plan first (point phases lines rest written) → RunGives p plan first (Ok Done) rest written
+all_done p plan first phases lines rest written all reached =
+    record { last = point phases lines rest written; reached = reached; ends = (all, refl); all = refl }
+
+-- the line that is due is a conclusion
+pub line_ends : (told : Bool) (p : Instance) (plan other : PlanChoices) (first : Point) (before after : Phases) (lines number : ℕ) (old new written : List ℕ) (given : Option Conclusion) (c : Conclusion) →
+    other ≡ plan → TakeGives told p (choices_of other) number before old after new (Ok given) → given ≡ Some c → number ≡ lines + 1 → IsTrue told →
+    Reaches p (choices_of plan) first (point before lines old written) → RunGives p (choices_of plan) first (Ok c) new written
+line_ends told p plan other first before after lines number old new written None c same gives is next t reached = cc
+line_ends told p plan other first before after lines number old new written (Some d) c same gives is next t reached =
+    let h : TakeGives told p (choices_of plan) number before old after new (Ok (Some d)) =
+    subst (λ (x : PlanChoices). TakeGives told p (choices_of x) number before old after new (Ok (Some d))) same gives
+    in
+    let one : d ≡ c = cc in
+    record {
+      last = point before lines old written;
+      reached = reached;
+      ends = subst (λ (x : Conclusion). EndsAt p (choices_of plan) (point before lines old written) x new) one (h.1 t lines written next);
+      all = refl;
+    }
+
+-- the line of a start was not taken whole
+pub stops_in_start : (told : Bool) (p : Instance) (plan other : PlanChoices) (first : Point) (before after : Phases) (lines : ℕ) (rest old new : List ℕ) (f : ExecuteFault) →
+    other ≡ plan → StartGives told p (choices_of other) before old after new (Err f) → IsTrue told →
+    Reaches p (choices_of plan) first (point before lines rest old) → RunGives p (choices_of plan) first (Err f) rest new
+stops_in_start told p plan other first before after lines rest old new f same gives t reached =
+    by f (subst (λ (x : PlanChoices). StartGives told p (choices_of x) before old after new (Err f)) same gives)
+  where
+    stops : BeginsStart p (choices_of plan) told before old new → StopsInStart p (choices_of plan) first rest new
+    stops h = record {
+      last = point before lines rest old;
+      reached = reached;
+      element = h.element;
+      ready = h.ready;
+      left = refl;
+      begun = h.begun t;
+      cut = h.cut t;
+    }
+
+    by : (f : ExecuteFault) → StartGives told p (choices_of plan) before old after new (Err f) → RunGives p (choices_of plan) first (Err f) rest new
+    by (NotValid broken) h = absurd h
+    by ReadFault h = absurd h
+    by WriteFault h = stops h
+    by Memory h = inr (inr (stops h))
+
+-- the line that is due could not be read
+pub stops_in_event : (told : Bool) (p : Instance) (plan other : PlanChoices) (first : Point) (before after : Phases) (lines number : ℕ) (old new written : List ℕ) (f : ExecuteFault) →
+    other ≡ plan → IsDue p (choices_of plan) before → TakeGives told p (choices_of other) number before old after new (Err f) → IsTrue told →
+    Reaches p (choices_of plan) first (point before lines old written) → RunGives p (choices_of plan) first (Err f) new written
+stops_in_event told p plan other first before after lines number old new written f same due gives t reached = by f gives
+  where
+    stops : BeginsLine old new → StopsInEvent p (choices_of plan) first new written
+    stops h = record { last = point before lines old written; reached = reached; due = due; begun = h; all = refl }
+
+    by : (f : ExecuteFault) → TakeGives told p (choices_of other) number before old after new (Err f) → RunGives p (choices_of plan) first (Err f) new written
+    by (NotValid broken) h = absurd h
+    by ReadFault h = stops (h t)
+    by WriteFault h = absurd h
+    by Memory h = inr (inl (stops (h t)))
+
+-- ---- steps that are left
+
+-- fewer after a start
+pub start_fewer : (told : Bool) (p : Instance) (plan : Choices) (before after : Phases) (old new : List ℕ) (started : Bool) → StartGives told p plan before old after new (Ok started) →
+    started ≡ true → steps_left p after + 1 ≡ steps_left p before
+start_fewer told p plan before after old new false gives is = absurd (false≢true is)
+start_fewer told p plan before after old new true gives is = start_left p plan before after gives.0 gives.1.listed gives.2
+
+-- as many where nothing could start
+pub quiet_same : (told : Bool) (p : Instance) (plan : Choices) (before after : Phases) (old new : List ℕ) (started : Bool) → StartGives told p plan before old after new (Ok started) →
+    started ≡ false → steps_left p after ≡ steps_left p before
+quiet_same told p plan before after old new true gives is = absurd (false≢true (sym is))
+quiet_same told p plan before after old new false gives is = ap (steps_left p) gives.1
+
+-- fewer after an end
+pub end_fewer : (told : Bool) (p : Instance) (plan : Choices) (number : ℕ) (before after : Phases) (old new : List ℕ) (given : Option Conclusion) →
+    TakeGives told p plan number before old after new (Ok given) → given ≡ None → steps_left p after + 1 ≡ steps_left p before
+end_fewer told p plan number before after old new (Some c) gives is = cc
+end_fewer told p plan number before after old new None gives is = end_left p plan before after gives.0 gives.1 gives.2
+
+-- ---- from the first point
+
+-- nothing was done yet
+pub stops_at_first : (p : Instance) (plan : Choices) (first : Point) → RunGives p plan first (Err Memory) first.rest first.written
+stops_at_first p plan first = inl (record { last = first; reached = (0, refl); left = refl; all = refl })
+
+-- the run of a valid plan is its execution
+pub executes : (p : Instance) (plan : PlanChoices) (phases : Phases) (bytes before rest written : List ℕ) (result : Result Conclusion ExecuteFault) → phases ≡ first_phases (choices_of plan) →
+    IsValid p (choices_of plan) → RunGives p (choices_of plan) (point phases 0 bytes before) result rest written → ExecuteGives p (choices_of plan) bytes before result rest written
+executes p plan phases bytes before rest written result same valid run =
+    by result (subst (λ (x : Phases). RunGives p (choices_of plan) (point x 0 bytes before) result rest written) same run)
+  where
+    by : (r : Result Conclusion ExecuteFault) → RunGives p (choices_of plan) (first_point (choices_of plan) bytes before) r rest written → ExecuteGives p (choices_of plan) bytes before r rest written
+    by (Ok c) h = (valid, h)
+    by (Err (NotValid broken)) h = absurd h
+    by (Err ReadFault) h = (valid, h)
+    by (Err WriteFault) h = (valid, h)
+    by (Err Memory) h = (valid, h)

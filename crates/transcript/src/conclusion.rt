@@ -36,6 +36,7 @@ pub enum EventFault {
 
 impl EventFault {
     /// What is wrong, in words.
+    #[tactic(auto, unfolding(crate::specs::Lines::fault_text))]
     pub fn text(self) -> &'static str
         ensures { result.now ≡ fault_text self }
     {

@@ -51,6 +51,7 @@ fn read_byte<I: Source>(input: &mut I) -> Result<Option<u8>, Failed>
 }
 
 /// Takes one line, and no byte past its newline; of a line that is too long, one byte more than it may have.
+#[tactic(auto, using(crate::proofs::EventLines::begins_more))]
 pub(crate) fn read_line<I: Source>(input: &mut I, line: &mut Vec<u8>) -> Result<Line, ExecuteFault>
     ensures line { LineGives I.tells (I.rest input.old) line.new.items (I.rest input.new) result }
     ensures causes { ReadCauses (I.faults input.old) (I.faults input.new) result }

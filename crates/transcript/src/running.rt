@@ -19,6 +19,7 @@ use slices::plan::Plan;
 use std::alloc::{AllocError, Global};
 
 /// The line that the action of an element starts.
+#[tactic(auto, unfolding(crate::specs::Lines::start_line))]
 fn put_start(line: &mut Vec<u8>, p: &Problem, e: Element) -> Result<(), AllocError>
     requires { IsElement p.now.given e }
     ensures { IfOk result (λ _. line.new.items ≡ start_line p.now.given e) }
@@ -106,6 +107,7 @@ fn take_event<I: Source>(
 
 /// Runs a plan from where its monitor stands: starts all that may start, and then takes an event line,
 /// until all actions have ended.
+#[tactic(auto, using(crate::proofs::Steps::stops_in_start, sums::proofs::Prefixes::further))]
 fn follow<I: Source, O: Sink>(
     alloc: Global,
     p: &Problem,
