@@ -1,4 +1,4 @@
-use Rattle.std.proofs.Common.{◌≡◌, ◌+◌, ◌<◌, ◌∙◌, sym, refl, rules, IsTrue, arith}
+use Rattle.std.proofs.Common.{◌≡◌, ◌+◌, ◌<◌, ◌∙◌, Err, sym, refl, rules, IsTrue, arith}
 use Rattle.sums.proofs.Prefixes.{further}
 use Rattle.slices.specs.Plans.{choices_of}
 use Rattle.executor.specs.Phases.{AllEnded}
@@ -47,7 +47,8 @@ take_event-requires-clause-due g c =
 
 pub returns-in_err-start_next-clause-run : goal.returns-in_err-start_next-clause-run
 returns-in_err-start_next-clause-run g c = λ i o.
-    rw c.from_residual.ensures
+    let is : c.from_residual.result ≡ Err c.in_err-start_next.field-0.0 = search rules in
+    rw is
     (stops_in_start g.O.Sink.tells c.args.p.now.given c.args.m.now.plan c.turns.m.plan _ (phases_of c.turns.m) (phases_of c.start_next.new.m) c.turns.lines (g.I.Source.rest c.turns.input) (g.O.Sink.written c.turns.out) (g.O.Sink.written c.start_next.new.out) c.in_err-start_next.field-0.0 c.turns.invariant.plan c.in_err-start_next.ensures.turn o (c.turns.invariant.reached i o))
 
 pub returns-in_err-conclusion-clause-run : goal.returns-in_err-conclusion-clause-run
@@ -58,7 +59,8 @@ returns-in_err-conclusion-clause-run g c = λ i o.
     let due : IsDue c.args.p.now.given (choices_of c.args.m.now.plan) (phases_of c.start_next.new.m) =
     due_after g.O.Sink.tells c.args.p.now.given c.args.m.now.plan c.turns.m.plan (phases_of c.turns.m) (phases_of c.start_next.new.m) (g.O.Sink.written c.turns.out) (g.O.Sink.written c.start_next.new.out) c.in_ok-start_next.field-0 was.plan c.in_ok-start_next.ensures.turn c.if-branch.false unended
     in
-    rw c.from_residual-in_err-conclusion.ensures
+    let is : c.from_residual-in_err-conclusion.result ≡ Err c.in_err-conclusion.field-0.0 = search rules in
+    rw is
     (stops_in_event g.I.Source.tells c.args.p.now.given c.args.m.now.plan c.start_next.new.m.plan _ (phases_of c.start_next.new.m) (phases_of c.take_event.new.m) c.turns.lines (c.turns.lines + 1) (g.I.Source.rest c.turns.input) (g.I.Source.rest c.take_event.new.input) (g.O.Sink.written c.start_next.new.out) c.in_err-conclusion.field-0.0 plan due c.in_err-conclusion.ensures.turn i
     (after_quiet g.O.Sink.tells c.args.p.now.given c.args.m.now.plan c.turns.m.plan _ (phases_of c.turns.m) (phases_of c.start_next.new.m) c.turns.lines (g.I.Source.rest c.turns.input) (g.O.Sink.written c.turns.out) (g.O.Sink.written c.start_next.new.out) c.in_ok-start_next.field-0 c.in_ok-start_next.ensures.turn c.if-branch.false o (was.reached i o)))
 
