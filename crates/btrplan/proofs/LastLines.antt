@@ -3,7 +3,10 @@ use Rattle.std.proofs.Common.{◌≡◌, ℕ, List, ◌++◌, Option, Some, None
 use Rattle.std.specs.declared.alloc.Global.{Global}
 use Rattle.std.specs.Io.{StartsWith}
 use Rattle.sums.proofs.Prefixes.{whole, longer}
+use Rattle.btrplan.specs.Words.{Command, plan, replay}
 use Rattle.btrplan.specs.Answer.{Outside, outside}
+use Rattle.btrplan.specs.Commands.{Takes}
+use Rattle.btrplan.specs.Commands.Executing.{Taking}
 use Rattle.btrplan.specs.Endings.{Ends, EndsAnyhow, IsLastLine, LastEnds, LineEnds, line_of, fault_status, outcome_status, printed_with}
 use Rattle.btrplan.specs.declared.status.Status.{Status}
 use Rattle.btrplan.specs.declared.status.Status.TheVariants as status
@@ -70,3 +73,16 @@ pub always_anyhow : (takes : Outside → Status → Type 0) (after : Outside) (e
 unfolding EndsAnyhow
 always_anyhow takes after (Ok ending) always = last_always takes after (option_map string_bytes ending.line) (outcome_status ending.outcome) always
 always_anyhow takes after (Err f) always = last_always takes after (line_of f) (fault_status f) always
+
+-- what is said of the source by commands that do not read it
+pub no_command_takes : (command : Option Command) (taking : Taking) (before after : Outside) (ended : Result Ending Fault) → command ≡ None → EndsAnyhow (Takes command taking before) after ended
+no_command_takes command taking before after ended is = rw is (always_anyhow (Takes None taking before) after ended (λ then result. tt))
+
+pub plan_takes : (command : Option Command) (instance plan_file certificate : List ℕ) (taking : Taking) (before after : Outside) (ended : Result Ending Fault) →
+    command ≡ Some (plan instance plan_file certificate) → EndsAnyhow (Takes command taking before) after ended
+plan_takes command instance plan_file certificate taking before after ended is =
+    rw is (always_anyhow (Takes (Some (plan instance plan_file certificate)) taking before) after ended (λ then result. tt))
+
+pub replay_takes : (command : Option Command) (instance plan_file : List ℕ) (taking : Taking) (before after : Outside) (ended : Result Ending Fault) → command ≡ Some (replay instance plan_file) →
+    EndsAnyhow (Takes command taking before) after ended
+replay_takes command instance plan_file taking before after ended is = rw is (always_anyhow (Takes (Some (replay instance plan_file)) taking before) after ended (λ then result. tt))

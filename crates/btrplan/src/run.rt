@@ -22,7 +22,7 @@ use plan_io::{Desk, OutFault, Sink, Source, write_text};
 use std::alloc::Global;
 
 /// Does what the words ask for, but for the last line where one is still to be printed.
-#[tactic(auto, using(crate::proofs::Ends::no_command, crate::proofs::Printing::prints_nothing))]
+#[tactic(auto, using(crate::proofs::Ends::no_command, crate::proofs::LastLines::no_command_takes, crate::proofs::LastLines::plan_takes, crate::proofs::LastLines::replay_takes, crate::proofs::Printing::prints_nothing))]
 fn answer<D: Desk, I: Source, O: Sink>(
     alloc: Global,
     words: &[String],
@@ -110,7 +110,7 @@ fn say<O: Sink>(out: &mut O, line: &str, said: Status) -> Status
 }
 
 /// Prints the last line of a command, if it has one, and gives its status or that of a refused write.
-#[tactic(auto, using(crate::proofs::Causing::causes_of_line, crate::proofs::Causing::causes_as_they_were), unfolding(crate::specs::Endings::Ends))]
+#[tactic(auto, using(crate::proofs::Causing::causes_of_line, crate::proofs::Causing::causes_as_they_were), unfolding(crate::specs::Endings::Ends, crate::specs::Endings::EndsAnyhow))]
 fn finish<O: Sink>(out: &mut O, ended: Result<Ending, Fault>) -> Status
     ensures answer { IsTrue O.tells → IsAnswered result
         → (command : Option Asked) (source : Option (List ℕ)) (before : Outside) (after : Files)

@@ -1,6 +1,6 @@
 //! The command `execute`.
 
-ghost use Rattle.std.specs.Prelude.{◌≡◌, ◌≢◌, ◌++◌, ℕ, List, Option, Some, Err, IsTrue, IfErr, codes};
+ghost use Rattle.std.specs.Prelude.{◌≡◌, ◌≢◌, ◌++◌, Some, Err, IsTrue, IfErr, codes};
 ghost use Rattle.std.specs.Fmt.{decimal};
 ghost use Rattle.std.specs.Io.{StartsWith};
 ghost use Rattle.plan_io.specs.Files.{Files};
@@ -17,6 +17,7 @@ ghost use Rattle.btrplan.specs.Commands.Executing.{Executes, IsPartOfAnswer, Too
 ghost use Rattle.btrplan.specs.Commands.Executing.{conclusion_status, events_line, taking};
 ghost use Rattle.btrplan.specs.Endings.{Ends, EndsAnyhow, IsLastLine, IsOfExecuting, IsRefusal};
 ghost use Rattle.btrplan.specs.Printed.{PrintsPrefix};
+ghost use Rattle.btrplan.specs.declared.status.Status.TheVariants as Status;
 
 use crate::fault::{Ending, Fault, Outcome};
 use crate::inputs::instance::problem_at;
@@ -75,6 +76,7 @@ fn say_broken(alloc: Global, p: &Problem, broken: Broken) -> Result<Ending, Faul
 }
 
 /// Executes a plan, and ends with the last line of its transcript.
+#[tactic(auto, unfolding(crate::specs::Endings::Ends))]
 fn end_execution<I: Source, O: Sink>(
     alloc: Global,
     p: &Problem,
@@ -111,6 +113,7 @@ fn end_execution<I: Source, O: Sink>(
 }
 
 /// Executes a plan of an instance: what may start is printed, and event lines are read from the source.
+#[tactic(auto, using(crate::proofs::ExecuteAnswers::refused_instance, crate::proofs::ExecuteAnswers::refused_plan, crate::proofs::ExecuteAnswers::takes_unread, crate::proofs::ExecuteAnswers::no_instance, crate::proofs::ExecuteAnswers::no_plan, crate::proofs::Printing::prints_nothing), unfolding(crate::specs::Endings::Ends))]
 pub fn execute<D: Desk, I: Source, O: Sink>(
     alloc: Global,
     desk: &mut D,

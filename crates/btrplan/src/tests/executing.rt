@@ -159,15 +159,35 @@ fn refused_events(rt: HostRuntime) -> Result<(), Fail> {
     let (long, too_long) = (long_line(alloc, 65_536)?, long_line(alloc, 65_537)?);
     // the events, the lines before that of the fault, the fault, and what the source has left
     let table: [(&[u8], &[u8], &[u8]); 11] = [
-        (b"end v0\nend v1\n", b"start v1\ninput events 1 not running\n", b"end v1\n"),
+        (
+            b"end v0\nend v1\n",
+            b"start v1\ninput events 1 not running\n",
+            b"end v1\n",
+        ),
         (b"start v1\n", b"start v1\ninput events 1 not a line\n", b""),
         (b"end n0\n", b"start v1\ninput events 1 not running\n", b""),
-        (b"fail zz\n", b"start v1\ninput events 1 no such name\n", b""),
+        (
+            b"fail zz\n",
+            b"start v1\ninput events 1 no such name\n",
+            b"",
+        ),
         (b"end v1", b"start v1\ninput events 1 not a line\n", b""),
-        (b"end v1\nend v1\n", b"start v1\nstart v0\ninput events 2 not running\n", b""),
-        (b"end v1\r\nend v0\n", b"start v1\ninput events 1 not a line\n", b"end v0\n"),
+        (
+            b"end v1\nend v1\n",
+            b"start v1\nstart v0\ninput events 2 not running\n",
+            b"",
+        ),
+        (
+            b"end v1\r\nend v0\n",
+            b"start v1\ninput events 1 not a line\n",
+            b"end v0\n",
+        ),
         (b"end  v1\n", b"start v1\ninput events 1 not a line\n", b""),
-        (b"\nend v1\n", b"start v1\ninput events 1 not a line\n", b"end v1\n"),
+        (
+            b"\nend v1\n",
+            b"start v1\ninput events 1 not a line\n",
+            b"end v1\n",
+        ),
         (&long, b"start v1\ninput events 1 not a line\n", b""),
         (&too_long, b"start v1\ninput events 1 too long\n", b"\n"),
     ];
@@ -186,16 +206,33 @@ fn each_failing_call(rt: HostRuntime) -> Result<(), Fail> {
     // each file is read by two calls of the desk
     for call in 0..4 {
         let left = (Status::ReadFault, b"".as_slice(), EVENTS, (0, 0));
-        executes(&rt, alloc, given, (Some(call), None, None), left, call as usize)?;
+        executes(
+            &rt,
+            alloc,
+            given,
+            (Some(call), None, None),
+            left,
+            call as usize,
+        )?;
     }
     // each byte is read by one call of the source, and each line is written by one call of the sink
     for (at, _byte) in EVENTS.iter().enumerate() {
         let printed = if at < 7 { 9 } else { 18 };
-        let left = (Status::ReadFault, &TRANSCRIPT[..printed], &EVENTS[at..], (1, 0));
+        let left = (
+            Status::ReadFault,
+            &TRANSCRIPT[..printed],
+            &EVENTS[at..],
+            (1, 0),
+        );
         executes(&rt, alloc, given, (None, Some(at as u64), None), left, at)?;
     }
     for (call, printed, taken) in [(0, 0, 0), (1, 9, 7), (2, 18, 14)] {
-        let left = (Status::WriteFault, &TRANSCRIPT[..printed], &EVENTS[taken..], (0, 1));
+        let left = (
+            Status::WriteFault,
+            &TRANSCRIPT[..printed],
+            &EVENTS[taken..],
+            (0, 1),
+        );
         executes(&rt, alloc, given, (None, None, Some(call)), left, taken)?;
     }
     let left = (Status::Good, TRANSCRIPT, b"".as_slice(), (0, 0));
