@@ -1,5 +1,6 @@
 -- What `execute` answers and takes, by the readings of its inputs and by its transcript.
-use Rattle.std.proofs.Common.{◌≡◌, ℕ, List, ◌++◌, Bool, true, false, Option, Some, None, Result, Ok, Err, IsTrue, refl, sym, subst, ◌∙◌, inl, inr}
+use Rattle.std.proofs.Common.{◌≡◌, ℕ, List, ◌++◌, Bool, true, false, Option, Some, None, Result, Ok, Err, IsTrue, String, string_bytes, refl, sym, subst, ◌∙◌, inl, inr}
+use Rattle.std.specs.declared.alloc.Global.{Global}
 use Rattle.std.specs.Io.{StartsWith}
 use Rattle.sums.proofs.Prefixes.{whole, longer, longer_text}
 use Rattle.catalogue.specs.Instance.{Instance}
@@ -14,16 +15,15 @@ use Rattle.transcript.specs.declared.conclusion.Conclusion.TheVariants.{Done, St
 use Rattle.transcript.specs.declared.conclusion.ExecuteFault.{ExecuteFault}
 use Rattle.transcript.specs.declared.conclusion.ExecuteFault.TheVariants.{NotValid, ReadFault, WriteFault, Memory}
 use Rattle.transcript.specs.Laws.{IsBegun}
-use Rattle.transcript.specs.Parts.{IsJudged}
 use Rattle.transcript.specs.Transcript.{ExecuteGives, RunGives, first_point}
 use Rattle.transcript.proofs.Public.{faults_leave_a_beginning}
 use Rattle.btrplan.specs.Words.{execute}
 use Rattle.btrplan.specs.Answer.{Outside, outside, told}
 use Rattle.btrplan.specs.Inputs.Instance.{instance_in}
 use Rattle.btrplan.specs.Inputs.Plan.{plan_in}
-use Rattle.btrplan.specs.Commands.{IsAnswer, KeepsSource, Takes}
+use Rattle.btrplan.specs.Commands.{IsAnswer, Takes}
 use Rattle.btrplan.specs.Commands.Executing.{Executes, IsExecuted, IsPartOfAnswer, Starts, Taking, TakesNothing, TakesRead, Took, TookBy, conclusion_line, conclusion_status}
-use Rattle.btrplan.specs.Endings.{Ends, EndsAnyhow, IsOfReading, LineEnds}
+use Rattle.btrplan.specs.Endings.{Ends, EndsAnyhow, IsOfReading, LineEnds, Reads}
 use Rattle.btrplan.specs.Printed.{PrintsPrefix}
 use Rattle.btrplan.specs.declared.fault.Ending.{Ending}
 use Rattle.btrplan.specs.declared.fault.Fault.{Fault}
@@ -213,7 +213,7 @@ no_memory instance plan_file taking before after p plan read plan_read valid = t
 
 -- where an input was refused or not read, nothing is taken
 pub takes_unread : (instance plan_file : List ℕ) (taking : Taking) (before after : Outside) (f : Fault) → IsOfReading f → TakesNothing taking before.printed after.printed →
-    ((line : List ℕ) → f ≡ fault.Input line → ¬ Starts before.files instance plan_file) → EndsAnyhow (Takes (Some (execute instance plan_file)) taking before) after (Err f)
+    ((line : String Global) → f ≡ fault.Input line → ¬ Starts before.files instance plan_file) → EndsAnyhow (Takes (Some (execute instance plan_file)) taking before) after (Err f)
 unfolding EndsAnyhow
 takes_unread instance plan_file taking before after fault.Words kind nothing refused = absurd kind
 takes_unread instance plan_file taking before after (fault.Input line) kind nothing refused =
@@ -246,6 +246,20 @@ no_plan files instance plan_file line p read plan_read starts =
 
     value_is_no_line : (plan : Choices) (line : List ℕ) → ◌≡◌ {A = Result Choices (List ℕ)} (Ok plan) (Err line) → ⊥
     value_is_no_line plan line e = cc
+
+-- where the plan was refused or not read, nothing is taken
+pub takes_no_plan : {X : Type 0} (view : X → Choices) (instance plan_file : List ℕ) (taking : Taking) (before after : Outside) (p : Instance) (f : Fault) → IsOfReading f →
+    TakesNothing taking before.printed after.printed → instance_in before.files instance ≡ Ok p →
+    ((◌≡◌ {A = Result X Fault} (Err f) (Err fault.ReadFault) → ⊥) → Reads {X = X} view (Err f) (plan_in p before.files plan_file)) →
+    EndsAnyhow (Takes (Some (execute instance plan_file)) taking before) after (Err f)
+takes_no_plan {X} view instance plan_file taking before after p f kind nothing read reads =
+    takes_unread instance plan_file taking before after f kind nothing (λ line is. no_plan before.files instance plan_file (string_bytes line) p read (refused f line is reads))
+  where
+    refused : (f : Fault) (line : String Global) → f ≡ fault.Input line →
+        ((◌≡◌ {A = Result X Fault} (Err f) (Err fault.ReadFault) → ⊥) → Reads {X = X} view (Err f) (plan_in p before.files plan_file)) → plan_in p before.files plan_file ≡ Err (string_bytes line)
+    refused f line is reads =
+        let there : (◌≡◌ {A = Result X Fault} (Err (fault.Input line)) (Err fault.ReadFault) → ⊥) → Reads {X = X} view (Err (fault.Input line)) (plan_in p before.files plan_file) = rw is at reads in
+        there (λ e. cc)
 
 -- what an execution takes is what the command takes
 pub takes_executed : (instance plan_file : List ℕ) (taking : Taking) (before after : Outside) (p : Instance) (plan : Choices) (ended : Result Ending Fault) → instance_in before.files instance ≡ Ok p →

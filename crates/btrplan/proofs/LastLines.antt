@@ -1,7 +1,6 @@
 -- How a part ends that has a last line, and what is so however it ends.
-use Rattle.std.proofs.Common.{◌≡◌, ℕ, List, ◌++◌, Option, Some, None, Result, Ok, Err, option_map, String, string_bytes, refl, sym, subst, ◌∙◌}
+use Rattle.std.proofs.Common.{◌≡◌, ℕ, List, ◌++◌, Option, Some, None, Result, Ok, Err, option_map, String, string_bytes, refl, sym, subst}
 use Rattle.std.specs.declared.alloc.Global.{Global}
-use Rattle.std.specs.Io.{StartsWith}
 use Rattle.sums.proofs.Prefixes.{whole, longer}
 use Rattle.btrplan.specs.Words.{Command, plan, replay}
 use Rattle.btrplan.specs.Answer.{Outside, outside}

@@ -5,7 +5,7 @@ use Rattle.executor.specs.declared.phase.Phase.{Phase}
 use Rattle.executor.specs.declared.phase.Phase.TheVariants.{Waiting}
 use Rattle.executor.specs.declared.times.Times.{Times}
 use Rattle.executor.specs.Phases.{phase_at}
-use Rattle.executor.specs.Tables.{IsLeastOpenEnd, IsReadyAt, is_ended, is_open_at, lesser, open_end, open_end_at, starts_before, waits_between}
+use Rattle.executor.specs.Tables.{IsLeastOpenEnd, IsReadyAt, is_ended, lesser, open_end, open_end_at, starts_before, waits_between}
 
 -- ---- the least end
 
@@ -113,7 +113,7 @@ ready_before times phases least x is ready = by (slice_index_or times x None) le
           | inl low ↦ lt-ltb a.start end low
           | inr high ↦
               let reached : IsTrue (is_reached (open_end_at times phases h.0.0) (slice_index_or times x None)) =
-                  subst (λ o. IsTrue (is_reached o (slice_index_or times x None))) (sym h.0.2) (subst (λ o. IsTrue (is_reached (Some end) o)) (sym q) (le-leb end a.start high))
+              subst (λ o. IsTrue (is_reached o (slice_index_or times x None))) (sym h.0.2) (subst (λ o. IsTrue (is_reached (Some end) o)) (sym q) (le-leb end a.start high))
               in
               absurd (ready.none_open h.0.0 h.0.1 (waits_reached (slice_index_or times x None) (slice_index_or times h.0.0 None) (phase_at phases h.0.0) ∙ reached))
         ]

@@ -140,12 +140,7 @@ fn starts_before(times: Option<Times>, end: Option<Instant>) -> bool
 
 /// Whether an action waits, and waits for none that has not ended: it starts before the least end of these.
 #[tactic(auto, using(crate::proofs::ReadyLemmas::ready_before, crate::proofs::ReadyLemmas::before_ready))]
-fn is_ready(
-    times: &[Option<Times>],
-    phases: &[Phase],
-    least: Option<Instant>,
-    x: usize,
-) -> bool
+fn is_ready(times: &[Option<Times>], phases: &[Phase], least: Option<Instant>, x: usize) -> bool
     requires rows { length times.now ≡ length phases.now }
     requires place { x < length phases.now }
     requires least { IsLeastOpenEnd times.now phases.now (length phases.now) least }

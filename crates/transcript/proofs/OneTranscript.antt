@@ -1,7 +1,6 @@
 -- Two transcripts of one text are the same.
-use Rattle.std.proofs.Common.{◌≡◌, ◌≢◌, ◌⊎◌, inl, inr, ℕ, zero, suc, ◌+◌, ◌<◌, ◌≤◌, List, [], ◌∷◌, ◌++◌, length, Option, Some, None, refl, sym, ap, subst, ◌∙◌, arith, length-append}
-use Rattle.std.specs.List.{Contains}
-use Rattle.std.proofs.lemmas.Bool.{cases_eq, cases_order}
+use Rattle.std.proofs.Common.{◌≡◌, ◌≢◌, ◌⊎◌, inl, inr, ℕ, zero, suc, ◌+◌, ◌<◌, List, [], ◌∷◌, ◌++◌, length, Option, Some, None, refl, sym, ap, subst, ◌∙◌, arith, length-append}
+use Rattle.std.proofs.lemmas.Bool.{cases_order}
 use Rattle.cluster.specs.declared.ids.Element.{Element}
 use Rattle.cluster.specs.Elements.{element_at, element_number}
 use Rattle.cluster.specs.Inventory.{element_named}
@@ -21,10 +20,9 @@ use Rattle.transcript.specs.declared.lines.EventKind.{EventKind}
 use Rattle.transcript.specs.declared.lines.EventKind.TheVariants.{End, Fail}
 use Rattle.transcript.specs.declared.lines.Line.{Line}
 use Rattle.transcript.specs.declared.lines.Line.TheVariants.{Whole, TooLong, Short, Nothing}
-use Rattle.transcript.specs.declared.lines.TheConstants.{MAX_LINE_BYTES}
 use Rattle.transcript.specs.Laws.{TranscriptIsOne}
-use Rattle.transcript.specs.Lines.{IsEvent, IsOneLine, ReadsLine, kind_text, start_line}
-use Rattle.transcript.specs.Transcript.{EndsAt, EndsFrom, IsDue, IsEndTurn, IsRefused, IsStartTurn, IsTurn, Point, Reaches, TakesEvent, Turns}
+use Rattle.transcript.specs.Lines.{IsEvent, IsOneLine, ReadsLine, start_line}
+use Rattle.transcript.specs.Transcript.{EndsAt, IsDue, IsEndTurn, IsRefused, IsStartTurn, IsTurn, Point, TakesEvent, Turns}
 use Rattle.transcript.proofs.Deciding.{is_or_not, same_or_not}
 use Rattle.transcript.proofs.EventLines.{contains_here, event_or_not, later_line, same_event}
 

@@ -1,7 +1,6 @@
 -- What the parts of a run do to where it stands.
-use Rattle.std.proofs.Common.{◌≡◌, ◌≢◌, ◌⊎◌, inl, inr, ℕ, suc, ◌+◌, List, ◌++◌, Bool, true, false, Option, Some, None, Result, Ok, Err, IsTrue, refl, sym, ap, subst, ◌∙◌}
+use Rattle.std.proofs.Common.{◌≡◌, ◌≢◌, inl, inr, ℕ, suc, ◌+◌, List, Bool, true, false, Option, Some, None, Result, Ok, Err, IsTrue, refl, sym, ap, subst, ◌∙◌}
 use Rattle.std.proofs.lemmas.Bool.{false≢true}
-use Rattle.std.specs.Io.{StartsWith}
 use Rattle.cluster.specs.declared.ids.Element.{Element}
 use Rattle.cluster.specs.Inventory.{element_named}
 use Rattle.cluster.proofs.Public.{listed-element_named}
@@ -17,14 +16,13 @@ use Rattle.executor.specs.Phases.{AllEnded, Phases, first_phases}
 use Rattle.executor.specs.Steps.{IsStep, MayStart, Start}
 use Rattle.transcript.specs.declared.conclusion.Conclusion.{Conclusion}
 use Rattle.transcript.specs.declared.conclusion.Conclusion.TheVariants.{Done, StoppedFail, StoppedEnd, Refused}
-use Rattle.transcript.specs.declared.conclusion.EventFault.{EventFault}
 use Rattle.transcript.specs.declared.conclusion.EventFault.TheVariants as fault
 use Rattle.transcript.specs.declared.conclusion.ExecuteFault.{ExecuteFault}
 use Rattle.transcript.specs.declared.conclusion.ExecuteFault.TheVariants.{NotValid, ReadFault, WriteFault, Memory}
 use Rattle.transcript.specs.declared.lines.EventKind.{EventKind}
 use Rattle.transcript.specs.declared.lines.EventKind.TheVariants.{End, Fail}
 use Rattle.transcript.specs.declared.lines.Line.TheVariants as found
-use Rattle.transcript.specs.Lines.{BeginsLine, IsEvent, ReadsLine, start_line}
+use Rattle.transcript.specs.Lines.{BeginsLine, IsEvent, ReadsLine}
 use Rattle.transcript.specs.Parts.{BeginsStart, EventGives, StartGives, TakeGives}
 use Rattle.transcript.specs.Transcript.{EndsAt, ExecuteGives, IsDue, Point, Reaches, RunGives, StopsInEvent, StopsInStart, TakesEvent, first_point, point}
 use Rattle.transcript.proofs.Measure.{end_left, start_left, steps_left}

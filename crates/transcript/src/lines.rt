@@ -1,7 +1,6 @@
 //! Event lines, which are read byte by byte.
-ghost use Rattle.std.specs.Prelude.{◌≡◌, ◌≢◌, [], ◌∷◌, ℕ, List, IsTrue, IfOk, OnErr, MatchOption};
+ghost use Rattle.std.specs.Prelude.{◌≡◌, [], ◌∷◌, ℕ, List, IsTrue, IfOk, OnErr, MatchOption};
 ghost use Rattle.plan_io.specs.Causes.{CountsReads};
-ghost use Rattle.cluster.specs.Names.{is_name};
 ghost use Rattle.transcript.specs.declared.lines.EventKind.{EventKind as AnEventKind};
 ghost use Rattle.transcript.specs.Causes.{ReadCauses};
 ghost use Rattle.transcript.specs.Lines.{IsEvent};

@@ -7,7 +7,7 @@ ghost use Rattle.executor.specs.Views.{IsSameWork, phases_of};
 ghost use Rattle.transcript.specs.Causes.{ReadCauses, WriteCauses};
 ghost use Rattle.transcript.specs.Lines.{start_line};
 ghost use Rattle.transcript.specs.Parts.{EventGives, IsJudged, IsOfRunning, NamesListed, StartGives, StaysIfNotValid, TakeGives};
-ghost use Rattle.transcript.specs.Transcript.{ExecuteGives, IsDue, RunGives, first_point, point};
+ghost use Rattle.transcript.specs.Transcript.{ExecuteGives, IsDue, RunGives, point};
 
 use crate::conclusion::{Conclusion, EventFault, ExecuteFault};
 use crate::lines::{EventKind, Line, event_of, read_line};

@@ -1,6 +1,6 @@
 //! The command `execute`.
 
-ghost use Rattle.std.specs.Prelude.{◌≡◌, ◌≢◌, ◌++◌, Some, Err, IsTrue, IfErr, codes};
+ghost use Rattle.std.specs.Prelude.{◌≡◌, ◌≢◌, ◌++◌, Some, Err, IsTrue, IfOk, IfErr, codes, string_bytes};
 ghost use Rattle.std.specs.Fmt.{decimal};
 ghost use Rattle.std.specs.Io.{StartsWith};
 ghost use Rattle.plan_io.specs.Files.{Files};
@@ -24,6 +24,7 @@ use crate::inputs::instance::problem_at;
 use crate::inputs::plan::plan_at;
 use crate::inputs::refusal;
 use catalogue::problem::Problem;
+use memory::Memory;
 use plan_io::{Desk, Sink, Source};
 use replay::broken_line;
 use slices::plan::Plan;
@@ -31,13 +32,21 @@ use slices::rule::Broken;
 use std::alloc::Global;
 use transcript::{Conclusion, EventFault, ExecuteFault};
 
+/// What is wrong with an event line, after its number.
+fn event_text(alloc: Global, number: u32, fault: EventFault) -> Result<String, Memory>
+    ensures { IfOk result (λ text. string_bytes text ≡ decimal number ++ codes " " ++ fault_text fault) }
+{
+    let what = fault.text();
+    Ok(format!(in alloc; "{number} {what}")?)
+}
+
 /// The fault of a refused event line.
 fn refused_event(alloc: Global, number: u32, fault: EventFault) -> Fault
     ensures { IsRefusal result (events_line (decimal number ++ codes " " ++ fault_text fault)) }
 {
-    match format!(in alloc; "{number} {}", fault.text()) {
-        Ok(text) => refusal(alloc, "events", text.as_str()),
-        Err(_) => Fault::Memory,
+    match event_text(alloc, number, fault) {
+        Ok(text) => refusal(alloc, "events", &text),
+        Err(Memory) => Fault::Memory,
     }
 }
 

@@ -1,6 +1,5 @@
-use Rattle.std.proofs.Common.{◌≡◌, sym, subst, ◌∙◌}
+use Rattle.std.proofs.Common.{subst}
 use Rattle.slices.specs.Plans.{choices_of}
-use Rattle.executor.specs.Phases.{first_phases}
 use Rattle.executor.specs.Views.{phases_of}
 use Rattle.transcript.specs.Transcript.{RunGives, first_point, point}
 use Rattle.transcript.proofs.Steps.{executes, stops_at_first}

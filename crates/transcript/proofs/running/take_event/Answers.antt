@@ -1,4 +1,4 @@
-use Rattle.std.proofs.Common.{◌≡◌, IsTrue, sym, subst}
+use Rattle.std.proofs.Common.{sym, subst}
 use Rattle.transcript.specs.declared.lines.Line.TheVariants.{Whole}
 use Rattle.transcript.specs.Lines.{ReadsLine}
 use Rattle.transcript.proofs.Steps.{takes_event}
