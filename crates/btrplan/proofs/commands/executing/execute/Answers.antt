@@ -49,7 +49,7 @@ returns-in_err-plan-clause-takes g c = λ told source_told sink_told.
     let is : c.from_residual-in_err-plan.result ≡ Err c.in_err-plan.field-0.0 = search rules in
     rw is
     (takes_no_plan choices_of c.args.instance.now c.args.plan_file.now _ (outside files (g.O.Sink.written c.args.out.now)) (outside (g.D.Desk.files c.plan_at.new.desk) (g.O.Sink.written c.args.out.now)) problem c.in_err-plan.field-0.0 c.in_err-plan.ensures.kind
-    (record { rest = refl; printed = refl; faults = refl }) read (rw c.in_ok-problem.ensures.files told at (c.in_err-plan.ensures.reading told)))
+    (record { rest = refl; printed = refl; faults = refl }) read (rw (c.in_ok-problem.ensures.files told) at (c.in_err-plan.ensures.reading told)))
 
 pub returns-clause-causes : goal.returns-clause-causes
 returns-clause-causes g c =
