@@ -94,10 +94,16 @@ pub fn forbids_place(p: &Problem, constraint: &Constraint, v: VmId, n: NodeId) -
     ensures no { result ≡ false → ¬ ForbidsPlace p.now.given constraint.now v.0 n.0 }
 {
     match constraint {
-        Constraint::Ban { machines, nodes, .. } => is_member(machines.items(), v) && nodes.has(n),
-        Constraint::Fence { machines, nodes, .. } => {
-            is_member(machines.items(), v) && !nodes.has(n)
-        }
+        Constraint::Ban {
+            machines,
+            nodes,
+            ..
+        } => is_member(machines.items(), v) && nodes.has(n),
+        Constraint::Fence {
+            machines,
+            nodes,
+            ..
+        } => { is_member(machines.items(), v) && !nodes.has(n) }
         Constraint::Root { machines } => {
             is_member(machines.items(), v)
                 && runs_elsewhere(p.cluster().machines()[v.0 as usize].state, n)

@@ -59,7 +59,14 @@ fn are_apart(p: &Problem, view: &View, machines: &[VmId], t: Instant) -> bool
 {
     let mut last = 0;
     for n in 0..p.cluster().nodes().len() {
-        match find_in(p, view, machines, last, &Area::OutsideOne(NodeId(n as u32)), t) {
+        match find_in(
+            p,
+            view,
+            machines,
+            last,
+            &Area::OutsideOne(NodeId(n as u32)),
+            t,
+        ) {
             None => return false,
             Some(i) => last = i,
         }

@@ -87,9 +87,7 @@ pub fn is_named(p: &Problem, reason: &Reason) -> bool
         Reason::Empty(e) => is_element(p, *e),
         Reason::Bound => true,
         Reason::Load(t, r, set) => {
-            *t <= p.horizon()
-                && (*r as usize) < p.cluster().resources().len()
-                && are_listed(p, set)
+            *t <= p.horizon() && (*r as usize) < p.cluster().resources().len() && are_listed(p, set)
         }
         Reason::Pair(c, t, v, w, n) => {
             is_constraint_at(p, *c, *t) && is_machine(p, *v) && are_elements(p, *w, *n)

@@ -74,13 +74,7 @@ pub fn refutes_seen(
 }
 
 // whether what a reason says of what is seen is so, where all that it names is there
-fn says(
-    p: &Problem,
-    bound: Option<u64>,
-    least: Option<u128>,
-    view: &View,
-    reason: &Reason,
-) -> bool
+fn says(p: &Problem, bound: Option<u64>, least: Option<u128>, view: &View, reason: &Reason) -> bool
     requires region { IsSized p.now.given view.now.region.now }
     requires least { IfSome least (λ n. n ≡ least_cost p.now.given (seen view.now.region.now view.now.lens)) }
     requires named { IsNamed p.now.given reason.now }
@@ -102,15 +96,7 @@ fn says(
 }
 
 // of a constraint that applies, whether it keeps two machines apart that are on a node
-fn pair_applies(
-    p: &Problem,
-    view: &View,
-    c: u32,
-    t: Instant,
-    v: VmId,
-    w: VmId,
-    n: NodeId,
-) -> bool
+fn pair_applies(p: &Problem, view: &View, c: u32, t: Instant, v: VmId, w: VmId, n: NodeId) -> bool
     requires region { IsSized p.now.given view.now.region.now }
     requires constraint { c < length p.now.given.constraints }
     requires first { IsElement p.now.given (Element.Vm v) }
