@@ -1,1 +1,2 @@
 mod LeastLemmas
+mod StartLemmas
