@@ -1,21 +1,19 @@
 -- Which sets of nodes are listed.
-use Rattle.std.proofs.Common.{◌≡◌, ℕ, zero, suc, ◌<◌, ◌≤◌, ◌-◌, ◌+◌, not, slice_index_or, ⊎_elim, ◌∙◌, ap, sym, true≢false, refl, IsTrue, ◌↔◌, ◌&&◌, ◌/◌, Bool, true, false, length, slice_index, arith}
+use Rattle.std.proofs.Common.{◌≡◌, ℕ, zero, suc, ◌<◌, ◌≤◌, ◌-◌, ◌+◌, not, slice_index_or, ⊎_elim, ◌∙◌, ap, sym, true≢false, refl, IsTrue, ◌↔◌, ◌&&◌, Bool, true, false, length, arith}
 use Rattle.std.specs.List.{list_all, range_with_len}
 use Rattle.std.proofs.lemmas.Bool.{cases_lt}
-use Rattle.std.proofs.lemmas.List.{get_or_past}
 use Rattle.std.proofs.lemmas.List.Folds.{list_all_at}
 use Rattle.std.proofs.lemmas.List.FromFn.{length-range_with_len, get_or-range_with_len}
-use Rattle.std.proofs.lemmas.Nat.Bits.{bit_at-zero}
 use Rattle.cluster.specs.Inventory.{Inventory}
 use Rattle.cluster.specs.Limits.{max_nodes}
 use Rattle.cluster.specs.declared.sets.NodeSet.{NodeSet}
 use Rattle.cluster.specs.Sets.{has_node, IsWithin}
+use Rattle.cluster.proofs.Public.{has_node-past}
 use Rattle.catalogue.specs.Faults.{are_nodes}
 
 -- a set of listed nodes has none past them
 pub IsWithin-are_nodes : (k : Inventory) (s : NodeSet) → are_nodes k s ≡ true → IsWithin s (length k.nodes)
-unfolding has_node
-IsWithin-are_nodes k s listed n past = ⊎_elim below above (cases_lt n max_nodes)
+IsWithin-are_nodes k s listed n past = ⊎_elim below (has_node-past s n) (cases_lt n max_nodes)
   where
     below : n < max_nodes → has_node s n ≡ false
     below h = by (has_node s n) refl
@@ -31,12 +29,6 @@ IsWithin-are_nodes k s listed n past = ⊎_elim below above (cases_lt n max_node
             let inside : place < length (range_with_len (length k.nodes) count) = rw length-range_with_len within in
             let none = list_all_at (λ m. not (has_node s m)) (range_with_len (length k.nodes) count) place 0 inside (ap (λ m. not (has_node s m)) at ∙ ap not is) in
             absurd (true≢false (sym listed ∙ none))
-
-    above : max_nodes ≤ n → has_node s n ≡ false
-    above h =
-        let past_words : length s.words ≤ n / 64 = omega (arith, s.bits.long) in
-        let word : slice_index s.words (n / 64) ≡ 0 = get_or_past s.words (n / 64) 0 past_words in
-        rw word (rw bit_at-zero refl)
 
 -- a set of nodes below a count has none of those from it on
 none_from : (s : NodeSet) (a count : ℕ) → IsWithin s a → list_all (λ n. not (has_node s n)) (range_with_len a count) ≡ true

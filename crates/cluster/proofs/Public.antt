@@ -9,6 +9,6 @@ pub use Rattle.cluster.proofs.Hosts.{is_online-lt}
 -- ---- durations and amounts are in range
 pub use Rattle.cluster.proofs.Fitting.{IsDuration, IsDuration-fits, duration_at, fits-own, node_own_at, machine_own_at, amount_le, amount_zero}
 -- ---- sets: which nodes they have, and when they are equal
-pub use Rattle.cluster.proofs.SetLemmas.{has_node-no_nodes, has_node-with_node, same_set}
+pub use Rattle.cluster.proofs.SetLemmas.{has_node-no_nodes, has_node-past, has_node-with_node, same_set}
 -- ---- words
 pub use Rattle.cluster.proofs.WordLemmas.{kinds-KINDS, kind_number-lt, kinds-kind_number, kind_of_word-kind_word, kind_word-kind_of_word, place-state_word, word-at_place}

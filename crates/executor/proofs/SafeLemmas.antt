@@ -1,8 +1,7 @@
 -- An execution of a valid plan keeps the rules: it is a part of the plan at the last start among what has started.
 use Rattle.std.proofs.Common.{◌≡◌, ◌≢◌, ◌⊎◌, inl, inr, ℕ, ◌+◌, ◌<◌, ◌≤◌, Bool, true, false, List, [], ◌∷◌, length, nat_le, IsSome, IsTrue, Some, refl, sym, ap, subst, ◌∙◌, arith}
 use Rattle.std.specs.Option.{option_map_or}
-use Rattle.std.proofs.lemmas.Bool.{cases_Bool, cases_lt, false≢true, true≢false, le-leb, leb-true}
-use Rattle.std.proofs.lemmas.List.{get_or_past}
+use Rattle.std.proofs.lemmas.Bool.{cases_Bool, false≢true, true≢false, le-leb, leb-true}
 use Rattle.cluster.specs.declared.choices.Choice.{Choice}
 use Rattle.cluster.specs.declared.choices.Choice.TheVariants.{Idle, Act}
 use Rattle.cluster.specs.declared.choices.Place.{Place}
@@ -14,7 +13,7 @@ use Rattle.slices.specs.Parts.{IsStagePart}
 use Rattle.slices.specs.Plans.{Choices, IsPlanOf, PlanChoices, choices_of}
 use Rattle.slices.specs.Snapshots.{stage_at, stages_at}
 use Rattle.slices.specs.Starts.{LastStart, start_of}
-use Rattle.slices.proofs.Public.{ends_by_duration, execution_keeps, has_last_start, legal_acts_last}
+use Rattle.slices.proofs.Public.{ends_by_duration, execution_keeps, has_last_start, legal_acts_last, past-idle}
 use Rattle.executor.specs.declared.phase.Phase.{Phase}
 use Rattle.executor.specs.declared.phase.Phase.TheVariants.{None as NoAction, Waiting, Running, Ended, Failed}
 use Rattle.executor.specs.Laws.{EveryRunIsSafe, ExecutionsAreSafe}
@@ -23,19 +22,6 @@ use Rattle.executor.specs.Steps.{Event, IsExecution, Runs, is_over_by, waits}
 use Rattle.executor.proofs.StepLemmas.{begins_well, steps_keep}
 
 -- ---- actions of plans
-
--- an element is one of the problem, or it is idle
-pub listed_or_idle : (p : Instance) (plan : PlanChoices) → IsPlanOf p plan → (e : Element) → IsElement p e ⊎ (choices_of plan e ≡ Idle)
-listed_or_idle p plan is (Vm v) =
-    elim (cases_lt v.0 (length plan.machines)) [
-      | inl low ↦ inl (omega (arith, low, is.machines))
-      | inr past ↦ inr (get_or_past plan.machines v.0 Idle past)
-    ]
-listed_or_idle p plan is (TheNode n) =
-    elim (cases_lt n.0 (length plan.nodes)) [
-      | inl low ↦ inl (omega (arith, low, is.nodes))
-      | inr past ↦ inr (get_or_past plan.nodes n.0 Idle past)
-    ]
 
 -- a choice with an action
 pub record Acts (c : Choice) : Type 0 where
@@ -59,7 +45,7 @@ is_action (Act place start) = true
 
 pub lasts_in : (p : Instance) → IsInstance p → (plan : PlanChoices) → IsPlanOf p plan → (e : Element) (place : Place) (start : ℕ) → choices_of plan e ≡ Act place start → Lasts p e place start
 lasts_in p sound plan is e place start q =
-    elim (listed_or_idle p plan is e) [
+    elim (past-idle p plan is e) [
       | inl there ↦
           let legal : IsTrue (is_legal p e (Act place start)) = subst (λ c. IsTrue (is_legal p e c)) q (is.legal e there) in
           let last = legal_acts_last p sound e place start legal in

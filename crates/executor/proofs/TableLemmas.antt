@@ -13,6 +13,7 @@ use Rattle.catalogue.specs.Instance.{Instance, IsElement, inventory_of}
 use Rattle.slices.specs.Elements.{machine_count}
 use Rattle.slices.specs.Plans.{Choices, IsPlanOf, PlanChoices, choices_of}
 use Rattle.slices.specs.Starts.{start_of}
+use Rattle.slices.proofs.Public.{past-idle}
 use Rattle.executor.specs.declared.phase.Phase.{Phase}
 use Rattle.executor.specs.declared.phase.Phase.TheVariants.{None as NoAction, Waiting, Running, Ended, Failed}
 use Rattle.executor.specs.declared.times.Times.{Times}
@@ -20,7 +21,6 @@ use Rattle.executor.specs.Answers.{IsFirst, IsHindrance, IsOpen}
 use Rattle.executor.specs.Phases.{AllEnded, Moves, Phases, first_phase, first_phases, phase_at, phases_in}
 use Rattle.executor.specs.Steps.{MayStart, is_over_by, waits}
 use Rattle.executor.specs.Tables.{AreTimes, IsReadyAt, is_ended, is_open_at, times_of, waits_at, waits_between}
-use Rattle.executor.proofs.SafeLemmas.{listed_or_idle}
 
 -- ---- numbers
 
@@ -121,7 +121,7 @@ no_wait p b (Some start) h = false≢true h
 -- what is waited for is listed
 waited_is_listed : (p : Instance) (plan : PlanChoices) → IsPlanOf p plan → (a b : Element) → IsTrue (waits p (choices_of plan) a b) → IsElement p b
 waited_is_listed p plan is a b w =
-    elim (listed_or_idle p plan is b) [
+    elim (past-idle p plan is b) [
       | inl there ↦ there
       | inr idle ↦ absurd (no_wait p b (start_of (choices_of plan a)) (subst (λ c. IsTrue (option_map_or (is_over_by p b c) (start_of (choices_of plan a)) false)) idle w))
     ]
@@ -229,7 +229,7 @@ first_told p plan is table rows each = λ i e. at e i
               phase_by_number p table e there ∙ each (number p e) (element_number-lt (inventory_of p) e there) ∙
               ap (λ x. first_phase (choices_of plan x)) (element_at-element_number (inventory_of p) e there)
           | inr out ↦
-              elim (listed_or_idle p plan is e) [
+              elim (past-idle p plan is e) [
                 | inl there ↦ absurd (out there)
                 | inr idle ↦ phase_of_none p table e rows out ∙ sym (ap first_phase idle)
               ]

@@ -1,12 +1,12 @@
 -- The machines of a list, and those of a prefix of it.
 use Rattle.std.proofs.Common.{◌≡◌, ◌⊎◌, inl, inr, ℕ, zero, suc, ◌+◌, ◌<◌, Bool, true, false, ◌||◌, ◌==◌, List, [], ◌∷◌, length, take, IsTrue, refl, sym, ◌∙◌, arith, get_or, nat_lt, slice_index_or}
 use Rattle.std.specs.List.{list_all}
-use Rattle.std.proofs.lemmas.Bool.{both_ways, or_cases, or_left, or_right, and_from, and_parts, eqb-true, eq-eqb, ltb-true, cases_lt}
+use Rattle.std.proofs.lemmas.Bool.{both_ways, or_cases, or_left, or_right, and_parts, eqb-true, eq-eqb, ltb-true, cases_lt}
 use Rattle.std.proofs.lemmas.List.{get_or_past}
-use Rattle.std.proofs.lemmas.List.Folds.{list_all-append, list_any_more}
+use Rattle.std.proofs.lemmas.List.Folds.{list_any_more}
 use Rattle.std.proofs.lemmas.Bool.Decides.{nat_tests}
 use Rattle.cluster.specs.declared.ids.VmId.{VmId}
-use Rattle.catalogue.specs.Faults.{all_of, is_member}
+use Rattle.catalogue.specs.Faults.{is_member}
 
 -- a machine of a prefix with one more is of the prefix, or is that one
 pub member_split : (vs : List VmId) (i : ℕ) (d : VmId) (w : ℕ) → i < length vs → IsTrue (is_member (take (i + 1) vs) w) → IsTrue (is_member (take i vs) w) ⊎ (w ≡ (get_or vs i d).0)
@@ -51,13 +51,6 @@ pub part_within : (parts : List (List VmId)) (i v k : ℕ) → list_all (list_al
 part_within [] i v k h m = absurd (omega (arith, part_listed [] i v m))
 part_within (vs ∷ parts) zero v k h m = member_within vs k v (and_parts (list_all (λ x. nat_lt x.0 k) vs) (list_all (list_all (λ x. nat_lt x.0 k)) parts) h).0 m
 part_within (vs ∷ parts) (suc i) v k h m = part_within parts i v k (and_parts (list_all (λ x. nat_lt x.0 k) vs) (list_all (list_all (λ x. nat_lt x.0 k)) parts) h).1 m
-
--- where all machines of the parts are in range, those of each part are
-pub parts_below : (k : ℕ) (parts : List (List VmId)) → list_all (λ x. nat_lt x.0 k) (all_of parts) ≡ true → list_all (list_all (λ x. nat_lt x.0 k)) parts ≡ true
-parts_below k [] h = refl
-parts_below k (vs ∷ parts) h =
-    let both = and_parts (list_all (λ x. nat_lt x.0 k) vs) (list_all (λ x. nat_lt x.0 k) (all_of parts)) (sym (list_all-append (λ x. nat_lt x.0 k) vs (all_of parts)) ∙ h) in
-    and_from (list_all (λ x. nat_lt x.0 k) vs) (list_all (list_all (λ x. nat_lt x.0 k)) parts) both.0 (parts_below k parts both.1)
 
 -- ---- marks
 

@@ -4,7 +4,7 @@ pub use Rattle.slices.proofs.PlanLemmas.{legal_is_plan, over_as_planned}
 pub use Rattle.slices.proofs.FewerLemmas.{less_holds}
 pub use Rattle.slices.proofs.PartLemmas.{execution_keeps, parts_keep, stage_parts_are_part}
 pub use Rattle.slices.proofs.FirstLemmas.{first_is_one}
-pub use Rattle.slices.proofs.StartLemmas.{action_quiet, held_quiet, keeps_quiet, matters_quiet, powered_quiet, usable_quiet}
+pub use Rattle.slices.proofs.StartLemmas.{action_quiet, held_quiet, keeps_quiet, matters_quiet, past-idle, powered_quiet, usable_quiet}
 pub use Rattle.slices.proofs.LastLemmas.{has_last_start}
 pub use Rattle.slices.proofs.EndLemmas.{action_at_ends, held_at_ends, held_in_steps, is_pointwise, powered_at_ends, unusable_at_ends}
 pub use Rattle.slices.proofs.NodeLemmas.{absent_uses_nothing, held_by_node, held_is_small, held_on_more, present_on_set, present_somewhere}

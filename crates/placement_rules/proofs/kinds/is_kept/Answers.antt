@@ -1,14 +1,14 @@
-use Rattle.std.proofs.Common.{◌≡◌, inl, inr, nat_lt, rules, true}
+use Rattle.std.proofs.Common.{◌≡◌, ◌∙◌, inl, inr, nat_lt, rules, true}
 use Rattle.std.specs.List.{list_all}
 use Rattle.catalogue.specs.Faults.{all_of}
 use Rattle.slices.specs.Elements.{machine_count}
-use Rattle.placement_rules.proofs.Members.{parts_below}
+use Rattle.catalogue.proofs.Public.{below_parts}
 use Rattle.placement_rules.proofs.kinds.is_kept.Goals as goal
 
 pub is_split-requires-clause-machines : goal.is_split-requires-clause-machines
 is_split-requires-clause-machines c =
     let below : list_all (λ x. nat_lt x.0 (machine_count c.args.p.now.given)) (all_of c.in-Split.parts) ≡ true = search rules in
-    rw c.items-in-Split.ensures (parts_below (machine_count c.args.p.now.given) c.in-Split.parts below)
+    rw c.items-in-Split.ensures (below_parts (machine_count c.args.p.now.given) c.in-Split.parts ∙ below)
 
 pub returns-in-Gather : goal.returns-in-Gather
 returns-in-Gather c = rw c.in-Gather.is (rw c.items-in-Gather.ensures at c.are_together.ensures)
