@@ -1,12 +1,12 @@
 -- The legal choices of an element, place by place, and a region of them.
-use Rattle.std.proofs.Common.{◌≡◌, inl, inr, ℕ, zero, suc, ◌+◌, ◌-◌, ◌<◌, ◌≤◌, Bool, true, false, cond, nat_le, ◌&&◌, Option, Some, None, IfSome, is_some, List, [], ◌∷◌, ◌++◌, length, get_or, slice_index_or, append-nil, refl, sym, ap, ◌∙◌, arith}
-use Rattle.std.specs.List.{All, filter, flat_map, map, range_with_len}
+use Rattle.std.proofs.Common.{◌≡◌, inl, inr, ℕ, zero, suc, ◌+◌, ◌-◌, ◌<◌, ◌≤◌, Bool, true, false, cond, nat_le, ◌&&◌, Option, Some, None, IfSome, is_some, List, [], ◌∷◌, ◌++◌, length, get_or, map, slice_index_or, append-nil, refl, sym, ap, ◌∙◌, arith}
+use Rattle.std.specs.List.{All, filter, flat_map, range_with_len}
 use Rattle.std.specs.Option.{option_map_or}
 use Rattle.std.proofs.lemmas.Bool.{cases_lt, le-leb, lt-ltb, le-ltb}
 use Rattle.std.proofs.lemmas.Bool.Decides.{nat_tests}
 use Rattle.std.proofs.lemmas.List.{get_or_past}
 use Rattle.std.proofs.lemmas.List.Concat.{flat_map-append}
-use Rattle.std.proofs.lemmas.List.Elements.{All-push, All-weaker, filter-append}
+use Rattle.std.proofs.lemmas.List.Elements.{All-nil, All-push, All-weaker, filter-append}
 use Rattle.std.proofs.lemmas.List.FromFn.{map-range_with_len_more}
 use Rattle.cluster.specs.declared.choices.Choice.{Choice}
 use Rattle.cluster.specs.declared.choices.Choice.TheVariants.{Idle, Act}
@@ -84,11 +84,11 @@ legal-more p e n =
 
 -- nothing but Idle yet, and then the row at no node
 pub first_held : (p : Instance) (e : Element) (d old : DomainView) (o : Option Row) → old.rows ≡ [] → old.idle ≡ is_legal p e Idle → d.idle ≡ old.idle → d.rows ≡ old.rows ++ rows_of o → option_choices o ≡ filter (is_legal p e) (starts_from Nowhere 0 (p.horizon + 1)) → IfSome o (IsRowAt Nowhere) → HoldsUpto p e 0 d
-first_held p e d old None none i same added is at = record { idle = same ∙ i; rows = rw (added, none) (is ∙ ap (filter (is_legal p e)) (sym (append-nil (starts_from Nowhere 0 (p.horizon + 1))))); below = rw (added, none) tt }
+first_held p e d old None none i same added is at = record { idle = same ∙ i; rows = rw (added, none) (is ∙ ap (filter (is_legal p e)) (sym (append-nil (starts_from Nowhere 0 (p.horizon + 1))))); below = rw (added, none) (All-nil _) }
 first_held p e d old (Some r) none i same added is at = record {
   idle = same ∙ i;
   rows = rw (added, none) (one-row (Some r) ∙ is ∙ ap (filter (is_legal p e)) (sym (append-nil (starts_from Nowhere 0 (p.horizon + 1)))));
-  below = rw (added, none) (let here : place_index r.place ≡ 0 = ap place_index at.at in (omega arith, tt));
+  below = rw (added, none) (let here : place_index r.place ≡ 0 = ap place_index at.at in All-push (λ (q : Row). place_index q.place < 0 + 1) [] r (All-nil _) (omega arith));
 }
 
 -- one node more
