@@ -1,5 +1,5 @@
 -- The least that a machine holds on all nodes, where it runs and is to run: what it uses at present.
-use Rattle.std.proofs.Common.{◌≡◌, ◌≢◌, ◌⊎◌, inl, inr, ℕ, zero, suc, ◌+◌, ◌-◌, ◌<◌, ◌≤◌, ◌==◌, max, min, Bool, true, false, not, ◌&&◌, nat_lt, nat_le, cond, Option, Some, None, is_some, List, [], ◌∷◌, ◌++◌, length, get_or, subst, refl, sym, ap, ◌∙◌, arith}
+use Rattle.std.proofs.Common.{◌≡◌, ◌≢◌, ◌⊎◌, inl, inr, ℕ, zero, suc, ◌+◌, ◌-◌, ◌<◌, ◌≤◌, ◌==◌, max, Bool, true, false, not, nat_lt, nat_le, cond, Option, Some, None, is_some, List, [], ◌∷◌, length, get_or, subst, refl, sym, ap, ◌∙◌, arith}
 use Rattle.std.specs.List.{All, Contains, filter, flat_map}
 use Rattle.std.proofs.lemmas.Bool.{cases_eq, false≢true, lt-ltb, ltb-true}
 use Rattle.std.proofs.lemmas.Bool.Decides.{nat_tests}
@@ -28,8 +28,8 @@ use Rattle.sums.specs.Least.{lowest}
 use Rattle.slices.specs.declared.slice.Weight.{Weight}
 use Rattle.slices.specs.declared.slice.Weight.TheVariants.{Amount, Presence, Image}
 use Rattle.slices.specs.declared.slice.What.TheVariants.{Use, Demand}
-use Rattle.slices.specs.Actions.{action_duration, is_raised, kind_of, machine_kind, wanted_state}
-use Rattle.slices.specs.Elements.{is_place, node_count, state_in, state_of, vm}
+use Rattle.slices.specs.Actions.{action_duration, is_raised, kind_of, wanted_state}
+use Rattle.slices.specs.Elements.{node_count, state_in, state_of, vm}
 use Rattle.slices.specs.Snapshots.{held_at, held_by, stage_at}
 use Rattle.slices.specs.Stages.{slices_by, slices_of, weight_of}
 use Rattle.reasons.specs.Closed.{all_nodes}

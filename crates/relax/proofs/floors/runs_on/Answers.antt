@@ -1,6 +1,4 @@
-use Rattle.std.proofs.Common.{◌≡◌, sym}
 use Rattle.std.specs.List.{Contains}
-use Rattle.domains.specs.Choices.{choices}
 use Rattle.domains.specs.Sets.{sets}
 use Rattle.slices.specs.Elements.{vm}
 use Rattle.relax.proofs.FloorLemmas.{all_up, host_there}
