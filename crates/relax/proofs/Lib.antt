@@ -1,1 +1,4 @@
 mod LeastLemmas
+mod MemberLemmas
+mod PlanLemmas
+mod StartLemmas
