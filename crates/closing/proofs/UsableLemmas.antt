@@ -19,7 +19,7 @@ use Rattle.reasons.specs.Sure.{sure}
 use Rattle.reasons.proofs.Public.{setting_sets}
 use Rattle.closing.specs.Kinds.{IsNeeded}
 use Rattle.closing.specs.Looks.{IsFreeOf, IsMetWith}
-use Rattle.closing.specs.Parts.{FailAtEnds, IsEndThat, IsNotUsable, Stands}
+use Rattle.closing.specs.Parts.{FailAtEnds, IsEndThat, IsNotUsable, StandsUnder}
 
 either : (x y : ℕ) → IsTrue (nat_lt 0 x || nat_lt 0 y) → (0 < x) ⊎ (0 < y)
 either x y h =
@@ -35,10 +35,10 @@ some x y (inr h) = grind (arith, nat_tests)
 stands-same : (a b : Snapshot) (v n : ℕ) → IsSameMachine a b v → stands_on a v n ≡ stands_on b v n
 stands-same a b v n same = rw (same.present (one n), same.held Image (one n)) refl
 
-stands-under : (p : Instance) (a : Snapshot) (v n t : ℕ) (c : Choice) → IsMachineUnder p a v t c → IsTrue (stands_on a v n) → Stands p v n t c
+stands-under : (p : Instance) (a : Snapshot) (v n t : ℕ) (c : Choice) → IsMachineUnder p a v t c → IsTrue (stands_on a v n) → StandsUnder p v n t c
 stands-under p a v n t c under h = either (held_at p v Presence (one n) t c) (held_at p v Image (one n) t c) (rw (under.present (one n), under.held Image (one n)) at h)
 
-under-stands : (p : Instance) (a : Snapshot) (v n t : ℕ) (c : Choice) → IsMachineUnder p a v t c → Stands p v n t c → IsTrue (stands_on a v n)
+under-stands : (p : Instance) (a : Snapshot) (v n t : ℕ) (c : Choice) → IsMachineUnder p a v t c → StandsUnder p v n t c → IsTrue (stands_on a v n)
 under-stands p a v n t c under h = rw (under.present (one n), under.held Image (one n)) (some (held_at p v Presence (one n) t c) (held_at p v Image (one n) t c) h)
 
 other-vm : (v w : ℕ) → v ≢ w → vm v ≢ vm w
@@ -55,7 +55,7 @@ module _ (p : Instance) (s : Sets) (n t : ℕ) where
   not-standing b e h = false≢true (sym e ∙ h)
 
   -- where no machine stands, and none does with an end
-  pub nowhere_free : NoneStands → ((v : ℕ) → v < machine_count p → FailAtEnds (Stands p v n t) (s (vm v))) → IsFreeOf (IsNeeded p n) p s t
+  pub nowhere_free : NoneStands → ((v : ℕ) → v < machine_count p → FailAtEnds (StandsUnder p v n t) (s (vm v))) → IsFreeOf (IsNeeded p n) p s t
   nowhere_free none fail = record { base = λ x. not-standing _ (none x.0 x.1) x.2.stands; ends = at }
     where
       at : (e : Element) (c : Choice) → IsElement p e → IsEnd (s e) c → ¬ IsNeeded p n (sure p (setting e c s) t)
@@ -76,7 +76,7 @@ module _ (p : Instance) (s : Sets) (n t : ℕ) where
           x.2.stands
 
   -- where the node is surely not usable, and a machine stands there with an end
-  pub stands_met : (sure p s t).usable n ≡ false → (v : ℕ) → v < machine_count p → (c : Choice) → IsEndThat (Stands p v n t) (s (vm v)) c → IsMetWith (IsNeeded p n) p s t (vm v) c
+  pub stands_met : (sure p s t).usable n ≡ false → (v : ℕ) → v < machine_count p → (c : Choice) → IsEndThat (StandsUnder p v n t) (s (vm v)) c → IsMetWith (IsNeeded p n) p s t (vm v) c
   stands_met off v h c end = record {
     element = h;
     is_end = end.is_end;

@@ -5,3 +5,4 @@ pub mod Looks
 -- what the laws and the code say beside it
 pub mod Laws
 pub mod Parts
+pub mod Stands

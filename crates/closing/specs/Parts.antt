@@ -8,7 +8,7 @@ use Rattle.catalogue.specs.Values.{capacity_of}
 use Rattle.slices.specs.declared.slice.Weight.{Weight}
 use Rattle.slices.specs.declared.slice.Weight.TheVariants.{Image, Presence}
 use Rattle.slices.specs.Elements.{machine_count, node_count, node, vm}
-use Rattle.slices.specs.Snapshots.{held_at, usable_at}
+use Rattle.slices.specs.Snapshots.{held_at, powered_at, usable_at}
 use Rattle.slices.specs.Starts.{start_of}
 use Rattle.slices.specs.Stages.{Nodes, one}
 use Rattle.domains.specs.Choices.{DomainView, no_row}
@@ -92,5 +92,9 @@ pub record IsNodeMissed (p : Instance) (s : Sets) (r : ℕ) (set : Nodes) (t spa
   pub misses : IsEndThat (IsNotUsable p n t) (s (node n)) c
 
 -- under the choice a machine is on the node or has its image there
-abbrev pub Stands : Instance → ℕ → ℕ → ℕ → Choice → Type 0
-Stands p v n t c = (0 < held_at p v Presence (one n) t c) ⊎ (0 < held_at p v Image (one n) t c)
+abbrev pub StandsUnder : Instance → ℕ → ℕ → ℕ → Choice → Type 0
+StandsUnder p v n t c = (0 < held_at p v Presence (one n) t c) ⊎ (0 < held_at p v Image (one n) t c)
+
+-- under the choice the node is powered
+abbrev pub IsPoweredUnder : Instance → ℕ → ℕ → Choice → Type 0
+IsPoweredUnder p n t c = IsTrue (powered_at p n t c)

@@ -8,7 +8,7 @@ ghost use Rattle.reasons.specs.Sure.{sure};
 ghost use Rattle.relax.specs.Areas.{IsSized};
 ghost use Rattle.closing.specs.Kinds.{IsNeeded};
 ghost use Rattle.closing.specs.Looks.{IsFound};
-ghost use Rattle.closing.specs.Parts.{FailAtEnds, IsEndThat, IsNotUsable, Stands};
+ghost use Rattle.closing.specs.Parts.{FailAtEnds, IsEndThat, IsNotUsable, StandsUnder};
 
 use crate::counts::machines_of;
 use crate::ends::{Test, end_that};
@@ -54,7 +54,7 @@ struct StandsOn<'a> {
 impl Test for StandsOn<'_> {
     ghost ready = { λ m. IsElement m.problem.now.given (vm m.machine.0) };
 
-    ghost meant = { λ m. Stands m.problem.now.given m.machine.0 m.node.0 m.at };
+    ghost meant = { λ m. StandsUnder m.problem.now.given m.machine.0 m.node.0 m.at };
 
     fn passes(&self, c: Choice) -> bool {
         let area = Area::One(self.node);
@@ -94,8 +94,8 @@ fn is_needed(p: &Problem, g: &Region, n: NodeId, t: Instant) -> bool
 // a machine and an end of its choices under which it is on the node or has its image there
 fn machine_on(p: &Problem, g: &Region, n: NodeId, t: Instant) -> Option<(VmId, Choice)>
     requires region { IsSized p.now.given g.now }
-    ensures none { IfNone result ((v : ℕ) → v < machine_count p.now.given → FailAtEnds (Stands p.now.given v n.0 t) (sets g.now (vm v))) }
-    ensures some { IfSome result (λ x. (x.0.0 < machine_count p.now.given) × IsEndThat (Stands p.now.given x.0.0 n.0 t) (sets g.now (vm x.0.0)) x.1) }
+    ensures none { IfNone result ((v : ℕ) → v < machine_count p.now.given → FailAtEnds (StandsUnder p.now.given v n.0 t) (sets g.now (vm v))) }
+    ensures some { IfSome result (λ x. (x.0.0 < machine_count p.now.given) × IsEndThat (StandsUnder p.now.given x.0.0 n.0 t) (sets g.now (vm x.0.0)) x.1) }
 {
     for i in 0..machines_of(p) {
         let v = VmId(i as u32);
