@@ -1,3 +1,4 @@
+mod AwayLemmas
 mod LeastLemmas
 mod MemberLemmas
 mod PlanLemmas

@@ -1,15 +1,14 @@
 -- The one choice of a domain, and the plan of a region that is fixed.
-use Rattle.std.proofs.Common.{◌≡◌, inl, inr, ℕ, zero, suc, ◌+◌, ◌-◌, ◌<◌, ◌≤◌, Bool, true, false, cond, List, [], ◌∷◌, ◌++◌, length, get_or, take, drop, slice_index_or, IsTrue, refl, sym, ap, ◌∙◌, arith}
+use Rattle.std.proofs.Common.{◌≡◌, inl, inr, ℕ, suc, ◌+◌, ◌-◌, ◌<◌, ◌≤◌, Bool, true, false, cond, List, [], ◌∷◌, ◌++◌, length, get_or, take, drop, slice_index_or, refl, ap, arith}
 use Rattle.std.specs.List.{Contains, flat_map}
 use Rattle.std.proofs.lemmas.Bool.{cases_lt, le-ltb, lt-ltb}
 use Rattle.std.proofs.lemmas.List.{get_or-drop, get_or-take, get_or_past, length-drop, length-take-le}
 use Rattle.cluster.specs.declared.choices.Choice.{Choice}
 use Rattle.cluster.specs.declared.choices.Choice.TheVariants.{Idle, Act}
-use Rattle.cluster.specs.declared.ids.Element.{Element}
 use Rattle.cluster.specs.declared.ids.Element.TheVariants.{Vm, Node as TheNode}
 use Rattle.cluster.specs.Elements.{element_at, element_count}
-use Rattle.cluster.proofs.Public.{IsListed-element_at, element_at-element_number}
-use Rattle.catalogue.specs.Instance.{Instance, IsElement, inventory_of}
+use Rattle.cluster.proofs.Public.{IsListed-element_at}
+use Rattle.catalogue.specs.Instance.{Instance, inventory_of}
 use Rattle.slices.specs.Elements.{machine_count, node_count}
 use Rattle.slices.specs.Plans.{IsPlanOf, choices_of, parted}
 use Rattle.slices.proofs.Public.{legal_is_plan}

@@ -1,4 +1,4 @@
-use Rattle.std.proofs.Common.{◌≡◌, ◌≤◌, length, ap, ◌∙◌, arith}
+use Rattle.std.proofs.Common.{◌≡◌, ap, ◌∙◌}
 use Rattle.domains.specs.Sets.{domain_at}
 use Rattle.relax.proofs.PlanLemmas.{one_start}
 use Rattle.relax.proofs.plan.only_choice.Goals as goal

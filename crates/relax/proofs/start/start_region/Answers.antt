@@ -1,4 +1,3 @@
-use Rattle.std.proofs.Common.{◌∙◌, ap}
 use Rattle.relax.proofs.StartLemmas.{start_of_domains}
 use Rattle.relax.proofs.start.start_region.Goals as goal
 

@@ -1,4 +1,4 @@
-use Rattle.std.proofs.Common.{◌≤◌, ◌∙◌, sym, ap, arith, Some, ◌≡◌}
+use Rattle.std.proofs.Common.{◌≤◌, ◌∙◌, sym, arith, Some, ◌≡◌}
 use Rattle.sums.specs.Least.{lowest}
 use Rattle.slices.specs.Actions.{end_of}
 use Rattle.domains.specs.Sets.{sets}

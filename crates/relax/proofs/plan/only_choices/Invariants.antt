@@ -3,7 +3,7 @@ use Rattle.cluster.specs.declared.choices.Choice.TheVariants.{Idle}
 use Rattle.cluster.specs.Elements.{element_at}
 use Rattle.catalogue.specs.Instance.{inventory_of}
 use Rattle.domains.specs.Sets.{sets}
-use Rattle.relax.proofs.plan.plan_of.Given as goal
+use Rattle.relax.proofs.plan.only_choices.Given as goal
 
 abbrev pub invariant-loop-x : goal.invariant-loop-x
 invariant-loop-x l = record {
