@@ -118,7 +118,7 @@ pub fn closed(p: &Problem, g: &Region) -> bool
     requires { IsSized p.now.given g.now }
     ensures { IsTrue result ↔ IsClosed p.now.given (sets g.now) }
 {
-    if machines_of(p) == 0 && nodes_of(p) == 0 {
+    if machines_of(p) + nodes_of(p) == 0 {
         return true;
     }
     have_choices(p, g) && are_always_clean(p, g)
