@@ -59,7 +59,8 @@ fn image_on(p: &Problem, area: &Area, image: Option<NodeId>) -> u64
     }
 }
 
-fn is_hosted_in(p: &Problem, state: State, area: &Area) -> bool
+/// Whether a machine in a state has its host in an area.
+pub(crate) fn is_hosted_in(p: &Problem, state: State, area: &Area) -> bool
     ensures { result ≡ hosted_in state (nodes_of p.now.given area.now) }
 {
     match state {
@@ -68,7 +69,8 @@ fn is_hosted_in(p: &Problem, state: State, area: &Area) -> bool
     }
 }
 
-fn goes_in(p: &Problem, c: Choice, area: &Area) -> bool
+/// Whether a choice acts at a node of an area.
+pub(crate) fn goes_in(p: &Problem, c: Choice, area: &Area) -> bool
     ensures { result ≡ the_goes_in c (nodes_of p.now.given area.now) }
 {
     match c {
@@ -80,8 +82,8 @@ fn goes_in(p: &Problem, c: Choice, area: &Area) -> bool
     }
 }
 
-// the state of a machine at present
-fn state(p: &Problem, v: VmId) -> State
+/// The state of a machine at present.
+pub(crate) fn state(p: &Problem, v: VmId) -> State
     requires { IsElement p.now.given (Element.Vm v) }
     ensures { result ≡ state_of p.now.given v.0 }
 {
