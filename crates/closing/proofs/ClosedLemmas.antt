@@ -89,8 +89,7 @@ ends-of p s t clean e c i end = record {
 pub closed_by_watches : ClosedByWatches
 closed_by_watches p s e there = (
   λ closed.
-      let kinds = (closed_by_kinds p s).0 closed in
-      (
+      let kinds = (closed_by_kinds p s).0 closed in (
         kinds.0,
         record {
           at = λ t l.

@@ -31,10 +31,13 @@ load_is_local p set = record { part = λ s big last part over. (over.0, over.1, 
   where
     more : (s big : Snapshot) → IsPartWithin (load_scope set) s big → (r : ℕ) → IsOverload p s r set → IsOverload p big r set
     more s big part r over =
-        omega (arith, over,
-        sum_to-le (machine_count p) (λ v. s.held v (Amount r) set) (λ v. big.held v (Amount r) set) (λ v i. part.held v (Amount r) set (r, refl, refl)),
-        sum_to-le (node_count p) (λ n. cond (set n) (cond (big.usable n) (capacity_of p n r) 0) 0) (λ n. cond (set n) (cond (s.usable n) (capacity_of p n r) 0) 0)
-        (λ n i. cond-le (set n) _ _ (λ x. cond-implied (big.usable n) (s.usable n) (capacity_of p n r) (part.usable n x))))
+        omega (
+          arith,
+          over,
+          sum_to-le (machine_count p) (λ v. s.held v (Amount r) set) (λ v. big.held v (Amount r) set) (λ v i. part.held v (Amount r) set (r, refl, refl)),
+          sum_to-le (node_count p) (λ n. cond (set n) (cond (big.usable n) (capacity_of p n r) 0) 0) (λ n. cond (set n) (cond (s.usable n) (capacity_of p n r) 0) 0)
+              (λ n i. cond-le (set n) _ _ (λ x. cond-implied (big.usable n) (s.usable n) (capacity_of p n r) (part.usable n x))),
+        )
 
 or-implied : (a b x y : Bool) → (IsTrue a → IsTrue x) → (IsTrue b → IsTrue y) → IsTrue (a || b) → IsTrue (x || y)
 or-implied true b true y f g h = refl
@@ -45,13 +48,13 @@ or-implied false b false y f g h = g h
 pub usable_is_local : UsableIsLocal
 usable_is_local p n = record {
   part = λ s big last part x. (
-      x.0,
-      x.1,
-      record {
-        stands = or-implied _ _ _ _ (part.present x.0 (one n) refl) (positive_above _ _ (part.held x.0 Image (one n) (refl, refl))) x.2.stands;
-        unusable = fails_below _ _ (part.usable n refl) x.2.unusable;
-      },
-    );
+    x.0,
+    x.1,
+    record {
+      stands = or-implied _ _ _ _ (part.present x.0 (one n) refl) (positive_above _ _ (part.held x.0 Image (one n) (refl, refl))) x.2.stands;
+      unusable = fails_below _ _ (part.usable n refl) x.2.unusable;
+    },
+  );
 }
 
 -- ---- constraints
@@ -138,7 +141,7 @@ module _ (p : Instance) (s big : Snapshot) where
   group-within (Split parts b) part h = h
   group-within (Root vs) part h = h
   group-within (Precedence before after) part h = (part.action after.0 Started (inr refl) h.0, part.action before.0 Unended (inl refl) h.1)
-  group-within (Serialize vs) part h = 
+  group-within (Serialize vs) part h =
       record {
         v = h.v;
         w = h.w;

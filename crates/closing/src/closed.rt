@@ -91,9 +91,7 @@ fn are_clean(p: &Problem, g: &Region, t: Instant) -> bool
     ensures yes { IsTrue result → AreCleanAt p.now.given (sets g.now) t }
     ensures no { result ≡ false → ¬ AreCleanAt p.now.given (sets g.now) t }
 {
-    are_nodes_clean(p, g, t)
-        && is_clean(&TotalLoad, p, g, t)
-        && are_constraints_clean(p, g, t)
+    are_nodes_clean(p, g, t) && is_clean(&TotalLoad, p, g, t) && are_constraints_clean(p, g, t)
 }
 
 // whether all is clean at each instant

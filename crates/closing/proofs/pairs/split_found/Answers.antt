@@ -14,7 +14,7 @@ returns-in-Fail c =
         c.loop-i.i,
         c.loop-i-test.true,
         subst (λ vs. IsAnyOf vs (MeetsOtherPart c.args.p.now.given c.args.parts.now c.loop-i.i) (sure c.args.p.now.given (sets c.args.g.now) c.args.t))
-        (is_part c.args.parts.now c.items.result.now c.index-parts-i.result c.loop-i.i c.loop-i-test.true c.items.ensures c.index-parts-i.is) h.1,
+            (is_part c.args.parts.now c.items.result.now c.index-parts-i.result c.loop-i.i c.loop-i-test.true c.items.ensures c.index-parts-i.is) h.1,
       ),
     )
 
@@ -23,8 +23,8 @@ returns-in-Cut c =
     let h = c.in-Cut.ensures in (
       h.0,
       parts_met c.args.p.now.given (sets c.args.g.now) c.args.t c.args.parts.now c.loop-i.i c.loop-i-test.true c.in-Cut.e c.in-Cut.c
-      (subst (λ vs. IsMetWith (IsAnyOf vs (MeetsOtherPart c.args.p.now.given c.args.parts.now c.loop-i.i)) c.args.p.now.given (sets c.args.g.now) c.args.t c.in-Cut.e c.in-Cut.c)
-      (is_part c.args.parts.now c.items.result.now c.index-parts-i.result c.loop-i.i c.loop-i-test.true c.items.ensures c.index-parts-i.is) h.1),
+          (subst (λ vs. IsMetWith (IsAnyOf vs (MeetsOtherPart c.args.p.now.given c.args.parts.now c.loop-i.i)) c.args.p.now.given (sets c.args.g.now) c.args.t c.in-Cut.e c.in-Cut.c)
+          (is_part c.args.parts.now c.items.result.now c.index-parts-i.result c.loop-i.i c.loop-i-test.true c.items.ensures c.index-parts-i.is) h.1),
     )
 
 pub loop-i-preserved : goal.loop-i-preserved

@@ -14,6 +14,6 @@ returns-in-None-clause-nodes c =
 pub returns-in-Some-clause-nodes : goal.returns-in-Some-clause-nodes
 returns-in-Some-clause-nodes c =
     λ n. stands_by c.args.p.now.given (sets c.args.g.now) c.args.v.0 c.args.t n c.in-Some.c (rw c.domain.ensures.domain at c.in-Some.ensures.some)
-        (is_in (one n) c.holding-now.result.source) (is_in (one n) c.holding-now.result.target)
-        (is_node c.sure_node.result n) (is_node c.sure_node-in-Some.result n)
-        (c.holding-now.ensures.present (one n)) (c.sure_node.ensures.node n) (c.sure_node-in-Some.ensures.node n)
+    (is_in (one n) c.holding-now.result.source) (is_in (one n) c.holding-now.result.target)
+    (is_node c.sure_node.result n) (is_node c.sure_node-in-Some.result n)
+    (c.holding-now.ensures.present (one n)) (c.sure_node.ensures.node n) (c.sure_node-in-Some.ensures.node n)
