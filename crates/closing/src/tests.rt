@@ -82,6 +82,14 @@ fn narrow(g: &mut Region, element: Element, part: Part, side: Side)
     }
 }
 
+/// The element stays as it is.
+fn stay(g: &mut Region, element: Element)
+    ensures machines { length g.new.machines ≡ length g.old.machines }
+    ensures nodes { length g.new.nodes ≡ length g.old.nodes }
+{
+    narrow(g, element, Part::Idle, Side::Inside);
+}
+
 /// Machine 0 goes to node 1 from an instant up to this one on, or stays if it may; machine 1 stays; machine
 /// 2 goes to node 0 from 5, 6 or 7 on; and the nodes stay.
 fn region(alloc: Global, p: &Problem, may_stay: bool, last: Instant) -> Result<Region, Fail>
@@ -94,9 +102,9 @@ fn region(alloc: Global, p: &Problem, may_stay: bool, last: Instant) -> Result<R
     if !may_stay {
         narrow(&mut g, first, Part::Idle, Side::Outside);
     }
-    for e in [Element::Vm(VmId(1)), Element::Node(N0), Element::Node(N1)] {
-        narrow(&mut g, e, Part::Idle, Side::Inside);
-    }
+    stay(&mut g, Element::Vm(VmId(1)));
+    stay(&mut g, Element::Node(N0));
+    stay(&mut g, Element::Node(N1));
     let back = Part::From(Place::At(N0), 5);
     narrow(&mut g, Element::Vm(VmId(2)), back, Side::Inside);
     Ok(g)
