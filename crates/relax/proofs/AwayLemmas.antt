@@ -1,5 +1,5 @@
 -- A machine holds nothing on nodes of which none is its host and none is where it goes.
-use Rattle.std.proofs.Common.{◌≡◌, ℕ, suc, ◌+◌, ◌-◌, ◌≤◌, Bool, true, false, ◌&&◌, cond, Option, Some, None, List, [], ◌∷◌, ◌++◌, length, get_or, refl, arith}
+use Rattle.std.proofs.Common.{◌≡◌, ℕ, suc, ◌+◌, ◌-◌, ◌≤◌, Bool, true, false, cond, Option, Some, None, List, [], ◌∷◌, ◌++◌, length, get_or, refl, arith}
 use Rattle.std.specs.List.{Contains, flat_map}
 use Rattle.sums.specs.Least.{least}
 use Rattle.cluster.specs.declared.choices.Choice.{Choice}
@@ -18,7 +18,7 @@ use Rattle.slices.specs.declared.slice.Weight.{Weight}
 use Rattle.slices.specs.Actions.{kind_of}
 use Rattle.slices.specs.Elements.{state_of, vm}
 use Rattle.slices.specs.Snapshots.{held_at, held_by, stage_at}
-use Rattle.slices.specs.Stages.{Nodes, acting_slices, covers, idle_slices, slices_by, slices_of, weigh, weight_of}
+use Rattle.slices.specs.Stages.{Nodes, acting_slices, idle_slices, slices_by, slices_of, weigh}
 use Rattle.domains.specs.Choices.{Climbs, DomainView, choices, row_choices, starts_from}
 use Rattle.domains.specs.declared.parts.Row.{Row}
 use Rattle.domains.proofs.Public.{least_of_each}

@@ -1,8 +1,6 @@
 -- What crates above may cite.
 use Rattle.std.proofs.Common.{Bool, true, false, cond, IsTrue}
 use Rattle.std.specs.List.{Contains, filter}
-use Rattle.cluster.specs.declared.choices.Choice.{Choice}
-use Rattle.cluster.specs.declared.ids.Element.{Element}
 use Rattle.slices.specs.Actions.{is_legal}
 use Rattle.domains.specs.Sets.{same_element}
 use Rattle.domains.proofs.Public.{filter_is_fewer}

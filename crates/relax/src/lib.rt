@@ -4,6 +4,7 @@
 pub mod amounts;
 pub mod area;
 pub mod elements;
+pub mod floors;
 pub mod forbidden;
 pub mod groups;
 pub mod laws;

@@ -1,5 +1,5 @@
 //! What can be asked of one choice, as measures: over the starts at one place each is least at the first or the last.
-ghost use Rattle.std.specs.Prelude.{◌≡◌, ◌≤◌, ◌+◌, ◌^◌, ℕ, false};
+ghost use Rattle.std.specs.Prelude.{◌≡◌, ◌≤◌, ◌+◌, ◌^◌, ℕ, max, false};
 ghost use Rattle.cluster.specs.Limits.{max_amount};
 ghost use Rattle.catalogue.specs.Instance.{IsElement};
 ghost use Rattle.slices.specs.Actions.{end_of};
@@ -169,6 +169,37 @@ impl Measure for HeldIn<'_> {
 
     fn floor(&self) -> u64 {
         0
+    }
+}
+
+/// The same, raised to a number that no choice is below that is asked for, so that a search for the least
+/// can stop there.
+#[derive(Drop)]
+pub struct HeldFrom<'a> {
+    pub held: HeldIn<'a>,
+    pub floor: u64,
+}
+
+impl Measure for HeldFrom<'_> {
+    ghost use Rattle.slices.proofs.Public.{held_at_ends};
+    ghost use Rattle.std.proofs.Common.{arith};
+
+    ghost ready = { λ m. IsElement m.held.problem.now.given (vm m.held.machine.0) × IsWeight m.held.problem.now.given m.held.weight };
+
+    ghost value_of = { λ m c. max m.floor (held_at m.held.problem.now.given m.held.machine.0 m.held.weight (nodes_of m.held.problem.now.given m.held.area.now) m.held.at c) };
+
+    ghost floor_of = { λ m. m.floor };
+
+    ghost least_at_ends = { λ m place lo s hi l u. Prim.omega (arith, held_at_ends m.held.problem.now.given m.held.machine.0 m.held.weight (nodes_of m.held.problem.now.given m.held.area.now) m.held.at place lo s hi l u) };
+
+    ghost above_floor = { λ m c. Prim.omega arith };
+
+    fn value(&self, c: Choice) -> u64 {
+        self.held.value(c).max(self.floor)
+    }
+
+    fn floor(&self) -> u64 {
+        self.floor
     }
 }
 

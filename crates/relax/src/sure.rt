@@ -12,13 +12,15 @@ ghost use Rattle.slices.specs.declared.slice.Weight.{Weight as AnyWeight};
 ghost use Rattle.slices.specs.declared.slice.Weight.TheVariants.{Image as ImageOf};
 ghost use Rattle.domains.specs.Choices.{Climbs, choices};
 ghost use Rattle.domains.specs.Laws.{is_above_none, is_nought};
+ghost use Rattle.domains.specs.Sets.{HasElement};
 ghost use Rattle.domains.specs.Views.{seen};
 ghost use Rattle.reasons.specs.Sure.{sure};
 ghost use Rattle.relax.specs.Areas.{IsSized, IsWeight, goes_in as the_goes_in, nodes_of};
 
 use crate::area::Area;
+use crate::floors::floor;
 use crate::measures::{
-    EndOf, HeldIn, IsPowered, IsSoFar, IsUnusable, goes_in, is_hosted_in, state,
+    EndOf, HeldFrom, HeldIn, IsPowered, IsSoFar, IsUnusable, goes_in, is_hosted_in, state,
 };
 use catalogue::problem::Problem;
 use cluster::choices::{Choice, Instant};
@@ -114,7 +116,21 @@ pub fn least_held(p: &Problem, view: &View, v: VmId, weight: Weight, area: &Area
         area,
         at: t,
     };
-    lowest_seen(view, Element::Vm(v), &measure).unwrap_or(0)
+    least_from(view, v, measure, floor(p, view, v, weight, area))
+}
+
+// the least of what a machine holds, where no choice that is seen is below a number
+fn least_from(view: &View, v: VmId, held: HeldIn, floor: u64) -> u64
+    requires element { HasElement view.now.region.now (Element.Vm v) }
+    requires machine { IsElement held.problem.now.given (vm held.machine.0) }
+    requires weight { IsWeight held.problem.now.given held.weight }
+    requires floor { (c : AnyChoice) → Contains (seen view.now.region.now view.now.lens (vm v.0)) c → floor ≤ held_at held.problem.now.given held.machine.0 held.weight (nodes_of held.problem.now.given held.area.now) held.at c }
+    ensures { result ≡ least (held_at held.entry.problem.now.given held.entry.machine.0 held.entry.weight (nodes_of held.entry.problem.now.given held.entry.area.now) held.entry.at) (seen view.now.region.now view.now.lens (vm v.0)) }
+{
+    if floor == 0 {
+        return lowest_seen(view, Element::Vm(v), &held).unwrap_or(0);
+    }
+    lowest_seen(view, Element::Vm(v), &HeldFrom { held, floor }).unwrap_or(0)
 }
 
 /// Whether a machine is present on a node of an area under each of its choices.

@@ -1,5 +1,5 @@
-use Rattle.std.proofs.Common.{◌≡◌, ◌≤◌, ◌∙◌, Bool, true, false, not, length, refl, sym}
-use Rattle.relax.proofs.AwayLemmas.{first_in, idle_in}
+use Rattle.std.proofs.Common.{◌≡◌, ◌∙◌, Bool, true, false, not, refl, sym}
+use Rattle.relax.proofs.AwayLemmas.{first_in}
 use Rattle.relax.proofs.sure.is_first_out.Goals as goal
 
 -- what is not true is false
