@@ -1,0 +1,21 @@
+//! Closed regions: looks at all that can be broken in a region.
+#![tactic(auto)]
+
+mod above;
+mod capacities;
+pub mod closed;
+mod constraint;
+mod counts;
+mod each;
+mod ends;
+mod groups;
+mod loads;
+pub mod look;
+mod pairs;
+mod places;
+mod stands;
+#[cfg(test)]
+mod tests;
+mod turns;
+mod usable;
+pub mod watch;
