@@ -1,1 +1,7 @@
 pub mod Public
+mod NumberLemmas
+mod NodeLemmas
+mod SpacedLemmas
+mod ReadingLemmas
+mod NamesLemmas
+mod PartLemmas

@@ -1,5 +1,6 @@
 -- What crates above may cite. All else under proofs/ is private.
 use Rattle.cert_text.specs.Laws.{LinesHaveNoNewline, LinesHaveOneReading, ReadingsAreExact, StepsAreLines}
+use Rattle.cert_text.proofs.PartLemmas.{part_back, part_only}
 
 pub readings_are_exact : ReadingsAreExact
 readings_are_exact = ?

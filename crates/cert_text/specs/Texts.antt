@@ -1,7 +1,7 @@
 -- How each line is spelled. A line has its words with one blank between each two, and a newline byte at its end.
-use Rattle.std.specs.Prelude.{◌≡◌, ◌≢◌, ℕ, ◌<◌, ◌^◌, List, [], ◌∷◌, ◌++◌, All, IsTrue, Option, Some, None, codes}
+use Rattle.std.specs.Prelude.{◌≡◌, ◌≢◌, ℕ, ◌<◌, ◌^◌, List, [], ◌∷◌, ◌++◌, IsTrue, Option, Some, None, codes}
 use Rattle.std.specs.Fmt.{decimal}
-use Rattle.std.specs.List.{join_with_byte}
+use Rattle.std.specs.List.{join_with_byte, list_all}
 use Rattle.cluster.specs.Names.{is_name}
 use Rattle.reasons.specs.declared.reason.ReasonKind.TheVariants.{Empty as TheEmpty, Bound as TheBound, Load as TheLoad, Pair as ThePair, Place as ThePlace, Group as TheGroup, SetLoad as TheSetLoad, Power as ThePower, Usable as TheUsable, Hall as TheHall}
 use Rattle.trees.specs.declared.steps.Goal.{Goal}
@@ -93,7 +93,7 @@ IsPart (From place start) = IsPlace place × IsNumber start
 
 abbrev pub AreNodes : NodesText → Type 0
 AreNodes AllNodes = Unit {0}
-AreNodes (Listed names) = (names ≢ []) × All IsName names
+AreNodes (Listed names) = (names ≢ []) × IsTrue (list_all is_name names)
 
 abbrev pub IsReason : ReasonText → Type 0
 IsReason (Empty e) = IsName e

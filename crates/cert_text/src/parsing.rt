@@ -78,13 +78,14 @@ fn part(alloc: Global, words: &mut Words) -> Result<PartText, TextFault>
     part_of(alloc, kind, words)
 }
 
-/// All of these words, each of which is to be a name.
-fn names(alloc: Global, words: &[&[u8]]) -> Result<Names, TextFault>
-    ensures { Gives result (names_of (map (λ w. w.now) words.now)) }
+/// All words, each of which is to be a name.
+#[tactic(auto, using(crate::proofs::NamesLemmas::names_rules))]
+fn names(alloc: Global, words: &mut Words) -> Result<Names, TextFault>
+    ensures { Gives result (names_of words.old) }
 {
     let mut names = Vec::new(alloc);
-    for word in words {
-        names.push(Name::new(alloc, word)?)?;
+    'words: while !words.is_over() {
+        names.push(words.name(alloc)?)?;
     }
     Ok(Names::new(names))
 }
@@ -97,7 +98,7 @@ fn nodes(alloc: Global, words: &mut Words) -> Result<NodesText, TextFault>
     match words.take_rest() {
         [] => Err(TextFault::NotALine),
         [word] if *word == "*".as_bytes() => Ok(NodesText::All),
-        rest => Ok(NodesText::Listed(names(alloc, rest)?)),
+        rest => Ok(NodesText::Listed(names(alloc, &mut Words::new(rest))?)),
     }
 }
 

@@ -104,6 +104,7 @@ fn push_if_in(line: &mut String, p: &Problem, set: &NodeSet, n: NodeId) -> Resul
 }
 
 /// Adds the names of the nodes that a set has, in their order.
+#[tactic(auto, using(sums::proofs::Ranges::text_more, crate::proofs::NodeLemmas::spaced_listed))]
 fn push_listed(line: &mut String, p: &Problem, set: &NodeSet) -> Result<(), Memory>
     ensures { OnOk result (string_bytes line.new ≡ string_bytes line.old ++ all_spaced (node_names p.now.given set.now)) }
 {
@@ -209,6 +210,7 @@ pub fn push_step_line(line: &mut String, p: &Problem, step: &Step) -> Result<(),
 }
 
 /// Adds a step.
+#[tactic(auto, using(crate::proofs::SpacedLemmas::pushed_rules))]
 fn push_step(line: &mut String, p: &Problem, step: &Step) -> Result<(), Memory>
     requires { HasStep p.now.given step.now }
     ensures { OnOk result (string_bytes line.new ≡ string_bytes line.old ++ joined (step_words (step_text p.now.given step.now))) }
