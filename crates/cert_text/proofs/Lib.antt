@@ -5,3 +5,6 @@ mod SpacedLemmas
 mod ReadingLemmas
 mod NamesLemmas
 mod PartLemmas
+mod LineLemmas
+mod SplitLemmas
+mod StepLemmas

@@ -1,5 +1,5 @@
 -- The names of the nodes of a set, one after the other.
-use Rattle.std.proofs.Common.{◌≡◌, ◌∙◌, ℕ, Bool, true, false, List, [], ◌∷◌, ◌++◌, map, refl, sym, ap, if◌then◌else◌}
+use Rattle.std.proofs.Common.{◌≡◌, ℕ, Bool, true, false, List, [], ◌∷◌, map, refl, if◌then◌else◌}
 use Rattle.std.specs.List.{filter, flat_map}
 use Rattle.cluster.specs.Sets.{has_node}
 use Rattle.cluster.specs.declared.sets.NodeSet.{NodeSet}

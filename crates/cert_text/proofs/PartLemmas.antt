@@ -1,36 +1,21 @@
 -- Parts, lists of nodes, reasons, goals and lines are read from their texts, and from no others.
-use Rattle.std.proofs.Common.{◌≡◌, ◌≢◌, ◌∙◌, ℕ, ◌<◌, ◌^◌, Bool, true, false, List, [], ◌∷◌, ◌++◌, Option, Some, None, IsTrue, option_map, refl, sym, ap, codes, arith, inl, inr, append_assoc}
-use Rattle.std.proofs.lemmas.Bool.{and_left, cases_Bool}
-use Rattle.std.proofs.lemmas.List.{append-nil}
+use Rattle.std.proofs.Common.{◌≡◌, ◌≢◌, ◌∙◌, Bool, true, false, List, [], ◌∷◌, ◌++◌, Option, Some, None, option_map, refl, ap, codes, inl, inr}
+use Rattle.std.proofs.lemmas.Bool.{cases_Bool}
 use Rattle.std.proofs.lemmas.Slice.Eq.{bytes_eq-Decides}
 use Rattle.std.specs.Fmt.{decimal}
 use Rattle.std.specs.List.{list_all}
 use Rattle.std.specs.Str.{bytes_eq}
 use Rattle.cluster.specs.Names.{is_name}
-use Rattle.reasons.specs.declared.reason.ReasonKind.{ReasonKind}
-use Rattle.reasons.specs.declared.reason.ReasonKind.TheVariants.{Empty as TheEmpty, Bound as TheBound, Load as TheLoad, Pair as ThePair, Place as ThePlace, Group as TheGroup, SetLoad as TheSetLoad, Power as ThePower, Usable as TheUsable, Hall as TheHall}
-use Rattle.trees.specs.declared.steps.Goal.{Goal}
-use Rattle.trees.specs.declared.steps.Goal.TheVariants.{Optimal, Infeasible, Undecided}
-use Rattle.cert_text.specs.declared.kinds.GoalKind.{GoalKind}
-use Rattle.cert_text.specs.declared.kinds.GoalKind.TheVariants.{Optimal as TheOptimal, Infeasible as TheInfeasible, Undecided as TheUndecided}
-use Rattle.cert_text.specs.declared.kinds.LineKind.{LineKind}
-use Rattle.cert_text.specs.declared.kinds.LineKind.TheVariants.{Decide as TheDecide, Cut as TheCut, Fail as TheFail, Plan as ThePlan, Left as TheLeft, End as TheEnd}
 use Rattle.cert_text.specs.declared.kinds.PartKind.{PartKind}
 use Rattle.cert_text.specs.declared.kinds.PartKind.TheVariants.{Idle as TheIdle, Upto as TheUpto, From as TheFrom}
-use Rattle.cert_text.specs.declared.text.LineText.{LineText}
-use Rattle.cert_text.specs.declared.text.LineText.TheVariants.{Step, End}
 use Rattle.cert_text.specs.declared.text.NodesText.{NodesText}
 use Rattle.cert_text.specs.declared.text.NodesText.TheVariants.{All as AllNodes, Listed}
 use Rattle.cert_text.specs.declared.text.PartText.{PartText}
 use Rattle.cert_text.specs.declared.text.PartText.TheVariants.{Idle, Upto, From}
-use Rattle.cert_text.specs.declared.text.ReasonText.{ReasonText}
-use Rattle.cert_text.specs.declared.text.ReasonText.TheVariants.{Empty, Bound, Load, Pair, Place, Group, SetLoad, Power, Usable, Hall}
-use Rattle.cert_text.specs.declared.text.StepText.{StepText}
-use Rattle.cert_text.specs.declared.text.StepText.TheVariants.{Decide, Cut, Fail, Plan, Left}
-use Rattle.cert_text.specs.Kinds.{Word, goal_word, line_word, part_word, reason_word}
-use Rattle.cert_text.specs.Reading.{Reading, goes_on, ◌>>=◌, give, goal, goal_kind, goal_of, line, line_kind, line_of, listed_in, name, names_of, nodes, nodes_in, number, one, part, part_kind, part_of, place, reason, reason_kind, reason_of}
-use Rattle.cert_text.specs.Texts.{AreNodes, IsGoal, IsLine, IsName, IsNumber, IsPart, IsPlace, IsReason, IsStep, goal_words, line_words, nodes_words, part_words, place_word, reason_words, step_words}
-use Rattle.cert_text.proofs.ReadingLemmas.{both, given, goal_kind_back, goal_kind_only, line_kind_back, line_kind_only, name_back, name_then, number_back, number_then, part_kind_back, part_kind_only, place_back, place_then, reason_kind_back, reason_kind_only}
+use Rattle.cert_text.specs.Kinds.{Word, part_word}
+use Rattle.cert_text.specs.Reading.{Reading, ◌>>=◌, listed_in, nodes, nodes_in, part, part_kind, part_of}
+use Rattle.cert_text.specs.Texts.{AreNodes, IsPart, nodes_words, part_words, place_word}
+use Rattle.cert_text.proofs.ReadingLemmas.{both, given, number_back, number_then, part_kind_back, part_kind_only, place_back, place_then}
 
 -- ---- parts
 
@@ -104,9 +89,9 @@ unfolding is_name
 star_is_no_name words word good =
     elim (cases_Bool (bytes_eq word (codes "*"))) [
       | inl star ↦
-        let same : word ≡ codes "*" = (bytes_eq-Decides word (codes "*")).0 star in
-        let bad : false ≡ true = rw same at good in
-        absurd (cc)
+          let same : word ≡ codes "*" = (bytes_eq-Decides word (codes "*")).0 star in
+          let bad : false ≡ true = rw same at good in
+          absurd (cc)
       | inr other ↦ other
     ]
 

@@ -1,5 +1,5 @@
 -- Words are read from their texts, and from no others.
-use Rattle.std.proofs.Common.{◌≡◌, ◌∙◌, ℕ, ◌<◌, ◌^◌, ◌≢◌, Bool, true, false, List, [], ◌∷◌, ◌++◌, Option, Some, None, IsTrue, option_map, refl, sym, ap, codes, arith, inl, inr}
+use Rattle.std.proofs.Common.{◌≡◌, ◌∙◌, ℕ, ◌≢◌, Bool, true, false, List, [], ◌∷◌, Option, Some, None, option_map, refl, sym, ap, codes, inl, inr}
 use Rattle.std.proofs.lemmas.Bool.{and_left, cases_Bool}
 use Rattle.std.proofs.lemmas.Slice.Eq.{bytes_eq-Decides}
 use Rattle.std.specs.Fmt.{decimal}
@@ -111,9 +111,9 @@ unfolding is_name
 dash_is_no_name x is =
     elim (cases_Bool (bytes_eq x (codes "-"))) [
       | inl dash ↦
-        let same : x ≡ codes "-" = (bytes_eq-Decides x (codes "-")).0 dash in
-        let bad : is_name (codes "-") ≡ true = rw same at is in
-        absurd (cc)
+          let same : x ≡ codes "-" = (bytes_eq-Decides x (codes "-")).0 dash in
+          let bad : is_name (codes "-") ≡ true = rw same at is in
+          absurd (cc)
       | inr other ↦ other
     ]
 

@@ -1,5 +1,5 @@
 -- The reading of a line, word by word. The laws say that it finds exactly the line that the bytes spell.
-use Rattle.std.specs.Prelude.{◌≡◌, ℕ, ◌==◌, List, [], ◌∷◌, Bool, Option, Some, None, Result, Ok, Err, option_map, codes, if◌then◌else◌}
+use Rattle.std.specs.Prelude.{◌≡◌, ℕ, ◌==◌, List, [], ◌∷◌, Option, Some, None, Result, Ok, Err, option_map, codes, if◌then◌else◌}
 use Rattle.std.specs.List.{list_all, slice_split}
 use Rattle.std.specs.Str.{bytes_eq}
 use Rattle.cluster.specs.Names.{is_name}
@@ -24,7 +24,6 @@ use Rattle.cert_text.specs.declared.text.PartText.{PartText}
 use Rattle.cert_text.specs.declared.text.PartText.TheVariants.{Idle, Upto, From}
 use Rattle.cert_text.specs.declared.text.ReasonText.{ReasonText}
 use Rattle.cert_text.specs.declared.text.ReasonText.TheVariants.{Empty, Bound, Load, Pair, Place, Group, SetLoad, Power, Usable, Hall}
-use Rattle.cert_text.specs.declared.text.StepText.{StepText}
 use Rattle.cert_text.specs.declared.text.StepText.TheVariants.{Decide, Cut, Fail, Plan, Left}
 use Rattle.cert_text.specs.Kinds.{Word, goal_word, line_word, named, part_word, reason_word}
 use Rattle.cert_text.specs.Numbers.{number_of}

@@ -1,5 +1,5 @@
 -- Which lines the steps of a problem are.
-use Rattle.std.specs.Prelude.{◌≡◌, ℕ, ◌<◌, Bool, List, [], ◌∷◌, ◌++◌, length, map, slice_index_or, Option, Some, None, codes, if◌then◌else◌}
+use Rattle.std.specs.Prelude.{ℕ, ◌<◌, Bool, List, [], ◌++◌, length, map, slice_index_or, Option, Some, None, codes, if◌then◌else◌}
 use Rattle.std.specs.List.{filter, flat_map, list_all, range_with_len}
 use Rattle.cluster.specs.Inventory.{name_of}
 use Rattle.cluster.specs.Sets.{has_node}

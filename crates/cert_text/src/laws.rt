@@ -3,25 +3,21 @@
 ghost use Rattle.cert_text.specs.Laws.{LinesHaveNoNewline, LinesHaveOneReading, ReadingsAreExact, StepsAreLines};
 
 /// What is read of bytes is what they spell, and what they spell is read.
-#[tactic(auto, using(crate::proofs::Public::readings_are_exact))]
 pub fn readings_are_exact()
     ensures { ReadingsAreExact }
 {}
 
 /// Bytes spell one line at most.
-#[tactic(auto, using(crate::proofs::Public::lines_have_one_reading))]
 pub fn lines_have_one_reading()
     ensures { LinesHaveOneReading }
 {}
 
 /// A step of a problem that can be written is a line.
-#[tactic(auto, using(crate::proofs::Public::steps_are_lines))]
 pub fn steps_are_lines()
     ensures { StepsAreLines }
 {}
 
 /// No line has a newline in it, so a text of lines is cut at its newlines alone.
-#[tactic(auto, using(crate::proofs::Public::lines_have_no_newline))]
 pub fn lines_have_no_newline()
     ensures { LinesHaveNoNewline }
 {}

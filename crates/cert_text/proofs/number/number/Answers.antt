@@ -1,5 +1,4 @@
 use Rattle.std.proofs.Common.{sym, ◌∙◌}
-use Rattle.std.specs.Str.Parse.{ParsesUnsigned}
 use Rattle.cert_text.proofs.NumberLemmas.{IsUtf8-is_numeral, none_read, one_read, refused}
 use Rattle.cert_text.proofs.number.number.Goals as goal
 
