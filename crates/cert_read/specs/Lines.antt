@@ -1,6 +1,6 @@
 -- What is read of a certificate at a place, line by line.
-use Rattle.std.specs.Prelude.{◌≡◌, ℕ, ◌+◌, ◌==◌, Bool, true, false, List, [], ◌∷◌, length, take, drop, nat_le, Option, Some, None, Result, Ok, Err, if◌then◌else◌}
-use Rattle.std.specs.List.{position}
+use Rattle.std.specs.Prelude.{◌≡◌, ℕ, ◌+◌, ◌==◌, Bool, true, false, List, [], ◌∷◌, length, take, drop, nat_lt, Option, Some, None, Result, Ok, Err, if◌then◌else◌}
+use Rattle.std.specs.List.{position_or_len}
 use Rattle.std.specs.Str.{bytes_eq}
 use Rattle.cert_text.specs.declared.text.LineText.{LineText}
 use Rattle.cert_text.specs.declared.text.LineText.TheVariants.{Step as StepLine, End as EndLine}
@@ -9,17 +9,16 @@ use Rattle.cert_text.specs.Texts.{header}
 use Rattle.cert_read.specs.declared.line.Line.{Line}
 use Rattle.cert_read.specs.declared.line.Line.TheVariants.{Step, End, Over}
 use Rattle.cert_read.specs.declared.line.LineFault.{LineFault}
-use Rattle.cert_read.specs.declared.line.LineFault.TheVariants.{NotALine, TooLong, Short, ReadFault, Memory}
+use Rattle.cert_read.specs.declared.line.LineFault.TheVariants.{NotALine, TooLong, Short}
+use Rattle.cert_read.specs.declared.position.Position.{Position}
 
 -- the most bytes of a line before its newline
 abbrev pub max_line : ℕ
 max_line = 65536
 
--- where the next line begins, how many lines come before it, and whether the end line was the last of them
-pub record Position : Type 0 where
-  pub place : ℕ
-  pub lines : ℕ
-  pub ended : Bool
+-- how many bytes come before the first newline, or before the end where there is none
+unfoldable pub bytes_before_newline : List ℕ → ℕ
+bytes_before_newline bytes = position_or_len (λ b. b == 10) bytes
 
 -- ---- a line, or the first fault
 
@@ -28,13 +27,13 @@ abbrev pub ◌>>=◌ : {A B : Type 0} → Result A LineFault → (A → Result B
 (Ok x) >>= f = f x
 (Err fault) >>= f = Err fault
 
--- what stands before the first newline of the bytes that are left, as line number n: at most `max_line` bytes
-abbrev pub bytes_before : ℕ → List ℕ → Option ℕ → Result (List ℕ) LineFault
-bytes_before n rest (Some count) = if nat_le count max_line then Ok (take count rest) else Err (TooLong n)
-bytes_before n rest None = if nat_le (length rest) max_line then Err Short else Err (TooLong n)
+-- so many bytes of what is left come before a newline, or before the end
+abbrev pub first_bytes : ℕ → List ℕ → ℕ → Result (List ℕ) LineFault
+first_bytes n rest count = if nat_lt max_line count then Err (TooLong n) else if nat_lt count (length rest) then Ok (take count rest) else Err Short
 
+-- line number n of what is left, without its newline
 unfoldable pub line_bytes : ℕ → List ℕ → Result (List ℕ) LineFault
-line_bytes n rest = bytes_before n rest (position (λ b. b == 10) rest)
+line_bytes n rest = first_bytes n rest (bytes_before_newline rest)
 
 -- the first line is the header
 unfoldable pub header_bytes : List ℕ → Result (List ℕ) LineFault
@@ -54,16 +53,25 @@ abbrev pub as_line : LineText → Line
 as_line (StepLine step) = Step step
 as_line (EndLine goal) = End goal
 
--- the position after a line with so many bytes and its newline
+-- before the first line
+abbrev pub start : Position
+start = record { place = 0; lines = 0; ended = false }
+
+-- after a line with so many bytes and its newline
 abbrev pub position_after : Position → ℕ → Bool → Position
 position_after at count ended = record { place = at.place + count + 1; lines = at.lines + 1; ended = ended }
 
--- a line after the header
-unfoldable pub line_at : List ℕ → Position → Result (Line × Position) LineFault
-line_at file at = do
+-- a line after the header, with how many bytes it has
+unfoldable pub text_at : List ℕ → Position → Result (LineText × ℕ) LineFault
+text_at file at = do
   bytes ← line_bytes (at.lines + 1) (drop at.place file)
   line ← known (at.lines + 1) (reading bytes)
-  Ok (as_line line, position_after at (length bytes) (is_end line))
+  Ok (line, length bytes)
+
+unfoldable pub line_at : List ℕ → Position → Result (Line × Position) LineFault
+line_at file at = do
+  found ← text_at file at
+  Ok (as_line found.0, position_after at found.1 (is_end found.0))
 
 -- at the start, the header and the line after it
 unfoldable pub first_line_at : List ℕ → Position → Result (Line × Position) LineFault
@@ -72,16 +80,13 @@ first_line_at file at = do
   line_at file (position_after at (length bytes) false)
 
 -- after the end line, nothing
-abbrev pub end_at : Position → List ℕ → Result (Line × Position) LineFault
-end_at at [] = Ok (Over, at)
-end_at at (b ∷ bs) = Err (NotALine (at.lines + 1))
+abbrev pub end_of : Position → List ℕ → Result (Line × Position) LineFault
+end_of at [] = Ok (Over, at)
+end_of at (b ∷ bs) = Err (NotALine (at.lines + 1))
+
+unfoldable pub end_at : List ℕ → Position → Result (Line × Position) LineFault
+end_at file at = end_of at (drop at.place file)
 
 -- what is read of a file at a position, and the position after it
 unfoldable pub turn : List ℕ → Position → Result (Line × Position) LineFault
-turn file at =
-    if at.ended then end_at at (drop at.place file) else
-    if at.lines == 0 then first_line_at file at else line_at file at
-
--- before the first line
-abbrev pub start : Position
-start = record { place = 0; lines = 0; ended = false }
+turn file at = if at.ended then end_at file at else if at.lines == 0 then first_line_at file at else line_at file at

@@ -1,12 +1,13 @@
 -- What a reader is to contracts, and what its calls answer.
-use Rattle.std.specs.Prelude.{◌≡◌, ℕ, ◌<◌, ◌≤◌, true, false, List, drop, Result, Ok, Err}
+use Rattle.std.specs.Prelude.{◌≡◌, ℕ, ◌<◌, ◌≤◌, true, false, List, [], take, drop, Result, Ok, Err}
 use Rattle.std.specs.Io.{StartsWith}
 use Rattle.plan_io.specs.Causes.{Rose}
+use Rattle.cert_read.specs.Lines.{start}
 use Rattle.cert_read.specs.declared.line.Line.{Line}
 use Rattle.cert_read.specs.declared.line.Line.TheVariants.{Step, End, Over}
 use Rattle.cert_read.specs.declared.line.LineFault.{LineFault}
 use Rattle.cert_read.specs.declared.line.LineFault.TheVariants.{NotALine, TooLong, Short, ReadFault, Memory}
-use Rattle.cert_read.specs.Lines.{Position}
+use Rattle.cert_read.specs.declared.position.Position.{Position}
 
 -- the name of the file, the position, and the bytes from there on that were read already
 pub record ReaderState : Type 0 where
@@ -18,14 +19,26 @@ pub record ReaderState : Type 0 where
 abbrev pub StandsIn : List ℕ → ReaderState → Type 0
 StandsIn file r = StartsWith (drop r.at.place file) r.held
 
--- what a call answers, and where it leaves the reader, is what is read there; of a failed read and of want of memory nothing is said
-abbrev pub Reads : Result Line LineFault → Position → Result (Line × Position) LineFault → Type 0
-Reads (Ok line) after read = read ≡ Ok (line, after)
-Reads (Err (NotALine n)) after read = read ≡ Err (NotALine n)
-Reads (Err (TooLong n)) after read = read ≡ Err (TooLong n)
-Reads (Err Short) after read = read ≡ Err Short
-Reads (Err ReadFault) after read = Unit {0}
-Reads (Err Memory) after read = Unit {0}
+-- the fault is what is read there; of a failed read and of want of memory nothing is said
+abbrev pub Faults : {B : Type 0} → LineFault → Result B LineFault → Type 0
+Faults (NotALine n) read = read ≡ Err (NotALine n)
+Faults (TooLong n) read = read ≡ Err (TooLong n)
+Faults Short read = read ≡ Err Short
+Faults ReadFault read = Unit {0}
+Faults Memory read = Unit {0}
+
+-- what a call answered, seen by `view`, is what is read there
+abbrev pub Gives : {A B : Type 0} → (A → B) → Result A LineFault → Result B LineFault → Type 0
+Gives view (Ok x) read = read ≡ Ok (view x)
+Gives view (Err fault) read = Faults fault read
+
+-- a fault that says nothing of the bytes
+abbrev pub IsOutside : LineFault → Type 0
+IsOutside (NotALine n) = ⊥
+IsOutside (TooLong n) = ⊥
+IsOutside Short = ⊥
+IsOutside ReadFault = Unit {0}
+IsOutside Memory = Unit {0}
 
 -- a failed read is answered only where the count rose, and any other answer leaves the count
 abbrev pub CountsLine : {A : Type 0} → ℕ → ℕ → Result A LineFault → Type 0
@@ -41,3 +54,7 @@ abbrev pub IsMoved : Position → Position → Line → Type 0
 IsMoved old new (Step step) = (old.place < new.place) × (old.lines < new.lines) × (new.ended ≡ false)
 IsMoved old new (End goal) = (old.place < new.place) × (old.lines < new.lines) × (new.ended ≡ true)
 IsMoved old new Over = (new ≡ old) × (old.ended ≡ true)
+
+-- before the first line nothing was read
+abbrev pub IsFreshAtStart : ReaderState → Type 0
+IsFreshAtStart r = r.at.lines ≡ 0 → (r.at ≡ start) × (r.held ≡ [])
