@@ -15,6 +15,10 @@ pub record ReaderState : Type 0 where
   pub at : Position
   pub held : List ℕ
 
+-- the most bytes that are held: a line and a piece
+abbrev pub max_held : ℕ
+max_held = 69632
+
 -- a reader of a file with these bytes: what it holds are the bytes at its position
 abbrev pub StandsIn : List ℕ → ReaderState → Type 0
 StandsIn file r = StartsWith (drop r.at.place file) r.held

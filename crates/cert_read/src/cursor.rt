@@ -5,8 +5,8 @@ ghost use Rattle.std.specs.List.{position};
 ghost use Rattle.std.specs.Str.{bytes_eq};
 ghost use Rattle.plan_io.specs.Files.{bytes_of};
 ghost use Rattle.cert_text.specs.Texts.{header};
-ghost use Rattle.cert_read.specs.Lines.{as_line, bytes_before_newline, end_at, first_line_at, is_end, line_at, line_bytes, position_after, start, text_at};
-ghost use Rattle.cert_read.specs.Reader.{CountsLine, Gives, IsMoved, IsOutside, StandsIn};
+ghost use Rattle.cert_read.specs.Lines.{as_line, bytes_before_newline, end_at, first_line_at, is_end, line_at, line_bytes, max_line, position_after, start, text_at};
+ghost use Rattle.cert_read.specs.Reader.{CountsLine, Gives, IsMoved, IsOutside, StandsIn, max_held};
 
 use crate::held::Held;
 use crate::line::{Line, LineFault};
@@ -84,6 +84,7 @@ fn read_piece<D: Desk>(
     requires reads { IsTrue (D.reads name.now) }
     requires place { place + length held.old < 2 ^ 64 }
     ensures longer { IfOk result (λ n. length held.new ≡ length held.old + n) }
+    ensures piece { length held.new ≤ length held.old + 4_096 }
     ensures prefix { StartsWith held.new held.old }
     ensures within { place + length held.new < 2 ^ 64 }
     ensures stands { let rest = drop place (bytes_of (D.files desk.old name.now)) in
@@ -116,12 +117,14 @@ fn fill<D: Desk>(
     requires reads { IsTrue (D.reads name.now) }
     requires lines { at.lines ≤ at.place }
     requires place { at.place + length held.old < 2 ^ 64 }
+    requires few { length held.old ≤ max_held }
     ensures line { let rest = drop at.place (bytes_of (D.files desk.old name.now)) in
         IsTrue D.tells → StartsWith rest held.old
         → Gives (λ count. take count held.new) result (line_bytes (at.lines + 1) rest) }
     ensures whole { IfOk result (λ count. count < length held.new) }
     ensures prefix { StartsWith held.new held.old }
     ensures within { at.place + length held.new < 2 ^ 64 }
+    ensures few { length held.new ≤ max_held }
     ensures stands { let rest = drop at.place (bytes_of (D.files desk.old name.now)) in
         IsTrue D.tells → StartsWith rest held.old → StartsWith rest held.new }
     ensures files { IsTrue D.tells → D.files desk.new ≡ D.files desk.old }
@@ -187,6 +190,7 @@ impl Cursor {
     pub fn at(&self) -> Position
         ensures at { result ≡ self.now.at }
         ensures within { self.now.at.place < 2 ^ 64 }
+        ensures few { length self.now.held ≤ max_held }
     {
         self.at
     }
@@ -201,7 +205,8 @@ impl Cursor {
 
     /// Reads a piece more.
     fn read<D: Desk>(&mut self, desk: &mut D) -> Result<usize, LineFault>
-        requires { IsTrue (D.reads self.old.name) }
+        requires reads { IsTrue (D.reads self.old.name) }
+        requires few { length self.old.held ≤ max_line }
         ensures same { self.new ≡ record self.old { held = self.new.held } }
         ensures longer { IfOk result (λ n. length self.new.held ≡ length self.old.held + n) }
         ensures prefix { StartsWith self.new.held self.old.held }
@@ -231,6 +236,7 @@ impl Cursor {
         ensures same { self.new ≡ record self.old { held = self.new.held } }
         ensures prefix { StartsWith self.new.held self.old.held }
         ensures within { self.new.at.place < 2 ^ 64 }
+        ensures few { length self.new.held ≤ max_held }
         ensures stands { IsTrue D.tells → StandsIn (bytes_of (D.files desk.old self.old.name)) self.new }
         ensures files { IsTrue D.tells → D.files desk.new ≡ D.files desk.old }
         ensures current { D.current desk.new ≡ D.current desk.old }
@@ -274,6 +280,7 @@ impl Cursor {
         requires { count < length self.old.held }
         ensures passed { self.new ≡ record self.old { at = position_after self.old.at count ended; held = drop (count + 1) self.old.held } }
         ensures within { self.new.at.place < 2 ^ 64 }
+        ensures few { length self.new.held ≤ max_held }
     {
         self.at = self.at.after(count, ended);
         self.held.give(count + 1);
@@ -289,6 +296,7 @@ impl Cursor {
         ensures stands { IsTrue D.tells → StandsIn (bytes_of (D.files desk.old self.old.name)) self.new }
         ensures moves { IfOk result (IsMoved self.old.at self.new.at) }
         ensures within { self.new.at.place < 2 ^ 64 }
+        ensures few { length self.new.held ≤ max_held }
         ensures name { self.new.name ≡ self.old.name }
         ensures refused { OnErr result (self.new ≡ self.old) }
         ensures files { IsTrue D.tells → D.files desk.new ≡ D.files desk.old }
@@ -321,6 +329,7 @@ impl Cursor {
             → OnOk result (StandsIn (bytes_of (D.files desk.old self.old.name)) self.new) }
         ensures moves { IfOk result (IsMoved self.old.at self.new.at) }
         ensures within { self.new.at.place < 2 ^ 64 }
+        ensures few { length self.new.held ≤ max_held }
         ensures name { self.new.name ≡ self.old.name }
         ensures files { IsTrue D.tells → D.files desk.new ≡ D.files desk.old }
         ensures current { D.current desk.new ≡ D.current desk.old }
@@ -349,6 +358,7 @@ impl Cursor {
         ensures stands { IsTrue D.tells → StandsIn (bytes_of (D.files desk.old self.old.name)) self.new }
         ensures moves { IfOk result (IsMoved self.old.at self.new.at) }
         ensures within { self.new.at.place < 2 ^ 64 }
+        ensures few { length self.new.held ≤ max_held }
         ensures name { self.new.name ≡ self.old.name }
         ensures refused { OnErr result (self.new ≡ self.old) }
         ensures files { IsTrue D.tells → D.files desk.new ≡ D.files desk.old }

@@ -1,8 +1,8 @@
 //! A certificate that is being read.
-ghost use Rattle.std.specs.Prelude.{◌≡◌, ◌<◌, ◌^◌, [], IsTrue, IfOk, OnErr};
+ghost use Rattle.std.specs.Prelude.{◌≡◌, ◌<◌, ◌≤◌, ◌^◌, [], length, IsTrue, IfOk, OnErr};
 ghost use Rattle.plan_io.specs.Files.{bytes_of};
 ghost use Rattle.cert_read.specs.Lines.{start, turn};
-ghost use Rattle.cert_read.specs.Reader.{CountsLine, Gives, IsMoved, StandsIn};
+ghost use Rattle.cert_read.specs.Reader.{CountsLine, Gives, IsMoved, StandsIn, max_held};
 
 use crate::cursor::Cursor;
 use crate::line::{Line, LineFault};
@@ -54,8 +54,7 @@ impl CertReader {
     /// the file ends, and `NotALine` where a byte follows. `ReadFault` only where the desk's count of
     /// failed reads rose, `Memory` for want of memory. After a refusal the reader is unchanged.
     ///
-    /// A file that is told is to hold at each call what it held at the call before. No byte is read
-    /// before it is needed, and none at place 2^64 - 1 or past it.
+    /// A file that is told is to hold at each call what it held at the call before.
     #[tactic(auto, using(crate::proofs::TurnLemmas::turn_rules))]
     pub fn next<D: Desk>(&mut self, desk: &mut D) -> Result<Line, LineFault>
         requires reads { IsTrue (D.reads self.old.name) }
@@ -65,6 +64,7 @@ impl CertReader {
         ensures stands { IsTrue D.tells → StandsIn (bytes_of (D.files desk.old self.old.name)) self.new }
         ensures moves { IfOk result (IsMoved self.old.at self.new.at) }
         ensures within { self.new.at.place < 2 ^ 64 }
+        ensures few { length self.new.held ≤ max_held }
         ensures name { self.new.name ≡ self.old.name }
         ensures refused { OnErr result (self.new ≡ self.old) }
         ensures files { IsTrue D.tells → D.files desk.new ≡ D.files desk.old }

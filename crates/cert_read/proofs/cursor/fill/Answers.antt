@@ -7,6 +7,7 @@ pub pieces-init : goal.pieces-init
 pieces-init g c = record {
   looked = omega arith;
   clean = nothing_clean;
+  few = c.requires.few;
   prefix = whole c.args.held.now;
   within = c.requires.place;
   stands = λ told h. h;
