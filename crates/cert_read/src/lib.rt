@@ -11,3 +11,6 @@ pub use line::{Line, LineFault};
 pub use position::Position;
 pub use cursor::{MAX_LINE, PIECE};
 pub use reader::CertReader;
+
+#[cfg(test)]
+mod tests;

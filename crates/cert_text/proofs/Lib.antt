@@ -8,3 +8,4 @@ mod PartLemmas
 mod LineLemmas
 mod SplitLemmas
 mod StepLemmas
+mod LengthLemmas

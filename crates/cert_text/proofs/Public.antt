@@ -1,12 +1,16 @@
 -- What crates above may cite. All else under proofs/ is private.
+-- ---- numbers are read from their decimal texts
+pub use Rattle.cert_text.proofs.NumberLemmas.{number_of-decimal, decimal-number_of}
+-- ---- the laws of lines
 use Rattle.std.proofs.Common.{◌≡◌, ◌∙◌, ℕ, List, [], ◌∷◌, Option, Some, None, refl, sym, ap}
 use Rattle.std.proofs.lemmas.List.{append-nil}
 use Rattle.std.proofs.lemmas.List.Splits.{join_with_byte-slice_split}
 use Rattle.cert_text.specs.declared.text.LineText.{LineText}
 use Rattle.cert_text.specs.Kinds.{Word}
-use Rattle.cert_text.specs.Laws.{LinesHaveNoNewline, LinesHaveOneReading, ReadingsAreExact, StepsAreLines}
+use Rattle.cert_text.specs.Laws.{LinesFit, LinesHaveNoNewline, LinesHaveOneReading, ReadingsAreExact, StepsAreLines}
 use Rattle.cert_text.specs.Reading.{all_read, line, reading, words_of}
 use Rattle.cert_text.specs.Texts.{Spells, joined, line_words}
+use Rattle.cert_text.proofs.LengthLemmas.{end_line_fits, step_line_fits}
 use Rattle.cert_text.proofs.LineLemmas.{line_back, line_only}
 use Rattle.cert_text.proofs.StepLemmas.{step_line_is}
 use Rattle.cert_text.proofs.SplitLemmas.{no_newline, words_of-line}
@@ -42,3 +46,6 @@ steps_are_lines = step_line_is
 
 pub lines_have_no_newline : LinesHaveNoNewline
 lines_have_no_newline = no_newline
+
+pub lines_fit : LinesFit
+lines_fit = record { steps = step_line_fits; goals = end_line_fits }

@@ -1,12 +1,13 @@
 -- Lines are cut at their blanks into their words, and have no newline.
-use Rattle.std.proofs.Common.{◌≡◌, ◌≢◌, ◌∙◌, ℕ, ◌==◌, Bool, true, false, List, [], ◌∷◌, ◌++◌, nat_le, nat_lt, Option, Some, None, codes, refl, ap, arith}
+use Rattle.std.proofs.Common.{◌≡◌, ◌≢◌, ◌∙◌, ℕ, ◌==◌, Bool, true, false, List, [], ◌∷◌, ◌++◌, nat_le, nat_lt, Option, Some, None, codes, refl, ap, arith, ◌*◌, ◌^◌, lit<, length-append, length, ◌&&◌, ◌≤◌, ◌<◌}
 use Rattle.std.proofs.lemmas.Bool.{and_from, and_parts}
 use Rattle.std.proofs.lemmas.Bool.Decides.{nat_tests}
-use Rattle.std.proofs.lemmas.Fmt.{digits_decimal}
+use Rattle.std.proofs.lemmas.Fmt.{digits_decimal, length-decimal-le}
 use Rattle.std.proofs.lemmas.Grind.{common_steps}
 use Rattle.std.proofs.lemmas.List.Folds.{list_all-append}
 use Rattle.std.proofs.lemmas.List.Splits.{slice_split_at, slice_split_none}
 use Rattle.std.proofs.lemmas.List.Sums.{AllPass-from_list_all}
+use Rattle.std.proofs.Math.Nat.{lt_trans}
 use Rattle.std.specs.Char.{is_ascii_digit}
 use Rattle.std.specs.Fmt.{decimal}
 use Rattle.std.specs.List.{All, Contains, list_all}
@@ -38,7 +39,15 @@ use Rattle.cert_text.proofs.NumberLemmas.{own}
 -- ---- words without blanks and newlines
 
 plain : Word → Bool
-plain word = list_all (nat_lt 32) word
+plain word = list_all (nat_lt 32) word && nat_le (length word) 64
+
+plain_bytes : (word : Word) → plain word ≡ true → list_all (nat_lt 32) word ≡ true
+unfolding plain
+plain_bytes word is = (and_parts (list_all (nat_lt 32) word) (nat_le (length word) 64) is).0
+
+plain_short : (word : Word) → plain word ≡ true → length word ≤ 64
+unfolding plain
+plain_short word is = let short = (and_parts (list_all (nat_lt 32) word) (nat_le (length word) 64) is).1 in grind (arith, nat_tests)
 
 all_plain : List Word → Bool
 all_plain words = list_all plain words
@@ -74,11 +83,18 @@ name_plain : (word : Word) → IsName word → plain word ≡ true
 unfolding is_name plain
 name_plain word is =
     let all : list_all goes_on_name word ≡ true = grind (arith, common_steps) in
-    each_passes goes_on_name (nat_lt 32) goes_on_plain word all
+    let short : nat_le (length word) 64 ≡ true = grind (arith, common_steps) in
+    and_from _ _ (each_passes goes_on_name (nat_lt 32) goes_on_plain word all) short
+
+short_enough : (n : ℕ) → n ≤ 20 → nat_le n 64 ≡ true
+short_enough n few = grind (arith, nat_tests)
 
 number_plain : (n : ℕ) → IsNumber n → plain (decimal n) ≡ true
 unfolding plain
-number_plain n is = each_passes is_ascii_digit (nat_lt 32) digit_plain (decimal n) (digits_decimal own n is)
+number_plain n is =
+    let few = length-decimal-le 20 n (lit< tt) (lt_trans is (lit< tt)) is in
+    let short : nat_le (length (decimal n)) 64 ≡ true = short_enough (length (decimal n)) few in
+    and_from _ _ (each_passes is_ascii_digit (nat_lt 32) digit_plain (decimal n) (digits_decimal own n is)) short
 
 dash_plain : plain (codes "-") ≡ true
 unfolding plain
@@ -181,8 +197,7 @@ line_some (End goal) nothing = cc
 -- ---- cut at blanks
 
 no_blank : (word : Word) → plain word ≡ true → All (λ b. (b == 32) ≡ false) word
-unfolding plain
-no_blank word is k d within = let above = AllPass-from_list_all (nat_lt 32) word is k d within in grind (arith, nat_tests)
+no_blank word is k d within = let above = AllPass-from_list_all (nat_lt 32) word (plain_bytes word is) k d within in grind (arith, nat_tests)
 
 split-joined : (words : List Word) → words ≢ [] → all_plain words ≡ true → words_of (joined words) ≡ words
 split-joined [] some is = absurd (some refl)
@@ -200,8 +215,7 @@ abbrev printed : List ℕ → Bool
 printed bytes = list_all (nat_le 32) bytes
 
 plain_printed : (word : Word) → plain word ≡ true → printed word ≡ true
-unfolding plain
-plain_printed word is = each_passes (nat_lt 32) (nat_le 32) (λ b above. grind (arith, nat_tests)) word is
+plain_printed word is = each_passes (nat_lt 32) (nat_le 32) (λ b above. grind (arith, nat_tests)) word (plain_bytes word is)
 
 joined_printed : (words : List Word) → all_plain words ≡ true → printed (joined words) ≡ true
 joined_printed [] is = refl
@@ -215,3 +229,18 @@ no_newline line is (k, within, at) =
     let high = AllPass-from_list_all (nat_le 32) (joined (line_words line)) (joined_printed (line_words line) (line_plain line is)) k 10 within in
     let low : nat_le 32 10 ≡ true = rw at at high in
     absurd (cc)
+
+-- ---- how long a line is
+
+joined_short : (words : List Word) → all_plain words ≡ true → length (joined words) ≤ 65 * length words
+joined_short [] is = omega arith
+joined_short (w ∷ []) is = let one = plain_short w (parts w [] is).0 in omega arith
+joined_short (w ∷ v ∷ words) is =
+    let sides = parts w (v ∷ words) is in
+    let one = plain_short w sides.0 in
+    let rest = joined_short (v ∷ words) sides.1 in
+    omega (arith, length-append w (32 ∷ joined (v ∷ words)))
+
+-- no more than 65 bytes for each word
+pub line_short : (line : LineText) → IsLine line → length (joined (line_words line)) ≤ 65 * length (line_words line)
+line_short line is = joined_short (line_words line) (line_plain line is)

@@ -1,18 +1,19 @@
 -- What is proved of lines.
-use Rattle.std.specs.Prelude.{◌≡◌, ℕ, List, Some}
+use Rattle.std.specs.Prelude.{◌≡◌, ℕ, ◌≤◌, List, length, Some}
 use Rattle.std.specs.List.{Contains}
 use Rattle.catalogue.specs.Instance.{Instance, IsInstance}
 use Rattle.domains.specs.declared.parts.Part.{Part}
 use Rattle.domains.specs.declared.parts.Part.TheVariants.{Idle, Upto, From}
 use Rattle.reasons.specs.declared.reason.Reason.{Reason}
 use Rattle.reasons.specs.declared.reason.Reason.TheVariants as reason
+use Rattle.trees.specs.declared.steps.Goal.{Goal}
 use Rattle.trees.specs.declared.steps.Step.{Step}
 use Rattle.trees.specs.declared.steps.Step.TheVariants as step
 use Rattle.cert_text.specs.declared.text.LineText.{LineText}
-use Rattle.cert_text.specs.declared.text.LineText.TheVariants.{Step as StepLine}
+use Rattle.cert_text.specs.declared.text.LineText.TheVariants.{Step as StepLine, End}
 use Rattle.cert_text.specs.Reading.{reading}
 use Rattle.cert_text.specs.Spelling.{HasStep, step_text}
-use Rattle.cert_text.specs.Texts.{IsLine, IsNumber, Spells, joined, line_words}
+use Rattle.cert_text.specs.Texts.{IsGoal, IsLine, IsNumber, Spells, joined, line_words, max_line}
 
 -- what is read is spelled, and what is spelled is read
 pub record ReadingsAreExact : Type 0 where
@@ -55,3 +56,8 @@ StepsAreLines = (p : Instance) → IsInstance p → (s : Step) → HasStep p s �
 -- no line has a newline in it
 abbrev pub LinesHaveNoNewline : Type 0
 LinesHaveNoNewline = (line : LineText) → IsLine line → ¬ Contains (joined (line_words line)) 10
+
+-- the lines of steps that can be written, and of goals, have no more bytes than lines may have
+pub record LinesFit : Type 0 where
+  pub steps : (p : Instance) → IsInstance p → (s : Step) → HasStep p s → StepFits s → length (joined (line_words (StepLine (step_text p s)))) ≤ max_line
+  pub goals : (goal : Goal) → IsGoal goal → length (joined (line_words (End goal))) ≤ max_line

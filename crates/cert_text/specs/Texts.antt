@@ -74,6 +74,10 @@ joined words = join_with_byte 32 words
 abbrev pub header : List ℕ
 header = codes "btrplan certificate 1"
 
+-- the most bytes of a line before its newline
+abbrev pub max_line : ℕ
+max_line = 65536
+
 -- ---- which texts there are: names are well-formed, numbers fit 64 bits, and a list of nodes has one
 
 abbrev pub IsName : Word → Type 0

@@ -6,5 +6,7 @@ pub mod laws;
 pub mod number;
 pub mod parsing;
 pub mod printing;
+#[cfg(test)]
+mod tests;
 pub mod text;
 mod words;

@@ -4,3 +4,6 @@
 mod writer;
 
 pub use writer::CertWriter;
+
+#[cfg(test)]
+mod tests;
