@@ -1,0 +1,12 @@
+//! The lines of a certificate: what they say, how they are spelled, and what a line says.
+#![tactic(auto)]
+
+pub mod kinds;
+pub mod laws;
+pub mod number;
+pub mod parsing;
+pub mod printing;
+#[cfg(test)]
+mod tests;
+pub mod text;
+mod words;

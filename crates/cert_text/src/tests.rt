@@ -1,0 +1,208 @@
+//! Lines as texts, and the steps of a small problem as lines.
+
+ghost use Rattle.std.specs.Prelude.{◌<◌, length};
+ghost use Rattle.reasons.specs.Reasons.{AreListed};
+
+use crate::parsing::{TextFault, parse_line};
+use crate::printing::{push_end_line, push_step_line};
+use crate::text::{LineText, NodesText, PartText, ReasonText, StepText};
+use catalogue::problem::Problem;
+use cluster::choices::Place;
+use cluster::durations::Duration;
+use cluster::ids::{Element, NodeId, VmId};
+use cluster::inventory::Cluster;
+use cluster::machines::Machine;
+use cluster::names::Name;
+use cluster::nodes::Node;
+use cluster::sets::NodeSet;
+use cluster::states::State;
+use domains::parts::Part;
+use reasons::reason::Reason;
+use std::alloc::Global;
+use std::test::Fail;
+use trees::steps::{Goal, Step};
+
+/// Each is a line.
+const LINES: &str = "decide v0 idle
+decide v0 upto - 5
+cut v0 from n1 0 bound
+cut v0 upto n1 2 load 2 cpu n1 n0
+fail empty v0
+fail load 18446744073709551615 cpu *
+fail pair 0 1 v0 v1 n0
+fail place 0 20 v0 n0
+fail group 1 2
+fail setload 1 2
+fail power 1 2
+fail usable 1 v0 n0
+fail hall 0 20 *
+plan 0
+left
+end optimal 9
+end infeasible
+end undecided 0";
+
+/// None is a line.
+const OTHERS: &str = "
+decide
+decide v0
+decide v0 upto n0
+decide v0 upto n0 05
+decide v0 upto n0 +5
+decide v0 upto * 5
+decide v0  idle
+ decide v0 idle
+decide v0 idle\u{20}
+decide -v0 idle
+cut v0 idle
+fail load 0 cpu
+fail load 0 cpu * n0
+fail load 0 cpu n0 -
+fail hall 0 18446744073709551616 *
+fail bound bound
+plan
+plan -1
+plan 1\u{e9}
+Left
+left left
+end
+end optimal
+end infeasible 0
+end undecided x";
+
+fn fault_of(alloc: Global, text: &str) -> Option<TextFault> {
+    match parse_line(alloc, text.as_bytes()) {
+        Ok(_) => None,
+        Err(fault) => Some(fault),
+    }
+}
+
+#[test]
+fn lines(rt: HostRuntime) -> Result<(), Fail> {
+    for (table, want) in [(LINES, None), (OTHERS, Some(TextFault::NotALine))] {
+        for text in table.lines() {
+            assert_eq!(rt; fault_of(rt.alloc(), text), want, "at {text}");
+        }
+    }
+    Ok(())
+}
+
+/// The names of a cut from nowhere by a load of listed nodes; nothing for any other line.
+fn names_of(alloc: Global, line: &LineText) -> Result<Option<String>, Fail> {
+    match line {
+        LineText::Step(
+            StepText::Cut(
+                e,
+                PartText::From(None, start),
+                ReasonText::Load(t, r, NodesText::Listed(nodes)),
+            ),
+        ) => {
+            let mut names = format!(in alloc; "{} {start} {t} {}", e.as_text(), r.as_text())?;
+            for node in nodes.items() {
+                write!(names, " {}", node.as_text())?;
+            }
+            Ok(Some(names))
+        }
+        _ => Ok(None),
+    }
+}
+
+fn names_of_cut(alloc: Global, text: &str) -> Result<Option<String>, Fail> {
+    match parse_line(alloc, text.as_bytes()) {
+        Ok(line) => names_of(alloc, &line),
+        Err(_) => Ok(None),
+    }
+}
+
+#[test]
+fn a_line_says_what_it_names(rt: HostRuntime) -> Result<(), Fail> {
+    let Some(names) = names_of_cut(rt.alloc(), "cut v0 from - 7 load 2 cpu n1 n0")? else {
+        return Err(Fail::new("no cut"));
+    };
+    assert_eq!(rt; names.as_str(), "v0 7 2 cpu n1 n0");
+    Ok(())
+}
+
+fn cluster(alloc: Global) -> Result<Cluster, Fail> {
+    let one = Duration {
+        base: 1,
+        per: 0,
+        resource: None,
+    };
+    let mut resources = Vec::new(alloc);
+    resources.push(Name::new(alloc, b"cpu")?)?;
+    let mut cluster = Cluster::new(alloc, resources, [one; 10])?;
+    for name in ["n0", "n1", "n2"] {
+        cluster.add_node(Node {
+            name: Name::new(alloc, name.as_bytes())?,
+            online: true,
+            capacity: [0; 8],
+            own: [None; 10],
+        })?;
+    }
+    Ok(cluster)
+}
+
+/// Three nodes, and one machine on the first of them.
+fn problem(alloc: Global) -> Result<Problem, Fail> {
+    let mut cluster = cluster(alloc)?;
+    cluster.add_machine(Machine {
+        name: Name::new(alloc, b"v0")?,
+        state: State::Running(NodeId(0)),
+        usage: [0; 8],
+        own: [None; 10],
+    })?;
+    Ok(Problem::new(alloc, cluster, 20))
+}
+
+/// A cut of the first machine, and the end of a tree.
+fn cut_lines(alloc: Global, p: &Problem) -> Result<String, Fail> {
+    let v = VmId(0);
+    let n = NodeId(1);
+    if p.cluster().machines().is_empty() || p.cluster().nodes().len() < 2 {
+        return Err(Fail::new("the problem is too small"));
+    }
+    let part = Part::Upto(Place::At(n), 2);
+    let reason = Reason::Place(3, 20, v, n);
+    let mut lines = String::new(alloc);
+    push_step_line(&mut lines, p, &Step::Cut(Element::Vm(v), part, reason))?;
+    push_end_line(&mut lines, Goal::Undecided(1))?;
+    Ok(lines)
+}
+
+/// A failure by the load of the nodes of a set.
+fn load_line(alloc: Global, p: &Problem, set: NodeSet) -> Result<String, Fail>
+    requires { (0 < length p.now.given.resources) × AreListed p.now.given set }
+{
+    let mut line = String::new(alloc);
+    push_step_line(&mut line, p, &Step::Fail(Reason::Load(2, 0, set)))?;
+    Ok(line)
+}
+
+/// The same for the first nodes, so many of them.
+fn first_nodes_line(alloc: Global, p: &Problem, count: u32) -> Result<String, Fail> {
+    let mut set = NodeSet::new();
+    for n in 0..count.min(3) {
+        set.insert(NodeId(n));
+    }
+    if p.cluster().resources().is_empty() || !set.has(NodeId(0)) {
+        return Err(Fail::new("nothing to name"));
+    }
+    if !set.is_within(p.cluster().nodes().len()) {
+        return Err(Fail::new("too many nodes"));
+    }
+    load_line(alloc, p, set)
+}
+
+#[test]
+fn steps(rt: HostRuntime) -> Result<(), Fail> {
+    let p = problem(rt.alloc())?;
+    assert_eq!(rt;
+        cut_lines(rt.alloc(), &p)?.as_str(),
+        "cut v0 upto n1 2 place 3 20 v0 n1\nend undecided 1\n"
+    );
+    for (count, want) in [(2, "fail load 2 cpu n0 n1\n"), (3, "fail load 2 cpu *\n")] {
+        assert_eq!(rt; first_nodes_line(rt.alloc(), &p, count)?.as_str(), want);
+    }
+    Ok(())
+}

@@ -1,0 +1,52 @@
+//! A certificate as it is written to desks in memory.
+
+use crate::CertWriter;
+use catalogue::problem::Problem;
+use cluster::durations::Duration;
+use cluster::inventory::Cluster;
+use plan_io::{DeskMem, OutFault};
+use reasons::reason::Reason;
+use std::alloc::Global;
+use std::test::Fail;
+use trees::steps::{Goal, Step};
+
+/// A problem with nothing in it.
+fn problem(alloc: Global) -> Result<Problem, Fail> {
+    let one = Duration {
+        base: 1,
+        per: 0,
+        resource: None,
+    };
+    let cluster = Cluster::new(alloc, Vec::new(alloc), [one; 10])?;
+    Ok(Problem::new(alloc, cluster, 5))
+}
+
+/// Writes the certificate that staying is best.
+fn write(alloc: Global, desk: &mut DeskMem) -> Result<Result<(), OutFault>, Fail> {
+    let p = problem(alloc)?;
+    let mut writer = match CertWriter::new(alloc, desk, "c") {
+        Ok(writer) => writer,
+        Err(fault) => return Ok(Err(fault)),
+    };
+    if let Err(fault) = writer.step(desk, &p, &Step::Fail(Reason::Bound)) {
+        return Ok(Err(fault));
+    }
+    Ok(writer.end(desk, Goal::Optimal(0)))
+}
+
+#[test]
+fn a_certificate_is_written_up_to_the_failed_call(rt: HostRuntime) -> Result<(), Fail> {
+    let cases: [(u64, Result<(), OutFault>, Option<&str>); 5] = [
+        (0, Err(OutFault::Failed), None),
+        (1, Err(OutFault::Failed), Some("")),
+        (2, Err(OutFault::Failed), Some("btrplan certificate 1\n")),
+        (3, Err(OutFault::Failed), Some("btrplan certificate 1\nfail bound\n")),
+        (4, Ok(()), Some("btrplan certificate 1\nfail bound\nend optimal 0\n")),
+    ];
+    for (call, want, text) in cases {
+        let mut desk = DeskMem::new(vec![in rt.alloc(); call]?);
+        assert_eq!(rt; write(rt.alloc(), &mut desk)?, want, "call {call}");
+        assert_eq!(rt; desk.get("c"), text.map(|t| t.as_bytes()), "call {call}");
+    }
+    Ok(())
+}
