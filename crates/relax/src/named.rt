@@ -1,0 +1,102 @@
+//! Whether all that a reason names is there.
+ghost use Rattle.std.specs.Prelude.{◌≡◌, ◌↔◌, ℕ, ◌<◌, ◌≤◌, false, length, IsTrue};
+ghost use Rattle.cluster.specs.Limits.{max_nodes};
+ghost use Rattle.cluster.specs.Sets.{has_node};
+ghost use Rattle.catalogue.specs.Instance.{IsElement};
+ghost use Rattle.slices.specs.Elements.{machine_count, node_count};
+ghost use Rattle.reasons.specs.Reasons.{AreListed, IsNamed};
+
+use catalogue::problem::Problem;
+use cluster::choices::Instant;
+use cluster::ids::{Element, NodeId, VmId};
+use cluster::sets::NodeSet;
+use reasons::reason::Reason;
+
+// whether a machine is listed
+fn is_machine(p: &Problem, v: VmId) -> bool
+    ensures { IsTrue result ↔ IsElement p.now.given (Element.Vm v) }
+{
+    (v.0 as usize) < p.cluster().machines().len()
+}
+
+// whether a node is listed
+fn is_node(p: &Problem, n: NodeId) -> bool
+    ensures { IsTrue result ↔ IsElement p.now.given (Element.Node n) }
+{
+    (n.0 as usize) < p.cluster().nodes().len()
+}
+
+// whether an element is listed
+fn is_element(p: &Problem, e: Element) -> bool
+    ensures { IsTrue result ↔ IsElement p.now.given e }
+{
+    match e {
+        Element::Vm(v) => is_machine(p, v),
+        Element::Node(n) => is_node(p, n),
+    }
+}
+
+// whether a set has one of the first nodes
+fn has_some(set: &NodeSet, count: usize) -> bool
+    requires { count ≤ max_nodes }
+    ensures some { IsTrue result → (n : ℕ) × IsTrue (has_node set.now n) }
+    ensures none { result ≡ false → (n : ℕ) → n < count → has_node set.now n ≡ false }
+{
+    for n in 0..count {
+        if set.has(NodeId(n as u32)) {
+            return true;
+        }
+    }
+    false
+}
+
+// whether the nodes of a set are listed, and there is one unless the problem has no node
+fn are_listed(p: &Problem, set: &NodeSet) -> bool
+    ensures yes { IsTrue result → AreListed p.now.given set.now }
+    ensures no { result ≡ false → ¬ AreListed p.now.given set.now }
+{
+    let count = p.cluster().nodes().len();
+    if !set.is_within(count) {
+        return false;
+    }
+    count == 0 || has_some(set, count)
+}
+
+// whether an instant is at most the horizon, and a constraint is listed
+fn is_constraint_at(p: &Problem, c: u32, t: Instant) -> bool
+    ensures yes { IsTrue result → (c < length p.now.given.constraints) × (t ≤ p.now.given.horizon) }
+    ensures no { result ≡ false → ¬ ((c < length p.now.given.constraints) × (t ≤ p.now.given.horizon)) }
+{
+    (c as usize) < p.constraints().len() && t <= p.horizon()
+}
+
+// whether a machine and a node are listed
+fn are_elements(p: &Problem, v: VmId, n: NodeId) -> bool
+    ensures yes { IsTrue result → (v.0 < machine_count p.now.given) × (n.0 < node_count p.now.given) }
+    ensures no { result ≡ false → ¬ ((v.0 < machine_count p.now.given) × (n.0 < node_count p.now.given)) }
+{
+    is_machine(p, v) && is_node(p, n)
+}
+
+/// Whether all that a reason names is there, and its instant is at most the horizon.
+pub fn is_named(p: &Problem, reason: &Reason) -> bool
+    ensures yes { IsTrue result → IsNamed p.now.given reason.now }
+    ensures no { result ≡ false → ¬ IsNamed p.now.given reason.now }
+{
+    match reason {
+        Reason::Empty(e) => is_element(p, *e),
+        Reason::Bound => true,
+        Reason::Load(t, r, set) => {
+            *t <= p.horizon() && (*r as usize) < p.cluster().resources().len() && are_listed(p, set)
+        }
+        Reason::Pair(c, t, v, w, n) => {
+            is_constraint_at(p, *c, *t) && is_machine(p, *v) && are_elements(p, *w, *n)
+        }
+        Reason::Place(c, t, v, n) => is_constraint_at(p, *c, *t) && are_elements(p, *v, *n),
+        Reason::Group(c, t) | Reason::SetLoad(c, t) | Reason::Power(c, t) => {
+            is_constraint_at(p, *c, *t)
+        }
+        Reason::Usable(t, v, n) => *t <= p.horizon() && are_elements(p, *v, *n),
+        Reason::Hall(c, t, set) => is_constraint_at(p, *c, *t) && are_listed(p, set),
+    }
+}

@@ -1,0 +1,45 @@
+//! The plan of a region that is fixed.
+ghost use Rattle.std.specs.Prelude.{◌≡◌, ◌∷◌, [], length, IfOk};
+ghost use Rattle.slices.specs.Plans.{IsPlanOf, choices_of};
+ghost use Rattle.domains.specs.Sets.{HasElement, IsFixed, IsOnly, sets};
+ghost use Rattle.relax.specs.Areas.{AreLegal, IsSized};
+
+use catalogue::problem::Problem;
+use cluster::choices::Choice;
+use cluster::ids::Element;
+use domains::region::Region;
+use memory::Memory;
+use slices::plan::Plan;
+use std::alloc::Global;
+
+/// The one plan of a region in which each element has exactly one choice, a legal one. The only error
+/// is want of memory.
+pub fn plan_of(alloc: Global, p: &Problem, g: &Region) -> Result<Plan, Memory>
+    requires region { IsSized p.now.given g.now }
+    requires fixed { IsFixed g.now }
+    requires legal { AreLegal p.now.given (sets g.now) }
+    ensures plan { IfOk result (IsPlanOf p.now.given) }
+    ensures only { IfOk result (λ plan. IsOnly (sets g.now) (choices_of plan)) }
+{
+    let count = p.cluster().element_count();
+    let mut choices = Vec::with_capacity(alloc, count)?;
+    for x in 0..count {
+        choices.push(only_choice(g, p.cluster().element(x)))?;
+    }
+    Ok(Plan::idle_or(p, choices))
+}
+
+// the one choice of an element
+fn only_choice(g: &Region, e: Element) -> Choice
+    requires there { HasElement g.now e }
+    requires fixed { length (sets g.now e) ≡ 1 }
+    ensures { sets g.now e ≡ result ∷ [] }
+{
+    match g.domain(e).rows() {
+        [] => Choice::Idle,
+        [row, ..] => Choice::Act {
+            place: row.place,
+            start: row.lo,
+        },
+    }
+}
