@@ -20,6 +20,7 @@ pub fn counted(count: u64, step: &Step) -> u64
 }
 
 /// The cost of the cheapest plan that is named with a step.
+#[tactic(auto, using(crate::proofs::CountLemmas::cheapest_with, crate::proofs::CountLemmas::cheapest_same))]
 pub fn cheaper(cheapest: Option<u64>, step: &Step) -> Option<u64>
     ensures { (e : List AnyStep) → cheapest ≡ lowest (λ cost. cost) (plan_costs e)
         → result ≡ lowest (λ cost. cost) (plan_costs (e ++ step.now ∷ [])) }
@@ -31,6 +32,7 @@ pub fn cheaper(cheapest: Option<u64>, step: &Step) -> Option<u64>
 }
 
 /// The least of the sums of what is left with a step, which is at a region with that sum.
+#[tactic(auto, using(crate::proofs::CountLemmas::least_left_with))]
 pub fn least_with(least: Option<u64>, sum: u64, step: &Step) -> Option<u64>
     ensures { (f : Sets → ℕ) (all : List Sets) (s : Sets) → least ≡ lowest f all → sum ≡ f s
         → result ≡ lowest f (all ++ left_set s step.now) }

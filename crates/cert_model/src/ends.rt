@@ -5,7 +5,7 @@ ghost use Rattle.sums.specs.Least.{least};
 ghost use Rattle.slices.specs.Actions.{end_of};
 ghost use Rattle.slices.specs.Limits.{max_cost};
 ghost use Rattle.domains.specs.Parts.{on_side};
-ghost use Rattle.domains.specs.Sets.{keeping, sets};
+ghost use Rattle.domains.specs.Sets.{RegionView, keeping, sets};
 ghost use Rattle.domains.specs.Views.{seen};
 ghost use Rattle.reasons.specs.Sure.{least_cost as least_cost_of};
 ghost use Rattle.relax.specs.Areas.{AreLegal, IsSized};
@@ -40,11 +40,19 @@ pub fn sum_seen(p: &Problem, g: &Region, sum: u64, x: Element, part: Part, side:
     requires element { IsElement p.now.given x }
     ensures { result ≡ least_cost_of p.now.given (keeping x (on_side side part) (sets g.now)) }
 {
-    let lens = match side {
+    let old = end_seen(p, g, x, Lens::Whole);
+    let new = end_seen(p, g, x, lens_of(x, part, side));
+    (sum - old) + new
+}
+
+// the lens that shows one side of a part
+fn lens_of(x: Element, part: Part, side: Side) -> Lens
+    ensures { (g : RegionView) → seen g result ≡ keeping x (on_side side part) (sets g) }
+{
+    match side {
         Side::Inside => Lens::Inside(x, part),
         Side::Outside => Lens::Outside(x, part),
-    };
-    (sum - end_seen(p, g, x, Lens::Whole)) + end_seen(p, g, x, lens)
+    }
 }
 
 // the least end of an element under a lens, 0 where it has no choice
