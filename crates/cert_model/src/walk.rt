@@ -1,15 +1,18 @@
 //! The walk.
-ghost use Rattle.std.specs.Prelude.{◌≡◌, ◌++◌, [], map, IfOk, IfSome, OnErr, OnOk};
+ghost use Rattle.std.specs.Prelude.{◌≡◌, ◌++◌, [], List, map, IfOk, IfSome, OnErr, OnOk};
 ghost use Rattle.std.specs.Option.{option_copied};
 ghost use Rattle.catalogue.specs.Instance.{Instance};
 ghost use Rattle.slices.specs.Plans.{IsPlanOf};
+ghost use Rattle.sums.specs.Least.{lowest};
 ghost use Rattle.domains.specs.Sets.{sets};
 ghost use Rattle.reasons.specs.Sure.{least_cost};
 ghost use Rattle.trees.specs.Certificates.{bound_of};
+ghost use Rattle.trees.specs.Searching.{plan_costs};
 ghost use Rattle.trees.specs.Trees.{children};
+ghost use Rattle.trees.specs.declared.steps.Step.{Step as AnyStep};
 ghost use Rattle.relax.specs.Areas.{AreLegal, IsSized};
 ghost use Rattle.cert_model.specs.Frontiers.{AreSame, AreSameSize, IsKept, later_sets, later_sums, open_sets, open_sums};
-ghost use Rattle.cert_model.specs.Walks.{Answers, Ends, IsLeast, IsStanding, IsUnchanged, IsWholeAt, PartHolds, Stands, choices_handed};
+ghost use Rattle.cert_model.specs.Walks.{Answers, Ends, IsLeast, IsStanding, IsUnchanged, IsWholeAt, IsWrong, PartHolds, Stands, WalkAt, choices_handed};
 
 use crate::claims::fault;
 use crate::counts::{cheaper, counted, goal_shown, is_same_goal, least_with, lower};
@@ -103,14 +106,16 @@ impl Walk {
         let Due::Whole = self.frontier.due else {
             return Ok(Some(Why::Structure));
         };
-        let alloc = *self.frontier.outers.allocator();
         let sum = self.frontier.sum;
-        let region = self.frontier.trail.region();
-        if let Some(why) = fault(alloc, p, self.bound, region, sum, step)? {
+        if let Some(why) = refusal(
+            p,
+            &self.frontier,
+            self.bound,
+            self.strict,
+            self.cheapest,
+            step,
+        )? {
             return Ok(Some(why));
-        }
-        if self.strict && !is_lean(p, self.cheapest, region, sum, step) {
-            return Ok(Some(Why::Lean));
         }
         advance(p, &mut self.frontier, step)?;
         self.decisions = counted(self.decisions, step);
@@ -153,6 +158,37 @@ impl Walk {
             Some(sum) => Some(lower(self.bound, sum)),
         }
     }
+}
+
+// what is wrong with a step at the region, which is due; None where it holds and is lean if that is asked
+fn refusal(
+    p: &Problem,
+    frontier: &Frontier,
+    bound: Option<u64>,
+    strict: bool,
+    cheapest: Option<u64>,
+    step: &Step,
+) -> Result<Option<Why>, Memory>
+    requires region { IsSized p.now.given frontier.now.trail.region }
+    requires legal { AreLegal p.now.given (sets frontier.now.trail.region) }
+    requires sum { frontier.now.sum ≡ least_cost p.now.given (sets frontier.now.trail.region) }
+    ensures holds { IfOk result (λ why. why ≡ None → (e : List AnyStep) → cheapest ≡ lowest (λ c. c) (plan_costs e)
+        → WalkAt p.now.given bound strict e (sets frontier.now.trail.region) step.now) }
+    ensures refused { IfOk result (λ why. (e : List AnyStep) → cheapest ≡ lowest (λ c. c) (plan_costs e)
+        → IfSome why (IsWrong p.now.given bound strict e (sets frontier.now.trail.region) step.now)) }
+{
+    let alloc = *frontier.outers.allocator();
+    let region = frontier.trail.region();
+    if let Some(why) = fault(alloc, p, bound, region, frontier.sum, step)? {
+        return Ok(Some(why));
+    }
+    if !strict {
+        return Ok(None);
+    }
+    if !is_lean(p, cheapest, region, frontier.sum, step) {
+        return Ok(Some(Why::Lean));
+    }
+    Ok(None)
 }
 
 // puts in the place of what is due what a step that holds leaves open there

@@ -1,0 +1,26 @@
+use Rattle.std.proofs.Common.{◌∙◌, sym, refl}
+use Rattle.cert_model.specs.contracts.walk.Walk.{the_view}
+use Rattle.cert_model.proofs.StandLemmas.{goal_kept, stands_as}
+use Rattle.cert_model.proofs.WholeLemmas.{proof_of, whole_of}
+use Rattle.cert_model.proofs.walk.Walk.finish.Goals as goal
+
+pub returns-then-not-is_whole : goal.returns-then-not-is_whole
+returns-then-not-is_whole c =
+    λ p bound strict steps known proof.
+    let whole = (c.is_whole.ensures p bound strict steps known).1 (whole_of p bound strict steps proof) in
+    let not = c.if-not-is_whole.true in
+    cc
+
+pub returns-then-is_same_goal : goal.returns-then-is_same_goal
+returns-then-is_same_goal c =
+    λ p bound strict steps known.
+    let w = the_view c.self.inside in
+    let stands = stands_as p bound strict steps w c.args.self.now c.self.view_is known in
+    (proof_of p bound strict steps ((c.is_whole.ensures p bound strict steps known).0 ?), c.is_same_goal.ensures.0 ? ∙ ? ∙ goal_kept p bound strict steps w stands)
+
+pub returns-else-is_same_goal : goal.returns-else-is_same_goal
+returns-else-is_same_goal c =
+    λ p bound strict steps known.
+    let w = the_view c.self.inside in
+    let stands = stands_as p bound strict steps w c.args.self.now c.self.view_is known in
+    (proof_of p bound strict steps ((c.is_whole.ensures p bound strict steps known).0 ?), λ same. ?)
