@@ -1,15 +1,19 @@
 -- Surely so, where a number is above 0; how great a least value is; none at all.
-use Rattle.std.proofs.Common.{◌≡◌, ◌≢◌, ℕ, ◌≤◌, ◌&&◌, nat_lt, Bool, true, false, Option, Some, None, List, [], ◌∷◌, refl, arith}
+use Rattle.std.proofs.Common.{◌≡◌, ◌≢◌, ℕ, ◌≤◌, ◌&&◌, nat_lt, Bool, true, false, Option, Some, None, List, [], ◌∷◌, IsTrue, refl, arith}
+use Rattle.std.specs.List.{Contains}
 use Rattle.std.proofs.lemmas.Bool.Decides.{nat_tests}
 use Rattle.sums.specs.Least.{lower, lowest, least}
 use Rattle.cluster.specs.declared.choices.Choice.{Choice}
+use Rattle.cluster.specs.declared.choices.Choice.TheVariants.{Idle, Act}
+use Rattle.cluster.specs.declared.ids.Element.{Element}
 use Rattle.catalogue.specs.Instance.{Instance, IsInstance}
 use Rattle.slices.specs.declared.slice.Weight.{Weight}
 use Rattle.slices.specs.declared.slice.Weight.TheVariants.{Amount, Presence, Image}
+use Rattle.slices.specs.Actions.{end_of, is_legal}
 use Rattle.slices.specs.Limits.{max_held}
 use Rattle.slices.specs.Snapshots.{held_at}
 use Rattle.slices.specs.Stages.{Nodes}
-use Rattle.slices.proofs.Public.{held_is_small}
+use Rattle.slices.proofs.Public.{held_is_small, legal_acts_last}
 use Rattle.domains.specs.Laws.{is_above_none}
 use Rattle.domains.specs.Sets.{surely}
 
@@ -50,3 +54,19 @@ none_is_empty f (c ∷ cs) h = cc
 pub some_is_not : (f : Choice → ℕ) (cs : List Choice) (n : ℕ) → lowest f cs ≡ Some n → cs ≢ []
 some_is_not f [] n h = λ e. cc
 some_is_not f (c ∷ cs) n h = λ e. cc
+
+-- ---- ends
+
+-- a legal choice ends by the horizon
+end-small : (p : Instance) → IsInstance p → (e : Element) (c : Choice) → IsTrue (is_legal p e c) → end_of p e c ≤ p.horizon
+unfolding end_of
+end-small p sound e Idle legal = omega arith
+end-small p sound e (Act place s) legal = (legal_acts_last p sound e place s legal).1
+
+-- and so does the one that ends first
+pub least_end_small : (p : Instance) → IsInstance p → (e : Element) (cs : List Choice) (n : ℕ) → ((c : Choice) → Contains cs c → IsTrue (is_legal p e c)) → lowest (end_of p e) cs ≡ Some n → n ≤ p.horizon
+least_end_small p sound e [] n legal h = cc
+least_end_small p sound e (c ∷ cs) n legal h =
+    let first = end-small p sound e c (legal c (0, omega arith, refl)) in
+    let is : lower (end_of p e c) (lowest (end_of p e) cs) ≡ n = cc in
+    omega (arith, lower_le (end_of p e c) (lowest (end_of p e) cs))

@@ -1,1 +1,5 @@
+mod AwayLemmas
 mod LeastLemmas
+mod MemberLemmas
+mod PlanLemmas
+mod StartLemmas

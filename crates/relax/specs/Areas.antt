@@ -1,8 +1,12 @@
 -- Sets of nodes as they are asked for, and what may be asked.
-use Rattle.std.specs.Prelude.{◌≡◌, ◌<◌, not, length, IsTrue}
+use Rattle.std.specs.Prelude.{◌≡◌, ◌<◌, Bool, false, not, length, IsTrue}
 use Rattle.std.specs.List.{Contains}
 use Rattle.cluster.specs.declared.choices.Choice.{Choice}
+use Rattle.cluster.specs.declared.choices.Choice.TheVariants.{Idle, Act}
+use Rattle.cluster.specs.declared.choices.Place.TheVariants.{Nowhere, At}
 use Rattle.cluster.specs.declared.ids.Element.{Element}
+use Rattle.cluster.specs.declared.states.State.{State}
+use Rattle.cluster.specs.declared.states.State.TheVariants.{Init, Ready as IsReady, Running as Runs, Sleeping as Sleeps, Gone}
 use Rattle.cluster.specs.Sets.{has_node}
 use Rattle.catalogue.specs.Instance.{Instance, IsElement}
 use Rattle.slices.specs.declared.slice.Weight.{Weight}
@@ -37,3 +41,19 @@ pub record IsSized (p : Instance) (g : RegionView) : Type 0 where
 -- each choice of an element of the instance is legal
 abbrev pub AreLegal : Instance → Sets → Type 0
 AreLegal p s = (e : Element) → IsElement p e → (c : Choice) → Contains (s e) c → IsTrue (is_legal p e c)
+
+-- ---- where a machine may hold something: on its host, and where it goes
+
+-- its host, if it has one, is in the set
+abbrev pub hosted_in : State → Nodes → Bool
+hosted_in (Runs h) set = set h.0
+hosted_in (Sleeps h) set = set h.0
+hosted_in Init set = false
+hosted_in IsReady set = false
+hosted_in Gone set = false
+
+-- the choice acts at a node of the set
+abbrev pub goes_in : Choice → Nodes → Bool
+goes_in Idle set = false
+goes_in (Act Nowhere start) set = false
+goes_in (Act (At n) start) set = set n.0

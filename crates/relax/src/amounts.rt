@@ -1,5 +1,5 @@
 //! Reasons of sums: more of something than there may be.
-ghost use Rattle.std.specs.Prelude.{◌≡◌, ◌↔◌, ℕ, ◌<◌, ◌≤◌, length, filter, nat_lt, IsTrue, IfSome, Option as AnyOption, IsSomeAnd};
+ghost use Rattle.std.specs.Prelude.{◌≡◌, ◌↔◌, ℕ, ◌<◌, ◌≤◌, true, length, filter, nat_lt, IsTrue, IfSome, IsSomeAnd};
 ghost use Rattle.std.specs.List.{list_all};
 ghost use Rattle.cluster.specs.Limits.{max_nodes};
 ghost use Rattle.cluster.specs.Sets.{has_node};

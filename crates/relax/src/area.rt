@@ -1,5 +1,6 @@
 //! Sets of nodes as looks ask for them.
 ghost use Rattle.std.specs.Prelude.{◌≡◌};
+ghost use Rattle.slices.specs.Elements.{node_count};
 ghost use Rattle.relax.specs.Areas.{nodes_of};
 
 use catalogue::problem::Problem;
@@ -27,4 +28,11 @@ pub fn has(p: &Problem, area: &Area, n: NodeId) -> bool
         Area::OutsideOne(m) => n.0 != m.0,
         Area::Outside(set) => !set.has(n),
     }
+}
+
+/// How many nodes there are.
+pub(crate) fn node_total(p: &Problem) -> usize
+    ensures { result ≡ node_count p.now.given }
+{
+    p.cluster().nodes().len()
 }

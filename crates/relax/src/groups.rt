@@ -14,7 +14,7 @@ ghost use Rattle.reasons.specs.Sure.{sure};
 ghost use Rattle.relax.specs.Areas.{IsSized, nodes_of};
 ghost use Rattle.relax.specs.Members.{AreAllOut, IsOneIn};
 
-use crate::area::Area;
+use crate::area::{Area, node_total};
 use crate::sure::{surely_in, surely_so_far};
 use catalogue::constraint::Constraint;
 use catalogue::problem::Problem;
@@ -58,7 +58,8 @@ fn are_apart(p: &Problem, view: &View, machines: &[VmId], t: Instant) -> bool
     ensures no { result ≡ false → ¬ AreScattered (sure p.now.given (seen view.now.region.now view.now.lens) t) machines.now (map one (range_with_len 0 (node_count p.now.given))) }
 {
     let mut last = 0;
-    for n in 0..p.cluster().nodes().len() {
+    let count = node_total(p);
+    for n in 0..count {
         match find_in(
             p,
             view,
@@ -71,7 +72,7 @@ fn are_apart(p: &Problem, view: &View, machines: &[VmId], t: Instant) -> bool
             Some(i) => last = i,
         }
     }
-    !p.cluster().nodes().is_empty()
+    count > 0
 }
 
 // whether no group may have all presences of the machines
@@ -88,7 +89,7 @@ fn are_outside(p: &Problem, view: &View, machines: &[VmId], groups: &[NodeSet], 
             Some(i) => last = i,
         }
     }
-    !groups.is_empty()
+    groups.len() > 0
 }
 
 // whether there is no machine, or this one

@@ -1,20 +1,22 @@
 //! What can be asked of one choice, as measures: over the starts at one place each is least at the first or the last.
-ghost use Rattle.std.specs.Prelude.{◌≡◌, ◌≤◌, ◌+◌, ◌^◌, ℕ};
+ghost use Rattle.std.specs.Prelude.{◌≡◌, ◌≤◌, ◌+◌, ◌^◌, ℕ, false};
 ghost use Rattle.cluster.specs.Limits.{max_amount};
 ghost use Rattle.catalogue.specs.Instance.{IsElement};
 ghost use Rattle.slices.specs.Actions.{end_of};
-ghost use Rattle.slices.specs.Elements.{node, vm};
+ghost use Rattle.slices.specs.Elements.{node, state_of, vm};
 ghost use Rattle.slices.specs.Ends.{action_count, powered_count, unusable_count};
 ghost use Rattle.slices.specs.Holdings.{amount_in, count_in, image_in};
 ghost use Rattle.slices.specs.Limits.{max_action};
 ghost use Rattle.slices.specs.Snapshots.{held_at};
+ghost use Rattle.slices.specs.declared.slice.Weight.{Weight as AnyWeight};
 ghost use Rattle.slices.specs.declared.slice.Weight.TheVariants.{Amount as AmountOf};
-ghost use Rattle.relax.specs.Areas.{IsWeight, nodes_of};
+ghost use Rattle.relax.specs.Areas.{IsWeight, goes_in as the_goes_in, hosted_in, nodes_of};
 
 use crate::area::{Area, has};
 use catalogue::problem::Problem;
-use cluster::choices::{Choice, Instant};
+use cluster::choices::{Choice, Instant, Place};
 use cluster::ids::{Element, NodeId, VmId};
+use cluster::states::State;
 use domains::measure::Measure;
 use slices::actions::{duration, kind_of};
 use slices::choice::{action, holding, powered, usable};
@@ -57,12 +59,53 @@ fn image_on(p: &Problem, area: &Area, image: Option<NodeId>) -> u64
     }
 }
 
+fn is_hosted_in(p: &Problem, state: State, area: &Area) -> bool
+    ensures { result ≡ hosted_in state (nodes_of p.now.given area.now) }
+{
+    match state {
+        State::Running(h) | State::Sleeping(h) => has(p, area, h),
+        State::Init | State::Ready | State::Gone => false,
+    }
+}
+
+fn goes_in(p: &Problem, c: Choice, area: &Area) -> bool
+    ensures { result ≡ the_goes_in c (nodes_of p.now.given area.now) }
+{
+    match c {
+        Choice::Idle => false,
+        Choice::Act { place, start: _ } => match place {
+            Place::Nowhere => false,
+            Place::At(n) => has(p, area, n),
+        },
+    }
+}
+
+// the state of a machine at present
+fn state(p: &Problem, v: VmId) -> State
+    requires { IsElement p.now.given (Element.Vm v) }
+    ensures { result ≡ state_of p.now.given v.0 }
+{
+    p.cluster().machines()[v.0 as usize].state
+}
+
+// whether a machine is hosted in an area or goes there, as it does where it holds something there; this
+// is told without the kind of its action
+fn is_near(p: &Problem, v: VmId, area: &Area, c: Choice) -> bool
+    requires { IsElement p.now.given (Element.Vm v) }
+    ensures { result ≡ false → (w : AnyWeight) (t : ℕ) → held_at p.now.given v.0 w (nodes_of p.now.given area.now) t c ≡ 0 }
+{
+    is_hosted_in(p, state(p, v), area) || goes_in(p, c, area)
+}
+
 /// What a machine holds on the nodes of an area at an instant of a choice.
 pub fn held(p: &Problem, v: VmId, weight: Weight, area: &Area, c: Choice, t: Instant) -> u64
     requires machine { IsElement p.now.given (Element.Vm v) }
     requires weight { IsWeight p.now.given weight }
     ensures { result ≡ held_at p.now.given v.0 weight (nodes_of p.now.given area.now) t c }
 {
+    if !is_near(p, v, area, c) {
+        return 0;
+    }
     let now = holding(p, v, c, t);
     match weight {
         Weight::Amount(r) => amount_on(p, v, r, area, now.source)

@@ -1,5 +1,7 @@
 //! The plan of a region that is fixed.
-ghost use Rattle.std.specs.Prelude.{◌≡◌, ◌∷◌, [], length, IfOk};
+ghost use Rattle.std.specs.Prelude.{◌≡◌, ℕ, ◌<◌, ◌∷◌, [], length, slice_index_or, IfOk};
+ghost use Rattle.cluster.specs.Elements.{element_at, element_count};
+ghost use Rattle.catalogue.specs.Instance.{inventory_of};
 ghost use Rattle.slices.specs.Plans.{IsPlanOf, choices_of};
 ghost use Rattle.domains.specs.Sets.{HasElement, IsFixed, IsOnly, sets};
 ghost use Rattle.relax.specs.Areas.{AreLegal, IsSized};
@@ -21,12 +23,23 @@ pub fn plan_of(alloc: Global, p: &Problem, g: &Region) -> Result<Plan, Memory>
     ensures plan { IfOk result (IsPlanOf p.now.given) }
     ensures only { IfOk result (λ plan. IsOnly (sets g.now) (choices_of plan)) }
 {
+    let choices = only_choices(alloc, p, g)?;
+    Ok(Plan::idle_or(p, choices))
+}
+
+// the one choice of each element, in the order of the elements
+fn only_choices(alloc: Global, p: &Problem, g: &Region) -> Result<Vec<Choice>, Memory>
+    requires region { IsSized p.now.given g.now }
+    requires fixed { IsFixed g.now }
+    ensures count { IfOk result (λ cs. length cs.items ≡ element_count (inventory_of p.now.given)) }
+    ensures each { IfOk result (λ cs. (x : ℕ) → x < element_count (inventory_of p.now.given) → sets g.now (element_at (inventory_of p.now.given) x) ≡ slice_index_or cs.items x Choice.Idle ∷ []) }
+{
     let count = p.cluster().element_count();
     let mut choices = Vec::with_capacity(alloc, count)?;
     for x in 0..count {
         choices.push(only_choice(g, p.cluster().element(x)))?;
     }
-    Ok(Plan::idle_or(p, choices))
+    Ok(choices)
 }
 
 // the one choice of an element

@@ -11,6 +11,7 @@ ghost use Rattle.reasons.specs.Start.{start_sets};
 ghost use Rattle.relax.specs.Areas.{IsSized};
 ghost use Rattle.relax.specs.Rows.{rows_of};
 
+use crate::area::node_total;
 use catalogue::problem::Problem;
 use cluster::choices::{Choice, Place};
 use cluster::ids::{Element, NodeId, VmId};
@@ -64,7 +65,7 @@ fn legal_domain(alloc: Global, p: &Problem, e: Element) -> Result<Domain, Memory
 {
     let mut domain = Domain::new(alloc, is_legal(p, e, Choice::Idle));
     add_row(&mut domain, legal_row(p, e, Place::Nowhere))?;
-    for n in 0..p.cluster().nodes().len() {
+    for n in 0..node_total(p) {
         add_row(&mut domain, legal_row(p, e, Place::At(NodeId(n as u32))))?;
     }
     Ok(domain)

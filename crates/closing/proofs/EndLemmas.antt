@@ -1,0 +1,97 @@
+-- Ends of choices by rows, and the instants at which they start.
+use Rattle.std.proofs.Common.{◌≡◌, ◌⊎◌, inl, inr, ℕ, zero, suc, ◌+◌, ◌<◌, ◌≤◌, Bool, true, Some, List, [], ◌∷◌, length, slice_index_or, refl, sym, ap, arith}
+use Rattle.std.specs.List.{Contains}
+use Rattle.std.proofs.lemmas.Bool.{cases_lt}
+use Rattle.std.proofs.lemmas.List.{get_or_past}
+use Rattle.cluster.specs.declared.choices.Choice.{Choice}
+use Rattle.cluster.specs.declared.choices.Choice.TheVariants.{Idle, Act}
+use Rattle.cluster.specs.declared.choices.Place.{Place}
+use Rattle.cluster.specs.declared.ids.Element.{Element}
+use Rattle.cluster.specs.declared.ids.Element.TheVariants.{Vm, Node as TheNode}
+use Rattle.catalogue.specs.Instance.{Instance, IsElement}
+use Rattle.slices.specs.Elements.{machine_count, node_count, node, vm}
+use Rattle.slices.specs.Starts.{start_of}
+use Rattle.domains.specs.Choices.{DomainView, Climbs, choices, no_row, staying}
+use Rattle.domains.specs.declared.parts.Row.{Row}
+use Rattle.domains.specs.Sets.{RegionView, sets}
+use Rattle.reasons.specs.Closed.{IsEnd}
+use Rattle.reasons.specs.Quiet.{AreOf, IsTurn}
+use Rattle.reasons.specs.Regions.{row_at}
+use Rattle.reasons.proofs.Public.{end_is_choice, ends_of_rows}
+use Rattle.relax.specs.Areas.{IsSized}
+use Rattle.closing.specs.Parts.{AreRowsPast, FailAtEnds, FailAtRow, FailAtRows, IsEndThat, IsRowEndThat, StartsPast}
+
+-- ---- tests at ends
+
+fails-at_rows : (P : Choice → Type 0) (d : DomainView) → Climbs 0 d.rows → FailAtRows P d.idle d.rows (length d.rows) → FailAtEnds P (choices d)
+fails-at_rows P d climbs f = record { ends = at }
+  where
+    by : (q : Place) (s i : ℕ) → i < length d.rows → (row_at d i).place ≡ q → ((row_at d i).lo ≡ s) ⊎ ((row_at d i).hi ≡ s) → ¬ P (Act q s)
+    by q s i h e (inl low) = rw (← e, ← low) (f.at_row i h).lo
+    by q s i h e (inr high) = rw (← e, ← high) (f.at_row i h).hi
+
+    at : (c : Choice) → IsEnd (choices d) c → ¬ P c
+    at Idle end = f.at_idle ((ends_of_rows d climbs Idle).0 end)
+    at (Act q s) end = let r = (ends_of_rows d climbs (Act q s)).0 end in by q s r.0 r.1 r.2 r.3
+
+pub fails_of_rows : (P : Choice → Type 0) (d : DomainView) (idle : Bool) (rows : List Row) → idle ≡ d.idle → rows ≡ d.rows → Climbs 0 rows → FailAtRows P idle rows (length rows) → FailAtEnds P (choices d)
+fails_of_rows P d idle rows same_idle same climbs h = fails-at_rows P d (rw same at climbs) (rw (same_idle, same) at h)
+
+end-of_row : (P : Choice → Type 0) (d : DomainView) (i : ℕ) (c : Choice) → Climbs 0 d.rows → i < length d.rows → IsRowEndThat P (row_at d i) c → IsEndThat P (choices d) c
+end-of_row P d i c climbs h end = record { is_end = at c end.is_end; passes = end.passes }
+  where
+    at : (c : Choice) → (c ≡ Act (row_at d i).place (row_at d i).lo) ⊎ (c ≡ Act (row_at d i).place (row_at d i).hi) → IsEnd (choices d) c
+    at c (inl e) = rw e ((ends_of_rows d climbs (Act (row_at d i).place (row_at d i).lo)).1 (i, h, refl, inl refl))
+    at c (inr e) = rw e ((ends_of_rows d climbs (Act (row_at d i).place (row_at d i).hi)).1 (i, h, refl, inr refl))
+
+pub row_is_end : (P : Choice → Type 0) (d : DomainView) (rows : List Row) (i : ℕ) (c : Choice) → rows ≡ d.rows → Climbs 0 rows → i < length rows → IsRowEndThat P (slice_index_or rows i no_row) c → IsEndThat P (choices d) c
+row_is_end P d rows i c same climbs h end = end-of_row P d i c (rw same at climbs) (rw same at h) (rw same at end)
+
+pub idle_is_end : (P : Choice → Type 0) (d : DomainView) (rows : List Row) → rows ≡ d.rows → Climbs 0 rows → d.idle ≡ true → P Idle → IsEndThat P (choices d) Idle
+idle_is_end P d rows same climbs idle passes = record { is_end = (ends_of_rows d (rw same at climbs) Idle).1 idle; passes = passes }
+
+-- ---- instants
+
+past_at_rows : (d : DomainView) (a b : ℕ) → Climbs 0 d.rows → AreRowsPast a b (length d.rows) d.rows → StartsPast (choices d) a b
+past_at_rows d a b climbs rows = record { past = at }
+  where
+    at : (c : Choice) (t : ℕ) → IsEnd (choices d) c → start_of c ≡ Some t → a < t → b ≤ t
+    at Idle t end starts later = cc
+    at (Act q s) t end starts later =
+        let same : s ≡ t = cc in
+        let r = (ends_of_rows d climbs (Act q s)).0 end in
+        elim r.3 [
+          | inl low ↦ omega (arith, low, same, later, rows.lo r.0 r.1 (omega (arith, low, same, later)))
+          | inr high ↦ omega (arith, high, same, later, rows.hi r.0 r.1 (omega (arith, high, same, later)))
+        ]
+
+pub past_of_rows : (d x : DomainView) (rows : List Row) (a b : ℕ) → x ≡ d → rows ≡ x.rows → Climbs 0 rows → AreRowsPast a b (length rows) rows → StartsPast (choices d) a b
+past_of_rows d x rows a b is same climbs past = rw is at (past_at_rows x a b (rw same at climbs) (rw same at past))
+
+pub sized_is_of : (p : Instance) (g : RegionView) → IsSized p g → AreOf p (sets g)
+sized_is_of p g is (Vm v) =
+    elim (cases_lt v.0 (machine_count p)) [
+      | inl there ↦ inl there
+      | inr past ↦ inr (ap choices (get_or_past g.machines v.0 staying (omega (arith, is.machines, past))))
+    ]
+sized_is_of p g is (TheNode n) =
+    elim (cases_lt n.0 (node_count p)) [
+      | inl there ↦ inl there
+      | inr past ↦ inr (ap choices (get_or_past g.nodes n.0 staying (omega (arith, is.nodes, past))))
+    ]
+
+-- who can only stay starts at no instant
+staying-never : (c : Choice) (t : ℕ) → Contains (Idle ∷ []) c → start_of c ≡ Some t → ⊥
+staying-never Idle t h starts = cc
+staying-never (Act q s) t (zero, h, e) starts = cc
+staying-never (Act q s) t (suc k, h, e) starts = absurd (omega (arith, h))
+
+pub no_turn : (p : Instance) (g : RegionView) (after next : ℕ) → IsSized p g → (after < p.horizon → next ≤ p.horizon) → next ≤ p.horizon + 1 → ((v : ℕ) → v < machine_count p → StartsPast (sets g (vm v)) after next) → ((n : ℕ) → n < node_count p → StartsPast (sets g (node n)) after next) → (t : ℕ) → after < t → t < next → ¬ IsTurn p (sets g) t
+no_turn p g after next is last most machines nodes t later sooner (inl first) = omega (arith, first, later)
+no_turn p g after next is last most machines nodes t later sooner (inr (inl e)) = let le = last (omega (arith, e, later)) in omega (arith, le, e, sooner)
+no_turn p g after next is last most machines nodes t later sooner (inr (inr x)) = at x.element x.choice x.is_end x.starts (sized_is_of p g is x.element)
+  where
+    at : (e : Element) (c : Choice) → IsEnd (sets g e) c → start_of c ≡ Some t → IsElement p e ⊎ (sets g e ≡ Idle ∷ []) → ⊥
+    at (Vm v) c end starts (inl there) = let le = (machines v.0 there).past c t end starts later in omega (arith, le, sooner)
+    at (TheNode n) c end starts (inl there) = let le = (nodes n.0 there).past c t end starts later in omega (arith, le, sooner)
+    at e c end starts (inr idle) = staying-never c t (rw idle at (end_is_choice (sets g e) c end)) starts

@@ -1,0 +1,4 @@
+mod EndLemmas
+mod MostLemmas
+mod SumLemmas
+mod UsableLemmas

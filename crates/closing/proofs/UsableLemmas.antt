@@ -1,0 +1,131 @@
+-- When a node is needed and not usable, with one element set.
+use Rattle.std.proofs.Common.{◌≡◌, ◌≢◌, ◌⊎◌, inl, inr, ℕ, ◌<◌, ◌||◌, Bool, true, false, nat_lt, IsTrue, refl, sym, ap, subst, ◌∙◌, arith}
+use Rattle.std.proofs.lemmas.Bool.{cases_eq, false≢true}
+use Rattle.std.proofs.lemmas.Bool.Decides.{nat_tests}
+use Rattle.cluster.specs.declared.choices.Choice.{Choice}
+use Rattle.cluster.specs.declared.ids.VmId.{VmId}
+use Rattle.cluster.specs.declared.ids.NodeId.{NodeId}
+use Rattle.cluster.specs.declared.ids.Element.{Element}
+use Rattle.cluster.specs.declared.ids.Element.TheVariants.{Vm, Node as TheNode}
+use Rattle.catalogue.specs.Instance.{Instance, IsElement}
+use Rattle.slices.specs.declared.slice.Weight.TheVariants.{Image, Presence}
+use Rattle.slices.specs.Elements.{machine_count, node_count, node, vm}
+use Rattle.slices.specs.Snapshots.{Snapshot, held_at, stands_on}
+use Rattle.slices.specs.Stages.{one}
+use Rattle.domains.specs.Sets.{Sets, setting}
+use Rattle.reasons.specs.Closed.{IsEnd}
+use Rattle.reasons.specs.Settings.{IsMachineUnder, IsSameMachine, IsSet}
+use Rattle.reasons.specs.Sure.{sure}
+use Rattle.reasons.proofs.Public.{setting_sets}
+use Rattle.closing.specs.Kinds.{IsNeeded}
+use Rattle.closing.specs.Looks.{IsFreeOf, IsMetWith}
+use Rattle.closing.specs.Parts.{FailAtEnds, IsEndThat, IsNotUsable, StandsUnder}
+
+either : (x y : ℕ) → IsTrue (nat_lt 0 x || nat_lt 0 y) → (0 < x) ⊎ (0 < y)
+either x y h =
+    elim (cases_eq x 0) [
+      | inr some ↦ inl (omega (arith, some))
+      | inl none ↦ elim (cases_eq y 0) [ inr some ↦ inr (omega (arith, some)) | inl nil ↦ absurd (false≢true (rw (none, nil) at h)) ]
+    ]
+
+some : (x y : ℕ) → (0 < x) ⊎ (0 < y) → IsTrue (nat_lt 0 x || nat_lt 0 y)
+some x y (inl h) = grind (arith, nat_tests)
+some x y (inr h) = grind (arith, nat_tests)
+
+stands-same : (a b : Snapshot) (v n : ℕ) → IsSameMachine a b v → stands_on a v n ≡ stands_on b v n
+stands-same a b v n same = rw (same.present (one n), same.held Image (one n)) refl
+
+stands-under : (p : Instance) (a : Snapshot) (v n t : ℕ) (c : Choice) → IsMachineUnder p a v t c → IsTrue (stands_on a v n) → StandsUnder p v n t c
+stands-under p a v n t c under h = either (held_at p v Presence (one n) t c) (held_at p v Image (one n) t c) (rw (under.present (one n), under.held Image (one n)) at h)
+
+under-stands : (p : Instance) (a : Snapshot) (v n t : ℕ) (c : Choice) → IsMachineUnder p a v t c → StandsUnder p v n t c → IsTrue (stands_on a v n)
+under-stands p a v n t c under h = rw (under.present (one n), under.held Image (one n)) (some (held_at p v Presence (one n) t c) (held_at p v Image (one n) t c) h)
+
+other-vm : (v w : ℕ) → v ≢ w → vm v ≢ vm w
+other-vm v w ne e = ne (let same : record { 0 = v } ≡ (let x : VmId = record { 0 = w } in x) = cc in ap (λ (x : VmId). x.0) same)
+
+other-node : (m n : ℕ) → m ≢ n → node m ≢ node n
+other-node m n ne e = ne (let same : record { 0 = m } ≡ (let x : NodeId = record { 0 = n } in x) = cc in ap (λ (x : NodeId). x.0) same)
+
+module _ (p : Instance) (s : Sets) (n t : ℕ) where
+  abbrev NoneStands : Type 0
+  NoneStands = (v : ℕ) → v < machine_count p → stands_on (sure p s t) v n ≡ false
+
+  not-standing : (b : Bool) → b ≡ false → IsTrue b → ⊥
+  not-standing b e h = false≢true (sym e ∙ h)
+
+  -- where no machine stands, and none does with an end
+  pub nowhere_free : NoneStands → ((v : ℕ) → v < machine_count p → FailAtEnds (StandsUnder p v n t) (s (vm v))) → IsFreeOf (IsNeeded p n) p s t
+  nowhere_free none fail = record { base = λ x. not-standing _ (none x.0 x.1) x.2.stands; ends = at }
+    where
+      at : (e : Element) (c : Choice) → IsElement p e → IsEnd (s e) c → ¬ IsNeeded p n (sure p (setting e c s) t)
+      at (Vm v) c h end x =
+          elim (cases_eq x.0 v.0) [
+            | inl same ↦
+                (fail v.0 h).ends c end
+                (stands-under p (sure p (setting (vm v.0) c s) t) v.0 n t c ((setting_sets p s (vm v.0) c t).set_machine v.0 refl)
+                (rw same at x.2.stands))
+            | inr ne ↦
+                not-standing _
+                (stands-same (sure p (setting (vm v.0) c s) t) (sure p s t) x.0 n ((setting_sets p s (vm v.0) c t).other_machines x.0 (other-vm x.0 v.0 ne))
+                ∙ none x.0 x.1) x.2.stands
+          ]
+      at (TheNode m) c h end x =
+          not-standing _
+          (stands-same (sure p (setting (node m.0) c s) t) (sure p s t) x.0 n ((setting_sets p s (node m.0) c t).other_machines x.0 (λ e. cc)) ∙ none x.0 x.1)
+          x.2.stands
+
+  -- where the node is surely not usable, and a machine stands there with an end
+  pub stands_met : (sure p s t).usable n ≡ false → (v : ℕ) → v < machine_count p → (c : Choice) → IsEndThat (StandsUnder p v n t) (s (vm v)) c → IsMetWith (IsNeeded p n) p s t (vm v) c
+  stands_met off v h c end = record {
+    element = h;
+    is_end = end.is_end;
+    is_met = (
+      v,
+      h,
+      record {
+        stands = under-stands p (sure p (setting (vm v) c s) t) v n t c ((setting_sets p s (vm v) c t).set_machine v refl) end.passes;
+        unusable = ((setting_sets p s (vm v) c t).other_nodes n (λ e. cc)).usable ∙ off;
+      },
+    );
+  }
+
+  -- where the node may be usable, and is with each of its ends
+  pub usable_free : IsTrue ((sure p s t).usable n) → FailAtEnds (IsNotUsable p n t) (s (node n)) → IsFreeOf (IsNeeded p n) p s t
+  usable_free on fail = record { base = λ x. not-standing _ x.2.unusable on; ends = at }
+    where
+      at : (e : Element) (c : Choice) → IsElement p e → IsEnd (s e) c → ¬ IsNeeded p n (sure p (setting e c s) t)
+      at (Vm v) c h end x = not-standing _ (sym ((setting_sets p s (vm v.0) c t).other_nodes n (λ e. cc)).usable ∙ x.2.unusable) on
+      at (TheNode m) c h end x =
+          elim (cases_eq n m.0) [
+            | inl same ↦
+                (rw same at fail).ends c end
+                (rw (← same) (sym ((setting_sets p s (node m.0) c t).set_node n (ap (λ (k : ℕ). node k) (sym same))).usable ∙ x.2.unusable))
+            | inr ne ↦ not-standing _ (sym ((setting_sets p s (node m.0) c t).other_nodes n (other-node n m.0 ne)).usable ∙ x.2.unusable) on
+          ]
+
+  -- where the node may be usable, and no machine stands there
+  pub unneeded_free : IsTrue ((sure p s t).usable n) → NoneStands → IsFreeOf (IsNeeded p n) p s t
+  unneeded_free on none = record { base = λ x. not-standing _ x.2.unusable on; ends = at }
+    where
+      at : (e : Element) (c : Choice) → IsElement p e → IsEnd (s e) c → ¬ IsNeeded p n (sure p (setting e c s) t)
+      at (Vm v) c h end x = not-standing _ (sym ((setting_sets p s (vm v.0) c t).other_nodes n (λ e. cc)).usable ∙ x.2.unusable) on
+      at (TheNode m) c h end x =
+          not-standing _
+          (stands-same (sure p (setting (node m.0) c s) t) (sure p s t) x.0 n ((setting_sets p s (node m.0) c t).other_machines x.0 (λ e. cc)) ∙ none x.0 x.1)
+          x.2.stands
+
+  -- where a machine stands there, and the node is not usable with an end
+  pub missed_met : n < node_count p → (v : ℕ) × (v < machine_count p) × IsTrue (stands_on (sure p s t) v n) → (c : Choice) → IsEndThat (IsNotUsable p n t) (s (node n)) c → IsMetWith (IsNeeded p n) p s t (node n) c
+  missed_met h x c end = record {
+    element = h;
+    is_end = end.is_end;
+    is_met = (
+      x.0,
+      x.1,
+      record {
+        stands = stands-same (sure p (setting (node n) c s) t) (sure p s t) x.0 n ((setting_sets p s (node n) c t).other_machines x.0 (λ e. cc)) ∙ x.2;
+        unusable = ((setting_sets p s (node n) c t).set_node n refl).usable ∙ end.passes;
+      },
+    );
+  }

@@ -1,0 +1,127 @@
+-- The watches: the load of one node and of all nodes, each constraint, and whether a node that is needed is usable.
+use Rattle.std.specs.Prelude.{◌≡◌, ◌⊎◌, ℕ, ◌<◌, ◌||◌, Bool, List, length, slice_get, Option, Some, None, IsTrue, IsSomeAnd}
+use Rattle.cluster.specs.Sets.{has_node}
+use Rattle.catalogue.specs.declared.constraint.Constraint.{Constraint}
+use Rattle.catalogue.specs.declared.constraint.Constraint.TheVariants.{Spread, Ban, Fence, Gather, Lonely, Among, Split, Root, Precedence, Serialize, Preserve, ResourceCapacity, RunningCapacity, MaxOnline, Overbook, Online, Offline, Running, Sleeping, Ready, Killed}
+use Rattle.catalogue.specs.Instance.{Instance}
+use Rattle.catalogue.specs.Kinds.{is_continuous}
+use Rattle.slices.specs.declared.slice.Weight.{Weight}
+use Rattle.slices.specs.declared.slice.Weight.TheVariants.{Amount, Presence, Image}
+use Rattle.slices.specs.Elements.{machine_count, node_count}
+use Rattle.slices.specs.Holds.{IsInPart, IsMember}
+use Rattle.slices.specs.Snapshots.{Snapshot}
+use Rattle.slices.specs.Stages.{Nodes, one}
+use Rattle.reasons.specs.Closed.{all_nodes}
+use Rattle.reasons.specs.Reasons.{IsGroup, IsOverload, IsPair, IsPlace, IsPower, IsSetLoad, IsUnusable}
+use Rattle.closing.specs.Watches.{Scope, Watch}
+
+-- ---- loads
+
+-- of some resource the uses on the nodes of a set exceed the capacities of those that are usable
+abbrev pub IsOverloaded : Instance → Nodes → Snapshot → Type 0
+IsOverloaded p set s = (r : ℕ) × (r < length p.resources) × IsOverload p s r set
+
+-- what machines use on the set, and which of its nodes are usable
+abbrev pub load_scope : Nodes → Scope
+load_scope set = record {
+  held = λ v w nodes. (r : ℕ) × (w ≡ Amount r) × (nodes ≡ set);
+  present = λ v nodes. ⊥;
+  usable = λ n. IsTrue (set n);
+  powered = λ n. ⊥;
+  action = λ v far. ⊥;
+}
+
+abbrev pub load_on : Instance → Nodes → Watch
+load_on p set = record { scope = load_scope set; broken = λ s last. IsOverloaded p set s }
+
+-- the load of one node, and that of all nodes together
+abbrev pub load_watch : Instance → ℕ → Watch
+load_watch p n = load_on p (one n)
+
+abbrev pub total_load_watch : Instance → Watch
+total_load_watch p = load_on p (all_nodes p)
+
+-- ---- usable nodes
+
+-- some machine is on the node or has its image there, and the node is not usable
+abbrev pub IsNeeded : Instance → ℕ → Snapshot → Type 0
+IsNeeded p n s = (v : ℕ) × (v < machine_count p) × IsUnusable s v n
+
+abbrev pub usable_watch : Instance → ℕ → Watch
+usable_watch p n = record {
+  scope = record {
+    held = λ v w nodes. (w ≡ Image) × (nodes ≡ one n);
+    present = λ v nodes. nodes ≡ one n;
+    usable = λ m. m ≡ n;
+    powered = λ m. ⊥;
+    action = λ v far. ⊥;
+  };
+  broken = λ s last. IsNeeded p n s;
+}
+
+-- ---- constraints
+
+-- two machines of the instance that the constraint keeps apart are on one of its nodes
+abbrev pub HasPair : Instance → Snapshot → Constraint → Type 0
+HasPair p s k =
+    (v : ℕ) × (w : ℕ) × (n : ℕ) × (v < machine_count p) × (w < machine_count p) × (n < node_count p) × IsPair p s k v w n
+
+-- a machine is on a node where the constraint lets it not be
+abbrev pub HasPlace : Instance → Snapshot → Constraint → Type 0
+HasPlace p s k = (v : ℕ) × (n : ℕ) × (v < machine_count p) × (n < node_count p) × IsPlace p s k v n
+
+-- by one of the five kinds of reasons that constraints give
+abbrev pub IsBroken : Instance → Snapshot → Constraint → Type 0
+IsBroken p s k = HasPair p s k ⊎ (HasPlace p s k ⊎ (IsGroup p s k ⊎ (IsSetLoad p s k ⊎ IsPower p s k)))
+
+abbrev pub nothing : Scope
+nothing = record { held = λ v w nodes. ⊥; present = λ v nodes. ⊥; usable = λ n. ⊥; powered = λ n. ⊥; action = λ v far. ⊥ }
+
+-- where the machines are that pass a test; how far their actions are; what all machines hold on a set of nodes
+abbrev pub presences_of : (ℕ → Type 0) → Scope
+presences_of passes = record { held = λ v w nodes. ⊥; present = λ v nodes. passes v; usable = λ n. ⊥; powered = λ n. ⊥; action = λ v far. ⊥ }
+
+abbrev pub actions_of : (ℕ → Type 0) → Scope
+actions_of passes = record { held = λ v w nodes. ⊥; present = λ v nodes. ⊥; usable = λ n. ⊥; powered = λ n. ⊥; action = λ v far. passes v }
+
+abbrev pub weights_on : Weight → Nodes → Scope
+weights_on weight set =
+    record { held = λ v w nodes. (w ≡ weight) × (nodes ≡ set); present = λ v nodes. ⊥; usable = λ n. ⊥; powered = λ n. ⊥; action = λ v far. ⊥ }
+
+abbrev pub powered_in_set : Nodes → Scope
+powered_in_set set = record { held = λ v w nodes. ⊥; present = λ v nodes. ⊥; usable = λ n. ⊥; powered = λ n. IsTrue (set n); action = λ v far. ⊥ }
+
+-- what a constraint of each kind looks at
+abbrev pub scope_of : Constraint → Scope
+scope_of (Spread vs b) = presences_of (IsMember vs)
+scope_of (Ban vs ns b) = presences_of (IsMember vs)
+scope_of (Fence vs ns b) = presences_of (IsMember vs)
+scope_of (Gather vs b) = presences_of (IsMember vs)
+scope_of (Lonely vs b) = presences_of (λ v. Unit {0})
+scope_of (Among vs groups b) = presences_of (IsMember vs)
+scope_of (Split parts b) = presences_of (λ v. (i : ℕ) × IsInPart parts i v)
+scope_of (Root vs) = presences_of (IsMember vs)
+scope_of (Precedence before after) = actions_of (λ v. (v ≡ before.0) ⊎ (v ≡ after.0))
+scope_of (Serialize vs) = actions_of (IsMember vs)
+scope_of (Preserve vs r amount) = nothing
+scope_of (ResourceCapacity ns r amount b) = weights_on (Amount r) (has_node ns)
+scope_of (RunningCapacity ns amount b) = weights_on Presence (has_node ns)
+scope_of (MaxOnline ns amount b) = powered_in_set (has_node ns)
+scope_of (Overbook ns r num den) = nothing
+scope_of (Online ns) = nothing
+scope_of (Offline ns) = nothing
+scope_of (Running vs) = nothing
+scope_of (Sleeping vs) = nothing
+scope_of (Ready vs) = nothing
+scope_of (Killed vs) = nothing
+
+abbrev pub rule_watch : Instance → Constraint → Watch
+rule_watch p k = record { scope = scope_of k; broken = λ s last. IsTrue (is_continuous k || last) × IsBroken p s k }
+
+-- the constraint of a number, where there is one and it applies
+abbrev pub watch_of : Instance → Option Constraint → Watch
+watch_of p None = record { scope = nothing; broken = λ s last. ⊥ }
+watch_of p (Some k) = rule_watch p k
+
+abbrev pub constraint_watch : Instance → ℕ → Watch
+constraint_watch p c = watch_of p (slice_get p.constraints c)

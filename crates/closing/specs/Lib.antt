@@ -1,0 +1,8 @@
+-- what a reader must believe
+pub mod Watches
+pub mod Kinds
+pub mod Looks
+-- what the laws and the code say beside it
+pub mod Laws
+pub mod Parts
+pub mod Stands

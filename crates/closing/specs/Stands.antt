@@ -1,0 +1,65 @@
+-- Where machines surely are, and where they are under an end of their choices.
+use Rattle.std.specs.Prelude.{◌≡◌, ◌≢◌, ℕ, ◌<◌, Bool, true, false, ◌||◌, ◌==◌, List, [], Option, Some, None, IsTrue, slice_index_or}
+use Rattle.cluster.specs.declared.choices.Choice.{Choice}
+use Rattle.cluster.specs.declared.ids.NodeId.{NodeId}
+use Rattle.cluster.specs.declared.ids.VmId.{VmId}
+use Rattle.catalogue.specs.declared.constraint.Constraint.{Constraint}
+use Rattle.catalogue.specs.Instance.{Instance}
+use Rattle.slices.specs.Elements.{machine_count, node_count, vm}
+use Rattle.slices.specs.Holds.{ForbidsPlace, IsMember}
+use Rattle.slices.specs.Snapshots.{Snapshot, present_at}
+use Rattle.slices.specs.Stages.{Nodes, one}
+use Rattle.domains.specs.Sets.{Sets, setting}
+use Rattle.reasons.specs.Reasons.{IsGroup, IsPlace}
+use Rattle.reasons.specs.Sure.{sure}
+use Rattle.closing.specs.declared.stands.Stands.{Stands}
+use Rattle.closing.specs.declared.stands.Stands.TheVariants.{Everywhere, On}
+
+abbrev pub is_node : Option NodeId → ℕ → Bool
+is_node None n = false
+is_node (Some m) n = n == m.0
+
+-- the nodes on which a machine stands
+abbrev pub has_node_of : Stands → ℕ → Bool
+has_node_of Everywhere n = true
+has_node_of (On a b) n = is_node a n || is_node b n
+
+abbrev pub IsWithin : ℕ → Option NodeId → Type 0
+IsWithin nodes None = Unit {0}
+IsWithin nodes (Some n) = n.0 < nodes
+
+abbrev pub AreWithin : ℕ → Stands → Type 0
+AreWithin nodes Everywhere = Unit {0}
+AreWithin nodes (On a b) = IsWithin nodes a × IsWithin nodes b
+
+-- under the choice a machine is on a node of the set
+abbrev pub IsOn : Instance → ℕ → Nodes → ℕ → Choice → Type 0
+IsOn p v set t c = (n : ℕ) × (n < node_count p) × IsTrue (set n) × IsTrue (present_at p v (one n) t c)
+
+-- under the choice it is where the constraint lets it not be
+abbrev pub IsMisplaced : Instance → Constraint → ℕ → ℕ → Choice → Type 0
+IsMisplaced p k v t c = (n : ℕ) × (n < node_count p) × ForbidsPlace p k v n × IsTrue (present_at p v (one n) t c)
+
+-- a machine is where the constraint lets it not be
+abbrev pub IsPlacedBadly : Instance → Constraint → ℕ → Snapshot → Type 0
+IsPlacedBadly p k v s = (n : ℕ) × (n < node_count p) × IsPlace p s k v n
+
+-- two different machines are on one node
+abbrev pub ShareNode : Instance → ℕ → ℕ → Snapshot → Type 0
+ShareNode p v w s = (v ≢ w) × (n : ℕ) × (n < node_count p) × IsTrue (s.present v (one n)) × IsTrue (s.present w (one n))
+
+-- a machine of a list meets a condition
+abbrev pub IsAnyOf : List VmId → (ℕ → Snapshot → Type 0) → Snapshot → Type 0
+IsAnyOf vs met s = (v : ℕ) × IsMember vs v × met v s
+
+-- a machine is on one node with a machine of another part than that of a number
+abbrev pub MeetsOtherPart : Instance → List (List VmId) → ℕ → ℕ → Snapshot → Type 0
+MeetsOtherPart p parts i v s = (j : ℕ) × (i ≢ j) × IsAnyOf (slice_index_or parts j []) (ShareNode p v) s
+
+-- a machine is on one node with a machine of the instance that is not one of those that pass a test
+abbrev pub MeetsStranger : Instance → (ℕ → Bool) → ℕ → Snapshot → Type 0
+MeetsStranger p members v s = (w : ℕ) × (w < machine_count p) × (members w ≡ false) × ShareNode p v w s
+
+-- with a machine set to the choice, the condition of a constraint on whole groups is met
+abbrev pub IsGroupWith : Instance → Sets → Constraint → ℕ → ℕ → Choice → Type 0
+IsGroupWith p s k t v c = IsGroup p (sure p (setting (vm v) c s) t) k

@@ -1,0 +1,19 @@
+//! Closed regions: looks at all that can be broken in a region.
+#![tactic(auto)]
+
+mod above;
+mod capacities;
+pub mod closed;
+mod constraint;
+mod counts;
+mod each;
+mod ends;
+mod groups;
+mod loads;
+pub mod look;
+mod pairs;
+mod places;
+mod stands;
+mod turns;
+mod usable;
+pub mod watch;

@@ -1,0 +1,145 @@
+//! Single things that can be broken, looked at over a region: at one instant, and at all.
+ghost use Rattle.std.specs.Prelude.{◌≡◌, ℕ, ◌+◌, ◌<◌, ◌≤◌, length};
+ghost use Rattle.catalogue.specs.Instance.{Instance};
+ghost use Rattle.slices.specs.Elements.{node_count};
+ghost use Rattle.domains.specs.Sets.{sets};
+ghost use Rattle.relax.specs.Areas.{IsSized};
+ghost use Rattle.closing.specs.Kinds.{constraint_watch, load_watch, total_load_watch, usable_watch};
+ghost use Rattle.closing.specs.Looks.{IsFound, IsLook, broken_at};
+ghost use Rattle.closing.specs.Watches.{IsLocal, Watch};
+
+use crate::constraint::constraint_found;
+use crate::loads::load_found;
+use crate::look::Look;
+use crate::turns::next_turn;
+use crate::usable::usable_found;
+use catalogue::problem::Problem;
+use cluster::choices::Instant;
+use cluster::ids::NodeId;
+use domains::region::Region;
+use relax::area::Area;
+
+/// One thing that can be broken.
+pub trait Watched {
+    /// What of the problem a look needs.
+    ghost ready: { Self → Instance → Type 0 };
+
+    ghost watch: { Self → Instance → Watch };
+
+    /// A look at one instant.
+    fn found(&self, p: &Problem, g: &Region, t: Instant) -> Look
+        requires region { IsSized p.now.given g.now }
+        requires ready { ready self.now p.now.given }
+        requires within { t ≤ p.now.given.horizon }
+        ensures { IsFound (broken_at (watch self.now p.now.given) p.now.given t) p.now.given (sets g.now) t result };
+}
+
+/// The load of one node.
+#[derive(Clone, Copy)]
+pub struct NodeLoad(pub NodeId);
+
+impl Watched for NodeLoad {
+    ghost ready = { λ w p. w.0.0 < node_count p };
+
+    ghost watch = { λ w p. load_watch p w.0.0 };
+
+    fn found(&self, p: &Problem, g: &Region, t: Instant) -> Look {
+        load_found(p, g, &Area::One(self.0), t)
+    }
+}
+
+/// The load of all nodes together.
+#[derive(Clone, Copy)]
+pub struct TotalLoad;
+
+impl Watched for TotalLoad {
+    ghost ready = { λ w p. Unit {0} };
+
+    ghost watch = { λ w p. total_load_watch p };
+
+    fn found(&self, p: &Problem, g: &Region, t: Instant) -> Look {
+        load_found(p, g, &Area::All, t)
+    }
+}
+
+/// Whether one node is usable where it is needed.
+#[derive(Clone, Copy)]
+pub struct NodeUsable(pub NodeId);
+
+impl Watched for NodeUsable {
+    ghost ready = { λ w p. w.0.0 < node_count p };
+
+    ghost watch = { λ w p. usable_watch p w.0.0 };
+
+    fn found(&self, p: &Problem, g: &Region, t: Instant) -> Look {
+        usable_found(p, g, self.0, t)
+    }
+}
+
+/// One constraint, by its number.
+#[derive(Clone, Copy)]
+pub struct OneConstraint(pub u32);
+
+impl Watched for OneConstraint {
+    ghost ready = { λ w p. w.0 < length p.constraints };
+
+    ghost watch = { λ w p. constraint_watch p w.0 };
+
+    fn found(&self, p: &Problem, g: &Region, t: Instant) -> Look {
+        constraint_found(p, g, self.0, t)
+    }
+}
+
+/// A look at one thing at all instants, from the earliest at which it is broken on.
+pub fn look<W: Watched>(watched: &W, p: &Problem, g: &Region) -> Look
+    requires region { IsSized p.now.given g.now }
+    requires ready { W.ready watched.now p.now.given }
+    requires local { IsLocal (W.watch watched.now p.now.given) }
+    ensures { IsLook (W.watch watched.now p.now.given) p.now.given (sets g.now) result }
+{
+    let mut at = 0u64;
+    'instants: while at <= u64::from(p.horizon()) {
+        match watched.found(p, g, at as u32) {
+            Look::Clean => {}
+            Look::Fail(t) => return Look::Fail(t),
+            Look::Cut(e, c, t) => return Look::Cut(e, c, t),
+        }
+        at = next_turn(p, g, at as u32);
+    }
+    Look::Clean
+}
+
+/// A look at the load of one node.
+pub fn look_at_load(p: &Problem, g: &Region, n: NodeId) -> Look
+    requires region { IsSized p.now.given g.now }
+    requires node { n.0 < node_count p.now.given }
+    ensures { IsLook (load_watch p.now.given n.0) p.now.given (sets g.now) result }
+{
+    look(&NodeLoad(n), p, g)
+}
+
+/// A look at the load of all nodes together.
+pub fn look_at_total_load(p: &Problem, g: &Region) -> Look
+    requires region { IsSized p.now.given g.now }
+    ensures { IsLook (total_load_watch p.now.given) p.now.given (sets g.now) result }
+{
+    look(&TotalLoad, p, g)
+}
+
+/// A look at whether a node on which machines are, or have their images, is usable.
+pub fn look_at_usable(p: &Problem, g: &Region, n: NodeId) -> Look
+    requires region { IsSized p.now.given g.now }
+    requires node { n.0 < node_count p.now.given }
+    ensures { IsLook (usable_watch p.now.given n.0) p.now.given (sets g.now) result }
+{
+    look(&NodeUsable(n), p, g)
+}
+
+/// A look at the constraint of a number.
+pub fn look_at_constraint(p: &Problem, g: &Region, c: u32) -> Look
+    requires region { IsSized p.now.given g.now }
+    requires constraint { c < length p.now.given.constraints }
+    ensures { IsLook (constraint_watch p.now.given c) p.now.given (sets g.now) result }
+{
+    look(&OneConstraint(c), p, g)
+}

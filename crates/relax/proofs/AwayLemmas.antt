@@ -1,0 +1,76 @@
+-- A machine holds nothing on nodes of which none is its host and none is where it goes.
+use Rattle.std.proofs.Common.{◌≡◌, ℕ, ◌+◌, Bool, true, false, ◌&&◌, cond, Option, Some, None, refl, sym, ap, ◌∙◌, arith}
+use Rattle.cluster.specs.declared.choices.Choice.{Choice}
+use Rattle.cluster.specs.declared.choices.Choice.TheVariants.{Idle, Act}
+use Rattle.cluster.specs.declared.choices.Place.{Place}
+use Rattle.cluster.specs.declared.choices.Place.TheVariants.{Nowhere, At}
+use Rattle.cluster.specs.declared.kinds.Kind.{Kind}
+use Rattle.cluster.specs.declared.kinds.Kind.TheVariants.{Boot, Shutdown, Suspend, Resume, Migrate, Allocate, Kill}
+use Rattle.cluster.specs.declared.states.State.{State}
+use Rattle.cluster.specs.declared.states.State.TheVariants.{Init, Ready, Running, Sleeping, Gone}
+use Rattle.catalogue.specs.Instance.{Instance}
+use Rattle.slices.specs.declared.slice.Slice.{Slice}
+use Rattle.slices.specs.declared.slice.Slices.{Slices}
+use Rattle.slices.specs.declared.stage.Stage.{Stage}
+use Rattle.slices.specs.declared.slice.Weight.{Weight}
+use Rattle.slices.specs.Actions.{kind_of}
+use Rattle.slices.specs.Elements.{state_of, vm}
+use Rattle.slices.specs.Snapshots.{held_at, held_by, stage_at}
+use Rattle.slices.specs.Stages.{Nodes, acting_slices, covers, idle_slices, slices_by, slices_of, weigh, weight_of}
+use Rattle.relax.specs.Areas.{goes_in, hosted_in}
+
+-- the slice, if there is one, is on no node of the set
+abbrev IsOutside : Nodes → Option Slice → Type 0
+IsOutside set None = Unit {0}
+IsOutside set (Some s) = set s.node.0 ≡ false
+
+record AreOutside (set : Nodes) (x : Slices) : Type 0 where
+  source : IsOutside set x.source
+  target : IsOutside set x.target
+  image : IsOutside set x.image
+
+none-outside : (set : Nodes) → AreOutside set (record { source = None; target = None; image = None })
+none-outside set = record { source = tt; target = tt; image = tt }
+
+idle-outside : (set : Nodes) (s : State) → hosted_in s set ≡ false → AreOutside set (idle_slices s)
+idle-outside set (Running h) e = record { source = e; target = tt; image = tt }
+idle-outside set (Sleeping h) e = record { source = tt; target = tt; image = e }
+idle-outside set Init e = none-outside set
+idle-outside set Ready e = none-outside set
+idle-outside set Gone e = none-outside set
+
+acting-outside : (set : Nodes) (s : State) (k : Kind) (place : Place) → hosted_in s set ≡ false → goes_in (Act place 0) set ≡ false → AreOutside set (acting_slices s k place)
+acting-outside set (Running h) Migrate (At n) e g = record { source = e; target = g; image = tt }
+acting-outside set (Running h) Allocate place e g = record { source = e; target = e; image = tt }
+acting-outside set (Running h) Shutdown place e g = record { source = e; target = tt; image = tt }
+acting-outside set (Running h) Kill place e g = record { source = e; target = tt; image = tt }
+acting-outside set (Running h) Suspend place e g = record { source = e; target = tt; image = e }
+acting-outside set Ready Boot (At n) e g = record { source = tt; target = g; image = tt }
+acting-outside set (Sleeping h) Resume (At n) e g = record { source = tt; target = g; image = e }
+acting-outside set (Sleeping h) Kill place e g = record { source = tt; target = tt; image = e }
+acting-outside set s k place e g = none-outside set
+
+by-outside : (set : Nodes) (s : State) (place : Place) (o : Option Kind) → hosted_in s set ≡ false → goes_in (Act place 0) set ≡ false → AreOutside set (slices_by s place o)
+unfolding slices_by
+by-outside set s place None e g = none-outside set
+by-outside set s place (Some k) e g = acting-outside set s k place e g
+
+goes-later : (place : Place) (start : ℕ) (set : Nodes) → goes_in (Act place start) set ≡ false → goes_in (Act place 0) set ≡ false
+goes-later Nowhere start set g = g
+goes-later (At n) start set g = g
+
+slices-outside : (p : Instance) (v : ℕ) (set : Nodes) (c : Choice) → hosted_in (state_of p v) set ≡ false → goes_in c set ≡ false → AreOutside set (slices_of p v c)
+unfolding slices_of
+slices-outside p v set Idle e g = idle-outside set (state_of p v) e
+slices-outside p v set (Act place start) e g = by-outside set (state_of p v) place (kind_of p (vm v) place) e (goes-later place start set g)
+
+weigh-outside : (p : Instance) (v : ℕ) (w : Weight) (o : Option Slice) (g : Stage) (set : Nodes) → IsOutside set o → weigh p v w o g set ≡ 0
+weigh-outside p v w None g set h = refl
+weigh-outside p v w (Some s) g set h = rw h refl
+
+pub away : (p : Instance) (v : ℕ) (w : Weight) (set : Nodes) (t : ℕ) (c : Choice) → hosted_in (state_of p v) set ≡ false → goes_in c set ≡ false → held_at p v w set t c ≡ 0
+unfolding held_at held_by
+away p v w set t c e g =
+    let x = slices-outside p v set c e g in
+    let stage = stage_at p (vm v) c t in
+    omega (arith, weigh-outside p v w (slices_of p v c).source stage set x.source, weigh-outside p v w (slices_of p v c).target stage set x.target, weigh-outside p v w (slices_of p v c).image stage set x.image)

@@ -1,0 +1,6 @@
+use Rattle.std.proofs.Common.{◌≢◌, ℕ, ◌<◌}
+use Rattle.slices.specs.Holds.{IsInPart}
+use Rattle.relax.proofs.forbidden.is_in_other.Given as goal
+
+abbrev pub invariant-loop-j : goal.invariant-loop-j
+invariant-loop-j l = (k : ℕ) → k < l.j → l.fn.i ≢ k → ¬ IsInPart l.parts k l.fn.w.0

@@ -1,0 +1,9 @@
+use Rattle.std.proofs.Common.{ℕ, ◌<◌}
+use Rattle.domains.specs.Views.{seen}
+use Rattle.slices.specs.Stages.{one}
+use Rattle.reasons.specs.Reasons.{HasOutside}
+use Rattle.reasons.specs.Sure.{sure}
+use Rattle.relax.proofs.groups.are_apart.Given as goal
+
+abbrev pub invariant-loop-n : goal.invariant-loop-n
+invariant-loop-n l = (k : ℕ) → k < l.n → HasOutside (sure l.p.given (seen l.view.region.now l.view.lens) l.t) l.machines (one k)

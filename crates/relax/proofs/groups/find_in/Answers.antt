@@ -1,0 +1,10 @@
+use Rattle.std.proofs.Common.{arith}
+use Rattle.domains.specs.Views.{seen}
+use Rattle.reasons.specs.Sure.{sure}
+use Rattle.relax.specs.Areas.{nodes_of}
+use Rattle.relax.proofs.MemberLemmas.{none_in}
+use Rattle.relax.proofs.groups.find_in.Goals as goal
+
+pub returns-clause-none : goal.returns-clause-none
+returns-clause-none c =
+    none_in (sure c.args.p.now.given (seen c.args.view.now.region.now c.args.view.now.lens) c.args.t) c.args.machines.now (nodes_of c.args.p.now.given c.args.area.now) c.loop-i.i (omega arith) c.loop-i.invariant

@@ -1,0 +1,11 @@
+use Rattle.std.proofs.Common.{◌≡◌, ℕ, ◌<◌, length, slice_index_or}
+use Rattle.domains.specs.Choices.{choices, staying}
+use Rattle.slices.specs.Elements.{node}
+use Rattle.reasons.specs.Start.{start_sets}
+use Rattle.relax.proofs.start.node_domains.Given as goal
+
+abbrev pub invariant-loop-n : goal.invariant-loop-n
+invariant-loop-n l = record {
+  count : length l.domains.items ≡ l.n;
+  sets : (n : ℕ) → n < l.n → choices (slice_index_or l.domains.items n staying) ≡ start_sets l.p.given (node n);
+}
