@@ -1,8 +1,8 @@
 -- What is counted of steps, with one more step.
-use Rattle.std.proofs.Common.{◌≡◌, ℕ, List, [], ◌∷◌, ◌++◌, refl, sym, ap, ◌∙◌, Option, Some, None, append-nil}
+use Rattle.std.proofs.Common.{◌≡◌, ℕ, List, [], ◌∷◌, ◌++◌, sym, ap, ◌∙◌, Option, Some, append-nil}
 use Rattle.sums.specs.Least.{lower, lowest}
 use Rattle.trees.specs.declared.steps.Step.{Step}
-use Rattle.trees.specs.declared.steps.Step.TheVariants.{Decide, Cut, Fail, Plan, Left}
+use Rattle.trees.specs.declared.steps.Step.TheVariants.{Plan, Left}
 use Rattle.domains.specs.Sets.{Sets}
 use Rattle.trees.specs.Goals.{left_set}
 use Rattle.trees.specs.Searching.{plan_costs}

@@ -1,10 +1,10 @@
 -- Undecided sets, by what is kept of the steps before.
-use Rattle.std.proofs.Common.{◌≡◌, ℕ, ◌<◌, List, refl, sym, subst, Option, Some, None}
+use Rattle.std.proofs.Common.{◌≡◌, ℕ, ◌<◌, List, sym, subst, Option, Some, None}
 use Rattle.std.specs.Prelude.{IfSome}
 use Rattle.sums.specs.Least.{lowest}
 use Rattle.cluster.specs.declared.ids.Element.TheVariants.{Vm, Node}
 use Rattle.catalogue.specs.Instance.{Instance}
-use Rattle.domains.specs.Sets.{IsFixed, RegionView, Sets, sets}
+use Rattle.domains.specs.Sets.{IsFixed, RegionView, sets}
 use Rattle.reasons.specs.Closed.{IsClosed}
 use Rattle.reasons.specs.Sure.{least_cost}
 use Rattle.trees.specs.declared.steps.Step.{Step}
@@ -38,8 +38,8 @@ module _ (p : Instance) (g : RegionView) (sized : IsSized p g) (known : Option �
     closed = closed;
     not_one = λ fixed. unfixed (sets_fixed p g sized fixed);
     below = (above_cheapest (least_cost p (sets g)) (plan_costs e)).1 (
-      subst (λ n. IsAbove n (lowest (λ cost. cost) (plan_costs e))) same (subst (IsAbove sum) cheapest (above_some sum known below))
-    );
+        subst (λ n. IsAbove n (lowest (λ cost. cost) (plan_costs e))) same (subst (IsAbove sum) cheapest (above_some sum known below))
+        );
   }
 
   pub undecided_below : IsUndecided p e (sets g) → IfSome known (λ m. sum < m)

@@ -1,11 +1,10 @@
 -- Steps that leave nothing open are a proof, and what they show holds.
 use Rattle.std.proofs.Common.{◌≡◌, ℕ, Bool, true, false, List, [], ◌∷◌, refl, sym, ap, subst, ◌∙◌, Option}
 use Rattle.sums.specs.Least.{lowest}
-use Rattle.catalogue.specs.Instance.{Instance, IsInstance}
+use Rattle.catalogue.specs.Instance.{Instance}
 use Rattle.domains.specs.Sets.{Sets}
 use Rattle.reasons.specs.Start.{start_sets}
 use Rattle.reasons.specs.Sure.{least_cost}
-use Rattle.trees.specs.declared.steps.Goal.{Goal}
 use Rattle.trees.specs.declared.steps.Step.{Step}
 use Rattle.trees.specs.Trees.{AtEach, Tree, steps_of}
 use Rattle.trees.specs.Proving.{Proves, StepHolds}

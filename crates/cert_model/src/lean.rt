@@ -8,7 +8,7 @@ ghost use Rattle.trees.specs.Searching.{IsUndecided, LeanAt, plan_costs};
 ghost use Rattle.relax.specs.Areas.{IsSized};
 
 use catalogue::problem::Problem;
-use closing::closed;
+use closing::closed::closed;
 use domains::region::Region;
 use trees::steps::Step;
 

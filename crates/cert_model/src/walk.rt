@@ -51,16 +51,16 @@ impl Model for Walk {
     ghost Value = { Kept };
 
     ghost view = { λ w. record {
-        region = w.frontier.trail.region;
-        due = w.frontier.due;
-        sum = w.frontier.sum;
-        marks = w.frontier.trail.marks;
-        outers = reverse w.frontier.outers.items;
-        decisions = w.decisions;
-        cheapest = w.cheapest;
-        least_left = w.least_left;
-        bound = w.bound;
-        strict = w.strict
+      region = w.frontier.trail.region;
+      due = w.frontier.due;
+      sum = w.frontier.sum;
+      marks = w.frontier.trail.marks;
+      outers = reverse w.frontier.outers.items;
+      decisions = w.decisions;
+      cheapest = w.cheapest;
+      least_left = w.least_left;
+      bound = w.bound;
+      strict = w.strict;
     } };
 
     ghost invariant = { λ w. IsKept w.frontier };

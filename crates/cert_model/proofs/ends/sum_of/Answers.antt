@@ -1,4 +1,4 @@
-use Rattle.std.proofs.Common.{rules, arith}
+use Rattle.std.proofs.Common.{arith}
 use Rattle.cert_model.proofs.EndLemmas.{least_cost_small}
 use Rattle.cert_model.proofs.ends.sum_of.Goals as goal
 

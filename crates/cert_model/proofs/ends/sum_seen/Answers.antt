@@ -1,4 +1,4 @@
-use Rattle.std.proofs.Common.{arith, ap, ◌∙◌, refl}
+use Rattle.std.proofs.Common.{arith, ap, ◌∙◌}
 use Rattle.sums.specs.Least.{least}
 use Rattle.slices.specs.Actions.{end_of}
 use Rattle.domains.specs.Parts.{on_side}
