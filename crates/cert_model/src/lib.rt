@@ -7,5 +7,7 @@ mod ends;
 mod frontier;
 pub mod laws;
 mod lean;
+#[cfg(test)]
+mod tests;
 pub mod walk;
 pub mod why;
