@@ -1,0 +1,4 @@
+mod NewlineLemmas
+mod PieceLemmas
+mod LineLemmas
+mod TurnLemmas

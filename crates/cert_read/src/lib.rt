@@ -1,0 +1,13 @@
+//! Reads certificates from a desk, line by line, in pieces.
+#![tactic(auto)]
+
+mod cursor;
+mod held;
+mod line;
+mod position;
+mod reader;
+
+pub use line::{Line, LineFault};
+pub use position::Position;
+pub use cursor::{MAX_LINE, PIECE};
+pub use reader::CertReader;

@@ -1,0 +1,108 @@
+-- The steps of a problem are lines.
+use Rattle.std.proofs.Common.{◌≡◌, ◌≢◌, ◌∙◌, ℕ, zero, suc, ◌+◌, ◌<◌, ◌≤◌, Bool, true, false, List, [], length, map, refl, sym, ap, arith, inl, inr}
+use Rattle.std.proofs.lemmas.Bool.{and_from, cases_lt}
+use Rattle.std.specs.List.{filter, list_all, range_with_len}
+use Rattle.cluster.specs.Names.{is_name}
+use Rattle.cluster.specs.Sets.{has_node}
+use Rattle.cluster.specs.declared.choices.Place.{Place}
+use Rattle.cluster.specs.declared.choices.Place.TheVariants.{Nowhere, At}
+use Rattle.cluster.specs.declared.ids.Element.{Element}
+use Rattle.cluster.specs.declared.sets.NodeSet.{NodeSet}
+use Rattle.cluster.proofs.Public.{is_name-name_of}
+use Rattle.catalogue.specs.Instance.{Instance, IsElement, IsInstance, inventory_of}
+use Rattle.slices.specs.Elements.{node, node_count, vm}
+use Rattle.domains.specs.declared.parts.Part.{Part}
+use Rattle.domains.specs.declared.parts.Part.TheVariants.{Idle, Upto, From}
+use Rattle.reasons.specs.Reasons.{AreListed}
+use Rattle.reasons.specs.declared.reason.Reason.{Reason}
+use Rattle.reasons.specs.declared.reason.Reason.TheVariants as reason
+use Rattle.trees.specs.declared.steps.Step.{Step}
+use Rattle.trees.specs.declared.steps.Step.TheVariants as step
+use Rattle.cert_text.specs.Kinds.{Word}
+use Rattle.cert_text.specs.Laws.{PartFits, ReasonFits, StepFits}
+use Rattle.cert_text.specs.Spelling.{HasPart, HasPlace, HasReason, HasStep, element_name, has_all, node_names, nodes_text, part_text, place_name, reason_text, resource_name, step_text}
+use Rattle.cert_text.specs.Texts.{AreNodes, IsName, IsPart, IsPlace, IsReason, IsStep}
+
+element_named : (p : Instance) → IsInstance p → (e : Element) → IsElement p e → IsName (element_name p e)
+element_named p is e there = is_name-name_of (inventory_of p) e is.inventory there
+
+resource_named : (p : Instance) → IsInstance p → (r : ℕ) → r < length p.resources → IsName (resource_name p r)
+resource_named p is r there = is.inventory.named_resources r [] there
+
+place_named : (p : Instance) → IsInstance p → (place : Place) → HasPlace p place → IsPlace (place_name p place)
+place_named p is Nowhere there = tt
+place_named p is (At n) there = element_named p is (node n.0) there
+
+part_line : (p : Instance) → IsInstance p → (part : Part) → HasPart p part → PartFits part → IsPart (part_text p part)
+part_line p is Idle there fits = tt
+part_line p is (Upto place start) there fits = (place_named p is place there, fits)
+part_line p is (From place start) there fits = (place_named p is place there, fits)
+
+-- ---- nodes
+
+-- the names of nodes of the instance are names
+abbrev passing : Instance → (ℕ → Bool) → ℕ → ℕ → List Word
+passing p test first count = map (λ n. element_name p (node n)) (filter test (range_with_len first count))
+
+names_step : (p : Instance) → IsInstance p → (test : ℕ → Bool) (first count : ℕ) (b : Bool) → test first ≡ b → first < node_count p → list_all is_name (passing p test (first + 1) count) ≡ true →
+    list_all is_name (passing p test first (suc count)) ≡ true
+names_step p is test first count true pass within rest = rw pass (and_from _ _ (element_named p is (node first) within) rest)
+names_step p is test first count false pass within rest = rw pass rest
+
+names_good : (p : Instance) → IsInstance p → (test : ℕ → Bool) (first count : ℕ) → first + count ≤ node_count p → list_all is_name (passing p test first count) ≡ true
+names_good p is test first zero within = refl
+names_good p is test first (suc count) within = names_step p is test first count (test first) refl (omega arith) (names_good p is test (first + 1) count (omega arith))
+
+-- a number that passes a test is left by it
+some_step : (p : Instance) (test : ℕ → Bool) (first count n : ℕ) (b : Bool) → test first ≡ b → test n ≡ true → (n ≢ first → passing p test (first + 1) count ≢ []) → passing p test first (suc count) ≢ []
+some_step p test first count n true pass passes later = rw pass (λ nothing. cc)
+some_step p test first count n false pass passes later = rw pass (later (λ same. let bad : false ≡ true = sym pass ∙ ap test (sym same) ∙ passes in cc))
+
+some_left : (p : Instance) (test : ℕ → Bool) (first count n : ℕ) → first ≤ n → n < first + count → test n ≡ true → passing p test first count ≢ []
+some_left p test first zero n low high passes = absurd (omega arith)
+some_left p test first (suc count) n low high passes =
+    some_step p test first count n (test first) refl passes (λ differ. some_left p test (first + 1) count n (omega arith) (omega arith) passes)
+
+-- a set that has not each node has some, where nodes are listed
+listed_some : (p : Instance) (set : NodeSet) → AreListed p set → has_all p set ≡ false → node_names p set ≢ []
+listed_some p set listed few =
+    elim (cases_lt 0 (node_count p)) [
+      | inl some ↦
+          let found = listed.some some in
+          let low : found.0 < node_count p = elim (cases_lt found.0 (node_count p)) [
+            | inl low ↦ low
+            | inr past ↦ let none = listed.within found.0 past in let has = found.1 in absurd (cc)
+          ] in
+          some_left p (has_node set) 0 (node_count p) found.0 (omega arith) (omega arith) found.1
+      | inr none ↦
+          let empty : node_count p ≡ 0 = omega arith in
+          let all : has_all p set ≡ true = ap (λ (n : ℕ). list_all (has_node set) (range_with_len 0 n)) empty in
+          absurd (cc)
+    ]
+
+nodes_by : (p : Instance) → IsInstance p → (set : NodeSet) (b : Bool) → has_all p set ≡ b → AreListed p set → AreNodes (nodes_text p set)
+nodes_by p is set true all listed = rw all tt
+nodes_by p is set false few listed = rw few (listed_some p set listed few, names_good p is (has_node set) 0 (node_count p) (omega arith))
+
+nodes_line : (p : Instance) → IsInstance p → (set : NodeSet) → AreListed p set → AreNodes (nodes_text p set)
+nodes_line p is set listed = nodes_by p is set (has_all p set) refl listed
+
+reason_line : (p : Instance) → IsInstance p → (r : Reason) → HasReason p r → ReasonFits r → IsReason (reason_text p r)
+reason_line p is (reason.Empty e) there fits = element_named p is e there
+reason_line p is reason.Bound there fits = tt
+reason_line p is (reason.Load t r set) there fits = (fits, resource_named p is r there.0, nodes_line p is set there.1)
+reason_line p is (reason.Pair c t v w n) there fits =
+    (fits.0, fits.1, element_named p is (vm v.0) there.0, element_named p is (vm w.0) there.1, element_named p is (node n.0) there.2)
+reason_line p is (reason.Place c t v n) there fits = (fits.0, fits.1, element_named p is (vm v.0) there.0, element_named p is (node n.0) there.1)
+reason_line p is (reason.Group c t) there fits = fits
+reason_line p is (reason.SetLoad c t) there fits = fits
+reason_line p is (reason.Power c t) there fits = fits
+reason_line p is (reason.Usable t v n) there fits = (fits, element_named p is (vm v.0) there.0, element_named p is (node n.0) there.1)
+reason_line p is (reason.Hall c t set) there fits = (fits.0, fits.1, nodes_line p is set there)
+
+pub step_line_is : (p : Instance) → IsInstance p → (s : Step) → HasStep p s → StepFits s → IsStep (step_text p s)
+step_line_is p is (step.Decide e part) there fits = (element_named p is e there.0, part_line p is part there.1 fits)
+step_line_is p is (step.Cut e part r) there fits = (element_named p is e there.0, part_line p is part there.1 fits.0, reason_line p is r there.2 fits.1)
+step_line_is p is (step.Fail r) there fits = reason_line p is r there fits
+step_line_is p is (step.Plan cost) there fits = fits
+step_line_is p is step.Left there fits = tt
