@@ -1,0 +1,6 @@
+-- which step a line names
+pub mod Names
+-- what the lines of a certificate say, and what a yes means
+pub mod Verdicts
+-- and what holds from line to line
+pub mod Turns

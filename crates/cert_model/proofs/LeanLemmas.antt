@@ -1,0 +1,54 @@
+-- Undecided sets, by what is kept of the steps before.
+use Rattle.std.proofs.Common.{◌≡◌, ℕ, ◌<◌, List, sym, subst, Option, Some, None}
+use Rattle.std.specs.Prelude.{IfSome}
+use Rattle.sums.specs.Least.{lowest}
+use Rattle.cluster.specs.declared.ids.Element.TheVariants.{Vm, Node}
+use Rattle.catalogue.specs.Instance.{Instance}
+use Rattle.domains.specs.Sets.{IsFixed, RegionView, sets}
+use Rattle.reasons.specs.Closed.{IsClosed}
+use Rattle.reasons.specs.Sure.{least_cost}
+use Rattle.trees.specs.declared.steps.Step.{Step}
+use Rattle.trees.specs.Searching.{AreFixed, IsUndecided, plan_costs}
+use Rattle.trees.proofs.Public.{IsAbove, above_cheapest}
+use Rattle.relax.specs.Areas.{IsSized}
+
+-- ---- below each plan, or below the cheapest
+
+above_some : (n : ℕ) (known : Option ℕ) → IfSome known (λ m. n < m) → IsAbove n known
+above_some n None h = tt
+above_some n (Some m) h = h
+
+some_above : (n : ℕ) (known : Option ℕ) → IsAbove n known → IfSome known (λ m. n < m)
+some_above n None h = tt
+some_above n (Some m) h = h
+
+-- ---- one plan, or not
+
+fixed_sets : (p : Instance) (g : RegionView) → IsSized p g → IsFixed g → AreFixed p (sets g)
+fixed_sets p g sized fixed (Vm v) i = fixed (Vm v) (subst (λ n. v.0 < n) (sym sized.machines) i)
+fixed_sets p g sized fixed (Node n) i = fixed (Node n) (subst (λ k. n.0 < k) (sym sized.nodes) i)
+
+sets_fixed : (p : Instance) (g : RegionView) → IsSized p g → AreFixed p (sets g) → IsFixed g
+sets_fixed p g sized fixed (Vm v) i = fixed (Vm v) (subst (λ n. v.0 < n) sized.machines i)
+sets_fixed p g sized fixed (Node n) i = fixed (Node n) (subst (λ k. n.0 < k) sized.nodes i)
+
+module _ (p : Instance) (g : RegionView) (sized : IsSized p g) (known : Option ℕ) (sum : ℕ) (same : sum ≡ least_cost p (sets g)) (e : List Step) (cheapest : known ≡ lowest (λ cost. cost) (plan_costs e)) where
+  pub is_undecided : IsClosed p (sets g) → ¬ IsFixed g → IfSome known (λ m. sum < m) → IsUndecided p e (sets g)
+  is_undecided closed unfixed below = record {
+    closed = closed;
+    not_one = λ fixed. unfixed (sets_fixed p g sized fixed);
+    below = (above_cheapest (least_cost p (sets g)) (plan_costs e)).1 (
+        subst (λ n. IsAbove n (lowest (λ cost. cost) (plan_costs e))) same (subst (IsAbove sum) cheapest (above_some sum known below))
+        );
+  }
+
+  pub undecided_below : IsUndecided p e (sets g) → IfSome known (λ m. sum < m)
+  undecided_below undecided =
+      some_above sum known (
+      subst (IsAbove sum) (sym cheapest) (
+      subst (λ n. IsAbove n (lowest (λ cost. cost) (plan_costs e))) (sym same) ((above_cheapest (least_cost p (sets g)) (plan_costs e)).0 undecided.below)
+      )
+      )
+
+  pub undecided_unfixed : IsUndecided p e (sets g) → ¬ IsFixed g
+  undecided_unfixed undecided fixed = undecided.not_one (fixed_sets p g sized fixed)

@@ -1,0 +1,8 @@
+-- Public has what crates above may cite; the rest is for this crate alone.
+pub mod Public
+pub mod EndLemmas
+pub mod CountLemmas
+pub mod LeanLemmas
+pub mod PlanLemmas
+pub mod WholeLemmas
+pub mod StandLemmas

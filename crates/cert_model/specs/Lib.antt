@@ -1,0 +1,8 @@
+-- the regions that are open
+pub mod Open
+-- what a walk keeps, and what its answers mean
+pub mod Walks
+-- what follows where it ends well
+pub mod Laws
+-- what the code keeps beside it
+pub mod Frontiers

@@ -1,0 +1,13 @@
+//! The walk over the steps of a certificate: whether each is due and holds, and what the tree shows at its end.
+#![tactic(auto)]
+
+mod claims;
+mod counts;
+mod ends;
+mod frontier;
+pub mod laws;
+mod lean;
+#[cfg(test)]
+mod tests;
+pub mod walk;
+pub mod why;

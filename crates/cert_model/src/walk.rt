@@ -1,0 +1,230 @@
+//! The walk.
+ghost use Rattle.std.specs.Prelude.{◌≡◌, ◌++◌, [], List, map, IfOk, IfSome, OnErr, OnOk};
+ghost use Rattle.std.specs.Option.{option_copied};
+ghost use Rattle.catalogue.specs.Instance.{Instance};
+ghost use Rattle.slices.specs.Plans.{IsPlanOf};
+ghost use Rattle.sums.specs.Least.{lowest};
+ghost use Rattle.domains.specs.Sets.{sets};
+ghost use Rattle.reasons.specs.Sure.{least_cost};
+ghost use Rattle.trees.specs.Certificates.{bound_of};
+ghost use Rattle.trees.specs.Searching.{plan_costs};
+ghost use Rattle.trees.specs.Trees.{children};
+ghost use Rattle.trees.specs.declared.steps.Step.{Step as AnyStep};
+ghost use Rattle.relax.specs.Areas.{AreLegal, IsSized};
+ghost use Rattle.cert_model.specs.Frontiers.{AreSame, AreSameSize, IsKept, later_sets, later_sums, open_sets, open_sums};
+ghost use Rattle.cert_model.specs.Walks.{Answers, Ends, IsLeast, IsStanding, IsUnchanged, IsWholeAt, IsWrong, PartHolds, Stands, WalkAt, choices_handed};
+
+use crate::claims::fault;
+use crate::counts::{cheaper, counted, goal_shown, is_same_goal, least_with, lower};
+use crate::ends::{sum_of, sum_seen};
+use crate::frontier::{Due, Frontier, Outer};
+use crate::lean::is_lean;
+use crate::why::Why;
+use catalogue::problem::Problem;
+use domains::parts::Side;
+use memory::Memory;
+use relax::start::start_region;
+use slices::plan::{Plan, cost};
+use std::alloc::Global;
+use std::marker::Model;
+use trees::steps::{Goal, Step};
+
+/// A walk over the steps of a certificate, in their order.
+///
+/// It keeps one region and what undoes the changes since each open decision, so a step costs what its
+/// change and its reason cost.
+#[derive(Drop)]
+pub struct Walk {
+    frontier: Frontier,
+    decisions: u64,
+    cheapest: Option<u64>,
+    least_left: Option<u64>,
+    bound: Option<u64>,
+    strict: bool,
+}
+
+impl Model for Walk {
+    ghost use Rattle.std.specs.Prelude.{reverse};
+    ghost use Rattle.cert_model.specs.Frontiers.{IsKept};
+    ghost use Rattle.cert_model.specs.Walks.{Kept};
+
+    ghost Value = { Kept };
+
+    ghost view = { λ w. record {
+      region = w.frontier.trail.region;
+      due = w.frontier.due;
+      sum = w.frontier.sum;
+      marks = w.frontier.trail.marks;
+      outers = reverse w.frontier.outers.items;
+      decisions = w.decisions;
+      cheapest = w.cheapest;
+      least_left = w.least_left;
+      bound = w.bound;
+      strict = w.strict;
+    } };
+
+    ghost invariant = { λ w. IsKept w.frontier };
+}
+
+impl Walk {
+    /// A walk that has taken no step, for the plan that is handed in, or for none. `strict` asks for a
+    /// lean tree. The only error is want of memory.
+    pub fn new(
+        alloc: Global,
+        p: &Problem,
+        plan: Option<&Plan>,
+        strict: bool,
+    ) -> Result<Walk, Memory>
+        requires { IfSome plan (λ a. IsPlanOf p.now.given a.now) }
+        ensures { IfOk result (Stands p.now.given (bound_of p.now.given (choices_handed (option_copied plan.entry))) strict []) }
+    {
+        let bound = match plan {
+            None => None,
+            Some(a) => Some(cost(p, a)),
+        };
+        let region = start_region(alloc, p)?;
+        let sum = sum_of(p, &region);
+        Ok(Walk {
+            frontier: Frontier::new(alloc, region, sum),
+            decisions: 0,
+            cheapest: None,
+            least_left: None,
+            bound,
+            strict,
+        })
+    }
+
+    /// Takes a step, where it is due and holds; else says why not: the first of structure, part,
+    /// reason or plan, and leanness where that is asked. Where it is not taken the walk is as it was,
+    /// also after want of memory.
+    pub fn step(&mut self, p: &Problem, step: &Step) -> Result<Option<Why>, Memory>
+        requires { IsStanding p.now.given self.old }
+        ensures ok { IfOk result (Answers p.now.given self.old self.new step.now) }
+        ensures err { OnErr result (IsUnchanged self.old self.new) }
+    {
+        self.frontier.enter()?;
+        let Due::Whole = self.frontier.due else {
+            return Ok(Some(Why::Structure));
+        };
+        let sum = self.frontier.sum;
+        if let Some(why) = refusal(
+            p,
+            &self.frontier,
+            self.bound,
+            self.strict,
+            self.cheapest,
+            step,
+        )? {
+            return Ok(Some(why));
+        }
+        advance(p, &mut self.frontier, step)?;
+        self.decisions = counted(self.decisions, step);
+        self.cheapest = cheaper(self.cheapest, step);
+        self.least_left = least_with(self.least_left, sum, step);
+        Ok(None)
+    }
+
+    /// Whether nothing is open: the steps so far are a whole tree.
+    pub fn is_whole(&self) -> bool
+        ensures { (p : Instance) → IsWholeAt p self.now result }
+    {
+        matches!(self.frontier.due, Due::Nothing)
+    }
+
+    /// None exactly where the steps are a whole tree, and the goal is the one that it shows; else
+    /// `Structure` where the tree is not whole, and `Goal` where another goal is shown.
+    pub fn finish(&self, goal: Goal) -> Option<Why>
+        ensures { (p : Instance) → Ends p self.now goal result }
+    {
+        if !self.is_whole() {
+            return Some(Why::Structure);
+        }
+        let shown = goal_shown(self.least_left.is_some(), self.decisions, self.bound);
+        if is_same_goal(goal, shown) {
+            None
+        } else {
+            Some(Why::Goal)
+        }
+    }
+
+    /// The cost that no valid plan undercuts as far as the steps show, None exactly where nothing was
+    /// left: the least of the sums of least ends of what was left, and of the cost of the plan that was
+    /// handed in.
+    pub fn least(&self) -> Option<u64>
+        ensures { (p : Instance) → IsLeast p self.now result }
+    {
+        match self.least_left {
+            None => None,
+            Some(sum) => Some(lower(self.bound, sum)),
+        }
+    }
+}
+
+// what is wrong with a step at the region, which is due; None where it holds and is lean if that is asked
+fn refusal(
+    p: &Problem,
+    frontier: &Frontier,
+    bound: Option<u64>,
+    strict: bool,
+    cheapest: Option<u64>,
+    step: &Step,
+) -> Result<Option<Why>, Memory>
+    requires region { IsSized p.now.given frontier.now.trail.region }
+    requires legal { AreLegal p.now.given (sets frontier.now.trail.region) }
+    requires sum { frontier.now.sum ≡ least_cost p.now.given (sets frontier.now.trail.region) }
+    ensures holds { IfOk result (λ why. why ≡ None → (e : List AnyStep) → cheapest ≡ lowest (λ c. c) (plan_costs e)
+        → WalkAt p.now.given bound strict e (sets frontier.now.trail.region) step.now) }
+    ensures refused { IfOk result (λ why. (e : List AnyStep) → cheapest ≡ lowest (λ c. c) (plan_costs e)
+        → IfSome why (IsWrong p.now.given bound strict e (sets frontier.now.trail.region) step.now)) }
+{
+    let alloc = *frontier.outers.allocator();
+    let region = frontier.trail.region();
+    if let Some(why) = fault(alloc, p, bound, region, frontier.sum, step)? {
+        return Ok(Some(why));
+    }
+    if !strict {
+        return Ok(None);
+    }
+    if !is_lean(p, cheapest, region, frontier.sum, step) {
+        return Ok(Some(Why::Lean));
+    }
+    Ok(None)
+}
+
+// puts in the place of what is due what a step that holds leaves open there
+fn advance(p: &Problem, frontier: &mut Frontier, step: &Step) -> Result<(), Memory>
+    requires kept { IsKept frontier.old }
+    requires due { frontier.old.due ≡ Due.Whole }
+    requires region { IsSized p.now.given frontier.old.trail.region }
+    requires legal { AreLegal p.now.given (sets frontier.old.trail.region) }
+    requires sum { frontier.old.sum ≡ least_cost p.now.given (sets frontier.old.trail.region) }
+    requires part { PartHolds p.now.given (sets frontier.old.trail.region) step.now }
+    ensures kept { IsKept frontier.new }
+    ensures size { AreSameSize frontier.old frontier.new }
+    ensures sets { OnOk result (open_sets frontier.new ≡ children (sets frontier.old.trail.region) step.now ++ later_sets frontier.old) }
+    ensures sums { OnOk result (open_sums frontier.new ≡ map (least_cost p.now.given) (children (sets frontier.old.trail.region) step.now) ++ later_sums frontier.old) }
+    ensures err { OnErr result (AreSame frontier.old frontier.new) }
+{
+    let sum = frontier.sum;
+    match step {
+        Step::Decide(x, part) => {
+            let region = frontier.trail.region();
+            let inner_sum = sum_seen(p, region, sum, *x, *part, Side::Inside);
+            let outer_sum = sum_seen(p, region, sum, *x, *part, Side::Outside);
+            let outer = Outer {
+                element: *x,
+                part: *part,
+                sum: outer_sum,
+            };
+            frontier.decide(inner_sum, outer)
+        }
+        Step::Cut(x, part, _) => {
+            let left = sum_seen(p, frontier.trail.region(), sum, *x, *part, Side::Outside);
+            frontier.cut(*x, *part, left)
+        }
+        Step::Fail(_) | Step::Plan(_) | Step::Left => {
+            frontier.close();
+            Ok(())
+        }
+    }
+}
