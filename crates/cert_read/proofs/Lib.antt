@@ -2,3 +2,5 @@ mod NewlineLemmas
 mod PieceLemmas
 mod LineLemmas
 mod TurnLemmas
+mod BackLemmas
+pub mod Public

@@ -5,12 +5,13 @@ use Rattle.std.proofs.lemmas.Bool.Decides.{nat_tests}
 use Rattle.std.proofs.lemmas.List.{take-append-le}
 use Rattle.std.specs.Io.{StartsWith}
 use Rattle.sums.proofs.Prefixes.{all_of}
+use Rattle.cert_text.specs.Texts.{max_line}
 use Rattle.cert_read.specs.declared.line.Line.{Line}
 use Rattle.cert_read.specs.declared.line.Line.TheVariants.{Over}
 use Rattle.cert_read.specs.declared.line.LineFault.{LineFault}
 use Rattle.cert_read.specs.declared.line.LineFault.TheVariants.{NotALine, TooLong, Short, ReadFault, Memory}
 use Rattle.cert_read.specs.declared.position.Position.{Position}
-use Rattle.cert_read.specs.Lines.{bytes_before_newline, end_at, end_of, line_bytes, max_line}
+use Rattle.cert_read.specs.Lines.{bytes_before_newline, end_at, end_of, line_bytes}
 use Rattle.cert_read.specs.Reader.{Faults, IsOutside}
 use Rattle.cert_read.proofs.NewlineLemmas.{before_both, before_first, before_le}
 
@@ -92,7 +93,7 @@ byte_left : (at : Position) (rest : List ℕ) → 0 < length rest → end_of at 
 byte_left at [] some = absurd (omega arith)
 byte_left at (b ∷ rest) some = refl
 
-nothing_left : (at : Position) (rest : List ℕ) → length rest ≡ 0 → end_of at rest ≡ Ok (Over, at)
+pub nothing_left : (at : Position) (rest : List ℕ) → length rest ≡ 0 → end_of at rest ≡ Ok (Over, at)
 nothing_left at [] none = refl
 nothing_left at (b ∷ rest) none = absurd (omega arith)
 

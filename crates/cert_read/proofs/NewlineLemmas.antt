@@ -33,7 +33,7 @@ unfolding bytes_before_newline
 before_le bytes = prefix_len-le-length (λ b. not (b == 10)) bytes
 
 -- one byte more at the start
-step_by : (b : ℕ) (bytes : List ℕ) (test : Bool) → (b == 10) ≡ test → bytes_before_newline (b ∷ bytes) ≡ (if test then 0 else 1 + bytes_before_newline bytes)
+pub step_by : (b : ℕ) (bytes : List ℕ) (test : Bool) → (b == 10) ≡ test → bytes_before_newline (b ∷ bytes) ≡ (if test then 0 else 1 + bytes_before_newline bytes)
 unfolding bytes_before_newline
 step_by b bytes true is = rw is refl
 step_by b bytes false is = rw is refl

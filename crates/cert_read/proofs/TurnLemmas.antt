@@ -96,11 +96,11 @@ pub ruleset first_rules = (header_failed, no_header, header_passed, stands_after
 
 -- ---- a turn
 
-turn_is_end : (file : List ℕ) (at : Position) → at.ended ≡ true → turn file at ≡ end_at file at
+pub turn_is_end : (file : List ℕ) (at : Position) → at.ended ≡ true → turn file at ≡ end_at file at
 unfolding turn
 turn_is_end file at ended = ap (λ (b : Bool). if b then end_at file at else if at.lines == 0 then first_line_at file at else line_at file at) ended
 
-turn_goes_on : (file : List ℕ) (at : Position) (first : Bool) → at.ended ≡ false → (at.lines == 0) ≡ first → turn file at ≡ (if first then first_line_at file at else line_at file at)
+pub turn_goes_on : (file : List ℕ) (at : Position) (first : Bool) → at.ended ≡ false → (at.lines == 0) ≡ first → turn file at ≡ (if first then first_line_at file at else line_at file at)
 unfolding turn
 turn_goes_on file at first ended test =
     ap (λ (b : Bool). if b then end_at file at else if at.lines == 0 then first_line_at file at else line_at file at) ended ∙ ap (λ (b : Bool). if b then first_line_at file at else line_at file at) test

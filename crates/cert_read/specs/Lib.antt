@@ -1,3 +1,4 @@
 pub mod Lines
 pub mod Reader
 pub mod Inside
+pub mod Laws

@@ -5,16 +5,12 @@ use Rattle.std.specs.Str.{bytes_eq}
 use Rattle.cert_text.specs.declared.text.LineText.{LineText}
 use Rattle.cert_text.specs.declared.text.LineText.TheVariants.{Step as StepLine, End as EndLine}
 use Rattle.cert_text.specs.Reading.{reading}
-use Rattle.cert_text.specs.Texts.{header}
+use Rattle.cert_text.specs.Texts.{header, max_line}
 use Rattle.cert_read.specs.declared.line.Line.{Line}
 use Rattle.cert_read.specs.declared.line.Line.TheVariants.{Step, End, Over}
 use Rattle.cert_read.specs.declared.line.LineFault.{LineFault}
 use Rattle.cert_read.specs.declared.line.LineFault.TheVariants.{NotALine, TooLong, Short}
 use Rattle.cert_read.specs.declared.position.Position.{Position}
-
--- the most bytes of a line before its newline
-abbrev pub max_line : ℕ
-max_line = 65536
 
 -- how many bytes come before the first newline, or before the end where there is none
 unfoldable pub bytes_before_newline : List ℕ → ℕ

@@ -4,8 +4,8 @@ ghost use Rattle.std.specs.Io.{StartsWith};
 ghost use Rattle.std.specs.List.{position};
 ghost use Rattle.std.specs.Str.{bytes_eq};
 ghost use Rattle.plan_io.specs.Files.{bytes_of};
-ghost use Rattle.cert_text.specs.Texts.{header};
-ghost use Rattle.cert_read.specs.Lines.{as_line, bytes_before_newline, end_at, first_line_at, is_end, line_at, line_bytes, max_line, position_after, start, text_at};
+ghost use Rattle.cert_text.specs.Texts.{header, max_line};
+ghost use Rattle.cert_read.specs.Lines.{as_line, bytes_before_newline, end_at, first_line_at, is_end, line_at, line_bytes, position_after, start, text_at};
 ghost use Rattle.cert_read.specs.Reader.{CountsLine, Gives, IsMoved, IsOutside, StandsIn, max_held};
 
 use crate::held::Held;

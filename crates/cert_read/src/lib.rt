@@ -3,6 +3,7 @@
 
 mod cursor;
 mod held;
+pub mod laws;
 mod line;
 mod position;
 mod reader;

@@ -4,4 +4,4 @@ use Rattle.cert_read.specs.Reader.{StandsIn}
 use Rattle.cert_read.proofs.tests.a_failed_read_leaves_the_reader.Given as goal
 
 abbrev pub invariant-loop-want : goal.invariant-loop-want
-invariant-loop-want l = StandsIn (bytes_of (desk_files l.desk l.reader.name)) l.reader
+invariant-loop-want g l = StandsIn (bytes_of (desk_files l.desk l.reader.name)) l.reader

@@ -1,0 +1,32 @@
+-- What is proved of certificates that were written: they are read back.
+use Rattle.std.specs.Prelude.{◌≡◌, ℕ, List, [], ◌∷◌, Ok}
+use Rattle.catalogue.specs.Instance.{Instance, IsInstance}
+use Rattle.trees.specs.declared.steps.Goal.{Goal}
+use Rattle.trees.specs.declared.steps.Step.{Step}
+use Rattle.cert_text.specs.Laws.{StepFits}
+use Rattle.cert_text.specs.Spelling.{HasStep, certificate_text, step_text}
+use Rattle.cert_text.specs.Texts.{IsGoal}
+use Rattle.cert_read.specs.declared.line.Line.{Line}
+use Rattle.cert_read.specs.declared.line.Line.TheVariants.{Step as StepLine, End, Over}
+use Rattle.cert_read.specs.declared.position.Position.{Position}
+use Rattle.cert_read.specs.Lines.{start, turn}
+
+-- each of the steps can be written
+abbrev pub AreWritable : Instance → List Step → Type 0
+AreWritable p [] = Unit {0}
+AreWritable p (s ∷ steps) = HasStep p s × StepFits s × AreWritable p steps
+
+-- what a certificate with these steps and this goal says, line by line after its header
+abbrev pub lines_of : Instance → List Step → Goal → List Line
+lines_of p [] goal = End goal ∷ Over ∷ []
+lines_of p (s ∷ steps) goal = StepLine (step_text p s) ∷ lines_of p steps goal
+
+-- these lines are read from a position on, one after the other
+abbrev pub ReadsOn : List ℕ → Position → List Line → Type 0
+ReadsOn file at [] = Unit {0}
+ReadsOn file at (line ∷ lines) = (after : Position) × (turn file at ≡ Ok (line, after)) × ReadsOn file after lines
+
+-- what was written is read back
+abbrev pub CertificatesReadBack : Type 0
+CertificatesReadBack =
+    (p : Instance) → IsInstance p → (steps : List Step) → AreWritable p steps → (goal : Goal) → IsGoal goal → ReadsOn (certificate_text p steps goal) start (lines_of p steps goal)
