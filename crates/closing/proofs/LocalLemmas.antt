@@ -1,5 +1,5 @@
 -- What each watch looks at, and that turns decide whether it is clean.
-use Rattle.std.proofs.Common.{◌≡◌, ◌≢◌, ◌⊎◌, inl, inr, ℕ, ◌<◌, ◌≤◌, Bool, true, false, not, ◌||◌, ◌==◌, cond, nat_lt, List, Option, Some, None, IsTrue, refl, sym, arith}
+use Rattle.std.proofs.Common.{◌≡◌, ◌≢◌, inl, inr, ℕ, Bool, true, false, not, ◌||◌, ◌==◌, cond, List, Option, Some, None, IsTrue, refl, arith}
 use Rattle.std.proofs.lemmas.Bool.{cases_eq, false≢true, ne_eqb}
 use Rattle.std.proofs.lemmas.List.Elements.{All-weaker}
 use Rattle.std.specs.Prelude.{slice_get}
@@ -19,16 +19,16 @@ use Rattle.slices.specs.Holds.{ForbidsPair, ForbidsPlace, IsMember}
 use Rattle.slices.specs.Parts.{IsPartOf}
 use Rattle.slices.specs.Snapshots.{Snapshot}
 use Rattle.slices.specs.Stages.{Nodes, one}
-use Rattle.reasons.specs.Reasons.{AreBothActing, AreScattered, HasOutside, IsGroup, IsOverload, IsPower, IsSetLoad}
+use Rattle.reasons.specs.Reasons.{AreScattered, HasOutside, IsGroup, IsOverload, IsPower, IsSetLoad}
 use Rattle.domains.specs.Sets.{Sets, setting}
 use Rattle.reasons.specs.Sure.{sure}
 use Rattle.reasons.proofs.Public.{quiet_at_turns_for, turns_decide_for}
-use Rattle.closing.specs.Kinds.{HasPair, HasPlace, IsBroken, constraint_watch, load_on, load_scope, rule_watch, presences_of, scope_of, usable_watch, watch_of}
+use Rattle.closing.specs.Kinds.{HasPair, HasPlace, IsBroken, constraint_watch, load_scope, rule_watch, presences_of, scope_of, watch_of}
 use Rattle.closing.specs.Laws.{ConstraintIsLocal, LoadIsLocal, TurnsAreEnough, UsableIsLocal}
 use Rattle.closing.specs.declared.look.Look.{Look}
 use Rattle.closing.specs.declared.look.Look.TheVariants.{Clean, Fail, Cut}
-use Rattle.closing.specs.Looks.{IsFound, IsFreeOf, IsLook, broken_at}
-use Rattle.closing.specs.Watches.{IsLocal, IsPartWithin, Scope, Watch}
+use Rattle.closing.specs.Looks.{IsFound, IsLook, broken_at}
+use Rattle.closing.specs.Watches.{IsLocal, IsPartWithin, Scope}
 
 -- ---- loads and usable nodes
 
