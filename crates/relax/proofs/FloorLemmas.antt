@@ -1,6 +1,6 @@
 -- The least that a machine holds on all nodes, where it runs and is to run: what it uses at present.
 use Rattle.std.proofs.Common.{◌≡◌, ◌≢◌, ◌⊎◌, inl, inr, ℕ, zero, suc, ◌+◌, ◌-◌, ◌<◌, ◌≤◌, ◌==◌, max, Bool, true, false, not, nat_lt, nat_le, cond, Option, Some, None, is_some, List, [], ◌∷◌, length, get_or, subst, refl, sym, ap, ◌∙◌, arith}
-use Rattle.std.specs.List.{All, Contains, filter, flat_map}
+use Rattle.std.specs.List.{All, Contains, flat_map}
 use Rattle.std.proofs.lemmas.Bool.{cases_eq, false≢true, lt-ltb, ltb-true}
 use Rattle.std.proofs.lemmas.Bool.Decides.{nat_tests}
 use Rattle.std.proofs.lemmas.List.Elements.{All-append, All-contains, All-nil}
@@ -21,8 +21,6 @@ use Rattle.catalogue.proofs.Public.{use_of_le}
 use Rattle.catalogue.specs.declared.targets.Target.TheVariants.{Running as ToRunning}
 use Rattle.catalogue.specs.declared.targets.Wish.TheVariants.{To}
 use Rattle.domains.specs.Choices.{Climbs, DomainView, choices, no_row, place_index, row_choices, starts_from}
-use Rattle.domains.specs.Parts.{in_part}
-use Rattle.domains.specs.declared.parts.Part.TheVariants.{From}
 use Rattle.domains.specs.declared.parts.Row.{Row}
 use Rattle.sums.specs.Least.{lowest}
 use Rattle.slices.specs.declared.slice.Weight.{Weight}
@@ -82,34 +80,28 @@ node-acts p v h n s w l other = let differ : (n.0 == h.0) ≡ false = grind (ari
 
 -- ---- each place of its rows
 
-climbs-low : (from : ℕ) (rows : List Row) (k : ℕ) (d : Row) → Climbs from rows → k < length rows → from ≤ place_index (get_or rows k d).place
+climbs-low : (from : ℕ) (rows : List Row) (k : ℕ) (d : Row) → Climbs from rows → k < length rows → from + k ≤ place_index (get_or rows k d).place
 climbs-low from [] k d c l = absurd (omega arith)
-climbs-low from (r ∷ rs) zero d c l = c.0
+climbs-low from (r ∷ rs) zero d c l = omega (arith, c.0)
 climbs-low from (r ∷ rs) (suc k) d c l = let rest = climbs-low (place_index r.place + 1) rs k d c.2 (omega arith) in omega (arith, c.0, rest)
 
-climbs-first : (rows : List Row) (a : Row) (k : ℕ) (d : Row) → Climbs 0 rows → k < length rows → place_index (get_or rows 0 a).place ≤ place_index (get_or rows k d).place
+climbs-first : (rows : List Row) (a : Row) (k : ℕ) (d : Row) → Climbs 0 rows → k < length rows → place_index (get_or rows 0 a).place + k ≤ place_index (get_or rows k d).place
 climbs-first [] a k d c l = absurd (omega arith)
 climbs-first (r ∷ rs) a k d c l = climbs-low (place_index r.place) (r ∷ rs) k d (omega arith, c.1, c.2) l
 
--- where nothing passes a test, each item fails it
-none-pass : (test : Choice → Bool) (cs : List Choice) → filter test cs ≡ [] → All (λ c. test c ≡ false) cs
-none-pass test [] e = All-nil (λ c. test c ≡ false)
-none-pass test (c ∷ cs) e = by (test c) refl e (none-pass test cs)
-  where
-    later : test c ≡ false → All (λ d. test d ≡ false) cs → All (λ d. test d ≡ false) (c ∷ cs)
-    later q rest zero d l = q
-    later q rest (suc k) d l = rest k d (omega arith)
-
-    by : (b : Bool) → test c ≡ b → cond b (c ∷ filter test cs) (filter test cs) ≡ [] → (filter test cs ≡ [] → All (λ d. test d ≡ false) cs) → All (λ d. test d ≡ false) (c ∷ cs)
-    by true q e rest = cc
-    by false q e rest = λ k d l. later q (rest e) k d l
-
-climbs-high : (from : ℕ) (rows : List Row) (k m : ℕ) (d e : Row) → Climbs from rows → k < length rows → m + 1 ≡ length rows → place_index (get_or rows k d).place ≤ place_index (get_or rows m e).place
+climbs-high : (from : ℕ) (rows : List Row) (k m : ℕ) (d e : Row) → Climbs from rows → k < length rows → m + 1 ≡ length rows → place_index (get_or rows k d).place + (m - k) ≤ place_index (get_or rows m e).place
 climbs-high from [] k m d e c l i = absurd (omega arith)
 climbs-high from (r ∷ rs) zero zero d e c l i = omega arith
 climbs-high from (r ∷ rs) zero (suc m) d e c l i = let rest = climbs-low (place_index r.place + 1) rs m e c.2 (omega arith) in omega (arith, rest)
 climbs-high from (r ∷ rs) (suc k) zero d e c l i = absurd (omega arith)
-climbs-high from (r ∷ rs) (suc k) (suc m) d e c l i = climbs-high (place_index r.place + 1) rs k m d e c.2 (omega arith) (omega arith)
+climbs-high from (r ∷ rs) (suc k) (suc m) d e c l i = let rest = climbs-high (place_index r.place + 1) rs k m d e c.2 (omega arith) (omega arith) in omega (arith, rest)
+
+-- the row at a node stands no later than the node's number says, and no earlier than there are nodes without a row
+pub not_there : (rows : List Row) (count n k : ℕ) (a b d : Row) → Climbs 0 rows → 0 < place_index (get_or rows 0 a).place → place_index (get_or rows (length rows - 1) b).place ≤ count → k < length rows → (k < (length rows + n) - count) ⊎ (n < k) → place_index (get_or rows k d).place ≢ n + 1
+not_there rows count n k a b d c low high l out =
+    let first = climbs-first rows a k d c l in
+    let last = climbs-high 0 rows k (length rows - 1) d b c l (omega arith) in
+    elim out [ inl early ↦ omega (arith, first, last) | inr late ↦ omega (arith, first, last) ]
 
 -- ---- all choices of the rows
 
@@ -137,16 +129,16 @@ at-row g c i =
     idle true (suc k) d l = absurd (omega arith)
     idle false k d l = absurd (omega arith)
 
--- where the first row is at a node, the last at a node of the problem, and there is no choice at the host unless the machine may act there,
+-- where the first row is at a node, the last at a node of the problem, and there is no row at the host unless the machine may act there,
 -- it acts at each place
-pub place_acts : (p : Instance) (v : ℕ) (h : NodeId) (g : DomainView) (m : ℕ) (a b : Row) → state_of p v ≡ Running h → wanted_state p v ≡ To ToRunning → Climbs 0 g.rows → m + 1 ≡ length g.rows → 0 < place_index (get_or g.rows 0 a).place → place_index (get_or g.rows m b).place ≤ node_count p → (is_some (kind_of p (vm v) (At h)) ≡ true) ⊎ (filter (in_part (From (At h) 0)) (choices g) ≡ []) → (place : Place) (s : ℕ) → Contains (choices g) (Act place s) → is_some (kind_of p (vm v) place) ≡ true
+pub place_acts : (p : Instance) (v : ℕ) (h : NodeId) (g : DomainView) (m : ℕ) (a b : Row) → state_of p v ≡ Running h → wanted_state p v ≡ To ToRunning → Climbs 0 g.rows → m + 1 ≡ length g.rows → 0 < place_index (get_or g.rows 0 a).place → place_index (get_or g.rows m b).place ≤ node_count p → (is_some (kind_of p (vm v) (At h)) ≡ true) ⊎ ((k : ℕ) (d : Row) → k < length g.rows → place_index (get_or g.rows k d).place ≢ h.0 + 1) → (place : Place) (s : ℕ) → Contains (choices g) (Act place s) → is_some (kind_of p (vm v) place) ≡ true
 place_acts p v h g m a b runs w c i low high stays place s there = at place there (row.2)
   where
     row : IsAtRow g.rows (Act place s)
     row = at-row g (Act place s) there
 
     first : place_index (get_or g.rows 0 a).place ≤ place_index (get_or g.rows row.0 no_row).place
-    first = climbs-first g.rows a row.0 no_row c row.1
+    first = omega (arith, climbs-first g.rows a row.0 no_row c row.1)
 
     last : place_index (get_or g.rows row.0 no_row).place ≤ node_count p
     last = omega (arith, climbs-high 0 g.rows row.0 m no_row b c row.1 i)
@@ -160,9 +152,7 @@ place_acts p v h g m a b runs w c i low high stays place s there = at place ther
           | inl same ↦
               elim stays [
                 | inl acts ↦ subst (λ (q : ℕ). is_some (kind_of p (vm v) (At (record { 0 = q }))) ≡ true) (sym same) acts
-                | inr none ↦
-                    let test : in_part (From (At h) 0) (Act (At n) s) ≡ true = grind (arith, nat_tests) in
-                    absurd (false≢true (sym (All-contains (λ d. in_part (From (At h) 0) d ≡ false) (choices g) (Act (At n) s) (none-pass (in_part (From (At h) 0)) (choices g) none) there) ∙ test))
+                | inr none ↦ absurd (none row.0 no_row row.1 (omega (arith, here)))
               ]
         ]
 

@@ -1,12 +1,14 @@
 //! How little a machine may hold on all nodes, as far as its state and its wish tell.
-ghost use Rattle.std.specs.Prelude.{◌≡◌, ℕ, ◌-◌, ◌<◌, ◌≤◌, true, List, length, slice_index_or, is_some, IsTrue};
+ghost use Rattle.std.specs.Prelude.{◌≡◌, ◌≢◌, ℕ, ◌+◌, ◌-◌, ◌<◌, ◌≤◌, true, List, length, slice_index_or, is_some, IsTrue};
 ghost use Rattle.std.specs.List.{Contains};
 ghost use Rattle.cluster.specs.declared.choices.Choice.{Choice as AnyChoice};
 ghost use Rattle.cluster.specs.declared.choices.Choice.TheVariants.{Act};
 ghost use Rattle.cluster.specs.declared.choices.Place.{Place as AnyPlace};
 ghost use Rattle.cluster.specs.declared.ids.NodeId.{NodeId as AnyNode};
+ghost use Rattle.cluster.specs.Limits.{max_nodes};
 ghost use Rattle.catalogue.specs.Instance.{IsElement};
 ghost use Rattle.domains.specs.Choices.{Climbs, choices, no_row, place_index};
+ghost use Rattle.domains.specs.declared.parts.Row.{Row as AnyRow};
 ghost use Rattle.domains.specs.Views.{seen, sight_of};
 ghost use Rattle.slices.specs.Actions.{kind_of as the_kind_of, wanted_state};
 ghost use Rattle.slices.specs.Elements.{node_count, state_of, vm};
@@ -25,7 +27,7 @@ use cluster::choices::Place;
 use cluster::ids::{Element, NodeId, VmId};
 use cluster::states::State;
 use domains::domain::Domain;
-use domains::parts::{Part, Row, Side};
+use domains::parts::Row;
 use domains::view::{Sight, View, shown};
 use slices::actions::kind_of;
 use slices::holding::amount;
@@ -73,7 +75,29 @@ fn always_acts(p: &Problem, v: VmId, host: NodeId, domain: &Domain) -> bool
     if may_act(p, v, Place::At(host)) {
         return true;
     }
-    domain.leaves_none(Part::From(Place::At(host), 0), Side::Inside)
+    has_no_row(rows, host, node_total(p))
+}
+
+// whether no row is at a node, where all are at the first so many nodes: as places climb, the row would
+// stand no later than the node's number says, and no earlier than by as many places as nodes have none
+fn has_no_row(rows: &[Row], n: NodeId, count: usize) -> bool
+    requires climbs { Climbs 0 rows.now }
+    requires few { count ≤ max_nodes }
+    requires some { 1 ≤ length rows.now }
+    requires first { 0 < place_index (slice_index_or rows.now 0 no_row).place }
+    requires last { place_index (slice_index_or rows.now (length rows.now - 1) no_row).place ≤ count }
+    ensures { IsTrue result → (k : ℕ) (d : AnyRow) → k < length rows.now → place_index (slice_index_or rows.now k d).place ≢ n.0 + 1 }
+{
+    let number = n.0 as usize;
+    for k in rows.len().saturating_add(number).saturating_sub(count)..rows.len() {
+        if k > number {
+            return true;
+        }
+        if place_number(rows[k].place) == u64::from(n.0) + 1 {
+            return false;
+        }
+    }
+    true
 }
 
 fn first_place(rows: &[Row]) -> Place
