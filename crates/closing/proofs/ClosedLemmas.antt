@@ -1,5 +1,5 @@
 -- Closed sets, by watches.
-use Rattle.std.proofs.Common.{◌≡◌, ◌⊎◌, inl, inr, ℕ, zero, suc, ◌+◌, ◌<◌, ◌≤◌, Bool, ◌||◌, ◌==◌, List, [], ◌∷◌, length, Option, Some, None, IsTrue, refl, arith}
+use Rattle.std.proofs.Common.{◌≡◌, inl, inr, ℕ, zero, suc, ◌+◌, ◌<◌, ◌≤◌, Bool, ◌||◌, ◌==◌, List, [], ◌∷◌, length, Option, Some, None, IsTrue, refl, arith}
 use Rattle.std.specs.Prelude.{slice_get}
 use Rattle.std.proofs.lemmas.Bool.{cases_eq, cases_lt}
 use Rattle.cluster.specs.declared.choices.Choice.{Choice}
@@ -12,7 +12,7 @@ use Rattle.slices.specs.Elements.{machine_count, node_count, node, vm}
 use Rattle.slices.specs.Snapshots.{Snapshot}
 use Rattle.slices.specs.Stages.{one}
 use Rattle.domains.specs.Sets.{Sets, setting}
-use Rattle.reasons.specs.Closed.{HaveChoices, IsClosed, IsEnd, IsFree, IsQuietKind, all_nodes}
+use Rattle.reasons.specs.Closed.{IsClosed, IsEnd, IsFree, all_nodes}
 use Rattle.reasons.specs.declared.reason.ReasonKind.{ReasonKind}
 use Rattle.reasons.specs.declared.reason.ReasonKind.TheVariants.{Empty, Bound, Load, Pair, Place, Group, SetLoad, Power, Usable, Hall}
 use Rattle.reasons.specs.Reasons.{IsGroup, IsPower, IsSetLoad}

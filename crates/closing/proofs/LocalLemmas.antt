@@ -1,6 +1,6 @@
 -- What each watch looks at, and that turns decide whether it is clean.
-use Rattle.std.proofs.Common.{◌≡◌, ◌⊎◌, inl, inr, ℕ, ◌<◌, ◌≤◌, Bool, true, false, not, ◌||◌, ◌==◌, cond, nat_lt, List, Option, Some, None, IsTrue, refl, sym, arith}
-use Rattle.std.proofs.lemmas.Bool.{false≢true}
+use Rattle.std.proofs.Common.{◌≡◌, ◌≢◌, inl, inr, ℕ, Bool, true, false, not, ◌||◌, ◌==◌, cond, List, Option, Some, None, IsTrue, refl, arith}
+use Rattle.std.proofs.lemmas.Bool.{cases_eq, false≢true, ne_eqb}
 use Rattle.std.proofs.lemmas.List.Elements.{All-weaker}
 use Rattle.std.specs.Prelude.{slice_get}
 use Rattle.sums.proofs.Sums.{sum_to-le}
@@ -10,6 +10,7 @@ use Rattle.cluster.specs.Sets.{has_node}
 use Rattle.catalogue.specs.declared.constraint.Constraint.{Constraint}
 use Rattle.catalogue.specs.declared.constraint.Constraint.TheVariants.{Spread, Ban, Fence, Gather, Lonely, Among, Split, Root, Precedence, Serialize, Preserve, ResourceCapacity, RunningCapacity, MaxOnline, Overbook, Online, Offline, Running, Sleeping, Ready, Killed}
 use Rattle.catalogue.specs.Instance.{Instance}
+use Rattle.catalogue.specs.Kinds.{is_continuous}
 use Rattle.catalogue.specs.Values.{capacity_of}
 use Rattle.slices.specs.declared.stage.Progress.TheVariants.{Acting, Started, Unended}
 use Rattle.slices.specs.declared.slice.Weight.TheVariants.{Amount, Image, Presence}
@@ -18,11 +19,16 @@ use Rattle.slices.specs.Holds.{ForbidsPair, ForbidsPlace, IsMember}
 use Rattle.slices.specs.Parts.{IsPartOf}
 use Rattle.slices.specs.Snapshots.{Snapshot}
 use Rattle.slices.specs.Stages.{Nodes, one}
-use Rattle.reasons.specs.Reasons.{AreBothActing, AreScattered, HasOutside, IsGroup, IsOverload, IsPower, IsSetLoad}
+use Rattle.reasons.specs.Reasons.{AreScattered, HasOutside, IsGroup, IsOverload, IsPower, IsSetLoad}
+use Rattle.domains.specs.Sets.{Sets, setting}
+use Rattle.reasons.specs.Sure.{sure}
 use Rattle.reasons.proofs.Public.{quiet_at_turns_for, turns_decide_for}
-use Rattle.closing.specs.Kinds.{HasPair, HasPlace, IsBroken, constraint_watch, load_on, load_scope, rule_watch, presences_of, scope_of, usable_watch, watch_of}
+use Rattle.closing.specs.Kinds.{HasPair, HasPlace, IsBroken, constraint_watch, load_scope, rule_watch, presences_of, scope_of, watch_of}
 use Rattle.closing.specs.Laws.{ConstraintIsLocal, LoadIsLocal, TurnsAreEnough, UsableIsLocal}
-use Rattle.closing.specs.Watches.{IsLocal, IsPartWithin, Scope, Watch}
+use Rattle.closing.specs.declared.look.Look.{Look}
+use Rattle.closing.specs.declared.look.Look.TheVariants.{Clean, Fail, Cut}
+use Rattle.closing.specs.Looks.{IsFound, IsLook, broken_at}
+use Rattle.closing.specs.Watches.{IsLocal, IsPartWithin, Scope}
 
 -- ---- loads and usable nodes
 
@@ -242,3 +248,21 @@ turns_are_enough w p s local of clean t l = record {
   where
     keeps : (s big : Snapshot) (last : Bool) → IsPartOf s big → ¬ w.broken big last → ¬ w.broken s last
     keeps s big last part free x = free (local.part s big last (within-all w.scope s big part) x)
+
+-- ---- a constraint that is to hold at the last instant alone
+
+pub last_look : (p : Instance) (s : Sets) (c : ℕ) (k : Constraint) (look : Look) → slice_get p.constraints c ≡ Some k → is_continuous k ≡ false → IsFound (broken_at (constraint_watch p c) p p.horizon) p s p.horizon look → IsLook (constraint_watch p c) p s look
+last_look p s c k look is discrete found = rw is (by look (rw is at found))
+  where
+    early : (t : ℕ) → t ≢ p.horizon → (b : Snapshot) → ¬ broken_at (rule_watch p k) p t b
+    early t ne b x = let off : (t == p.horizon) ≡ false = ne_eqb t p.horizon ne in false≢true (rw (discrete, off) at x.0)
+
+    by : (look : Look) → IsFound (broken_at (rule_watch p k) p p.horizon) p s p.horizon look → IsLook (rule_watch p k) p s look
+    by Clean h =
+        λ t l.
+        elim (cases_eq t p.horizon) [
+          | inl same ↦ rw same h
+          | inr ne ↦ record { base = early t ne (sure p s t); ends = λ e d i end. early t ne (sure p (setting e d s) t) }
+        ]
+    by (Fail u) h = (omega (arith, h.0), rw h.0 h.1)
+    by (Cut e d u) h = (omega (arith, h.0), rw h.0 h.1)

@@ -1,16 +1,15 @@
 -- Loops over parts, and over the machines that are not in a set.
-use Rattle.std.proofs.Common.{◌≡◌, ◌≢◌, ◌⊎◌, inl, inr, ℕ, ◌+◌, ◌<◌, ◌≤◌, Bool, true, false, List, [], length, get_or, IsTrue, slice_index_or, refl, sym, ◌∙◌, arith}
+use Rattle.std.proofs.Common.{◌≡◌, ◌≢◌, inl, inr, ℕ, ◌+◌, ◌<◌, List, [], length, get_or, slice_index_or, sym, ◌∙◌, arith}
 use Rattle.std.proofs.lemmas.Bool.{cases_eq}
 use Rattle.std.proofs.lemmas.List.{get_or_default}
 use Rattle.cluster.specs.declared.choices.Choice.{Choice}
 use Rattle.cluster.specs.declared.ids.Element.{Element}
 use Rattle.cluster.specs.declared.ids.VmId.{VmId}
 use Rattle.catalogue.specs.Instance.{Instance}
-use Rattle.slices.specs.Elements.{machine_count}
 use Rattle.slices.specs.Snapshots.{Snapshot}
 use Rattle.domains.specs.Sets.{Sets}
 use Rattle.closing.specs.Looks.{IsFreeOf, IsMetWith}
-use Rattle.closing.specs.Stands.{IsAnyOf, MeetsOtherPart, MeetsStranger, ShareNode}
+use Rattle.closing.specs.Stands.{IsAnyOf, MeetsOtherPart, ShareNode}
 use Rattle.closing.proofs.MemberLemmas.{part_listed}
 
 -- a part by its number

@@ -1,6 +1,6 @@
 -- What setting one element leaves as it was, for conditions on places, pairs, groups and powered nodes.
-use Rattle.std.proofs.Common.{◌≡◌, ◌≢◌, ◌⊎◌, inl, inr, ℕ, ◌+◌, ◌<◌, ◌≤◌, Bool, true, false, cond, List, IsTrue, refl, sym, ap, subst, ◌∙◌, arith}
-use Rattle.std.proofs.lemmas.Bool.{cases_eq, false≢true, true_from_ne_false}
+use Rattle.std.proofs.Common.{◌≡◌, ◌≢◌, ◌⊎◌, inl, inr, ℕ, ◌+◌, ◌<◌, ◌≤◌, Bool, true, false, cond, IsTrue, refl, sym, ap, ◌∙◌, arith}
+use Rattle.std.proofs.lemmas.Bool.{cases_eq, false≢true}
 use Rattle.cluster.specs.declared.choices.Choice.{Choice}
 use Rattle.cluster.specs.declared.ids.VmId.{VmId}
 use Rattle.cluster.specs.declared.ids.NodeId.{NodeId}
@@ -10,12 +10,10 @@ use Rattle.catalogue.specs.declared.constraint.Constraint.{Constraint}
 use Rattle.catalogue.specs.Instance.{Instance, IsElement}
 use Rattle.slices.specs.declared.slice.Weight.TheVariants.{Amount, Presence}
 use Rattle.slices.specs.Elements.{machine_count, node_count, node, vm}
-use Rattle.slices.specs.Snapshots.{Snapshot, held_at, load, powered_at, powered_nodes, presences, present_at}
+use Rattle.slices.specs.Snapshots.{load, powered_at, powered_nodes, presences, present_at}
 use Rattle.slices.specs.Stages.{Nodes, one}
 use Rattle.domains.specs.Sets.{Sets, setting}
 use Rattle.reasons.specs.Closed.{IsEnd}
-use Rattle.reasons.specs.Reasons.{IsPlace}
-use Rattle.reasons.specs.Settings.{IsMachineUnder, IsSameMachine, powered_in}
 use Rattle.reasons.specs.Sure.{sure}
 use Rattle.reasons.proofs.Public.{machine_change, node_change, setting_agrees, setting_load, setting_powered, setting_presences, setting_sets}
 use Rattle.closing.specs.Looks.{IsFreeOf, IsMetWith}

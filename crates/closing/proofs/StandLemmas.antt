@@ -1,12 +1,12 @@
 -- Where a machine stands, by one of its choices.
-use Rattle.std.proofs.Common.{◌≡◌, ◌⊎◌, inl, inr, ℕ, zero, suc, ◌+◌, ◌<◌, ◌≤◌, Bool, true, false, ◌&&◌, ◌||◌, ◌==◌, List, [], ◌∷◌, length, slice_index_or, Option, Some, None, is_some, IsTrue, refl, sym, ap, subst, ◌∙◌, arith}
+use Rattle.std.proofs.Common.{◌≡◌, inl, ℕ, ◌<◌, Bool, true, false, ◌&&◌, ◌||◌, List, [], length, slice_index_or, Option, Some, None, is_some, IsTrue, refl, sym, ap, ◌∙◌}
 use Rattle.std.specs.List.{Contains}
-use Rattle.std.proofs.lemmas.Bool.{eq-eqb, false≢true, or_left, or_right}
+use Rattle.std.proofs.lemmas.Bool.{eq-eqb, or_left, or_right}
 use Rattle.cluster.specs.declared.choices.Choice.{Choice}
-use Rattle.cluster.specs.declared.choices.Choice.TheVariants.{Idle, Act}
+use Rattle.cluster.specs.declared.choices.Choice.TheVariants.{Act}
 use Rattle.cluster.specs.declared.ids.NodeId.{NodeId}
 use Rattle.catalogue.specs.Instance.{Instance}
-use Rattle.slices.specs.Elements.{node_count, vm}
+use Rattle.slices.specs.Elements.{vm}
 use Rattle.slices.specs.Snapshots.{present_at}
 use Rattle.slices.specs.Stages.{one}
 use Rattle.domains.specs.Choices.{DomainView, Climbs, choices, no_row}
@@ -17,7 +17,7 @@ use Rattle.reasons.specs.Regions.{row_at}
 use Rattle.reasons.specs.Sure.{sure}
 use Rattle.reasons.proofs.Public.{end_is_choice, ends_of_rows}
 use Rattle.closing.specs.declared.stands.Stands.{Stands}
-use Rattle.closing.specs.declared.stands.Stands.TheVariants.{Everywhere, On}
+use Rattle.closing.specs.declared.stands.Stands.TheVariants.{On}
 use Rattle.closing.specs.Stands.{AreWithin, IsWithin, has_node_of, is_node}
 
 -- the first start of the first row is a choice

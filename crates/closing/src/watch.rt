@@ -135,11 +135,15 @@ pub fn look_at_usable(p: &Problem, g: &Region, n: NodeId) -> Look
     look(&NodeUsable(n), p, g)
 }
 
-/// A look at the constraint of a number.
+/// A look at the constraint of a number. One that is to hold at the horizon alone is looked at there alone.
 pub fn look_at_constraint(p: &Problem, g: &Region, c: u32) -> Look
     requires region { IsSized p.now.given g.now }
     requires constraint { c < length p.now.given.constraints }
     ensures { IsLook (constraint_watch p.now.given c) p.now.given (sets g.now) result }
 {
-    look(&OneConstraint(c), p, g)
+    if p.constraints()[c as usize].is_continuous() {
+        look(&OneConstraint(c), p, g)
+    } else {
+        constraint_found(p, g, c, p.horizon())
+    }
 }

@@ -1,4 +1,4 @@
-use Rattle.std.proofs.Common.{◌≡◌, ◌+◌, ◌-◌, refl, arith}
+use Rattle.std.proofs.Common.{◌-◌, refl, arith}
 use Rattle.cluster.specs.Sets.{has_node}
 use Rattle.domains.specs.Sets.{sets}
 use Rattle.closing.proofs.SettingLemmas.{presences_free, presences_met}

@@ -1,8 +1,6 @@
-use Rattle.std.proofs.Common.{◌≡◌, ◌+◌, ◌-◌, refl, arith}
+use Rattle.std.proofs.Common.{◌-◌, refl, arith}
 use Rattle.cluster.specs.Sets.{has_node}
-use Rattle.slices.specs.Snapshots.{load}
 use Rattle.domains.specs.Sets.{sets}
-use Rattle.reasons.specs.Sure.{sure}
 use Rattle.closing.proofs.SettingLemmas.{uses_free, uses_met}
 use Rattle.closing.proofs.capacities.uses_found.Goals as goal
 

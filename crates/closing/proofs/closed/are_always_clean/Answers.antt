@@ -1,7 +1,5 @@
-use Rattle.std.proofs.Common.{◌≡◌, ◌⊎◌, inl, inr, ℕ, ◌<◌, ◌≤◌, subst, arith}
-use Rattle.std.proofs.lemmas.Bool.{cases_eq, cases_lt}
+use Rattle.std.proofs.Common.{arith}
 use Rattle.domains.specs.Sets.{sets}
-use Rattle.closing.specs.Laws.{AreCleanAt}
 use Rattle.closing.proofs.EndLemmas.{sized_is_of}
 use Rattle.closing.proofs.ClosedLemmas.{all_clean, clean_more}
 use Rattle.closing.proofs.closed.are_always_clean.Goals as goal
