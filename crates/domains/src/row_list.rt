@@ -196,7 +196,7 @@ fn remove_up(slots: &mut SmallVec<Row, 1>, free: usize, i: usize)
     slots.as_mut_slice().copy_within(free..free + i, free + 1);
 }
 
-// puts a row in, and moves those before it down: one slot less is free, and so many are
+// puts a row in, and moves those before it down: so many slots are free then, and one more was before
 fn insert_down(slots: &mut SmallVec<Row, 1>, free: usize, i: usize, row: Row)
     requires { free + i < length slots.old.items }
     ensures rows { drop free slots.new.items ≡ insert (drop (free + 1) slots.old.items) i row }

@@ -27,8 +27,8 @@ pub fn is_same(a: Place, b: Place) -> bool
 
 /// Where the row at a place stands, or else where it would.
 ///
-/// It is sought first where it stands if `slots` rows at places in a row have lost some here and there, then as far
-/// from there as the places say, and then by halving.
+/// It is sought first where it stands if there was a row at each of the first `slots` places and some were lost here
+/// and there, then as far from that as the places differ, and then by halving. So `slots` is only a hint.
 pub fn find(rows: &[Row], place: Place, slots: usize) -> Result<usize, usize>
     requires { Climbs 0 rows.now }
     ensures found { IfOk result (IsFound rows.now (place_index place)) }
