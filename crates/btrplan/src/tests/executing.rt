@@ -26,7 +26,10 @@ const TRANSCRIPT: &[u8] = b"start v1\nstart v0\ndone\n";
 fn rest_of(alloc: Global, input: &mut SourceMem) -> Result<Vec<u8>, Fail> {
     let mut rest = Vec::new(alloc);
     let mut piece = [0; 64];
-    while let Ok(count) = input.read(&mut piece) {
+    for _ in 0..u64::MAX {
+        let Ok(count) = input.read(&mut piece) else {
+            break;
+        };
         if count == 0 {
             break;
         }
