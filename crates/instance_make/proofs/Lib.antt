@@ -1,0 +1,4 @@
+mod NameLemmas
+mod Putting
+mod Flat
+mod Printed
