@@ -1,4 +1,7 @@
 mod NameLemmas
+mod Making
 mod Putting
 mod Flat
 mod Printed
+mod AmountsAgain
+mod ElementsAgain

@@ -1,5 +1,5 @@
 -- A printed problem has no floats, and nests no deeper than can be read.
-use Rattle.std.proofs.Common.{◌≡◌, ℕ, suc, ◌≤◌, Bool, true, false, List, length, Option, Some, None, is_some, IfSome, option_map, slice_index, slice_index_or, codes, arith, refl}
+use Rattle.std.proofs.Common.{◌≡◌, ℕ, suc, ◌≤◌, Bool, true, false, List, [], length, Option, Some, None, is_some, IfSome, option_map, slice_index, slice_index_or, codes, arith, refl, if◌then◌else◌}
 use Rattle.std.specs.List.{list_any, range_with_len}
 use Rattle.serde_json.specs.Data.{Data, boolean, string, number, unsigned, no_members, member, depth}
 use Rattle.serde_json.specs.Read.{max_depth}

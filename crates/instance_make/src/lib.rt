@@ -6,6 +6,7 @@ mod elements;
 mod lists;
 mod names;
 mod printing;
+mod probe;
 mod rules;
 
 pub use printing::print_instance;

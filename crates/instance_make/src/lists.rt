@@ -1,10 +1,13 @@
 //! Lists of names, and lists of such lists.
 
-ghost use Rattle.std.specs.Prelude.{◌≡◌, ◌++◌, ◌∷◌, [], IfOk, OnOk};
+ghost use Rattle.std.specs.Prelude.{◌≡◌, ◌<◌, ◌++◌, ◌∷◌, [], IfOk, OnOk, map};
+ghost use Rattle.std.specs.List.{filter};
 ghost use Rattle.serde_json.specs.View.{view};
 ghost use Rattle.json_text.specs.Out.{items};
+ghost use Rattle.cluster.specs.Limits.{max_nodes};
+ghost use Rattle.cluster.specs.Sets.{has_node};
 ghost use Rattle.instance_make.specs.Rules.{machines_list, parts_list, nodes_list, groups_list};
-ghost use Rattle.instance_make.specs.Elements.{machine_name};
+ghost use Rattle.instance_make.specs.Rules.{node_name_at};
 
 use crate::names::{machine_name, node_name};
 use catalogue::lists::Vms;
@@ -44,17 +47,34 @@ pub(crate) fn parts_list(alloc: Global, cluster: &Cluster, parts: &[Vms]) -> Res
     Ok(list.finish())
 }
 
+/// Adds the name of a node, if it is in the set.
+fn push_node(
+    alloc: Global,
+    cluster: &Cluster,
+    nodes: &NodeSet,
+    n: usize,
+    list: &mut ListOut,
+) -> Result<(), Memory>
+    requires { n < max_nodes }
+    ensures { let names = map (node_name_at cluster.now.given) (filter (has_node nodes.now) (n ∷ [])) in
+        OnOk result (items list.new ≡ items list.old ++ names) }
+{
+    let node = NodeId(n as u32);
+    if nodes.has(node) {
+        list.push(node_name(alloc, cluster, node)?)
+    } else {
+        Ok(())
+    }
+}
+
 /// The nodes of a set by their names, in the order of the nodes.
-#[tactic(auto, unfolding(crate::specs::Rules::nodes_list, crate::specs::Rules::nodes_in))]
+#[tactic(auto, using(crate::proofs::Putting::named_more), unfolding(crate::specs::Rules::nodes_list, crate::specs::Rules::nodes_in))]
 pub(crate) fn nodes_list(alloc: Global, cluster: &Cluster, nodes: &NodeSet) -> Result<Value, Memory>
     ensures { IfOk result (λ d. view d ≡ nodes_list cluster.now.given nodes.now) }
 {
     let mut list = ListOut::new(alloc);
     for n in 0..cluster.nodes().len() {
-        let node = NodeId(n as u32);
-        if nodes.has(node) {
-            list.push(node_name(alloc, cluster, node)?)?;
-        }
+        push_node(alloc, cluster, nodes, n, &mut list)?;
     }
     Ok(list.finish())
 }

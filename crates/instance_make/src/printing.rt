@@ -44,8 +44,8 @@ fn nodes_list(alloc: Global, cluster: &Cluster, nodes: &[Node]) -> Result<Value,
 }
 
 fn machines_list(alloc: Global, cluster: &Cluster, machines: &[Machine]) -> Result<Value, Memory>
-    ensures { let data = list_data (map (machine_data cluster.now.given) machines.now) in
-        IfOk result (λ d. view d ≡ data) }
+    ensures { let object = list_data (map (machine_data cluster.now.given) machines.now) in
+        IfOk result (λ d. view d ≡ object) }
 {
     let mut list = ListOut::new(alloc);
     for machine in machines {
@@ -59,8 +59,8 @@ fn constraints_list(
     cluster: &Cluster,
     constraints: &[Constraint],
 ) -> Result<Value, Memory>
-    ensures { let data = list_data (map (constraint_data cluster.now.given) constraints.now) in
-        IfOk result (λ d. view d ≡ data) }
+    ensures { let object = list_data (map (constraint_data cluster.now.given) constraints.now) in
+        IfOk result (λ d. view d ≡ object) }
 {
     let mut list = ListOut::new(alloc);
     for constraint in constraints {

@@ -27,8 +27,8 @@ fn machines_object(
     word: &str,
     machines: &Vms,
 ) -> Result<Value, Memory>
-    ensures { let data = machines_object cluster.now.given word.now machines.now in
-        IfOk result (λ d. view d ≡ data) }
+    ensures { let object = machines_object cluster.now.given word.now machines.now in
+        IfOk result (λ d. view d ≡ object) }
 {
     let mut object = ObjectOut::new(alloc);
     object.put("kind", text(alloc, word)?)?;
@@ -44,8 +44,8 @@ fn flagged_machines_object(
     machines: &Vms,
     continuous: bool,
 ) -> Result<Value, Memory>
-    ensures { let data = flagged_machines_object cluster.now.given word.now machines.now continuous in
-        IfOk result (λ d. view d ≡ data) }
+    ensures { let object = flagged_machines_object cluster.now.given word.now machines.now continuous in
+        IfOk result (λ d. view d ≡ object) }
 {
     let mut object = ObjectOut::new(alloc);
     object.put("kind", text(alloc, word)?)?;
@@ -63,8 +63,8 @@ fn both_object(
     nodes: &NodeSet,
     continuous: bool,
 ) -> Result<Value, Memory>
-    ensures { let data = both_object cluster.now.given word.now machines.now nodes.now continuous in
-        IfOk result (λ d. view d ≡ data) }
+    ensures { let object = both_object cluster.now.given word.now machines.now nodes.now continuous in
+        IfOk result (λ d. view d ≡ object) }
 {
     let mut object = ObjectOut::new(alloc);
     object.put("kind", text(alloc, word)?)?;
@@ -83,8 +83,8 @@ fn among_object(
     groups: &Groups,
     continuous: bool,
 ) -> Result<Value, Memory>
-    ensures { let data = among_object cluster.now.given word.now machines.now groups.now continuous in
-        IfOk result (λ d. view d ≡ data) }
+    ensures { let object = among_object cluster.now.given word.now machines.now groups.now continuous in
+        IfOk result (λ d. view d ≡ object) }
 {
     let mut object = ObjectOut::new(alloc);
     object.put("kind", text(alloc, word)?)?;
@@ -102,8 +102,8 @@ fn split_object(
     parts: &Parts,
     continuous: bool,
 ) -> Result<Value, Memory>
-    ensures { let data = split_object cluster.now.given word.now parts.now continuous in
-        IfOk result (λ d. view d ≡ data) }
+    ensures { let object = split_object cluster.now.given word.now parts.now continuous in
+        IfOk result (λ d. view d ≡ object) }
 {
     let mut object = ObjectOut::new(alloc);
     object.put("kind", text(alloc, word)?)?;
@@ -120,8 +120,8 @@ fn precedence_object(
     before: VmId,
     after: VmId,
 ) -> Result<Value, Memory>
-    ensures { let data = precedence_object cluster.now.given word.now before after in
-        IfOk result (λ d. view d ≡ data) }
+    ensures { let object = precedence_object cluster.now.given word.now before after in
+        IfOk result (λ d. view d ≡ object) }
 {
     let mut object = ObjectOut::new(alloc);
     object.put("kind", text(alloc, word)?)?;
@@ -139,8 +139,8 @@ fn preserve_object(
     resource: u8,
     amount: u64,
 ) -> Result<Value, Memory>
-    ensures { let data = preserve_object cluster.now.given word.now machines.now resource amount in
-        IfOk result (λ d. view d ≡ data) }
+    ensures { let object = preserve_object cluster.now.given word.now machines.now resource amount in
+        IfOk result (λ d. view d ≡ object) }
 {
     let mut object = ObjectOut::new(alloc);
     object.put("kind", text(alloc, word)?)?;
@@ -161,8 +161,8 @@ fn resource_capacity_object(
     continuous: bool,
 ) -> Result<Value, Memory>
     ensures { let k = cluster.now.given in
-        let data = resource_capacity_object k word.now nodes.now resource amount continuous in
-        IfOk result (λ d. view d ≡ data) }
+        let object = resource_capacity_object k word.now nodes.now resource amount continuous in
+        IfOk result (λ d. view d ≡ object) }
 {
     let mut object = ObjectOut::new(alloc);
     object.put("kind", text(alloc, word)?)?;
@@ -182,8 +182,8 @@ fn node_count_object(
     amount: u64,
     continuous: bool,
 ) -> Result<Value, Memory>
-    ensures { let data = node_count_object cluster.now.given word.now nodes.now amount continuous in
-        IfOk result (λ d. view d ≡ data) }
+    ensures { let object = node_count_object cluster.now.given word.now nodes.now amount continuous in
+        IfOk result (λ d. view d ≡ object) }
 {
     let mut object = ObjectOut::new(alloc);
     object.put("kind", text(alloc, word)?)?;
@@ -203,8 +203,8 @@ fn overbook_object(
     num: u64,
     den: u64,
 ) -> Result<Value, Memory>
-    ensures { let data = overbook_object cluster.now.given word.now nodes.now resource num den in
-        IfOk result (λ d. view d ≡ data) }
+    ensures { let object = overbook_object cluster.now.given word.now nodes.now resource num den in
+        IfOk result (λ d. view d ≡ object) }
 {
     let mut object = ObjectOut::new(alloc);
     object.put("kind", text(alloc, word)?)?;
@@ -222,8 +222,8 @@ fn nodes_object(
     word: &str,
     nodes: &NodeSet,
 ) -> Result<Value, Memory>
-    ensures { let data = nodes_object cluster.now.given word.now nodes.now in
-        IfOk result (λ d. view d ≡ data) }
+    ensures { let object = nodes_object cluster.now.given word.now nodes.now in
+        IfOk result (λ d. view d ≡ object) }
 {
     let mut object = ObjectOut::new(alloc);
     object.put("kind", text(alloc, word)?)?;
