@@ -1,10 +1,10 @@
 -- Printed amounts and durations are read again.
-use Rattle.std.proofs.Common.{◌≡◌, ℕ, zero, suc, ◌+◌, ◌-◌, ◌<◌, ◌≤◌, ◌==◌, ◌&&◌, ◌||◌, Bool, true, false, not, List, [], ◌∷◌, ◌++◌, length, map, take, drop, replicate, get_or, slice_index, slice_index_or, nat_le, nat_lt, Option, Some, None, is_some, is_none, option_map, unwrap_or, Ok, codes, if◌then◌else◌, refl, sym, ap, ◌∙◌, arith, ⊎_elim}
+use Rattle.std.proofs.Common.{◌≡◌, ℕ, ◌+◌, ◌-◌, ◌<◌, ◌≤◌, ◌==◌, ◌&&◌, ◌||◌, Bool, true, false, not, List, [], ◌∷◌, length, map, take, drop, replicate, get_or, slice_index, slice_index_or, nat_le, Option, Some, None, is_some, is_none, option_map, unwrap_or, Ok, codes, if◌then◌else◌, refl, sym, ap, ◌∙◌, arith, ⊎_elim}
 use Rattle.std.proofs.lemmas.Grind.{common_steps}
 use Rattle.std.proofs.lemmas.Bool.{and_parts, cases_lt, ltb-false, leb-false}
-use Rattle.std.proofs.lemmas.List.{ext_get_or, get_or_default, get_or-map, get_or-take, get_or-drop, length-take, length-drop, length-map, take-append-drop, take_all}
+use Rattle.std.proofs.lemmas.List.{get_or_default, get_or-map, get_or-take, get_or-drop, length-take, length-drop, length-map, take-append-drop, take_all}
 use Rattle.std.proofs.lemmas.List.Folds.{list_any_at}
-use Rattle.std.proofs.lemmas.List.FromFn.{get_or-range_with_len, length-range_with_len, get_or-map-range_with_len}
+use Rattle.std.proofs.lemmas.List.FromFn.{get_or-range_with_len, length-range_with_len}
 use Rattle.std.proofs.lemmas.Slice.Eq.{bytes_eq-Decides}
 use Rattle.std.specs.List.{list_all, list_any, range_with_len}
 use Rattle.std.specs.Str.{bytes_eq}
@@ -13,7 +13,7 @@ use Rattle.sums.proofs.Ranges.{all_pass}
 use Rattle.serde_json.specs.Data.{Data, string, number, unsigned}
 use Rattle.serde_json.specs.Find.{get, get_member}
 use Rattle.json_walk.specs.Path.{key_path}
-use Rattle.json_walk.specs.Walk.{◌>>=◌, object_of, optional, field_of, number_of, number_field_of, only_of, keys_of}
+use Rattle.json_walk.specs.Walk.{object_of, optional, field_of, number_of, number_field_of, only_of, keys_of}
 use Rattle.cluster.specs.declared.durations.Duration.{Duration}
 use Rattle.cluster.specs.declared.kinds.Kind.{Kind}
 use Rattle.cluster.specs.declared.kinds.Kind.TheVariants.{Forge, Boot, Shutdown, Suspend, Resume, Migrate, Allocate, Kill, NodeBoot, NodeShutdown}
@@ -22,7 +22,7 @@ use Rattle.cluster.specs.Kinds.{kind_count, machine_kind_count, kind_number, kin
 use Rattle.cluster.specs.Limits.{max_amount, max_duration, max_resources}
 use Rattle.cluster.specs.Names.{is_name}
 use Rattle.cluster.proofs.Public.{IsDuration-fits, kind_number-lt, resource_named-listed}
-use Rattle.instance_json.specs.Walk.{Walk, optional_number, map_walk}
+use Rattle.instance_json.specs.Walk.{Walk, optional_number}
 use Rattle.instance_json.specs.Names.{listed_resource}
 use Rattle.instance_json.specs.Durations.{unit_from, duration_from, given_duration, duration_by_kind, has_kind, is_kind_key, durations_from, own_durations, no_durations, one_instant, base_durations}
 use Rattle.instance_json.specs.Elements.{resource_amounts, amounts_from}
@@ -137,12 +137,12 @@ machine_fits-owner count ds long all =
     record {
       long = long;
       fits = λ i. ⊎_elim
-      (λ (lt : i < machine_kind_count). before_bound (own_fits count) refl ds machine_kind_count i lt sides.0)
-      (λ (le : machine_kind_count ≤ i). none-fits count _ (from_bound is_none refl ds machine_kind_count i le sides.1))
-      (cases_lt i machine_kind_count);
+          (λ (lt : i < machine_kind_count). before_bound (own_fits count) refl ds machine_kind_count i lt sides.0)
+          (λ (le : machine_kind_count ≤ i). none-fits count _ (from_bound is_none refl ds machine_kind_count i le sides.1))
+          (cases_lt i machine_kind_count);
       none = λ i kind number other.
-      let le : machine_kind_count ≤ i = omega (arith, number, ltb-false (kind_number kind) machine_kind_count other) in
-      is_none-None _ (from_bound is_none refl ds machine_kind_count i le sides.1);
+          let le : machine_kind_count ≤ i = omega (arith, number, ltb-false (kind_number kind) machine_kind_count other) in
+          is_none-None _ (from_bound is_none refl ds machine_kind_count i le sides.1);
     }
 
 pub node_fits-owner : (count : ℕ) (ds : List (Option Duration)) → length ds ≡ kind_count → node_own_fits count ds ≡ true → FitsOwner count of_node ds
@@ -151,12 +151,12 @@ node_fits-owner count ds long all =
     record {
       long = long;
       fits = λ i. ⊎_elim
-      (λ (lt : i < machine_kind_count). none-fits count _ (before_bound is_none refl ds machine_kind_count i lt sides.0))
-      (λ (le : machine_kind_count ≤ i). from_bound (own_fits count) refl ds machine_kind_count i le sides.1)
-      (cases_lt i machine_kind_count);
+          (λ (lt : i < machine_kind_count). none-fits count _ (before_bound is_none refl ds machine_kind_count i lt sides.0))
+          (λ (le : machine_kind_count ≤ i). from_bound (own_fits count) refl ds machine_kind_count i le sides.1)
+          (cases_lt i machine_kind_count);
       none = λ i kind number other.
-      let lt : i < machine_kind_count = omega (arith, number, leb-false machine_kind_count (kind_number kind) other) in
-      is_none-None _ (before_bound is_none refl ds machine_kind_count i lt sides.0);
+          let lt : i < machine_kind_count = omega (arith, number, leb-false machine_kind_count (kind_number kind) other) in
+          is_none-None _ (before_bound is_none refl ds machine_kind_count i lt sides.0);
     }
 
 each_fits : (count : ℕ) (ds : List Duration) → list_all (duration_fits count) ds ≡ true → list_all (own_fits count) (map Some ds) ≡ true

@@ -1,8 +1,8 @@
 -- What is printed has no floats and nests no deeper than can be read.
-use Rattle.std.proofs.Common.{◌≡◌, ℕ, suc, ◌≤◌, Bool, true, false, ◌||◌, List, [], ◌∷◌, map, max, Option, Some, None, IfSome, refl, arith}
+use Rattle.std.proofs.Common.{◌≡◌, ℕ, suc, ◌≤◌, Bool, false, ◌||◌, List, [], ◌∷◌, map, Option, Some, None, IfSome, refl, arith}
 use Rattle.std.proofs.Math.Nat.{max-le}
 use Rattle.std.specs.List.{fold}
-use Rattle.serde_json.specs.Data.{Data, boolean, string, number, unsigned, array, object, Members, no_members, member, depth, members_depth}
+use Rattle.serde_json.specs.Data.{Data, boolean, string, number, unsigned, object, Members, no_members, member, depth, members_depth}
 use Rattle.serde_json.specs.View.{items_of}
 use Rattle.serde_json.specs.Written.{has_float, members_have_float, items_have_float}
 use Rattle.serde_json.specs.Data.{items_depth}

@@ -5,3 +5,6 @@ mod Flat
 mod Printed
 mod AmountsAgain
 mod ElementsAgain
+mod ListsAgain
+mod RulesAgain
+mod ReadBack

@@ -1,5 +1,5 @@
 -- A list that is spelled item by item is read again, whatever is made of it; and names that differ.
-use Rattle.std.proofs.Common.{◌≡◌, ℕ, zero, suc, ◌+◌, ◌<◌, ◌≤◌, ◌&&◌, ◌||◌, Bool, true, false, not, List, [], ◌∷◌, ◌++◌, length, map, get_or, Option, Some, None, is_some, is_none, replicate, Result, Ok, true≢false, refl, sym, ap, ◌∙◌, append_assoc, arith, rules}
+use Rattle.std.proofs.Common.{◌≡◌, ℕ, suc, ◌≤◌, ◌||◌, Bool, true, false, not, List, [], ◌∷◌, ◌++◌, length, map, get_or, Option, Some, None, is_some, replicate, Result, Ok, true≢false, refl, sym, ap, ◌∙◌, append_assoc, arith, rules}
 use Rattle.std.proofs.lemmas.Grind.{common_steps}
 use Rattle.std.proofs.lemmas.Bool.{and_from, and_parts}
 use Rattle.std.proofs.lemmas.Cmp.{nat_list_eq_equiv}
@@ -11,7 +11,6 @@ use Rattle.std.proofs.lemmas.List.Sums.{fails_before_first}
 use Rattle.std.proofs.lemmas.List.Quantifiers.{position-Some}
 use Rattle.std.specs.List.{All, list_all, list_any, position, position_or_len}
 use Rattle.std.specs.Str.{bytes_eq}
-use Rattle.json_walk.specs.Walk.{◌>>=◌}
 use Rattle.json_walk.specs.Each.{each}
 use Rattle.cluster.specs.Inventory.{are_distinct}
 

@@ -1,5 +1,5 @@
 -- The name of what stands at a place, and of what stands nowhere.
-use Rattle.std.proofs.Common.{◌≡◌, ℕ, zero, suc, List, [], ◌∷◌, length, map, slice_get, slice_index_or, Option, Some, None, refl}
+use Rattle.std.proofs.Common.{◌≡◌, ℕ, zero, suc, List, [], ◌∷◌, map, slice_get, slice_index_or, Some, None, refl}
 use Rattle.cluster.specs.declared.machines.Machine.{Machine}
 use Rattle.cluster.specs.declared.nodes.Node.{Node}
 use Rattle.cluster.specs.Inventory.{names_of_machines, names_of_nodes}

@@ -1,5 +1,5 @@
 -- Objects that are made member by member: what is found in them.
-use Rattle.std.proofs.Common.{◌≡◌, ℕ, zero, suc, ◌+◌, ◌<◌, ◌≤◌, ◌&&◌, ◌||◌, Bool, true, false, not, List, [], ◌∷◌, ◌++◌, length, map, take, drop, drop-cons, get_or, slice_index, slice_index_or, Option, Some, None, is_some, Ordering, Less, Equal, Greater, codes, true≢false, refl, sym, ap, ◌∙◌, arith}
+use Rattle.std.proofs.Common.{◌≡◌, ℕ, zero, suc, ◌+◌, ◌<◌, ◌≤◌, ◌||◌, Bool, true, false, not, List, [], ◌∷◌, ◌++◌, length, map, take, drop, drop-cons, get_or, slice_index, slice_index_or, Option, Some, None, is_some, Ordering, Less, Equal, Greater, codes, true≢false, refl, sym, ap, ◌∙◌, arith}
 use Rattle.std.proofs.lemmas.Grind.{common_steps}
 use Rattle.std.proofs.lemmas.Bool.{and_from, and_parts, not-true}
 use Rattle.std.proofs.lemmas.List.{ext_get_or, get_or_default, get_or-take, length-map, map-append, length-take, take-append-drop, take_more}
@@ -44,11 +44,11 @@ by_range_more key value n = ap (members_by key value) (range_more n) ∙ by_more
 
 -- ---- what is found
 
-put_if-other : (k l : List ℕ) (o : Option Data) (ms : Members) → bytes_eq k l ≡ false → get_member k (put_if l o ms) ≡ get_member k ms
+pub put_if-other : (k l : List ℕ) (o : Option Data) (ms : Members) → bytes_eq k l ≡ false → get_member k (put_if l o ms) ≡ get_member k ms
 put_if-other k l None ms other = refl
 put_if-other k l (Some d) ms other = get_member-put_other k l d ms (apart k l other)
 
-put_if-here : (k : List ℕ) (o : Option Data) (ms : Members) → get_member k ms ≡ None → get_member k (put_if k o ms) ≡ o
+pub put_if-here : (k : List ℕ) (o : Option Data) (ms : Members) → get_member k ms ≡ None → get_member k (put_if k o ms) ≡ o
 put_if-here k None ms none = none
 put_if-here k (Some d) ms none = get_member-put k d ms
 

@@ -1,5 +1,5 @@
 -- Nodes and machines as objects.
-use Rattle.std.specs.Prelude.{ℕ, Bool, List, [], length, Option, Some, None, is_some, option_map, slice_index, slice_index_or, codes, if◌then◌else◌}
+use Rattle.std.specs.Prelude.{ℕ, List, [], length, Option, Some, None, is_some, option_map, slice_index, slice_index_or, codes, if◌then◌else◌}
 use Rattle.std.specs.List.{list_any, range_with_len}
 use Rattle.serde_json.specs.Data.{Data, boolean, string, number, unsigned, object, Members, no_members, member}
 use Rattle.cluster.specs.declared.ids.Element.TheVariants.{Vm, Node as NodeElement}

@@ -1,5 +1,5 @@
 -- The problem that is generated from a seed: 40 nodes with five machines each, of which one node is to be emptied and shut down.
-use Rattle.std.specs.Prelude.{ℕ, ◌+◌, ◌*◌, ◌/◌, ◌%◌, ◌==◌, Bool, true, false, not, List, [], ◌∷◌, ◌++◌, map, replicate, Some, None, codes}
+use Rattle.std.specs.Prelude.{ℕ, ◌+◌, ◌*◌, ◌/◌, ◌%◌, ◌==◌, true, false, not, List, [], ◌∷◌, ◌++◌, map, replicate, Some, None, codes}
 use Rattle.std.specs.List.{filter, fold, range_with_len}
 use Rattle.std.specs.Fmt.{decimal}
 use Rattle.cluster.specs.declared.durations.Duration.{Duration}

@@ -3,7 +3,6 @@ use Rattle.std.specs.Prelude.{ℕ, Bool, List, length, map, codes}
 use Rattle.std.specs.List.{filter, range_with_len}
 use Rattle.serde_json.specs.Data.{Data, boolean, string, number, unsigned, array, object, Members, no_members, member}
 use Rattle.serde_json.specs.View.{items_of}
-use Rattle.cluster.specs.declared.ids.NodeId.{NodeId}
 use Rattle.cluster.specs.declared.ids.VmId.{VmId}
 use Rattle.cluster.specs.declared.sets.NodeSet.{NodeSet}
 use Rattle.cluster.specs.Inventory.{Inventory}

@@ -38,11 +38,7 @@ pub(crate) fn amounts_value(
 
 /// A duration.
 #[tactic(auto, unfolding(crate::specs::Elements::duration_data))]
-fn duration_value(
-    alloc: Global,
-    resources: &[Name],
-    duration: &Duration,
-) -> Result<Value, Memory>
+fn duration_value(alloc: Global, resources: &[Name], duration: &Duration) -> Result<Value, Memory>
     ensures { IfOk result (λ d. view d ≡ duration_data resources.now duration.now) }
 {
     let mut object = ObjectOut::new(alloc);
@@ -68,9 +64,7 @@ fn put_duration(
 {
     match &durations[kind.number()] {
         None => Ok(()),
-        Some(duration) => {
-            object.put(kind.word(), duration_value(alloc, resources, duration)?)
-        }
+        Some(duration) => { object.put(kind.word(), duration_value(alloc, resources, duration)?) }
     }
 }
 

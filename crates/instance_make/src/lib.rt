@@ -6,7 +6,6 @@ mod elements;
 mod lists;
 mod names;
 mod printing;
-mod probe;
 mod rules;
 
 pub use printing::print_instance;

@@ -80,8 +80,14 @@ fn instance_value(alloc: Global, p: &Problem) -> Result<Value, Memory>
     object.put("resources", resources_list(alloc, cluster.resources())?)?;
     object.put("durations", base_durations_value(alloc, cluster)?)?;
     object.put("nodes", nodes_list(alloc, cluster, cluster.nodes())?)?;
-    object.put("machines", machines_list(alloc, cluster, cluster.machines())?)?;
-    object.put("constraints", constraints_list(alloc, cluster, p.constraints())?)?;
+    object.put(
+        "machines",
+        machines_list(alloc, cluster, cluster.machines())?,
+    )?;
+    object.put(
+        "constraints",
+        constraints_list(alloc, cluster, p.constraints())?,
+    )?;
     Ok(object.finish())
 }
 
@@ -91,6 +97,8 @@ fn instance_value(alloc: Global, p: &Problem) -> Result<Value, Memory>
 #[tactic(auto, using(crate::proofs::Printed::plain_instance), unfolding(crate::specs::Text::instance_text))]
 pub fn print_instance(alloc: Global, p: &Problem) -> Result<Vec<u8>, Memory>
     ensures text { IfOk result (λ b. b.items ≡ instance_text p.now.given) }
+    ensures reads_back { IfOk result (λ b. length b.items ≤ MAX_TEXT_BYTES
+        → instance_of b.items ≡ Ok p.now.given) }
 {
     let value = instance_value(alloc, p)?;
     Ok(print(alloc, &value)?)

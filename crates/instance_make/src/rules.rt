@@ -145,7 +145,10 @@ fn preserve_object(
     let mut object = ObjectOut::new(alloc);
     object.put("kind", text(alloc, word)?)?;
     object.put("machines", machines_list(alloc, cluster, machines.items())?)?;
-    object.put("resource", resource_name(alloc, cluster.resources(), resource)?)?;
+    object.put(
+        "resource",
+        resource_name(alloc, cluster.resources(), resource)?,
+    )?;
     object.put("amount", number(amount))?;
     Ok(object.finish())
 }
@@ -167,7 +170,10 @@ fn resource_capacity_object(
     let mut object = ObjectOut::new(alloc);
     object.put("kind", text(alloc, word)?)?;
     object.put("nodes", nodes_list(alloc, cluster, nodes)?)?;
-    object.put("resource", resource_name(alloc, cluster.resources(), resource)?)?;
+    object.put(
+        "resource",
+        resource_name(alloc, cluster.resources(), resource)?,
+    )?;
     object.put("amount", number(amount))?;
     object.put("continuous", flag(continuous))?;
     Ok(object.finish())
@@ -209,7 +215,10 @@ fn overbook_object(
     let mut object = ObjectOut::new(alloc);
     object.put("kind", text(alloc, word)?)?;
     object.put("nodes", nodes_list(alloc, cluster, nodes)?)?;
-    object.put("resource", resource_name(alloc, cluster.resources(), resource)?)?;
+    object.put(
+        "resource",
+        resource_name(alloc, cluster.resources(), resource)?,
+    )?;
     object.put("num", number(num))?;
     object.put("den", number(den))?;
     Ok(object.finish())

@@ -1,4 +1,4 @@
-use Rattle.std.proofs.Common.{◌≡◌, ◌∙◌, ◌<◌, length, ap, sym, arith, rules}
+use Rattle.std.proofs.Common.{◌∙◌, ◌<◌, length, ap, arith, rules}
 use Rattle.std.proofs.lemmas.List.{take_all}
 use Rattle.serde_json.specs.Data.{object}
 use Rattle.cluster.specs.declared.kinds.TheConstants.{KINDS}
