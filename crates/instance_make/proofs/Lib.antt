@@ -8,3 +8,5 @@ mod ElementsAgain
 mod ListsAgain
 mod RulesAgain
 mod ReadBack
+mod Faultless
+mod Ruling

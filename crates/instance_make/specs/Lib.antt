@@ -4,3 +4,4 @@ pub mod Rules
 pub mod Text
 pub mod Generated
 pub mod Emptying
+pub mod Building

@@ -3,9 +3,12 @@
 
 mod amounts;
 mod elements;
+mod generated_cluster;
+mod generating;
 mod lists;
 mod names;
 mod printing;
 mod rules;
 
+pub use generating::generate;
 pub use printing::print_instance;
