@@ -12,6 +12,7 @@ use Rattle.sums.proofs.Lists.{item_passes}
 use Rattle.sums.proofs.Ranges.{all_pass}
 use Rattle.serde_json.specs.Data.{Data, string, number, unsigned}
 use Rattle.serde_json.specs.Find.{get, get_member}
+use Rattle.json_walk.specs.Members.{optional_number}
 use Rattle.json_walk.specs.Path.{key_path}
 use Rattle.json_walk.specs.Walk.{object_of, optional, field_of, number_of, number_field_of, only_of, keys_of}
 use Rattle.cluster.specs.declared.durations.Duration.{Duration}
@@ -22,7 +23,8 @@ use Rattle.cluster.specs.Kinds.{kind_count, machine_kind_count, kind_number, kin
 use Rattle.cluster.specs.Limits.{max_amount, max_duration, max_resources}
 use Rattle.cluster.specs.Names.{is_name}
 use Rattle.cluster.proofs.Public.{IsDuration-fits, kind_number-lt, resource_named-listed}
-use Rattle.instance_json.specs.Walk.{Walk, optional_number}
+use Rattle.instance_json.specs.declared.fault.InstanceFault.TheVariants.{Field}
+use Rattle.instance_json.specs.Walk.{Walk}
 use Rattle.instance_json.specs.Names.{listed_resource}
 use Rattle.instance_json.specs.Durations.{unit_from, duration_from, given_duration, duration_by_kind, has_kind, is_kind_key, durations_from, own_durations, no_durations, one_instant, base_durations}
 use Rattle.instance_json.specs.Elements.{resource_amounts, amounts_from}
@@ -62,7 +64,7 @@ module _ (k : Inventory) (sound : IsInventory k) (amounts : List ℕ) (long : le
       grind (arith, common_steps)
 
   amount_again : (path : List ℕ) (i : ℕ) (x : List ℕ) (y : ℕ) → i < length k.resources
-      → optional_number max_amount (amounts_data k.resources amounts) path (get_or k.resources i x) ≡ Ok (get_or (take (length k.resources) amounts) i y)
+      → optional_number Field max_amount (amounts_data k.resources amounts) path (get_or k.resources i x) ≡ Ok (get_or (take (length k.resources) amounts) i y)
   unfolding amounts_data optional number_of
   amount_again path i x y lt =
       let read : get_or (take (length k.resources) amounts) i y ≡ slice_index amounts i = get_or-take (length k.resources) amounts i y lt ∙ get_or_default amounts i y 0 (omega (arith, lt, sound.few_resources, long)) in
@@ -77,7 +79,7 @@ module _ (k : Inventory) (sound : IsInventory k) (amounts : List ℕ) (long : le
   unfolding amounts_from resource_amounts object_of amounts_data
   amounts_again path =
       let count : length (take (length k.resources) amounts) ≡ length k.resources = omega (arith, length-take (length k.resources) amounts, sound.few_resources, long) in
-      let each = map_walk-items (optional_number max_amount (amounts_data k.resources amounts) path) k.resources (take (length k.resources) amounts) count (amount_again path) in
+      let each = map_walk-items (optional_number Field max_amount (amounts_data k.resources amounts) path) k.resources (take (length k.resources) amounts) count (amount_again path) in
       let past : replicate (max_resources - length k.resources) 0 ≡ drop (length k.resources) amounts =
       ap (λ n. replicate n 0) (omega (arith, length-drop (length k.resources) amounts, long))
       ∙ sym (zeros (drop (length k.resources) amounts) (and_parts (list_all (λ a. nat_le a max_amount) amounts) _ fit).1) in

@@ -6,6 +6,7 @@ use Rattle.std.specs.List.{list_any, list_all, position}
 use Rattle.std.specs.Str.{bytes_eq}
 use Rattle.serde_json.specs.Data.{Data, boolean, string, object, Members, no_members, member}
 use Rattle.serde_json.specs.Find.{get_member}
+use Rattle.json_walk.specs.Members.{only_keys, field_by, optional_flag}
 use Rattle.json_walk.specs.Path.{key_path, item_path}
 use Rattle.json_walk.specs.Walk.{optional, field_of, flag_of, list_of, only_of, keys_of}
 use Rattle.json_walk.proofs.Public.{items_list-items_of}
@@ -21,7 +22,7 @@ use Rattle.cluster.specs.Limits.{max_resources, max_nodes, max_machines}
 use Rattle.cluster.specs.Names.{is_name}
 use Rattle.cluster.specs.States.{state_word}
 use Rattle.cluster.proofs.Public.{element_named-name_of, is_name-name_of, is_online-lt}
-use Rattle.instance_json.specs.Walk.{only_keys, field_by, optional_flag}
+use Rattle.instance_json.specs.declared.fault.InstanceFault.TheVariants.{Field}
 use Rattle.instance_json.specs.Names.{new_name_from, listed_node, resource_step, resources_from}
 use Rattle.instance_json.specs.Durations.{own_durations}
 use Rattle.instance_json.specs.Elements.{amounts_in, node_from, node_step, nodes_from, host_from, state_by, state_from, machine_keys, machine_from, machine_step, machines_from}
@@ -55,11 +56,11 @@ pub field_found : (ms : Members) (path key : List ℕ) (v : Data) → get_member
 unfolding field_of
 field_found ms path key v found = rw found refl
 
-pub only_known : (ms : Members) (path : List ℕ) (keys : List (List ℕ)) → list_all (λ key. list_any (bytes_eq key) keys) (keys_of ms) ≡ true → only_keys keys (object ms) path ≡ Ok tt
+pub only_known : (ms : Members) (path : List ℕ) (keys : List (List ℕ)) → list_all (λ key. list_any (bytes_eq key) keys) (keys_of ms) ≡ true → only_keys Field keys (object ms) path ≡ Ok tt
 unfolding only_of
 only_known ms path keys all = rw all refl
 
-flag_found : (absent : Bool) (ms : Members) (path key : List ℕ) (b : Bool) → get_member key ms ≡ Some (boolean b) → optional_flag absent (object ms) path key ≡ Ok b
+flag_found : (absent : Bool) (ms : Members) (path key : List ℕ) (b : Bool) → get_member key ms ≡ Some (boolean b) → optional_flag Field absent (object ms) path key ≡ Ok b
 unfolding optional flag_of
 flag_found absent ms path key b found = rw found refl
 
@@ -78,8 +79,8 @@ new_name k name path named machines nodes =
 
 -- ---- nodes
 
-node_by_steps : (k : Inventory) (d : Data) (path : List ℕ) (x : Node) → field_by (new_name_from k) d path (codes "name") ≡ Ok x.name → optional_flag true d path (codes "online") ≡ Ok x.online
-    → amounts_in k.resources d path (codes "capacity") ≡ Ok x.capacity → own_durations k.resources of_node d path ≡ Ok x.own → ((keys : List (List ℕ)) → keys ≡ codes "name" ∷ codes "online" ∷ codes "capacity" ∷ codes "durations" ∷ [] → only_keys keys d path ≡ Ok tt)
+node_by_steps : (k : Inventory) (d : Data) (path : List ℕ) (x : Node) → field_by Field (new_name_from k) d path (codes "name") ≡ Ok x.name → optional_flag Field true d path (codes "online") ≡ Ok x.online
+    → amounts_in k.resources d path (codes "capacity") ≡ Ok x.capacity → own_durations k.resources of_node d path ≡ Ok x.own → ((keys : List (List ℕ)) → keys ≡ codes "name" ∷ codes "online" ∷ codes "capacity" ∷ codes "durations" ∷ [] → only_keys Field keys d path ≡ Ok tt)
     → node_from k d path ≡ Ok x
 unfolding node_from
 node_by_steps k d path x name online capacity own keys = rw (name, online, capacity, own, keys _ refl) refl
@@ -138,8 +139,8 @@ nodes_again k sound path =
 
 -- ---- machines
 
-machine_by_steps : (k : Inventory) (d : Data) (path : List ℕ) (m : Machine) → field_by (new_name_from k) d path (codes "name") ≡ Ok m.name → state_from k d path ≡ Ok m.state
-    → amounts_in k.resources d path (codes "use") ≡ Ok m.usage → own_durations k.resources of_machine d path ≡ Ok m.own → only_keys (machine_keys m.state) d path ≡ Ok tt
+machine_by_steps : (k : Inventory) (d : Data) (path : List ℕ) (m : Machine) → field_by Field (new_name_from k) d path (codes "name") ≡ Ok m.name → state_from k d path ≡ Ok m.state
+    → amounts_in k.resources d path (codes "use") ≡ Ok m.usage → own_durations k.resources of_machine d path ≡ Ok m.own → only_keys Field (machine_keys m.state) d path ≡ Ok tt
     → machine_from k d path ≡ Ok m
 unfolding machine_from
 machine_by_steps k d path m name state usage own keys = rw (name, state, usage, own, keys) refl

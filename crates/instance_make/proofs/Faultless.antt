@@ -1,18 +1,16 @@
 -- A generated cluster is built up without a fault.
-use Rattle.std.proofs.Common.{◌≡◌, ℕ, zero, suc, ◌+◌, ◌<◌, ◌≤◌, ◌%◌, ◌^◌, ◌&&◌, Bool, true, false, not, List, [], ◌∷◌, ◌++◌, length, map, nat_le, Option, Some, None, is_some, is_none, codes, refl, sym, ap, ◌∙◌, arith, if◌then◌else◌}
+use Rattle.std.proofs.Common.{◌≡◌, ℕ, zero, suc, ◌+◌, ◌<◌, ◌≤◌, ◌^◌, Bool, true, false, not, List, [], ◌∷◌, ◌++◌, length, map, nat_le, Option, Some, None, is_none, codes, refl, ap, ◌∙◌, arith, if◌then◌else◌}
 use Rattle.std.proofs.lemmas.Bool.{le-leb, lt-leb, false_from_ne_true}
 use Rattle.std.proofs.lemmas.Fmt.{decimal_injective}
-use Rattle.std.proofs.lemmas.List.{length-map, map-append}
+use Rattle.std.proofs.lemmas.List.{length-map}
 use Rattle.std.proofs.lemmas.List.FromFn.{length-range_with_len, map-range_with_len_more}
 use Rattle.std.proofs.lemmas.Slice.Eq.{bytes_eq-Decides}
-use Rattle.std.specs.List.{list_all, list_any, position, range_with_len}
+use Rattle.std.specs.List.{list_all, list_any, range_with_len}
 use Rattle.std.specs.Fmt.{decimal, digits}
 use Rattle.std.specs.Str.{bytes_eq}
 use Rattle.sums.proofs.Ranges.{each_passes}
 use Rattle.cluster.specs.declared.inventory.AddFault.TheVariants.{TooMany, Twice, BadHost, TooGreat}
-use Rattle.cluster.specs.declared.machines.Machine.{Machine}
-use Rattle.cluster.specs.declared.nodes.Node.{Node}
-use Rattle.cluster.specs.Inventory.{Inventory, node_fault, machine_fault, is_taken, is_online, host_is_online, node_fits, machine_fits, names_of_machines, names_of_nodes}
+use Rattle.cluster.specs.Inventory.{node_fault, machine_fault, is_taken, is_online, host_is_online, machine_fits, names_of_machines, names_of_nodes}
 use Rattle.cluster.specs.Limits.{max_amount}
 use Rattle.cluster.specs.Names.{is_name}
 use Rattle.instance_make.specs.Building.{nodes_to, machines_to}
@@ -36,6 +34,7 @@ pub machine_named : (i : ℕ) → i < machine_total → is_name (codes "v" ++ de
 machine_named i lt = each_passes (λ i. is_name (machine_text i)) 0 machine_total i all_machine_names (omega arith) (omega arith)
 
 pub ruleset node_name_rules = (node_named)
+
 pub ruleset machine_name_rules = (machine_named)
 
 -- ---- nodes
@@ -137,4 +136,5 @@ unfolding nodes_to machines_to
 no_machines seed = refl
 
 pub ruleset machine_rules = (machine_not_refused, machines_more)
+
 pub ruleset start_rules = (no_machines)

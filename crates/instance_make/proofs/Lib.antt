@@ -10,3 +10,7 @@ mod RulesAgain
 mod ReadBack
 mod Faultless
 mod Ruling
+mod Counting
+mod Problem
+mod Emptied
+mod Valid

@@ -1,8 +1,8 @@
 -- The constraints of a generated problem are added without a fault.
-use Rattle.std.proofs.Common.{◌≡◌, ℕ, zero, suc, ◌+◌, ◌*◌, ◌<◌, ◌≤◌, ◌==◌, ◌&&◌, ◌||◌, ◌↔◌, Bool, true, false, not, List, [], ◌∷◌, ◌++◌, length, map, nat_le, nat_lt, Option, Some, None, refl, sym, ap, ap₂, ◌∙◌, append_assoc, arith, IsTrue, true≢false, if◌then◌else◌}
+use Rattle.std.proofs.Common.{◌≡◌, ℕ, zero, suc, ◌+◌, ◌*◌, ◌<◌, ◌≤◌, ◌==◌, ◌&&◌, ◌||◌, Bool, true, false, not, List, [], ◌∷◌, ◌++◌, length, map, nat_le, nat_lt, Some, None, refl, sym, ap, ◌∙◌, append_assoc, arith, if◌then◌else◌}
 use Rattle.std.proofs.lemmas.Grind.{common_steps}
-use Rattle.std.proofs.lemmas.Bool.{and_from, and_parts, lt-leb, lt-ltb, ltb-true}
-use Rattle.std.proofs.lemmas.Bool.Decides.{Decides-eqb, nat_tests}
+use Rattle.std.proofs.lemmas.Bool.{and_parts, lt-leb, lt-ltb, ltb-true}
+use Rattle.std.proofs.lemmas.Bool.Decides.{nat_tests}
 use Rattle.std.proofs.lemmas.List.{length-append, length-map}
 use Rattle.std.proofs.lemmas.List.Elements.{filter-append}
 use Rattle.std.proofs.lemmas.List.FromFn.{length-range_with_len, map-range_with_len_more}
@@ -15,7 +15,7 @@ use Rattle.cluster.specs.Limits.{max_nodes}
 use Rattle.cluster.specs.Sets.{has_node, no_nodes, with_node, IsWithin}
 use Rattle.cluster.proofs.Public.{has_node-no_nodes, has_node-with_node}
 use Rattle.catalogue.specs.declared.constraint.Constraint.{Constraint}
-use Rattle.catalogue.specs.declared.constraint.Constraint.TheVariants.{Spread, Ban, RunningCapacity, Online, Offline}
+use Rattle.catalogue.specs.declared.constraint.Constraint.TheVariants.{Ban, RunningCapacity, Online, Offline}
 use Rattle.catalogue.specs.declared.constraint.RuleFault.TheVariants.{TooMany, NoSuch, Twice, TooGreat}
 use Rattle.catalogue.specs.Faults.{are_below, differ, machines_in, are_machines, are_nodes, are_named_machines, are_named_nodes, is_named_resource, is_fitting, is_rule, constraint_fault}
 use Rattle.catalogue.specs.Instance.{Instance, inventory_of, rule_fault}
@@ -150,7 +150,7 @@ spreads_more p g now new was step =
 -- ---- the whole
 
 -- a generated problem before its constraints
-pub bare : ℕ → Instance
+unfoldable pub bare : ℕ → Instance
 bare seed = record {
   resources = (machines_to seed machine_total).resources;
   durations = (machines_to seed machine_total).durations;
@@ -168,7 +168,10 @@ bare_room seed = record {
   room = omega arith;
 }
 
-pub goals_room : (seed : ℕ) (cs : List Constraint) → length cs ≡ 2 → HasRoom (with_more (bare seed) cs) 10
+pub fewer : (p : Instance) (m n : ℕ) → m ≤ n → HasRoom p n → HasRoom p m
+fewer p m n le has = record { nodes = has.nodes; machines = has.machines; room = omega (arith, has.room, le) }
+
+pub goals_room : (seed : ℕ) (cs : List Constraint) → length cs ≡ 2 → HasRoom (with_more (bare seed) cs) 12
 unfolding bare
 goals_room seed cs two = record { nodes = (bare_room seed).nodes; machines = (bare_room seed).machines; room = omega (arith, two) }
 

@@ -5,9 +5,10 @@ ghost use Rattle.std.specs.List.{fold, filter};
 ghost use Rattle.cluster.specs.Sets.{with_node};
 ghost use Rattle.catalogue.specs.declared.constraint.Constraint.TheVariants as constraint;
 ghost use Rattle.catalogue.specs.Instance.{rule_fault};
+ghost use Rattle.slices.specs.Costs.{IsInfeasible};
 ghost use Rattle.instance_make.specs.Building.{HasRoom, with_more};
 ghost use Rattle.instance_make.specs.Generated.{node_total, machine_total, from, vms, set_of};
-ghost use Rattle.instance_make.specs.Generated.{others, spread_of, generated};
+ghost use Rattle.instance_make.specs.Generated.{emptied, others, spread_of, generated};
 
 use crate::generated_cluster::{NODES, cluster};
 use catalogue::constraint::{Constraint, RuleFault};
@@ -147,13 +148,22 @@ fn add_limits(alloc: Global, problem: &mut Problem) -> Result<(), Memory>
     )
 }
 
+/// The node that is to be emptied.
+fn emptied(seed: u64) -> u32
+    ensures node { result ≡ emptied seed }
+    ensures listed { result < node_total }
+{
+    (seed % u64::from(NODES)) as u32
+}
+
 /// The problem of a seed: 40 nodes with five machines each, of which one node is to be emptied and
-/// shut down by instant 60. It depends on the seed modulo 40 alone.
+/// shut down by instant 60. It depends on the seed modulo 40 alone, and has a valid plan.
 pub fn generate(alloc: Global, seed: u64) -> Result<Problem, Memory>
     ensures problem { IfOk result (λ p. p.given ≡ generated seed) }
+    ensures feasible { IfOk result (λ p. ¬ IsInfeasible p.given) }
 {
     let mut problem = Problem::new(alloc, cluster(alloc, seed)?, HORIZON);
-    add_goals(&mut problem, (seed % u64::from(NODES)) as u32)?;
+    add_goals(&mut problem, emptied(seed))?;
     add_spreads(alloc, &mut problem)?;
     add_limits(alloc, &mut problem)?;
     Ok(problem)

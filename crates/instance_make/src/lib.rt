@@ -5,6 +5,7 @@ mod amounts;
 mod elements;
 mod generated_cluster;
 mod generating;
+pub mod laws;
 mod lists;
 mod names;
 mod printing;
