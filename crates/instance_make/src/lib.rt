@@ -13,3 +13,6 @@ mod rules;
 
 pub use generating::generate;
 pub use printing::print_instance;
+
+#[cfg(test)]
+mod tests;
