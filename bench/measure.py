@@ -4,7 +4,7 @@
     bench/measure.py [WORD..]     the measurements whose names begin with a WORD, or all
 
 It writes instances of growing size, and plans for some of them, into a temporary folder, plans or
-replays each, and prints a line: the measurement, the bytes of the instance, the status, the seconds,
+replays each, and generates one, and prints a line: the measurement, the bytes of the instance, the status, the seconds,
 those of the processor (user and system), the megabytes in a second of the processor, the peak of the
 resident memory, and the last line that the program printed. Nothing is compared with a wanted time.
 The program is built first where that is due.
@@ -199,10 +199,10 @@ def last_line(stream):
     return last.decode().rstrip("\n").rpartition("\n")[2]
 
 
-def run(command, instance_file, *others):
-    """Runs a command: the bytes of the instance, its status, seconds, what the system says that it used, its last line."""
+def run(command, instance_file, *others, before=()):
+    """Runs a command, whose words before the instance may be given: the bytes of the instance, its status, seconds, what the system says that it used, its last line."""
     begun = time.monotonic()
-    with subprocess.Popen([PROGRAM, command, instance_file, *others], stdin=subprocess.DEVNULL, stdout=subprocess.PIPE) as ran:
+    with subprocess.Popen([PROGRAM, command, *before, instance_file, *others], stdin=subprocess.DEVNULL, stdout=subprocess.PIPE) as ran:
         line = last_line(ran.stdout)
         _, status, usage = os.wait4(ran.pid, 0)
         seconds = time.monotonic() - begun
@@ -222,6 +222,11 @@ def replay(folder, parts):
         write(folder, name, [json.dumps(part, separators=(",", ":"))])
         for name, part in zip(("instance.json", "plan.json"), parts)]
     return run("replay", *files)
+
+
+def generate(folder):
+    """Generates an instance, and prints it."""
+    return run("generate", os.path.join(folder, "generated.json"), before=("1",))
 
 
 def report(name, measured):
@@ -244,6 +249,8 @@ def main():
         for name, parts in PLANS.items():
             if not wanted or name.startswith(wanted):
                 report(name, replay(folder, parts()))
+        if not wanted or "generate".startswith(wanted):
+            report("generate", generate(folder))
     return 0
 
 

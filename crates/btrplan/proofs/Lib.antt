@@ -1,7 +1,9 @@
 pub mod Causing
 pub mod Ends
+pub mod GenerateAnswers
 pub mod PlanAnswers
 pub mod Printing
 pub mod Readings
 pub mod ReplayAnswers
+pub mod Seeds
 pub mod StayingPlan

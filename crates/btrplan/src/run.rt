@@ -6,11 +6,12 @@ ghost use Rattle.plan_io.specs.Files.{Files};
 ghost use Rattle.btrplan.specs.Words.{asked, Command as Asked};
 ghost use Rattle.btrplan.specs.Answer.{Outside, outside, told};
 ghost use Rattle.btrplan.specs.Commands.{MayRun, IsAnswer, Leaves, LeavesAtFailedRead};
-ghost use Rattle.btrplan.specs.Commands.{KeepsSource, KeepsDeskWrites};
+ghost use Rattle.btrplan.specs.Commands.{KeepsSource, KeepsDeskWrites, KeepsDeskReads, Reads};
 ghost use Rattle.btrplan.specs.Printed.{PrintsPrefix};
 ghost use Rattle.btrplan.specs.Causes.{Counts, Causes, CommandCauses, NothingFailed, counts};
 ghost use Rattle.btrplan.specs.Endings.{Ends, IsAnswered};
 
+use crate::commands::generating::generate;
 use crate::commands::planning::plan;
 use crate::commands::replaying::replay;
 use crate::fault::{Ending, Fault};
@@ -49,6 +50,9 @@ fn answer<D: Desk, I: Source, O: Sink>(
         CommandCauses before after result }
     ensures desk_writes { let command = asked words.now in
         KeepsDeskWrites command (D.write_faults desk.old) (D.write_faults desk.new) }
+    ensures desk_reads { let command = asked words.now in
+        KeepsDeskReads command (D.read_faults desk.old) (D.read_faults desk.new) }
+    ensures reads { result ≡ Err Fault.ReadFault → Reads (asked words.now) }
     ensures words { (asked words.now ≡ None) ↔ (result ≡ Err Fault.Words) }
 {
     match read_words(words) {
@@ -65,6 +69,7 @@ fn answer<D: Desk, I: Source, O: Sink>(
                 plan_file,
             },
         ) => replay(alloc, desk, out, instance, plan_file),
+        Some(Command::Generate { seed, instance }) => generate(alloc, desk, seed, instance),
         None => Err(Fault::Words),
     }
 }
@@ -169,9 +174,13 @@ pub fn run<D: Desk, I: Source, O: Sink>(
         IsTrue D.tells → IsTrue O.tells → PrintsPrefix (asked words.now) source before after }
     ensures source { KeepsSource (asked words.now) input.old input.new }
 
-    // For every desk: a command that only reads leaves its count of failed writes.
+    // For every desk: a command that only reads leaves its count of failed writes, one that only
+    // writes that of failed reads, and then no failed read is answered.
     ensures desk_writes { let command = asked words.now in
         KeepsDeskWrites command (D.write_faults desk.old) (D.write_faults desk.new) }
+    ensures desk_reads { let command = asked words.now in
+        KeepsDeskReads command (D.read_faults desk.old) (D.read_faults desk.new) }
+    ensures reads { result ≡ Status.ReadFault → Reads (asked words.now) }
 {
     let ended = answer(alloc, words, desk, input, out);
     finish(out, ended)

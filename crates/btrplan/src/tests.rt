@@ -6,6 +6,7 @@ use std::process::Abort;
 use std::test::Fail;
 
 mod acting;
+mod generating;
 mod instances;
 mod planning;
 mod replaying;
