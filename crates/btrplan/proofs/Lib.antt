@@ -1,6 +1,8 @@
 pub mod Causing
 pub mod Ends
+pub mod ExecuteAnswers
 pub mod GenerateAnswers
+pub mod LastLines
 pub mod PlanAnswers
 pub mod Printing
 pub mod Readings

@@ -10,6 +10,7 @@ use Rattle.btrplan.specs.declared.words.TheConstants.{LONGEST_NAME}
 pub data Command : Type 0 where
   plan : (instance plan_file certificate : List ℕ) → Command
   replay : (instance plan_file : List ℕ) → Command
+  execute : (instance plan_file : List ℕ) → Command
   generate : (seed : ℕ) (instance : List ℕ) → Command
 
 -- A file's name has a byte, and no more than the longest.
@@ -37,6 +38,7 @@ command_of (word ∷ instance ∷ plan_file ∷ certificate ∷ []) =
     if bytes_eq word (codes "plan") && are_names (instance ∷ plan_file ∷ certificate ∷ []) then Some (plan instance plan_file certificate) else None
 command_of (word ∷ first ∷ second ∷ []) =
     if bytes_eq word (codes "replay") && are_names (first ∷ second ∷ []) then Some (replay first second) else
+    if bytes_eq word (codes "execute") && are_names (first ∷ second ∷ []) then Some (execute first second) else
     if bytes_eq word (codes "generate") && is_name second then option_map (λ seed. generate seed second) (seed_of first) else None
 command_of _ = None
 
