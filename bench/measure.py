@@ -4,7 +4,7 @@
     bench/measure.py [WORD..]     the measurements whose names begin with a WORD, or all
 
 It writes instances of growing size, and plans for some of them, into a temporary folder, plans,
-replays or executes each, and prints a line: the measurement, the bytes of the instance, the status, the seconds,
+replays or executes each, generates one, and prints a line: the measurement, the bytes of the instance, the status, the seconds,
 those of the processor (user and system), the megabytes in a second of the processor, the peak of the
 resident memory, and the last line that the program printed. Nothing is compared with a wanted time.
 The program is built first where that is due.
@@ -19,6 +19,7 @@ import time
 
 TOP = os.path.dirname(os.path.dirname(os.path.realpath(__file__)))
 PROGRAM = os.path.join(TOP, "crates", "btrplan", "out", "btrplan")
+PRINTER = os.path.join(TOP, "crates", "bench_printing", "out", "bench_printing")
 MIB = 1 << 20
 MOST = 64 * MIB  # the most bytes of an instance
 EMPTY = '{"horizon":5,"resources":[],"nodes":[],"machines":[],"constraints":[]}'
@@ -189,6 +190,10 @@ MEASUREMENTS = {
 }
 
 
+# what is printed, where `bench_printing` was built by `rt run` in its folder
+PRINTED = ("names-1", "names-8", "names-64")
+
+
 def write(folder, name, pieces):
     """Writes a text into a file of the folder, and gives the file's name."""
     file = os.path.join(folder, name)
@@ -206,10 +211,10 @@ def last_line(stream):
     return last.decode().rstrip("\n").rpartition("\n")[2]
 
 
-def run(command, instance_file, *others, events=subprocess.DEVNULL):
-    """Runs a command: the bytes of the instance, its status, seconds, what the system says that it used, its last line."""
+def run(command, instance_file, *others, before=(), events=subprocess.DEVNULL):
+    """Runs a command, whose words before the instance may be given: the bytes of the instance, its status, seconds, what the system says that it used, its last line."""
     begun = time.monotonic()
-    with subprocess.Popen([PROGRAM, command, instance_file, *others], stdin=events, stdout=subprocess.PIPE) as ran:
+    with subprocess.Popen([PROGRAM, command, *before, instance_file, *others], stdin=events, stdout=subprocess.PIPE) as ran:
         line = last_line(ran.stdout)
         _, status, usage = os.wait4(ran.pid, 0)
         seconds = time.monotonic() - begun
@@ -243,6 +248,26 @@ def execute(folder, parts):
         return run("execute", *files, events=lines)
 
 
+def generate(folder):
+    """Generates an instance, and prints it."""
+    return run("generate", os.path.join(folder, "generated.json"), before=("1",))
+
+
+def printing(folder, pieces):
+    """Prints an instance in memory: the seconds of the processor for one printing more, and the megabytes in one of them."""
+    instance_file = write(folder, "instance.json", pieces)
+    seconds = []
+    for times in ("1", "4"):
+        with subprocess.Popen([PRINTER, instance_file, times], stdin=subprocess.DEVNULL) as ran:
+            _, status, usage = os.wait4(ran.pid, 0)
+            ran.returncode = os.waitstatus_to_exitcode(status)
+        if ran.returncode:
+            return f"status {ran.returncode}"
+        seconds.append(usage.ru_utime + usage.ru_stime)
+    once = (seconds[1] - seconds[0]) / 3
+    return f"{once:.2f} s, {os.path.getsize(instance_file) / 1e6 / once:.1f} MB/s, peak {usage.ru_maxrss / 1024:.0f} MiB"
+
+
 def report(name, measured):
     size, status, seconds, used, line = measured
     cpu = used.ru_utime + used.ru_stime
@@ -266,6 +291,11 @@ def main():
         for name, parts in EXECUTIONS.items():
             if not wanted or name.startswith(wanted):
                 report(name, execute(folder, parts()))
+        if not wanted or "generate".startswith(wanted):
+            report("generate", generate(folder))
+        for name in PRINTED:
+            if os.path.exists(PRINTER) and (not wanted or f"printing-{name}".startswith(wanted)):
+                print(f"{'printing-' + name:<16} {printing(folder, MEASUREMENTS[name]())}", flush=True)
     return 0
 
 

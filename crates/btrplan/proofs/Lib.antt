@@ -1,9 +1,11 @@
 pub mod Causing
 pub mod Ends
 pub mod ExecuteAnswers
+pub mod GenerateAnswers
 pub mod LastLines
 pub mod PlanAnswers
 pub mod Printing
 pub mod Readings
 pub mod ReplayAnswers
+pub mod Seeds
 pub mod StayingPlan

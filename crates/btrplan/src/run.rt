@@ -6,13 +6,15 @@ ghost use Rattle.plan_io.specs.Files.{Files};
 ghost use Rattle.btrplan.specs.Words.{asked, Command as Asked};
 ghost use Rattle.btrplan.specs.Answer.{Outside, outside, told};
 ghost use Rattle.btrplan.specs.Commands.{MayRun, IsAnswer, Leaves, LeavesAtFailedRead};
-ghost use Rattle.btrplan.specs.Commands.{KeepsSource, KeepsDeskWrites, Takes};
+ghost use Rattle.btrplan.specs.Commands.{KeepsSource, KeepsDeskWrites, KeepsDeskReads};
+ghost use Rattle.btrplan.specs.Commands.{ReadsInput, Takes};
 ghost use Rattle.btrplan.specs.Commands.Executing.{Taking, taking};
 ghost use Rattle.btrplan.specs.Printed.{PrintsPrefix};
 ghost use Rattle.btrplan.specs.Causes.{Counts, Causes, CommandCauses, NothingFailed, counts};
 ghost use Rattle.btrplan.specs.Endings.{Ends, EndsAnyhow, IsAnswered, LineEnds};
 
 use crate::commands::executing::execute;
+use crate::commands::generating::generate;
 use crate::commands::planning::plan;
 use crate::commands::replaying::replay;
 use crate::fault::{Ending, Fault};
@@ -22,7 +24,7 @@ use plan_io::{Desk, OutFault, Sink, Source, write_text};
 use std::alloc::Global;
 
 /// Does what the words ask for, but for the last line where one is still to be printed.
-#[tactic(auto, using(crate::proofs::Ends::no_command, crate::proofs::LastLines::no_command_takes, crate::proofs::LastLines::plan_takes, crate::proofs::LastLines::replay_takes, crate::proofs::Printing::prints_nothing))]
+#[tactic(auto, using(crate::proofs::Ends::no_command, crate::proofs::LastLines::no_command_takes, crate::proofs::LastLines::plan_takes, crate::proofs::LastLines::replay_takes, crate::proofs::GenerateAnswers::generate_takes, crate::proofs::Printing::prints_nothing))]
 fn answer<D: Desk, I: Source, O: Sink>(
     alloc: Global,
     words: &[String],
@@ -57,6 +59,9 @@ fn answer<D: Desk, I: Source, O: Sink>(
         CommandCauses before after result }
     ensures desk_writes { let command = asked words.now in
         KeepsDeskWrites command (D.write_faults desk.old) (D.write_faults desk.new) }
+    ensures desk_reads { let command = asked words.now in
+        KeepsDeskReads command (D.read_faults desk.old) (D.read_faults desk.new) }
+    ensures reads { result ≡ Err Fault.ReadFault → ReadsInput (asked words.now) }
     ensures words { (asked words.now ≡ None) ↔ (result ≡ Err Fault.Words) }
 {
     match read_words(words) {
@@ -79,6 +84,7 @@ fn answer<D: Desk, I: Source, O: Sink>(
                 plan_file,
             },
         ) => execute(alloc, desk, input, out, instance, plan_file),
+        Some(Command::Generate { seed, instance }) => generate(alloc, desk, seed, instance),
         None => Err(Fault::Words),
     }
 }
@@ -198,9 +204,13 @@ pub fn run<D: Desk, I: Source, O: Sink>(
         → Takes (asked words.now) taking before after result }
     ensures source { KeepsSource D.tells (D.files desk.old) (asked words.now) input.old input.new }
 
-    // For every desk: a command that only reads leaves its count of failed writes.
+    // For every desk: a command that only reads leaves its count of failed writes, one that only
+    // writes that of failed reads, and then no failed read is answered.
     ensures desk_writes { let command = asked words.now in
         KeepsDeskWrites command (D.write_faults desk.old) (D.write_faults desk.new) }
+    ensures desk_reads { let command = asked words.now in
+        KeepsDeskReads command (D.read_faults desk.old) (D.read_faults desk.new) }
+    ensures reads { result ≡ Status.ReadFault → ReadsInput (asked words.now) }
 {
     let ended = answer(alloc, words, desk, input, out);
     finish(out, ended)

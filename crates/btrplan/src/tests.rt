@@ -7,6 +7,7 @@ use std::test::Fail;
 
 mod acting;
 mod executing;
+mod generating;
 mod instances;
 mod planning;
 mod replaying;

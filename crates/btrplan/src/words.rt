@@ -1,10 +1,10 @@
 //! The words of the command line.
 
 ghost use Rattle.std.specs.Prelude.{◌≡◌, [], ◌∷◌, option_map, IfSome};
-ghost use Rattle.btrplan.specs.Words.{asked, are_names, is_name};
+ghost use Rattle.btrplan.specs.Words.{asked, are_names, is_name, is_plain, seed_of, generate};
 ghost use Rattle.btrplan.specs.Meaning.{meaning, HasFilesApart};
 
-/// A command, with the names of its files.
+/// A command, with the names of its files and its seed.
 #[derive(Clone, Copy, Debug, PartialEq, Eq)]
 pub enum Command<'a> {
     /// Plans the instance, and writes the plan and its certificate.
@@ -23,6 +23,8 @@ pub enum Command<'a> {
         instance: &'a str,
         plan_file: &'a str,
     },
+    /// Generates the problem of a seed, and writes it as the instance.
+    Generate { seed: u64, instance: &'a str },
 }
 
 /// The most bytes of a file's name.
@@ -44,6 +46,40 @@ fn are_three_names(first: &str, second: &str, third: &str) -> bool
     ensures { result ≡ are_names (first.now ∷ second.now ∷ third.now ∷ []) }
 {
     is_name(first) && first != second && first != third && are_two_names(second, third)
+}
+
+/// Whether a word that is a number has no sign and no leading zero.
+fn is_plain(word: &[u8]) -> bool
+    ensures { result ≡ is_plain word.now }
+{
+    match word {
+        [] => false,
+        [first] => *first != b'+',
+        [first, ..] => *first != b'+' && *first != b'0',
+    }
+}
+
+/// The number below 2^64 whose decimal text a word is.
+#[tactic(auto, using(crate::proofs::Seeds::seed_rules))]
+fn seed_of(word: &str) -> Option<u64>
+    ensures { result ≡ seed_of word.now }
+{
+    match word.parse::<u64>() {
+        Ok(seed) if is_plain(word.as_bytes()) => Some(seed),
+        _ => None,
+    }
+}
+
+/// The command `generate` with the seed that a word is.
+fn generating<'a>(seed: &str, instance: &'a str) -> Option<Command<'a>>
+    ensures meaning { let command = option_map (λ seed. generate seed instance.now) (seed_of seed.now) in
+        option_map meaning result ≡ command }
+    ensures apart { IfSome result (λ command. HasFilesApart (meaning command)) }
+{
+    match seed_of(seed) {
+        Some(seed) => Some(Command::Generate { seed, instance }),
+        None => None,
+    }
 }
 
 /// The command that these words are; `None` where they are in no command.
@@ -77,6 +113,9 @@ pub fn read_words(words: &[String]) -> Option<Command<'_>>
                     plan_file: plan_file.as_str(),
                 })
             }
+        [word, seed, instance] if word.as_str() == "generate" && is_name(instance.as_str()) => {
+            generating(seed.as_str(), instance.as_str())
+        }
         _ => None,
     }
 }

@@ -18,6 +18,8 @@ use Rattle.catalogue.proofs.Public.{place-constraint_word}
 use Rattle.instance_json.specs.declared.constraint_kind.ConstraintKind.{ConstraintKind}
 use Rattle.instance_json.specs.declared.constraint_kind.ConstraintKind.TheVariants.{Spread, Ban, Fence, Gather, Lonely, Among, Split, Root, Precedence, Serialize, Preserve, ResourceCapacity, RunningCapacity, MaxOnline, Overbook, Online, Offline, Running, Sleeping, Ready, Killed}
 use Rattle.instance_json.specs.declared.constraint_kind.TheConstants.{CONSTRAINT_KINDS}
+use Rattle.instance_json.specs.declared.durations.Owner.{Owner}
+use Rattle.instance_json.specs.declared.durations.Owner.TheVariants.{Machine, Node, Either}
 use Rattle.instance_json.specs.declared.states.StateWord.{StateWord}
 use Rattle.instance_json.specs.declared.states.StateWord.TheVariants as words
 use Rattle.instance_json.specs.declared.states.TheConstants.{STATES}
@@ -101,6 +103,21 @@ pub word_field-constraint : (c : Constraint) (d : Data) (path key : List ℕ) �
     → word_field Field constraint_words CONSTRAINT_KINDS d path key ≡ Ok (kind_of_constraint c)
 unfolding word_field word_field_of word_of text_of
 word_field-constraint c d path key h = rw (h, place-constraint_word c, kind_at c) refl
+
+-- ---- whose durations an object has
+
+abbrev pub DurationOwner : Type 0
+DurationOwner = Owner
+
+abbrev pub of_machine : DurationOwner
+of_machine = Machine
+
+abbrev pub of_node : DurationOwner
+of_node = Node
+
+-- those of both sorts
+abbrev pub of_either : DurationOwner
+of_either = Either
 
 -- ---- names
 

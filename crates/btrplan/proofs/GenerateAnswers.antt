@@ -1,0 +1,36 @@
+-- What `generate` answers and leaves.
+use Rattle.std.proofs.Common.{◌≡◌, ℕ, List, ◌++◌, Option, Some, Result, refl, ap, inl}
+use Rattle.plan_io.specs.Files.{Files}
+use Rattle.instance_make.specs.Generated.{generated as problem_of}
+use Rattle.instance_make.specs.Text.{instance_text}
+use Rattle.btrplan.specs.Words.{Command, generate}
+use Rattle.btrplan.specs.Answer.{Outside, outside}
+use Rattle.btrplan.specs.Commands.{IsAnswer, Takes}
+use Rattle.btrplan.specs.Commands.Executing.{Taking}
+use Rattle.btrplan.specs.Commands.Generating.{generated_line, LeavesGenerated}
+use Rattle.btrplan.specs.Endings.{EndsAnyhow}
+use Rattle.btrplan.specs.declared.fault.Ending.{Ending}
+use Rattle.btrplan.specs.declared.fault.Fault.{Fault}
+use Rattle.btrplan.specs.declared.status.Status.TheVariants as status
+use Rattle.btrplan.proofs.LastLines.{always_anyhow}
+
+-- the answer where the text was written
+pub answered : (seed : ℕ) (instance : List ℕ) (source : Option (List ℕ)) (before after : Files) (printed line : List ℕ) → after instance ≡ Some (instance_text (problem_of seed))
+    → LeavesGenerated seed instance before after → line ≡ generated_line seed
+    → IsAnswer (Some (generate seed instance)) source (outside before printed) (outside after (printed ++ line)) status.Good
+unfolding IsAnswer
+answered seed instance source before after printed line whole left text_is = record {
+  whole = whole;
+  others = left.others;
+  printed = ap (λ l. printed ++ l) text_is;
+  status = refl;
+}
+
+-- what is left where nothing was written
+pub leaves_nothing : (seed : ℕ) (instance : List ℕ) (files : Files) → LeavesGenerated seed instance files files
+leaves_nothing seed instance files = record { cut = inl refl; others = λ other apart. refl }
+
+-- what is said of the source, which the command does not read
+pub generate_takes : (command : Option Command) (seed : ℕ) (instance : List ℕ) (taking : Taking) (before after : Outside) (ended : Result Ending Fault) → command ≡ Some (generate seed instance)
+    → EndsAnyhow (Takes command taking before) after ended
+generate_takes command seed instance taking before after ended is = rw is (always_anyhow (Takes (Some (generate seed instance)) taking before) after ended (λ then result. tt))

@@ -1,0 +1,16 @@
+mod NameLemmas
+mod Making
+mod Putting
+mod Flat
+mod Printed
+mod AmountsAgain
+mod ElementsAgain
+mod ListsAgain
+mod RulesAgain
+mod ReadBack
+mod Faultless
+mod Ruling
+mod Counting
+mod Problem
+mod Emptied
+mod Valid

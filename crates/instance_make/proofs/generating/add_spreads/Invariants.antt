@@ -1,0 +1,7 @@
+use Rattle.std.proofs.Common.{◌≡◌, map}
+use Rattle.instance_make.specs.Building.{with_more}
+use Rattle.instance_make.specs.Generated.{from, spread_of}
+use Rattle.instance_make.proofs.generating.add_spreads.Given as goal
+
+abbrev pub invariant-loop-g : goal.invariant-loop-g
+invariant-loop-g l = l.problem.given ≡ with_more l.initial.problem.given (map spread_of (from 0 l.g))
