@@ -1,12 +1,11 @@
 -- What was written is read back.
-use Rattle.std.proofs.Common.{◌≡◌, ◌∙◌, ℕ, ◌+◌, ◌<◌, ◌≤◌, ◌==◌, Bool, true, false, List, [], ◌∷◌, ◌++◌, length, take, drop, nat_lt, Some, Ok, codes, refl, sym, ap, arith, add-zero, lit<, lit≤, inl, inr, append_assoc, length-append, if◌then◌else◌}
+use Rattle.std.proofs.Common.{◌≡◌, ◌∙◌, ℕ, ◌+◌, ◌<◌, ◌≤◌, ◌==◌, true, false, List, [], ◌∷◌, ◌++◌, length, drop, nat_lt, Some, Ok, refl, sym, ap, arith, add-zero, lit<, lit≤, inl, inr, append_assoc, length-append}
 use Rattle.std.proofs.lemmas.Bool.{cases_eq}
 use Rattle.std.proofs.lemmas.Bool.Decides.{nat_tests}
-use Rattle.std.proofs.lemmas.Grind.{common_steps}
 use Rattle.std.proofs.lemmas.List.{drop-drop}
 use Rattle.std.proofs.lemmas.List.Sums.{AllPass-from_list_all, position_or_len_is}
 use Rattle.std.proofs.Math.Seq.{drop-append-add, take-append_seam}
-use Rattle.std.specs.List.{Contains, flat_map, position_or_len, slice_index_or}
+use Rattle.std.specs.List.{Contains, flat_map, slice_index_or}
 use Rattle.catalogue.specs.Instance.{Instance, IsInstance}
 use Rattle.trees.specs.declared.steps.Goal.{Goal}
 use Rattle.trees.specs.declared.steps.Step.{Step}
@@ -82,9 +81,11 @@ after_header p is (s ∷ steps) writable goal good file at goes_on later left =
     let fits = lines_fit.steps p is s writable.0 writable.1 in
     let rest = flat_map (step_line p) steps ++ end_line goal in
     let apart : drop at.place file ≡ text_of line ++ 10 ∷ rest = left ∙ append_assoc (text_of line ++ 10 ∷ []) (flat_map (step_line p) steps) (end_line goal) ∙ append_assoc (text_of line) (10 ∷ []) rest in
-    let after = position_after at (length (text_of line)) false in
-    (after, turn_read file at line rest goes_on later (steps_are_lines p is s writable.0 writable.1) fits apart,
-     after_header p is steps writable.2 goal good file after refl (omega arith) (left_after file (text_of line) rest at.place apart))
+    let after = position_after at (length (text_of line)) false in (
+      after,
+      turn_read file at line rest goes_on later (steps_are_lines p is s writable.0 writable.1) fits apart,
+      after_header p is steps writable.2 goal good file after refl (omega arith) (left_after file (text_of line) rest at.place apart),
+    )
 
 -- ---- the header
 

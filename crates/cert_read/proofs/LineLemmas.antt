@@ -1,12 +1,11 @@
 -- What is known of a line from the bytes that are held.
-use Rattle.std.proofs.Common.{◌≡◌, ◌≢◌, ◌∙◌, ℕ, ◌+◌, ◌<◌, ◌≤◌, List, [], ◌∷◌, ◌++◌, length, take, drop, Result, Ok, Err, true, false, nat_lt, refl, sym, ap, arith, inl, inr, take-append-drop, length-take, length-append}
+use Rattle.std.proofs.Common.{◌≡◌, ◌∙◌, ℕ, ◌+◌, ◌<◌, ◌≤◌, List, [], ◌∷◌, ◌++◌, length, take, drop, Result, Ok, Err, true, false, nat_lt, refl, sym, ap, arith, inl, inr, take-append-drop, length-take, length-append}
 use Rattle.std.proofs.lemmas.Bool.{cases_lt}
 use Rattle.std.proofs.lemmas.Bool.Decides.{nat_tests}
 use Rattle.std.proofs.lemmas.List.{take-append-le}
 use Rattle.std.specs.Io.{StartsWith}
 use Rattle.sums.proofs.Prefixes.{all_of}
 use Rattle.cert_text.specs.Texts.{max_line}
-use Rattle.cert_read.specs.declared.line.Line.{Line}
 use Rattle.cert_read.specs.declared.line.Line.TheVariants.{Over}
 use Rattle.cert_read.specs.declared.line.LineFault.{LineFault}
 use Rattle.cert_read.specs.declared.line.LineFault.TheVariants.{NotALine, TooLong, Short, ReadFault, Memory}
@@ -41,8 +40,8 @@ later rest held h =
     elim (cases_lt (bytes_before_newline held) (length held)) [
       | inl within ↦ rw (← all, before_first held (drop (length held) rest) within) (omega arith)
       | inr past ↦
-        let whole : bytes_before_newline held ≡ length held = omega (arith, before_le held) in
-        rw (← all, before_both held (drop (length held) rest) whole) (omega arith)
+          let whole : bytes_before_newline held ≡ length held = omega (arith, before_le held) in
+          rw (← all, before_both held (drop (length held) rest) whole) (omega arith)
     ]
 
 pub too_long : (n count : ℕ) (rest held : List ℕ) → count ≡ bytes_before_newline held → max_line < count → StartsWith rest held → line_bytes n rest ≡ Err (TooLong n)

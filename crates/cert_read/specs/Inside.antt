@@ -1,5 +1,5 @@
 -- What the fields of a cursor are to contracts.
-use Rattle.std.specs.Prelude.{ℕ, ◌+◌, ◌<◌, ◌≤◌, ◌^◌, length, string_bytes}
+use Rattle.std.specs.Prelude.{◌+◌, ◌<◌, ◌≤◌, ◌^◌, length, string_bytes}
 use Rattle.cert_read.specs.declared.cursor.Cursor.TheInside.{Inside}
 use Rattle.cert_read.specs.Reader.{ReaderState, max_held}
 

@@ -8,9 +8,9 @@ mod line;
 mod position;
 mod reader;
 
+pub use cursor::{MAX_LINE, PIECE};
 pub use line::{Line, LineFault};
 pub use position::Position;
-pub use cursor::{MAX_LINE, PIECE};
 pub use reader::CertReader;
 
 #[cfg(test)]

@@ -56,7 +56,11 @@ fn lines(rt: HostRuntime) -> Result<(), Fail> {
     ];
     for (piece, count, end, want) in cases {
         let text = text(rt.alloc(), piece, count, end)?;
-        assert_eq!(rt; ending(rt.alloc(), text.as_bytes())?, want, "{count} of {piece}");
+        assert_eq!(rt;
+            ending(rt.alloc(), text.as_bytes())?,
+            want,
+            "{count} of {piece}"
+        );
     }
     Ok(())
 }

@@ -1,8 +1,7 @@
 -- The lines of steps and goals are no longer than lines may be.
-use Rattle.std.proofs.Common.{◌≡◌, ◌∙◌, ℕ, zero, suc, ◌+◌, ◌*◌, ◌≤◌, Bool, true, false, List, [], ◌∷◌, ◌++◌, length, map, refl, sym, ap, arith, length-append, if◌then◌else◌}
+use Rattle.std.proofs.Common.{◌≡◌, ℕ, zero, suc, ◌+◌, ◌≤◌, Bool, true, false, length, refl, arith, length-append}
 use Rattle.std.proofs.lemmas.List.{length-map}
 use Rattle.std.specs.List.{filter, range_with_len}
-use Rattle.cluster.specs.Limits.{max_nodes}
 use Rattle.cluster.specs.Sets.{has_node}
 use Rattle.cluster.specs.declared.sets.NodeSet.{NodeSet}
 use Rattle.catalogue.specs.Instance.{Instance, IsInstance}
@@ -17,7 +16,7 @@ use Rattle.trees.specs.declared.steps.Step.{Step}
 use Rattle.trees.specs.declared.steps.Step.TheVariants as step
 use Rattle.cert_text.specs.declared.text.LineText.TheVariants.{Step as StepLine, End}
 use Rattle.cert_text.specs.Laws.{StepFits}
-use Rattle.cert_text.specs.Spelling.{HasStep, element_name, has_all, node_names, node_numbers, nodes_text, part_text, reason_text, step_text}
+use Rattle.cert_text.specs.Spelling.{HasStep, element_name, has_all, node_numbers, nodes_text, part_text, reason_text, step_text}
 use Rattle.cert_text.specs.Texts.{IsGoal, goal_words, joined, line_words, nodes_words, part_words, reason_words, step_words}
 use Rattle.cert_text.proofs.SplitLemmas.{line_short}
 use Rattle.cert_text.proofs.StepLemmas.{step_line_is}

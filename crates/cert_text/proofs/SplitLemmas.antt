@@ -1,5 +1,5 @@
 -- Lines are cut at their blanks into their words, and have no newline.
-use Rattle.std.proofs.Common.{◌≡◌, ◌≢◌, ◌∙◌, ℕ, ◌==◌, Bool, true, false, List, [], ◌∷◌, ◌++◌, nat_le, nat_lt, Option, Some, None, codes, refl, ap, arith, ◌*◌, ◌^◌, lit<, length-append, length, ◌&&◌, ◌≤◌, ◌<◌}
+use Rattle.std.proofs.Common.{◌≡◌, ◌≢◌, ◌∙◌, ℕ, ◌==◌, Bool, true, false, List, [], ◌∷◌, ◌++◌, nat_le, nat_lt, Option, Some, None, codes, refl, ap, arith, ◌*◌, lit<, length-append, length, ◌&&◌, ◌≤◌}
 use Rattle.std.proofs.lemmas.Bool.{and_from, and_parts}
 use Rattle.std.proofs.lemmas.Bool.Decides.{nat_tests}
 use Rattle.std.proofs.lemmas.Fmt.{digits_decimal, length-decimal-le}

@@ -40,8 +40,16 @@ fn a_certificate_is_written_up_to_the_failed_call(rt: HostRuntime) -> Result<(),
         (0, Err(OutFault::Failed), None),
         (1, Err(OutFault::Failed), Some("")),
         (2, Err(OutFault::Failed), Some("btrplan certificate 1\n")),
-        (3, Err(OutFault::Failed), Some("btrplan certificate 1\nfail bound\n")),
-        (4, Ok(()), Some("btrplan certificate 1\nfail bound\nend optimal 0\n")),
+        (
+            3,
+            Err(OutFault::Failed),
+            Some("btrplan certificate 1\nfail bound\n"),
+        ),
+        (
+            4,
+            Ok(()),
+            Some("btrplan certificate 1\nfail bound\nend optimal 0\n"),
+        ),
     ];
     for (call, want, text) in cases {
         let mut desk = DeskMem::new(vec![in rt.alloc(); call]?);
