@@ -24,6 +24,7 @@ pub trait Watched {
     /// What of the problem a look needs.
     ghost ready: { Self → Instance → Type 0 };
 
+    /// When it is broken, and what it looks at.
     ghost watch: { Self → Instance → Watch };
 
     /// A look at one instant.
@@ -90,7 +91,7 @@ impl Watched for OneConstraint {
     }
 }
 
-/// A look at one thing at all instants, from the earliest at which it is broken on.
+/// A look at one thing at all instants up to the horizon, one after the other; what is found first is answered.
 pub fn look<W: Watched>(watched: &W, p: &Problem, g: &Region) -> Look
     requires region { IsSized p.now.given g.now }
     requires ready { W.ready watched.now p.now.given }
