@@ -3,6 +3,7 @@ ghost use Rattle.std.specs.Prelude.{◌≡◌, false, IfOk, IfSome, IsTrue};
 ghost use Rattle.std.specs.Option.{option_copied};
 ghost use Rattle.plan_io.specs.Files.{bytes_of};
 ghost use Rattle.slices.specs.Plans.{IsPlanOf};
+ghost use Rattle.trees.specs.Certificates.{IsHandedIn};
 ghost use Rattle.cert_model.specs.Walks.{choices_handed};
 ghost use Rattle.cert_check.specs.Verdicts.{CheckGives, CountsCheck, IsFit, IsSound};
 
@@ -51,6 +52,7 @@ pub fn check<D: Desk>(
 // whether the plan that is handed in, if one is, is valid
 fn is_fit(p: &Problem, plan: Option<&Plan>) -> bool
     requires { IfSome plan (λ a. IsPlanOf p.now.given a.now) }
+    ensures handed_in { IsTrue result → IsHandedIn p.now.given (choices_handed (option_copied plan.entry)) }
     ensures yes { IsTrue result → IsFit p.now.given (choices_handed (option_copied plan.entry)) }
     ensures no { result ≡ false → ¬ IsFit p.now.given (choices_handed (option_copied plan.entry)) }
 {

@@ -72,8 +72,7 @@ fn turn<D: Desk>(
         → IsUnderway p.now.given bound strict (IsTrue D.tells) file reader.old.at walk.old
         → TurnGives p.now.given bound strict (IsTrue D.tells) file reader.new.at walk.new result }
     ensures stands { IsTrue D.tells → StandsIn (bytes_of (D.files desk.old reader.old.name)) reader.new }
-    ensures moves { IfOk result (λ t. (t ≡ Going.GoesOn) → reader.old.at.place < reader.new.at.place) }
-    ensures within { reader.new.at.place < 2 ^ 64 }
+    ensures moves { IfOk result (λ t. t ≡ Going.GoesOn → (reader.old.at.place < reader.new.at.place) × (reader.new.at.place < 2 ^ 64)) }
     ensures name { reader.new.name ≡ reader.old.name }
     ensures files { IsTrue D.tells → D.files desk.new ≡ D.files desk.old }
     ensures current { D.current desk.new ≡ D.current desk.old }
@@ -81,7 +80,7 @@ fn turn<D: Desk>(
     ensures writes_kept { D.write_faults desk.new ≡ D.write_faults desk.old }
 {
     match reader.next(desk)? {
-        Line::Step(text) => match take(p, walk, &text)? {
+        Line::Step(text) => match take(p, walk, text)? {
             None => Ok(Going::GoesOn),
             Some(why) => Ok(Going::Ends(Verdict::No {
                 line: reader.lines(),
@@ -108,7 +107,6 @@ fn end<D: Desk>(
         → IsUnderway p bound strict (IsTrue D.tells) file at walk.now
         → Concludes p bound strict (IsTrue D.tells) file result }
     ensures stands { IsTrue D.tells → StandsIn (bytes_of (D.files desk.old reader.old.name)) reader.new }
-    ensures within { reader.new.at.place < 2 ^ 64 }
     ensures name { reader.new.name ≡ reader.old.name }
     ensures files { IsTrue D.tells → D.files desk.new ≡ D.files desk.old }
     ensures current { D.current desk.new ≡ D.current desk.old }
@@ -121,7 +119,7 @@ fn end<D: Desk>(
             why,
         });
     }
-    let _over = reader.next(desk)?;
+    drop(reader.next(desk)?);
     Ok(Verdict::Yes {
         goal,
         least: walk.least(),

@@ -1,6 +1,7 @@
 //! One step of a certificate, taken by its names.
-ghost use Rattle.std.specs.Prelude.{IfOk, OnErr};
+ghost use Rattle.std.specs.Prelude.{◌≡◌, IfOk, OnErr};
 ghost use Rattle.cert_model.specs.Walks.{IsStanding, IsUnchanged};
+ghost use Rattle.cert_check.specs.Names.{named_step};
 ghost use Rattle.cert_check.specs.Turns.{TextAnswers};
 
 use crate::named::step_of;
@@ -9,19 +10,30 @@ use cert_model::walk::Walk;
 use cert_model::why::Why;
 use cert_text::text::StepText;
 use memory::Memory;
+use trees::steps::Step;
 
 /// Takes the step of a text where it is due, its names are the problem's, and it holds; else says the
 /// first of these that is not so.
-pub fn take(p: &Problem, walk: &mut Walk, text: &StepText) -> Result<Option<Why>, Memory>
+pub fn take(p: &Problem, walk: &mut Walk, text: StepText) -> Result<Option<Why>, Memory>
     requires { IsStanding p.now.given walk.old }
-    ensures ok { IfOk result (TextAnswers p.now.given walk.old walk.new text.now) }
+    ensures ok { IfOk result (TextAnswers p.now.given walk.old walk.new text) }
     ensures err { OnErr result (IsUnchanged walk.old walk.new) }
 {
+    let named = step_in(p, text);
     if walk.is_whole() {
         return Ok(Some(Why::Structure));
     }
-    let Some(step) = step_of(p, text) else {
+    let Some(step) = named else {
         return Ok(Some(Why::Name));
     };
     walk.step(p, &step)
+}
+
+// the step of a text, which is dropped
+fn step_in(p: &Problem, text: StepText) -> Option<Step>
+    ensures { result ≡ named_step p.now.given text }
+{
+    let step = step_of(p, &text);
+    drop(text);
+    step
 }

@@ -1,0 +1,28 @@
+use Rattle.std.proofs.Common.{IsTrue, Ok, refl, subst, sym}
+use Rattle.std.specs.Option.{option_copied}
+use Rattle.plan_io.specs.Files.{bytes_of}
+use Rattle.trees.specs.Certificates.{bound_of}
+use Rattle.cert_model.specs.Walks.{choices_handed}
+use Rattle.cert_check.specs.Turns.{Concludes, TurnGives}
+use Rattle.cert_check.proofs.TurnLemmas.{error_is, file_kept}
+use Rattle.cert_check.proofs.lines.check_lines.Goals as goal
+
+pub returns-in_err-verdict-clause-verdict : goal.returns-in_err-verdict-clause-verdict
+returns-in_err-verdict-clause-verdict g c =
+    let p = c.args.p.now.given in
+    let tells = IsTrue g.D.Desk.tells in
+    let file = bytes_of (g.D.Desk.files c.args.desk.now c.args.name.now) in
+    let bound = bound_of p (choices_handed (option_copied c.args.plan)) in
+    let i = c.lines.invariant in
+    let said = c.in_err-verdict.ensures.turn bound c.args.strict file (file_kept tells file (g.D.Desk.files c.args.desk.now) (g.D.Desk.files c.lines.desk) c.args.name.now c.lines.reader.name (λ _. refl) i.files i.named) i.underway in
+    subst (Concludes p bound c.args.strict tells file) (sym (error_is c.from_residual-in_err-verdict.result c.in_err-verdict.field-0.0 c.from_residual-in_err-verdict.ensures.1)) said
+
+pub returns-in-Ends-clause-verdict : goal.returns-in-Ends-clause-verdict
+returns-in-Ends-clause-verdict g c =
+    let p = c.args.p.now.given in
+    let tells = IsTrue g.D.Desk.tells in
+    let file = bytes_of (g.D.Desk.files c.args.desk.now c.args.name.now) in
+    let bound = bound_of p (choices_handed (option_copied c.args.plan)) in
+    let i = c.lines.invariant in
+    let said = c.in_ok-verdict.ensures.turn bound c.args.strict file (file_kept tells file (g.D.Desk.files c.args.desk.now) (g.D.Desk.files c.lines.desk) c.args.name.now c.lines.reader.name (λ _. refl) i.files i.named) i.underway in
+    subst (λ t. TurnGives p bound c.args.strict tells file c.turn.new.reader.at c.turn.new.walk (Ok t)) c.in-Ends.is said

@@ -1,0 +1,23 @@
+use Rattle.std.proofs.Common.{◌≡◌, ◌<◌, ◌-◌, ◌^◌, IsTrue}
+use Rattle.std.specs.Option.{option_copied}
+use Rattle.plan_io.specs.Files.{bytes_of}
+use Rattle.trees.specs.Certificates.{bound_of}
+use Rattle.cert_model.specs.Walks.{choices_handed}
+use Rattle.cert_read.specs.Reader.{StandsIn}
+use Rattle.cert_check.specs.Turns.{IsUnderway}
+use Rattle.cert_check.proofs.lines.check_lines.Given as goal
+
+abbrev pub invariant-lines : goal.invariant-lines
+invariant-lines g l = record {
+  underway : IsUnderway l.p.given (bound_of l.p.given (choices_handed (option_copied l.plan))) l.strict (IsTrue g.D.Desk.tells) (bytes_of (g.D.Desk.files l.fn.desk l.name)) l.reader.at l.walk;
+  stands : IsTrue g.D.Desk.tells → StandsIn (bytes_of (g.D.Desk.files l.desk l.name)) l.reader;
+  named : l.reader.name ≡ l.name;
+  within : l.reader.at.place < 2 ^ 64;
+  files : IsTrue g.D.Desk.tells → g.D.Desk.files l.desk ≡ g.D.Desk.files l.fn.desk;
+  current : g.D.Desk.current l.desk ≡ g.D.Desk.current l.fn.desk;
+  reads : g.D.Desk.read_faults l.desk ≡ g.D.Desk.read_faults l.fn.desk;
+  writes : g.D.Desk.write_faults l.desk ≡ g.D.Desk.write_faults l.fn.desk;
+}
+
+abbrev pub decreases-lines : goal.decreases-lines
+decreases-lines g l = 2 ^ 64 - l.reader.at.place
