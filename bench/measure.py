@@ -3,8 +3,8 @@
 
     bench/measure.py [WORD..]     the measurements whose names begin with a WORD, or all
 
-It writes instances of growing size, and plans for some of them, into a temporary folder, plans or
-replays each, and prints a line: the measurement, the bytes of the instance, the status, the seconds,
+It writes instances of growing size, and plans for some of them, into a temporary folder, plans,
+replays or executes each, and prints a line: the measurement, the bytes of the instance, the status, the seconds,
 those of the processor (user and system), the megabytes in a second of the processor, the peak of the
 resident memory, and the last line that the program printed. Nothing is compared with a wanted time.
 The program is built first where that is due.
@@ -164,6 +164,13 @@ PLANS = {
     "gather-at-once": lambda: forges("gather", 1, 0),
 }
 
+# The plans that are executed, each event line as soon as it may come. Where starts are distinct, each action waits for all
+# before it; where all start at once, none waits.
+EXECUTIONS = {
+    "execute": lambda: moves(0, 0),
+    "execute-at-once": lambda: moves(0, 0, 0),
+}
+
 MEASUREMENTS = {
     "names-1": lambda: instance(512, 4096, 4096, 20),
     "names-8": lambda: instance(512, 4096, 4096, 200),
@@ -199,10 +206,10 @@ def last_line(stream):
     return last.decode().rstrip("\n").rpartition("\n")[2]
 
 
-def run(command, instance_file, *others):
+def run(command, instance_file, *others, events=subprocess.DEVNULL):
     """Runs a command: the bytes of the instance, its status, seconds, what the system says that it used, its last line."""
     begun = time.monotonic()
-    with subprocess.Popen([PROGRAM, command, instance_file, *others], stdin=subprocess.DEVNULL, stdout=subprocess.PIPE) as ran:
+    with subprocess.Popen([PROGRAM, command, instance_file, *others], stdin=events, stdout=subprocess.PIPE) as ran:
         line = last_line(ran.stdout)
         _, status, usage = os.wait4(ran.pid, 0)
         seconds = time.monotonic() - begun
@@ -216,12 +223,24 @@ def plan(folder, pieces):
     return run("plan", instance_file, os.path.join(folder, "plan.json"), os.path.join(folder, "certificate.txt"))
 
 
-def replay(folder, parts):
-    """Replays a plan."""
-    files = [
+def files_of(folder, parts):
+    """Writes an instance and a plan of it."""
+    return [
         write(folder, name, [json.dumps(part, separators=(",", ":"))])
         for name, part in zip(("instance.json", "plan.json"), parts)]
-    return run("replay", *files)
+
+
+def replay(folder, parts):
+    """Replays a plan."""
+    return run("replay", *files_of(folder, parts))
+
+
+def execute(folder, parts):
+    """Executes a plan whose actions end in the order in which they are listed."""
+    files = files_of(folder, parts)
+    events = write(folder, "events", [f"end {action['element']}\n" for action in parts[1]["actions"]])
+    with open(events, "rb") as lines:
+        return run("execute", *files, events=lines)
 
 
 def report(name, measured):
@@ -244,6 +263,9 @@ def main():
         for name, parts in PLANS.items():
             if not wanted or name.startswith(wanted):
                 report(name, replay(folder, parts()))
+        for name, parts in EXECUTIONS.items():
+            if not wanted or name.startswith(wanted):
+                report(name, execute(folder, parts()))
     return 0
 
 

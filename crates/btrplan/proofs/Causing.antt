@@ -1,7 +1,7 @@
 -- The causes of a status, from those of how the command ended.
 use Rattle.std.proofs.Common.{◌≡◌, ◌⊎◌, ◌∙◌, ℕ, Result, Ok, Err, inl, inr, refl, subst}
 use Rattle.plan_io.specs.Causes.{Rose}
-use Rattle.btrplan.specs.Causes.{Counts, counts, Causes, CommandCauses, NothingFailed}
+use Rattle.btrplan.specs.Causes.{Counts, counts, Causes, CommandCauses, NothingFailed, PartCauses}
 use Rattle.btrplan.specs.Endings.{IsAnswered}
 use Rattle.btrplan.specs.declared.status.Status.{Status}
 use Rattle.btrplan.specs.declared.status.Status.TheVariants as status
@@ -48,6 +48,18 @@ causes_as_they_were before after ended result read read_told write write_told ca
     of_write : {P : Type 0} → P ⊎ (ended ≡ Err fault.WriteFault) → P ⊎ (result ≡ status.WriteFault)
     of_write (inl h) = inl h
     of_write (inr e) = inr (write_told e)
+
+-- where the desk did not fail, and what is left only reads the source and writes to the sink
+pub causes_of_rest : (before reads source sink kept source_now writes_now sink_now : ℕ) (ended : Result Ending Fault) → reads ≡ before → writes_now ≡ kept
+    → PartCauses source source_now sink sink_now ended → CommandCauses (counts before source kept sink) (counts reads source_now writes_now sink_now) ended
+causes_of_rest before reads source sink kept source_now writes_now sink_now ended same same_writes causes = record {
+  read = λ h. inr (causes.read h);
+  write = λ h. inr (causes.write h);
+  reads = inl same;
+  source = causes.reads;
+  writes = inl same_writes;
+  sink = causes.writes;
+}
 
 -- where nothing failed and memory was there, the status stands for an answer
 pub answered : (before after : Counts) (result : Status) → Causes before after result → NothingFailed before after → ¬ (result ≡ status.Memory) → IsAnswered result

@@ -1,5 +1,7 @@
 pub mod Causing
 pub mod Ends
+pub mod ExecuteAnswers
+pub mod LastLines
 pub mod PlanAnswers
 pub mod Printing
 pub mod Readings

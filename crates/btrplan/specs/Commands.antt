@@ -1,13 +1,15 @@
 -- What each command answers and leaves: a line for each command in each table, and a room for each below.
 pub mod Planning
 pub mod Replaying
+pub mod Executing
 use Rattle.std.specs.Prelude.{◌≡◌, Bool, ℕ, List, Option, Some, None, IsTrue, codes}
 use Rattle.plan_io.specs.Files.{Files}
-use Rattle.btrplan.specs.Words.{Command, plan, replay}
+use Rattle.btrplan.specs.Words.{Command, plan, replay, execute}
 use Rattle.btrplan.specs.Inputs.Instance.{instance_in}
 use Rattle.btrplan.specs.Answer.{Outside, Says, AnswersBy, LeavesBy}
 use Rattle.btrplan.specs.Commands.Planning.{IsPlanned, LeavesPlanned}
 use Rattle.btrplan.specs.Commands.Replaying.{IsReplayed}
+use Rattle.btrplan.specs.Commands.Executing.{IsExecuted, Starts, Taking, TakesRead}
 use Rattle.btrplan.specs.declared.status.Status.{Status}
 use Rattle.btrplan.specs.declared.status.Status.TheVariants as status
 
@@ -16,6 +18,7 @@ abbrev pub MayRun : (reads writes : List ℕ → Bool) → Option Command → Ty
 MayRun reads writes None = Unit {0}
 MayRun reads writes (Some (plan instance plan_file certificate)) = IsTrue (reads instance) × IsTrue (writes plan_file) × IsTrue (writes certificate)
 MayRun reads writes (Some (replay instance plan_file)) = IsTrue (reads instance) × IsTrue (reads plan_file)
+MayRun reads writes (Some (execute instance plan_file)) = IsTrue (reads instance) × IsTrue (reads plan_file)
 
 -- The answer to what was asked, from what the source has left and from what stood before.
 unfoldable pub IsAnswer : Option Command → Option (List ℕ) → Outside → Outside → Status → Type 0
@@ -24,27 +27,40 @@ IsAnswer (Some (plan instance plan_file certificate)) source before after result
     AnswersBy (IsPlanned plan_file certificate) (instance_in before.files instance) before after result
 IsAnswer (Some (replay instance plan_file)) source before after result =
     AnswersBy (IsReplayed plan_file) (instance_in before.files instance) before after result
+IsAnswer (Some (execute instance plan_file)) source before after result =
+    AnswersBy (IsExecuted source plan_file) (instance_in before.files instance) before after result
 
 -- What a command leaves in the files, however it ends. Words that are no command, and one that only reads, leave all as they were.
 abbrev pub Leaves : Option Command → Files → Files → Type 0
 Leaves None before after = after ≡ before
 Leaves (Some (plan instance plan_file certificate)) before after = LeavesBy (LeavesPlanned plan_file certificate) (instance_in before instance) before after
 Leaves (Some (replay instance plan_file)) before after = after ≡ before
+Leaves (Some (execute instance plan_file)) before after = after ≡ before
 
 -- What a command leaves in the files where a read failed. None so far has written before it has read.
 abbrev pub LeavesAtFailedRead : Option Command → Files → Files → Type 0
 LeavesAtFailedRead None before after = after ≡ before
 LeavesAtFailedRead (Some (plan instance plan_file certificate)) before after = after ≡ before
 LeavesAtFailedRead (Some (replay instance plan_file)) before after = after ≡ before
+LeavesAtFailedRead (Some (execute instance plan_file)) before after = after ≡ before
 
--- What a command does to the source. None so far reads it.
-abbrev pub KeepsSource : {S : Type 0} → Option Command → S → S → Type 0
-KeepsSource None before after = after ≡ before
-KeepsSource (Some (plan instance plan_file certificate)) before after = after ≡ before
-KeepsSource (Some (replay instance plan_file)) before after = after ≡ before
+-- Where a command leaves the source as it was. `execute` does so where the files are told and an input is refused, or the plan is not valid.
+abbrev pub KeepsSource : {S : Type 0} → Bool → Files → Option Command → S → S → Type 0
+KeepsSource told files None before after = after ≡ before
+KeepsSource told files (Some (plan instance plan_file certificate)) before after = after ≡ before
+KeepsSource told files (Some (replay instance plan_file)) before after = after ≡ before
+KeepsSource told files (Some (execute instance plan_file)) before after = IsTrue told → ¬ Starts files instance plan_file → after ≡ before
+
+-- What a command takes from a source that tells, by what it prints and its status.
+abbrev pub Takes : Option Command → Taking → Outside → Outside → Status → Type 0
+Takes None taking before after result = Unit {0}
+Takes (Some (plan instance plan_file certificate)) taking before after result = Unit {0}
+Takes (Some (replay instance plan_file)) taking before after result = Unit {0}
+Takes (Some (execute instance plan_file)) taking before after result = TakesRead instance plan_file taking before after result
 
 -- What a command does to the desk's count of failed writes. One that only reads leaves it.
 abbrev pub KeepsDeskWrites : Option Command → ℕ → ℕ → Type 0
 KeepsDeskWrites None before after = after ≡ before
 KeepsDeskWrites (Some (plan instance plan_file certificate)) before after = Unit {0}
 KeepsDeskWrites (Some (replay instance plan_file)) before after = after ≡ before
+KeepsDeskWrites (Some (execute instance plan_file)) before after = after ≡ before

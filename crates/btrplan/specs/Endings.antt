@@ -1,5 +1,6 @@
 -- How a command or a part of it ends, before its last line is printed.
-use Rattle.std.specs.Prelude.{◌≡◌, ◌++◌, ℕ, List, Option, Some, None, Result, Ok, Err, IfSome, codes, String, string_bytes}
+use Rattle.std.specs.Prelude.{◌≡◌, ◌++◌, ℕ, List, Option, Some, None, Result, Ok, Err, IfSome, codes, option_map, String, string_bytes}
+use Rattle.std.specs.Io.{StartsWith}
 use Rattle.std.specs.declared.alloc.Global.{Global}
 use Rattle.plan_io.specs.declared.faults.OutFault.{OutFault}
 use Rattle.plan_io.specs.declared.faults.OutFault.TheVariants as out
@@ -42,6 +43,22 @@ unfoldable pub Ends : (Outside → Status → Type 0) → Outside → Result End
 Ends answer after (Ok ending) = answer (outside after.files (printed_with after.printed ending.line)) (outcome_status ending.outcome)
 Ends answer after (Err f) = IfSome (line_of f) (λ line. answer (outside after.files (after.printed ++ line)) (fault_status f))
 
+-- What is so of the outside and the status, however the writing of this line ends.
+pub record LineEnds (takes : Outside → Status → Type 0) (after : Outside) (line : List ℕ) (said : Status) : Type 0 where
+  pub printed : takes (outside after.files (after.printed ++ line)) said
+  pub failed : (now : List ℕ) → StartsWith now after.printed → StartsWith (after.printed ++ line) now → takes (outside after.files now) status.WriteFault
+  pub memory : (now : List ℕ) → StartsWith now after.printed → StartsWith (after.printed ++ line) now → takes (outside after.files now) status.Memory
+
+-- The same where there may be no line to write.
+abbrev pub LastEnds : (Outside → Status → Type 0) → Outside → Option (List ℕ) → Status → Type 0
+LastEnds takes after None said = takes after said
+LastEnds takes after (Some line) said = LineEnds takes after line said
+
+-- What is so of the outside and the status, however the command ends.
+unfoldable pub EndsAnyhow : (Outside → Status → Type 0) → Outside → Result Ending Fault → Type 0
+EndsAnyhow takes after (Ok ending) = LastEnds takes after (option_map string_bytes ending.line) (outcome_status ending.outcome)
+EndsAnyhow takes after (Err f) = LastEnds takes after (line_of f) (fault_status f)
+
 -- A part that reads an input may fail by the input, by a failed read, or by want of memory.
 abbrev pub IsOfReading : Fault → Type 0
 IsOfReading fault.Words = ⊥
@@ -58,6 +75,14 @@ IsOfWriting fault.ReadFault = ⊥
 IsOfWriting fault.WriteFault = Unit {0}
 IsOfWriting fault.Memory = Unit {0}
 
+-- A part that executes a plan may fail by an event line, by a failed read or write, or by want of memory.
+abbrev pub IsOfExecuting : Fault → Type 0
+IsOfExecuting fault.Words = ⊥
+IsOfExecuting (fault.Input line) = Unit {0}
+IsOfExecuting fault.ReadFault = Unit {0}
+IsOfExecuting fault.WriteFault = Unit {0}
+IsOfExecuting fault.Memory = Unit {0}
+
 -- A part that decides and writes may fail by the input, by a failed write, or by want of memory.
 abbrev pub IsOfDeciding : Fault → Type 0
 IsOfDeciding fault.Words = ⊥
@@ -73,6 +98,15 @@ IsRefusal (fault.Input text) line = string_bytes text ≡ line
 IsRefusal fault.ReadFault line = ⊥
 IsRefusal fault.WriteFault line = ⊥
 IsRefusal fault.Memory line = Unit {0}
+
+-- A part ends with this line and status, unless memory ran out.
+abbrev pub IsLastLine : Result Ending Fault → (line : List ℕ) → Status → Type 0
+IsLastLine (Ok ending) line said = (option_map string_bytes ending.line ≡ Some line) × (outcome_status ending.outcome ≡ said)
+IsLastLine (Err fault.Words) line said = ⊥
+IsLastLine (Err (fault.Input text)) line said = (string_bytes text ≡ line) × (said ≡ status.Input)
+IsLastLine (Err fault.ReadFault) line said = ⊥
+IsLastLine (Err fault.WriteFault) line said = ⊥
+IsLastLine (Err fault.Memory) line said = Unit {0}
 
 -- What a part gave is this value, or the line of its fault, unless memory ran out.
 abbrev pub Reads : {X Y : Type 0} → (X → Y) → Result X Fault → Result Y (List ℕ) → Type 0

@@ -8,6 +8,7 @@ use Rattle.btrplan.specs.declared.words.TheConstants.{LONGEST_NAME}
 pub data Command : Type 0 where
   plan : (instance plan_file certificate : List ℕ) → Command
   replay : (instance plan_file : List ℕ) → Command
+  execute : (instance plan_file : List ℕ) → Command
 
 -- A file's name has a byte, and no more than the longest.
 abbrev pub is_name : List ℕ → Bool
@@ -23,7 +24,8 @@ abbrev pub command_of : List (List ℕ) → Option Command
 command_of (word ∷ instance ∷ plan_file ∷ certificate ∷ []) =
     if bytes_eq word (codes "plan") && are_names (instance ∷ plan_file ∷ certificate ∷ []) then Some (plan instance plan_file certificate) else None
 command_of (word ∷ instance ∷ plan_file ∷ []) =
-    if bytes_eq word (codes "replay") && are_names (instance ∷ plan_file ∷ []) then Some (replay instance plan_file) else None
+    if bytes_eq word (codes "replay") && are_names (instance ∷ plan_file ∷ []) then Some (replay instance plan_file) else
+    if bytes_eq word (codes "execute") && are_names (instance ∷ plan_file ∷ []) then Some (execute instance plan_file) else None
 command_of _ = None
 
 -- The command that the words of the command line ask for.

@@ -6,11 +6,13 @@ ghost use Rattle.plan_io.specs.Files.{Files};
 ghost use Rattle.btrplan.specs.Words.{asked, Command as Asked};
 ghost use Rattle.btrplan.specs.Answer.{Outside, outside, told};
 ghost use Rattle.btrplan.specs.Commands.{MayRun, IsAnswer, Leaves, LeavesAtFailedRead};
-ghost use Rattle.btrplan.specs.Commands.{KeepsSource, KeepsDeskWrites};
+ghost use Rattle.btrplan.specs.Commands.{KeepsSource, KeepsDeskWrites, Takes};
+ghost use Rattle.btrplan.specs.Commands.Executing.{Taking, taking};
 ghost use Rattle.btrplan.specs.Printed.{PrintsPrefix};
 ghost use Rattle.btrplan.specs.Causes.{Counts, Causes, CommandCauses, NothingFailed, counts};
-ghost use Rattle.btrplan.specs.Endings.{Ends, IsAnswered};
+ghost use Rattle.btrplan.specs.Endings.{Ends, EndsAnyhow, IsAnswered, LineEnds};
 
+use crate::commands::executing::execute;
 use crate::commands::planning::plan;
 use crate::commands::replaying::replay;
 use crate::fault::{Ending, Fault};
@@ -20,7 +22,7 @@ use plan_io::{Desk, OutFault, Sink, Source, write_text};
 use std::alloc::Global;
 
 /// Does what the words ask for, but for the last line where one is still to be printed.
-#[tactic(auto, using(crate::proofs::Ends::no_command, crate::proofs::Printing::prints_nothing))]
+#[tactic(auto, using(crate::proofs::Ends::no_command, crate::proofs::LastLines::no_command_takes, crate::proofs::LastLines::plan_takes, crate::proofs::LastLines::replay_takes, crate::proofs::Printing::prints_nothing))]
 fn answer<D: Desk, I: Source, O: Sink>(
     alloc: Global,
     words: &[String],
@@ -41,7 +43,13 @@ fn answer<D: Desk, I: Source, O: Sink>(
         let before = outside (D.files desk.old) (O.written out.old) in
         let after = outside (D.files desk.new) (O.written out.new) in
         IsTrue D.tells → IsTrue O.tells → PrintsPrefix (asked words.now) source before after }
-    ensures source { KeepsSource (asked words.now) input.old input.new }
+    ensures takes { let taking = taking (I.rest input.old) (I.rest input.new)
+        (I.faults input.old) (I.faults input.new) in
+        let before = outside (D.files desk.old) (O.written out.old) in
+        let after = outside (D.files desk.new) (O.written out.new) in
+        IsTrue D.tells → IsTrue I.tells → IsTrue O.tells
+        → EndsAnyhow (Takes (asked words.now) taking before) after result }
+    ensures source { KeepsSource D.tells (D.files desk.old) (asked words.now) input.old input.new }
     ensures causes { let before = counts (D.read_faults desk.old) (I.faults input.old)
         (D.write_faults desk.old) (O.faults out.old) in
         let after = counts (D.read_faults desk.new) (I.faults input.new)
@@ -65,6 +73,12 @@ fn answer<D: Desk, I: Source, O: Sink>(
                 plan_file,
             },
         ) => replay(alloc, desk, out, instance, plan_file),
+        Some(
+            Command::Execute {
+                instance,
+                plan_file,
+            },
+        ) => execute(alloc, desk, input, out, instance, plan_file),
         None => Err(Fault::Words),
     }
 }
@@ -76,6 +90,10 @@ fn say<O: Sink>(out: &mut O, line: &str, said: Status) -> Status
     ensures status { (result ≡ said) ⊎ (result ≡ Status.WriteFault) ⊎ (result ≡ Status.Memory) }
     ensures written { IsTrue O.tells → result ≡ said
         → O.written out.new ≡ O.written out.old ++ line.now }
+    ensures takes { IsTrue O.tells
+        → (command : Option Asked) (taking : Taking) (before : Outside) (after : Files)
+        → LineEnds (Takes command taking before) (outside after (O.written out.old)) line.now said
+        → Takes command taking before (outside after (O.written out.new)) result }
     ensures prefix { IsTrue O.tells
         → (command : Option Asked) (source : Option (List ℕ)) (before : Outside) (after : Files)
         → PrintsPrefix command source before (outside after (O.written out.old))
@@ -92,7 +110,7 @@ fn say<O: Sink>(out: &mut O, line: &str, said: Status) -> Status
 }
 
 /// Prints the last line of a command, if it has one, and gives its status or that of a refused write.
-#[tactic(auto, using(crate::proofs::Causing::causes_of_line, crate::proofs::Causing::causes_as_they_were), unfolding(crate::specs::Endings::Ends))]
+#[tactic(auto, using(crate::proofs::Causing::causes_of_line, crate::proofs::Causing::causes_as_they_were), unfolding(crate::specs::Endings::Ends, crate::specs::Endings::EndsAnyhow))]
 fn finish<O: Sink>(out: &mut O, ended: Result<Ending, Fault>) -> Status
     ensures answer { IsTrue O.tells → IsAnswered result
         → (command : Option Asked) (source : Option (List ℕ)) (before : Outside) (after : Files)
@@ -103,6 +121,10 @@ fn finish<O: Sink>(out: &mut O, ended: Result<Ending, Fault>) -> Status
         → PrintsPrefix command source before (outside after (O.written out.old))
         → Ends (IsAnswer command source before) (outside after (O.written out.old)) ended
         → PrintsPrefix command source before (outside after (O.written out.new)) }
+    ensures takes { IsTrue O.tells
+        → (command : Option Asked) (taking : Taking) (before : Outside) (after : Files)
+        → EndsAnyhow (Takes command taking before) (outside after (O.written out.old)) ended
+        → Takes command taking before (outside after (O.written out.new)) result }
     ensures words { result ≡ Status.Words → ended ≡ Err Fault.Words }
     ensures words_told { ended ≡ Err Fault.Words
         → (result ≡ Status.Words) ⊎ (result ≡ Status.WriteFault) ⊎ (result ≡ Status.Memory) }
@@ -167,7 +189,14 @@ pub fn run<D: Desk, I: Source, O: Sink>(
         let before = outside (D.files desk.old) (O.written out.old) in
         let after = outside (D.files desk.new) (O.written out.new) in
         IsTrue D.tells → IsTrue O.tells → PrintsPrefix (asked words.now) source before after }
-    ensures source { KeepsSource (asked words.now) input.old input.new }
+    // Which bytes are taken from a source that tells, where the files that are read and the sink tell too.
+    ensures takes { let taking = taking (I.rest input.old) (I.rest input.new)
+        (I.faults input.old) (I.faults input.new) in
+        let before = outside (D.files desk.old) (O.written out.old) in
+        let after = outside (D.files desk.new) (O.written out.new) in
+        IsTrue D.tells → IsTrue I.tells → IsTrue O.tells
+        → Takes (asked words.now) taking before after result }
+    ensures source { KeepsSource D.tells (D.files desk.old) (asked words.now) input.old input.new }
 
     // For every desk: a command that only reads leaves its count of failed writes.
     ensures desk_writes { let command = asked words.now in

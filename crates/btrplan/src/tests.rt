@@ -6,6 +6,7 @@ use std::process::Abort;
 use std::test::Fail;
 
 mod acting;
+mod executing;
 mod instances;
 mod planning;
 mod replaying;
@@ -102,6 +103,8 @@ fn words_in_no_command(rt: HostRuntime) -> Result<(), Fail> {
         "replay i",
         "replay i i",
         "replay i p c",
+        "execute i",
+        "execute p p",
     ];
     for (at, line) in lines.into_iter().enumerate() {
         let given = Given {

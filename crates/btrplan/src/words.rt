@@ -18,6 +18,11 @@ pub enum Command<'a> {
         instance: &'a str,
         plan_file: &'a str,
     },
+    /// Executes a plan of the instance: prints starts, and reads event lines.
+    Execute {
+        instance: &'a str,
+        plan_file: &'a str,
+    },
 }
 
 /// The most bytes of a file's name.
@@ -60,6 +65,14 @@ pub fn read_words(words: &[String]) -> Option<Command<'_>>
             if word.as_str() == "replay" && are_two_names(instance.as_str(), plan_file.as_str()) =>
             {
                 Some(Command::Replay {
+                    instance: instance.as_str(),
+                    plan_file: plan_file.as_str(),
+                })
+            }
+        [word, instance, plan_file]
+            if word.as_str() == "execute" && are_two_names(instance.as_str(), plan_file.as_str()) =>
+            {
+                Some(Command::Execute {
                     instance: instance.as_str(),
                     plan_file: plan_file.as_str(),
                 })

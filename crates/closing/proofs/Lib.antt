@@ -1,4 +1,13 @@
+pub mod Public
+mod ClosedLemmas
 mod EndLemmas
+mod GroupLemmas
+mod LocalLemmas
+mod MemberLemmas
 mod MostLemmas
+mod PairLemmas
+mod RuleLemmas
+mod SettingLemmas
+mod StandLemmas
 mod SumLemmas
 mod UsableLemmas

@@ -1,5 +1,5 @@
 -- When a node is needed and not usable, with one element set.
-use Rattle.std.proofs.Common.{◌≡◌, ◌≢◌, ◌⊎◌, inl, inr, ℕ, ◌<◌, ◌||◌, Bool, true, false, nat_lt, IsTrue, refl, sym, ap, subst, ◌∙◌, arith}
+use Rattle.std.proofs.Common.{◌≡◌, ◌≢◌, ◌⊎◌, inl, inr, ℕ, ◌<◌, ◌||◌, Bool, false, nat_lt, IsTrue, refl, sym, ap, ◌∙◌, arith}
 use Rattle.std.proofs.lemmas.Bool.{cases_eq, false≢true}
 use Rattle.std.proofs.lemmas.Bool.Decides.{nat_tests}
 use Rattle.cluster.specs.declared.choices.Choice.{Choice}
@@ -14,7 +14,7 @@ use Rattle.slices.specs.Snapshots.{Snapshot, held_at, stands_on}
 use Rattle.slices.specs.Stages.{one}
 use Rattle.domains.specs.Sets.{Sets, setting}
 use Rattle.reasons.specs.Closed.{IsEnd}
-use Rattle.reasons.specs.Settings.{IsMachineUnder, IsSameMachine, IsSet}
+use Rattle.reasons.specs.Settings.{IsMachineUnder, IsSameMachine}
 use Rattle.reasons.specs.Sure.{sure}
 use Rattle.reasons.proofs.Public.{setting_sets}
 use Rattle.closing.specs.Kinds.{IsNeeded}

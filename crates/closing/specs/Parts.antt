@@ -1,21 +1,19 @@
 -- What the code says of instants, ends and single machines.
-use Rattle.std.specs.Prelude.{◌≡◌, ◌⊎◌, ℕ, ◌+◌, ◌<◌, ◌≤◌, ◌||◌, ◌==◌, Bool, true, false, List, Option, Some, None, IsTrue, slice_index_or}
+use Rattle.std.specs.Prelude.{◌≡◌, ◌⊎◌, ℕ, ◌+◌, ◌<◌, ◌≤◌, Bool, true, false, List, Some, IsTrue, slice_index_or}
 use Rattle.cluster.specs.declared.choices.Choice.{Choice}
 use Rattle.cluster.specs.declared.choices.Choice.TheVariants.{Idle, Act}
-use Rattle.cluster.specs.declared.ids.NodeId.{NodeId}
 use Rattle.catalogue.specs.Instance.{Instance}
 use Rattle.catalogue.specs.Values.{capacity_of}
 use Rattle.slices.specs.declared.slice.Weight.{Weight}
 use Rattle.slices.specs.declared.slice.Weight.TheVariants.{Image, Presence}
-use Rattle.slices.specs.Elements.{machine_count, node_count, node, vm}
+use Rattle.slices.specs.Elements.{node, vm}
 use Rattle.slices.specs.Snapshots.{held_at, powered_at, usable_at}
 use Rattle.slices.specs.Starts.{start_of}
 use Rattle.slices.specs.Stages.{Nodes, one}
-use Rattle.domains.specs.Choices.{DomainView, no_row}
+use Rattle.domains.specs.Choices.{no_row}
 use Rattle.domains.specs.declared.parts.Row.{Row}
 use Rattle.domains.specs.Sets.{Sets}
 use Rattle.reasons.specs.Closed.{IsEnd}
-use Rattle.reasons.specs.Regions.{row_at}
 use Rattle.reasons.specs.Sure.{sure}
 
 -- ---- instants

@@ -91,9 +91,7 @@ fn are_clean(p: &Problem, g: &Region, t: Instant) -> bool
     ensures yes { IsTrue result → AreCleanAt p.now.given (sets g.now) t }
     ensures no { result ≡ false → ¬ AreCleanAt p.now.given (sets g.now) t }
 {
-    are_nodes_clean(p, g, t)
-        && is_clean(&TotalLoad, p, g, t)
-        && are_constraints_clean(p, g, t)
+    are_nodes_clean(p, g, t) && is_clean(&TotalLoad, p, g, t) && are_constraints_clean(p, g, t)
 }
 
 // whether all is clean at each instant
@@ -118,7 +116,7 @@ pub fn closed(p: &Problem, g: &Region) -> bool
     requires { IsSized p.now.given g.now }
     ensures { IsTrue result ↔ IsClosed p.now.given (sets g.now) }
 {
-    if machines_of(p) == 0 && nodes_of(p) == 0 {
+    if machines_of(p) + nodes_of(p) == 0 {
         return true;
     }
     have_choices(p, g) && are_always_clean(p, g)

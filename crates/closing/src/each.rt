@@ -17,8 +17,10 @@ use domains::region::Region;
 
 /// A condition on what is sure, for each machine.
 pub trait OfMachine {
+    /// What of the problem a look needs.
     ghost ready: { Self → Instance → Type 0 };
 
+    /// When the machine of a number meets it.
     ghost met: { Self → Instance → ℕ → Snapshot → Type 0 };
 
     /// A look at one instant.

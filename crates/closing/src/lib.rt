@@ -14,6 +14,8 @@ pub mod look;
 mod pairs;
 mod places;
 mod stands;
+#[cfg(test)]
+mod tests;
 mod turns;
 mod usable;
 pub mod watch;

@@ -10,10 +10,10 @@ ghost use Rattle.closing.specs.Kinds.{IsOverloaded};
 ghost use Rattle.closing.specs.Looks.{IsFound};
 ghost use Rattle.closing.specs.Parts.{IsNodeMissed, IsNodeSpared};
 
+use crate::above::machine_above;
 use crate::counts::{nodes_of, resources_of};
 use crate::ends::end_that;
 use crate::look::Look;
-use crate::above::machine_above;
 use crate::usable::NotUsable;
 use catalogue::problem::Problem;
 use cluster::choices::{Choice, Instant};

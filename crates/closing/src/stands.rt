@@ -155,13 +155,7 @@ fn is_nowhere(stands: Stands) -> bool
 }
 
 /// An end of a machine's choices under which it is on a node on which another one stands.
-pub fn end_beside(
-    p: &Problem,
-    g: &Region,
-    v: VmId,
-    stands: Stands,
-    t: Instant,
-) -> Option<Choice>
+pub fn end_beside(p: &Problem, g: &Region, v: VmId, stands: Stands, t: Instant) -> Option<Choice>
     requires region { IsSized p.now.given g.now }
     requires machine { v.0 < machine_count p.now.given }
     ensures none { IfNone result (FailAtEnds (IsOn p.now.given v.0 (has_node_of stands) t) (sets g.now (vm v.0))) }

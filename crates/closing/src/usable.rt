@@ -58,7 +58,14 @@ impl Test for StandsOn<'_> {
 
     fn passes(&self, c: Choice) -> bool {
         let area = Area::One(self.node);
-        held(self.problem, self.machine, Weight::Presence, &area, c, self.at) > 0
+        held(
+            self.problem,
+            self.machine,
+            Weight::Presence,
+            &area,
+            c,
+            self.at,
+        ) > 0
             || held(self.problem, self.machine, Weight::Image, &area, c, self.at) > 0
     }
 }

@@ -24,6 +24,7 @@ pub trait Watched {
     /// What of the problem a look needs.
     ghost ready: { Self → Instance → Type 0 };
 
+    /// When it is broken, and what it looks at.
     ghost watch: { Self → Instance → Watch };
 
     /// A look at one instant.
@@ -90,7 +91,7 @@ impl Watched for OneConstraint {
     }
 }
 
-/// A look at one thing at all instants, from the earliest at which it is broken on.
+/// A look at one thing at all instants up to the horizon, one after the other; what is found first is answered.
 pub fn look<W: Watched>(watched: &W, p: &Problem, g: &Region) -> Look
     requires region { IsSized p.now.given g.now }
     requires ready { W.ready watched.now p.now.given }
@@ -135,11 +136,15 @@ pub fn look_at_usable(p: &Problem, g: &Region, n: NodeId) -> Look
     look(&NodeUsable(n), p, g)
 }
 
-/// A look at the constraint of a number.
+/// A look at the constraint of a number. One that is to hold at the horizon alone is looked at there alone.
 pub fn look_at_constraint(p: &Problem, g: &Region, c: u32) -> Look
     requires region { IsSized p.now.given g.now }
     requires constraint { c < length p.now.given.constraints }
     ensures { IsLook (constraint_watch p.now.given c) p.now.given (sets g.now) result }
 {
-    look(&OneConstraint(c), p, g)
+    if p.constraints()[c as usize].is_continuous() {
+        look(&OneConstraint(c), p, g)
+    } else {
+        constraint_found(p, g, c, p.horizon())
+    }
 }

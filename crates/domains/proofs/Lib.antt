@@ -1,8 +1,10 @@
 pub mod Public
 pub mod StartLemmas
 pub mod RowLemmas
+pub mod SlotLemmas
 pub mod PartLemmas
 pub mod UndoLemmas
+pub mod BeforeLemmas
 pub mod SizeLemmas
 pub mod ListingLemmas
 pub mod RegionLemmas

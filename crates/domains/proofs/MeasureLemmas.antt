@@ -14,7 +14,7 @@ use Rattle.domains.specs.declared.parts.Row.{Row}
 use Rattle.domains.specs.Choices.{starts_from, row_choices, choices, DomainView}
 use Rattle.domains.specs.Measures.{lower_option}
 
-lowest-append : (f : Choice → ℕ) (xs ys : List Choice) → lowest f (xs ++ ys) ≡ lower_option (lowest f xs) (lowest f ys)
+pub lowest-append : (f : Choice → ℕ) (xs ys : List Choice) → lowest f (xs ++ ys) ≡ lower_option (lowest f xs) (lowest f ys)
 lowest-append f [] ys = refl
 lowest-append f (x ∷ xs) ys = rw (lowest-append f xs ys) (step (f x) (lowest f xs) (lowest f ys))
   where
@@ -61,6 +61,14 @@ starts-at f p m from (suc count) at h l u e =
           let first : m ≤ f (Act p from) = h from (omega arith) (omega arith) in
           rw (starts-at f p m (from + 1) count at rest later (omega arith) e) (ap Some (omega arith))
     ]
+
+-- a row without a start has no least value
+pub lowest_no_row : (f : Choice → ℕ) (r : Row) → r.hi < r.lo → None ≡ lowest f (row_choices r)
+lowest_no_row f r l = by (r.hi + 1 - r.lo) (omega arith)
+  where
+    by : (n : ℕ) → n ≡ 0 → None ≡ lowest f (starts_from r.place r.lo n)
+    by zero e = refl
+    by (suc n) e = absurd (omega arith)
 
 -- over a row a measure is least at an end
 pub lowest_row : (f : Choice → ℕ) (r : Row) → ((p : Place) (lo s hi : ℕ) → lo ≤ s → s ≤ hi → min (f (Act p lo)) (f (Act p hi)) ≤ f (Act p s)) → r.lo ≤ r.hi → lowest f (row_choices r) ≡ Some (min (f (Act r.place r.lo)) (f (Act r.place r.hi)))

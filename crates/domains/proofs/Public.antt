@@ -1,9 +1,12 @@
 -- What other crates may cite.
+
+-- which choices are in a list, and in what a filter keeps of it
+pub use Rattle.domains.proofs.SplitLemmas.{contains_here, contains_one, contains_filter, filter_contains}
 use Rattle.std.proofs.Common.{◌≡◌, ◌⊎◌, inl, inr, ℕ, ◌≤◌, ◌==◌, ◌&&◌, ◌||◌, nat_lt, min, not, Bool, true, false, cond, Option, Some, None, ◌+◌, ◌-◌, List, [], ◌∷◌, ◌++◌, length, refl, sym, ap, ◌∙◌, arith}
 use Rattle.std.specs.List.{filter, flat_map, Contains}
-use Rattle.std.proofs.lemmas.List.Elements.{filter-append}
+use Rattle.std.proofs.lemmas.List.Elements.{filter-append, Contains-append_cases, Contains-append_left, Contains-append_right}
 use Rattle.std.proofs.lemmas.Bool.Decides.{nat_tests, Decides-eqb}
-use Rattle.sums.specs.Least.{lower, lowest}
+use Rattle.sums.specs.Least.{lower, lowest, least}
 use Rattle.cluster.specs.declared.ids.Element.{Element}
 use Rattle.cluster.specs.declared.ids.Element.TheVariants.{Vm, Node}
 use Rattle.cluster.specs.declared.choices.Choice.{Choice}
@@ -16,11 +19,14 @@ use Rattle.domains.specs.declared.view.Sight.{Sight}
 use Rattle.domains.specs.declared.view.Sight.TheVariants.{All, In, Out, Only}
 use Rattle.domains.specs.Choices.{DomainView, choices, row_choices}
 use Rattle.domains.specs.Views.{seen, sight_of, sight_at, idle_seen, rows_under, shows, SeenByRows}
-use Rattle.domains.proofs.MeasureLemmas.{filter_true}
+use Rattle.domains.specs.Undo.{restored, lost_choices}
+use Rattle.domains.proofs.MeasureLemmas.{filter_true, lowest-append}
 use Rattle.domains.specs.Sets.{RegionView, Sets, domain_at, sets, keeping, same_element, surely, may, IsIn}
 use Rattle.domains.specs.Sizes.{size, IsOneOf}
-use Rattle.domains.specs.Laws.{PartsCover, PartsAreDisjoint, PlanSplits, PlanStays, SplitAddsUp, SizeFalls, SizeIsPositive, OpenHasTwo, CountFalls, CountFallsBelow, LeastOfEach, SurelyEach, MayEach, FilterIsFewer, SurelyStays, MayStays, LeastGrows, SurelyByLeast, MayByLeast, is_above_none, is_nought}
-use Rattle.domains.proofs.SplitLemmas.{contains_none, contains_cases, contains_here, contains_later, contains_filter, filter_contains, size-split, size-le, size-positive, size-two, count-le, count-lt}
+use Rattle.domains.specs.Laws.{PartsCover, PartsAreDisjoint, PlanSplits, PlanStays, SplitAddsUp, SizeFalls, SizeIsPositive, OpenHasTwo, CountFalls, CountFallsBelow, LeastOfEach, SurelyEach, MayEach, FilterIsFewer, SurelyStays, MayStays, LeastGrows, SurelyByLeast, MayByLeast, LowestBefore, AreFewer, is_above_none, is_nought}
+use Rattle.domains.proofs.SplitLemmas.{contains_none, contains_cases, contains_later, size-split, size-le, size-positive, size-two, count-le, count-lt}
+-- what a domain was, is what it has and what it has lost
+pub use Rattle.domains.proofs.BeforeLemmas.{restored_is_both, lost_is_restored}
 
 -- a test is true or false
 either : (b : Bool) → (b ≡ true) ⊎ (not b ≡ true)
@@ -171,6 +177,24 @@ least_grows f (x ∷ y ∷ ys) cs fewer ne =
     let first = least_of_each f cs x (fewer x (contains_here x (y ∷ ys))) in
     let rest = least_grows f (y ∷ ys) cs (λ c h. fewer c (contains_later x (y ∷ ys) c h)) (λ e. cc) in
     omega arith
+
+-- lists of the same choices have the same least value
+lowest-same : (f : Choice → ℕ) (xs ys : List Choice) → AreFewer xs ys → AreFewer ys xs → lowest f xs ≡ lowest f ys
+lowest-same f [] [] there back = refl
+lowest-same f [] (y ∷ ys) there back = absurd (contains_none y (back y (contains_here y ys)))
+lowest-same f (x ∷ xs) [] there back = absurd (contains_none x (there x (contains_here x xs)))
+lowest-same f (x ∷ xs) (y ∷ ys) there back =
+    let up : least f (y ∷ ys) ≤ least f (x ∷ xs) = least_grows f (x ∷ xs) (y ∷ ys) there (λ e. cc) in
+    let down : least f (x ∷ xs) ≤ least f (y ∷ ys) = least_grows f (y ∷ ys) (x ∷ xs) back (λ e. cc) in
+    let same : least f (x ∷ xs) ≡ least f (y ∷ ys) = omega arith in
+    ap Some same
+
+pub lowest_before : LowestBefore
+lowest_before f lost d fewer =
+    lowest-same f (choices (restored lost d)) (choices d ++ lost_choices lost)
+    (λ c h. elim (restored_is_both lost d c h) [ inl has ↦ Contains-append_left (choices d) (lost_choices lost) c has | inr gone ↦ Contains-append_right (choices d) (lost_choices lost) c gone ])
+    (λ c h. elim (Contains-append_cases (choices d) (lost_choices lost) c h) [ inl has ↦ fewer c has | inr gone ↦ lost_is_restored lost d c gone ])
+    ∙ lowest-append f (choices d) (lost_choices lost)
 
 -- ---- by the least of a measure
 

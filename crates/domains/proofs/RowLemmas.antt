@@ -1,5 +1,5 @@
 -- Rows whose places climb.
-use Rattle.std.proofs.Common.{◌≡◌, ◌⊎◌, inl, inr, ℕ, zero, suc, ◌+◌, ◌<◌, ◌≤◌, List, [], ◌∷◌, ◌++◌, arith, length, get_or, set}
+use Rattle.std.proofs.Common.{◌≡◌, ◌⊎◌, inl, inr, ℕ, zero, suc, ◌+◌, ◌-◌, ◌<◌, ◌≤◌, List, [], ◌∷◌, ◌++◌, min, arith, refl, length, get_or, set}
 use Rattle.std.proofs.lemmas.List.{get_or_default}
 use Rattle.std.specs.List.{All, remove}
 use Rattle.std.proofs.lemmas.List.Elements.{All-head, All-tail}
@@ -29,6 +29,18 @@ Climbs-less from (r ∷ rs) zero (suc j) d c l h =
     omega (arith, there.0)
 Climbs-less from (r ∷ rs) (suc i) (suc j) d c l h = Climbs-less (place_index r.place + 1) rs i j d c.2 (omega arith) (omega arith)
 
+-- from row to row a place's number rises by one at least
+pub Climbs-far : (from : ℕ) (rows : List Row) (i j : ℕ) (d e : Row) → Climbs from rows → i ≤ j → j < length rows → place_index (get_or rows i d).place + j ≤ place_index (get_or rows j e).place + i
+Climbs-far from [] i j d e c l h = absurd (omega arith)
+Climbs-far from (r ∷ rs) (suc i) zero d e c l h = absurd (omega arith)
+Climbs-far from (r ∷ rs) zero zero d e c l h = omega arith
+Climbs-far from (r ∷ rs) zero (suc j) d e c l h =
+    let first = Climbs-at (place_index r.place + 1) rs zero e c.2 (omega arith) in
+    let rest = Climbs-far (place_index r.place + 1) rs zero j e e c.2 (omega arith) (omega arith) in
+    omega (arith, first.0, rest)
+Climbs-far from (r ∷ rs) (suc i) (suc j) d e c l h =
+    let rest = Climbs-far (place_index r.place + 1) rs i j d e c.2 (omega arith) (omega arith) in omega arith
+
 -- one row more, after all others
 pub Climbs-push : (from : ℕ) (rows : List Row) (r : Row) → Climbs from rows → from ≤ place_index r.place → r.lo ≤ r.hi → All (λ q. place_index q.place < place_index r.place) rows → Climbs from (rows ++ r ∷ [])
 Climbs-push from [] r c l h a = (l, h, tt)
@@ -36,26 +48,27 @@ Climbs-push from (q ∷ rows) r c l h a =
     let below : place_index q.place < place_index r.place = All-head (λ x. place_index x.place < place_index r.place) q rows a in
     (c.0, c.1, Climbs-push (place_index q.place + 1) rows r c.2 (omega arith) h (All-tail (λ x. place_index x.place < place_index r.place) q rows a))
 
--- rows up to one at a lower place are at lower places
-pub rows_below : (rows : List Row) (m key : ℕ) (d : Row) → Climbs 0 rows → m < length rows → place_index (get_or rows m d).place < key → (k : ℕ) (e : Row) → k < m + 1 → place_index (get_or rows k e).place < key
-rows_below rows m key d c h l k e u =
-    let here : place_index (get_or rows m e).place < key = rw (get_or_default rows m e d h) l in
-    let split : (k ≡ m) ⊎ (k < m) = grind arith in
-    elim split [
-      | inl same ↦ rw same here
-      | inr before ↦ let less = Climbs-less 0 rows k m e c before h in omega arith
-    ]
+-- where a row stands at another place than the one that is sought, rows up to it, or from it on, are away from that
+-- place, and so are those that are farther from it than the places are
+module _ (rows : List Row) (m key : ℕ) (d : Row) (climbs : Climbs 0 rows) (within : m < length rows) where
+  here : (e : Row) → place_index (get_or rows m e).place ≡ place_index (get_or rows m d).place
+  here e = rw (get_or_default rows m e d within) refl
 
--- rows from one at a higher place on are at higher places
-pub rows_above : (rows : List Row) (m key : ℕ) (d : Row) → Climbs 0 rows → key < place_index (get_or rows m d).place → (k : ℕ) (e : Row) → m ≤ k → k < length rows → key < place_index (get_or rows k e).place
-rows_above rows m key d c l k e u h =
-    let in' : m < length rows = omega arith in
-    let here : key < place_index (get_or rows m e).place = rw (get_or_default rows m e d in') l in
-    let split : (k ≡ m) ⊎ (m < k) = grind arith in
-    elim split [
-      | inl same ↦ rw same here
-      | inr later ↦ let less = Climbs-less 0 rows m k e c later h in omega arith
-    ]
+  pub rows_below : place_index (get_or rows m d).place < key → (k : ℕ) (e : Row) → k < m + 1 → place_index (get_or rows k e).place < key
+  rows_below l k e u = omega (arith, here e, Climbs-far 0 rows k m e d climbs (omega arith) within)
+
+  pub rows_far_above : place_index (get_or rows m d).place < key → (to : ℕ) → ((k : ℕ) (e : Row) → to ≤ k → k < length rows → key < place_index (get_or rows k e).place) → (k : ℕ) (e : Row) → (m + 1) + min (to - (m + 1)) (key - place_index (get_or rows m d).place) ≤ k → k < length rows → key < place_index (get_or rows k e).place
+  rows_far_above l to above k e u h =
+      let split : (to ≤ k) ⊎ ((m + 1) + (key - place_index (get_or rows m d).place) ≤ k) = grind arith in
+      elim split [ inl past ↦ above k e past h | inr far ↦ omega (arith, Climbs-far 0 rows m k d e climbs (omega arith) h) ]
+
+  pub rows_above : key < place_index (get_or rows m d).place → (k : ℕ) (e : Row) → m ≤ k → k < length rows → key < place_index (get_or rows k e).place
+  rows_above l k e u h = omega (arith, Climbs-far 0 rows m k d e climbs u h)
+
+  pub rows_far_below : key < place_index (get_or rows m d).place → (from : ℕ) → ((k : ℕ) (e : Row) → k < from → place_index (get_or rows k e).place < key) → (k : ℕ) (e : Row) → k < m - min (m - from) (place_index (get_or rows m d).place - key) → place_index (get_or rows k e).place < key
+  rows_far_below l from below k e u =
+      let split : (k < from) ⊎ (k + (place_index (get_or rows m d).place - key) < m) = grind arith in
+      elim split [ inl before ↦ below k e before | inr far ↦ omega (arith, Climbs-far 0 rows k m e d climbs (omega arith) within) ]
 
 -- a row in the place of another at the same place
 pub Climbs-set : (from : ℕ) (rows : List Row) (i : ℕ) (d left : Row) → Climbs from rows → i < length rows → place_index left.place ≡ place_index (get_or rows i d).place → left.lo ≤ left.hi → Climbs from (set rows i left)

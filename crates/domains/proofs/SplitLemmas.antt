@@ -28,6 +28,10 @@ contains_later x xs c (k, lt, e) = (suc k, omega arith, e)
 pub contains_none : (c : Choice) → Contains [] c → ⊥
 contains_none c (k, lt, e) = absurd (omega arith)
 
+pub contains_one : (c d : Choice) → Contains (c ∷ []) d → d ≡ c
+contains_one c d (zero, h, e) = sym e
+contains_one c d (suc k, h, e) = absurd (omega arith)
+
 -- a filter has what passes it, and nothing else
 pub contains_filter : (test : Choice → Bool) (cs : List Choice) (c : Choice) → Contains cs c → test c ≡ true → Contains (filter test cs) c
 contains_filter test [] c h t = absurd (contains_none c h)

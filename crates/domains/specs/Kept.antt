@@ -1,15 +1,25 @@
 -- What the types of this crate keep true of their fields.
-use Rattle.std.specs.Prelude.{◌≡◌, ◌<◌, ◌≤◌, ℕ, ◌/◌, ◌^◌, ◌==◌, min, true, false, List, length, slice_index, slice_index_or, if◌then◌else◌}
+use Rattle.std.specs.Prelude.{◌≡◌, ◌<◌, ◌≤◌, ℕ, ◌+◌, ◌/◌, ◌^◌, ◌==◌, min, true, false, List, length, slice_index, slice_index_or, if◌then◌else◌}
 use Rattle.std.specs.List.{All}
 use Rattle.sums.specs.Sums.{sum_to}
 use Rattle.domains.specs.declared.parts.Row.{Row}
 use Rattle.domains.specs.Choices.{DomainView, Climbs, is_one, staying}
 
--- rows of a domain: their places climb, none is empty, and there is room for so many as the slots say
-pub record AreKept (rows : List Row) (capacity slots : ℕ) : Type 0 where
-  pub climb : Climbs 0 rows
-  pub fit : length rows ≤ slots
-  pub room : slots ≤ capacity
+-- rows, and for how many there is memory
+pub record RowsView : Type 0 where
+  pub rows : List Row
+  pub slots : ℕ
+
+-- slots of memory of which the first are free and the others are rows: so many rows can be had without memory
+pub record HaveRoom (items : List Row) (capacity free most : ℕ) : Type 0 where
+  pub within : free ≤ length items
+  pub fit : length items ≤ free + most
+  pub room : most ≤ capacity
+
+-- rows of a domain: their places climb, none is empty, and there is memory for them
+pub record AreKept (l : RowsView) : Type 0 where
+  pub climb : Climbs 0 l.rows
+  pub fit : length l.rows ≤ l.slots
 
 -- a list of domains goes in blocks of 64, and all that come later are in the last
 abbrev pub block_count : ℕ

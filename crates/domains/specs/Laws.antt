@@ -5,8 +5,12 @@ use Rattle.sums.specs.Least.{lowest, least}
 use Rattle.cluster.specs.declared.ids.Element.{Element}
 use Rattle.cluster.specs.declared.choices.Choice.{Choice}
 use Rattle.domains.specs.declared.parts.Part.{Part}
+use Rattle.domains.specs.declared.undo.Lost.{Lost}
+use Rattle.domains.specs.Choices.{DomainView, choices}
+use Rattle.domains.specs.Measures.{lower_option}
 use Rattle.domains.specs.Parts.{in_part, out_of_part}
 use Rattle.domains.specs.Sets.{Sets, keeping, surely, may, IsIn}
+use Rattle.domains.specs.Undo.{restored, lost_choices}
 use Rattle.domains.specs.Sizes.{size, choice_count, IsOneOf}
 
 -- ---- parts
@@ -74,6 +78,18 @@ MayEach = (test : Choice → Bool) (cs : List Choice) (c : Choice) → Contains 
 -- each choice of the one list is in the other
 abbrev pub AreFewer : List Choice → List Choice → Type 0
 AreFewer fewer cs = (c : Choice) → Contains fewer c → Contains cs c
+
+-- what a domain was, is what it has and what it has lost
+abbrev pub RestoredIsBoth : Type 0
+RestoredIsBoth = (lost : Lost) (d : DomainView) (c : Choice) → Contains (choices (restored lost d)) c → Contains (choices d) c ⊎ Contains (lost_choices lost) c
+
+abbrev pub LostIsRestored : Type 0
+LostIsRestored = (lost : Lost) (d : DomainView) (c : Choice) → Contains (lost_choices lost) c → Contains (choices (restored lost d)) c
+
+-- so its least value is the lower of those of both
+abbrev pub LowestBefore : Type 0
+LowestBefore = (f : Choice → ℕ) (lost : Lost) (d : DomainView) → AreFewer (choices d) (choices (restored lost d)) →
+    lowest f (choices (restored lost d)) ≡ lower_option (lowest f (choices d)) (lowest f (lost_choices lost))
 
 abbrev pub FilterIsFewer : Type 0
 FilterIsFewer = (test : Choice → Bool) (cs : List Choice) → AreFewer (filter test cs) cs

@@ -1,9 +1,13 @@
 -- What a cut takes from a domain, and what puts it back.
 use Rattle.std.specs.Prelude.{◌≤◌, true, List, [], ◌∷◌, length, nat_lt, Option, Some, None, if◌then◌else◌}
 use Rattle.domains.specs.declared.parts.Row.{Row}
+use Rattle.cluster.specs.declared.choices.Choice.{Choice}
+use Rattle.cluster.specs.declared.choices.Choice.TheVariants.{Idle as Stay}
+use Rattle.domains.specs.declared.undo.Before.{Before}
+use Rattle.domains.specs.declared.undo.Before.TheVariants.{Kept, Lost as WithLost}
 use Rattle.domains.specs.declared.undo.Lost.{Lost}
 use Rattle.domains.specs.declared.undo.Lost.TheVariants.{Nothing, Idle, Row as LostRow}
-use Rattle.domains.specs.Choices.{DomainView, place_index, same_place}
+use Rattle.domains.specs.Choices.{DomainView, place_index, row_choices, same_place}
 
 -- rows with one at its place, which stands for any that was there
 abbrev pub put_row : Row → List Row → List Row
@@ -16,6 +20,17 @@ abbrev pub restored : Lost → DomainView → DomainView
 restored Nothing d = d
 restored Idle d = record { idle = true; rows = d.rows; slots = d.slots }
 restored (LostRow r) d = record { idle = d.idle; rows = put_row r d.rows; slots = d.slots }
+
+-- the domain before a change, told by one that was kept and the domain now
+abbrev pub domain_before : Before → DomainView → DomainView → DomainView
+domain_before Kept kept now = kept
+domain_before (WithLost lost) kept now = restored lost now
+
+-- the choices of what was lost
+abbrev pub lost_choices : Lost → List Choice
+lost_choices Nothing = []
+lost_choices Idle = Stay ∷ []
+lost_choices (LostRow r) = row_choices r
 
 -- it can be put back without memory
 abbrev pub CanRestore : Lost → DomainView → Type 0

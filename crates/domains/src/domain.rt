@@ -1,6 +1,5 @@
 //! One element's domain.
-ghost use Rattle.std.specs.Prelude.{◌≡◌, ◌+◌, ◌≤◌, max, [], ◌∷◌, ◌++◌, ◌<◌, length, IsTrue, ◌↔◌, OnOk, OnErr, IfOk, IfSome, filter, insert, slice_set};
-ghost use Rattle.smallvec.specs.SmallVec.{HasRoomFor};
+ghost use Rattle.std.specs.Prelude.{◌≡◌, ◌+◌, ◌≤◌, max, [], ◌∷◌, ◌++◌, ◌<◌, length, IsTrue, ◌↔◌, OnOk, OnErr, IfOk, IfSome, filter};
 ghost use Rattle.std.specs.List.{flat_map};
 ghost use Rattle.domains.specs.Choices.{DomainView, choices, is_one, row_choices, Climbs, ComesAfter};
 ghost use Rattle.domains.specs.Parts.{in_part, out_of_part, on_side};
@@ -9,11 +8,11 @@ ghost use Rattle.domains.specs.Undo.{restored, CanRestore, put_row, put_back};
 
 use crate::measure::{Nought, lowest};
 use crate::parts::{Part, Row, Side};
-use crate::rows::{find, inside, outside};
+use crate::row_list::RowList;
+use crate::rows::{inside, outside};
 use crate::undo::Lost;
 use cluster::choices::Place;
 use memory::Memory;
-use smallvec::SmallVec;
 use std::alloc::Global;
 use std::marker::Model;
 
@@ -21,9 +20,7 @@ use std::marker::Model;
 #[derive(Drop)]
 pub struct Domain {
     idle: bool,
-    rows: SmallVec<Row, 1>,
-    // the rows have room for so many without memory
-    slots: usize,
+    rows: RowList,
 }
 
 impl Model for Domain {
@@ -32,9 +29,9 @@ impl Model for Domain {
 
     ghost Value = { DomainView };
 
-    ghost view = { λ d. record { idle = d.idle; rows = d.rows.items; slots = d.slots } };
+    ghost view = { λ d. record { idle = d.idle; rows = d.rows.rows; slots = d.rows.slots } };
 
-    ghost invariant = { λ d. AreKept d.rows.items d.rows.capacity d.slots };
+    ghost invariant = { λ d. AreKept d.rows };
 }
 
 impl Domain {
@@ -44,8 +41,7 @@ impl Domain {
     {
         Domain {
             idle,
-            rows: SmallVec::new(alloc),
-            slots: 0,
+            rows: RowList::new(alloc),
         }
     }
 
@@ -72,7 +68,6 @@ impl Domain {
         ensures err { OnErr result (self.new ≡ self.old) }
     {
         self.rows.push(row)?;
-        self.slots = self.slots.max(self.rows.len());
         Ok(())
     }
 
@@ -80,12 +75,9 @@ impl Domain {
     pub fn copy(&self) -> Result<Domain, Memory>
         ensures { IfOk result (λ d. d ≡ self.now) }
     {
-        let mut rows = SmallVec::from_slice(*self.rows.allocator(), self.rows.as_slice())?;
-        rows.reserve_exact(self.slots - rows.len())?;
         Ok(Domain {
             idle: self.idle,
-            rows,
-            slots: self.slots,
+            rows: self.rows.copy()?,
         })
     }
 
@@ -94,13 +86,8 @@ impl Domain {
         ensures ok { OnOk result (self.new ≡ other.now) }
         ensures err { OnErr result (self.new ≡ self.old) }
     {
-        if self.rows.capacity() < other.slots {
-            *self = other.copy()?;
-            return Ok(());
-        }
+        self.rows.copy_from(&other.rows)?;
         self.idle = other.idle;
-        self.slots = other.slots;
-        copy_rows(&mut self.rows, other.rows.as_slice());
         Ok(())
     }
 
@@ -128,23 +115,19 @@ impl Domain {
         ensures set { choices result ≡ filter (in_part part) (choices self.now) }
         ensures climbs { Climbs 0 result.rows }
     {
-        let alloc = *self.rows.allocator();
+        let alloc = self.rows.allocator();
         match part {
             Part::Idle => Domain {
                 idle: self.idle,
-                rows: SmallVec::new(alloc),
-                slots: 0,
+                rows: RowList::new(alloc),
             },
             Part::Upto(place, _) | Part::From(place, _) => match row_inside(
-                self.rows.as_slice(),
-                place,
-                part,
+                &self.rows, place, part,
             ) {
                 None => Domain::new(alloc, false),
                 Some(row) => Domain {
                     idle: false,
-                    rows: SmallVec::from_buf(alloc, [row]),
-                    slots: 1,
+                    rows: RowList::one(alloc, row),
                 },
             },
         }
@@ -204,38 +187,36 @@ impl Domain {
 }
 
 // the row at the place, as far as it is in the part
-fn row_inside(rows: &[Row], place: Place, part: Part) -> Option<Row>
-    requires climbs { Climbs 0 rows.now }
+fn row_inside(rows: &RowList, place: Place, part: Part) -> Option<Row>
+    requires climbs { Climbs 0 rows.now.rows }
     requires at { IsPartAt place part }
-    ensures set { option_choices result ≡ filter (in_part part) (flat_map row_choices rows.now) }
+    ensures set { option_choices result ≡ filter (in_part part) (flat_map row_choices rows.now.rows) }
     ensures row { IfSome result (λ r. r.lo ≤ r.hi) }
 {
-    match find(rows, place) {
-        Ok(i) => inside(rows[i], part),
+    match rows.find(place) {
+        Ok(i) => inside(rows.as_slice()[i], part),
         Err(_) => None,
     }
 }
 
 // takes away what the row at the place has in the part, and hands back that row as it was
-fn cut_row(rows: &mut SmallVec<Row, 1>, place: Place, part: Part) -> Option<Row>
-    requires climbs { Climbs 0 rows.old.items }
+fn cut_row(rows: &mut RowList, place: Place, part: Part) -> Option<Row>
+    requires climbs { Climbs 0 rows.old.rows }
     requires at { IsPartAt place part }
-    ensures set { flat_map row_choices rows.new.items ≡ filter (out_of_part part) (flat_map row_choices rows.old.items) }
-    ensures climbs { Climbs 0 rows.new.items }
-    ensures undone { rows.old.items ≡ put_back result rows.new.items }
+    ensures set { flat_map row_choices rows.new.rows ≡ filter (out_of_part part) (flat_map row_choices rows.old.rows) }
+    ensures climbs { Climbs 0 rows.new.rows }
+    ensures undone { rows.old.rows ≡ put_back result rows.new.rows }
     ensures row { IfSome result (λ r. r.lo ≤ r.hi) }
-    ensures shorter { length rows.new.items ≤ length rows.old.items }
-    ensures capacity { rows.new.capacity ≡ rows.old.capacity }
+    ensures shorter { length rows.new.rows ≤ length rows.old.rows }
+    ensures slots { rows.new.slots ≡ rows.old.slots }
 {
-    match find(rows.as_slice(), place) {
+    match rows.find(place) {
         Err(_) => None,
         Ok(i) => {
             let row = rows.as_slice()[i];
             match outside(row, part) {
-                None => {
-                    let _ = rows.remove(i);
-                }
-                Some(left) => set_row(rows, i, left),
+                None => rows.remove(i),
+                Some(left) => rows.set(i, left),
             }
             Some(row)
         }
@@ -243,43 +224,16 @@ fn cut_row(rows: &mut SmallVec<Row, 1>, place: Place, part: Part) -> Option<Row>
 }
 
 // puts a row back at its place
-fn put(rows: &mut SmallVec<Row, 1>, row: Row)
-    requires climbs { Climbs 0 rows.old.items }
+fn put(rows: &mut RowList, row: Row)
+    requires climbs { Climbs 0 rows.old.rows }
     requires holds_one { row.lo ≤ row.hi }
-    requires room { length (put_row row rows.old.items) ≤ rows.old.capacity }
-    ensures put { rows.new.items ≡ put_row row rows.old.items }
-    ensures climbs { Climbs 0 rows.new.items }
-    ensures capacity { rows.new.capacity ≡ rows.old.capacity }
+    requires room { length (put_row row rows.old.rows) ≤ rows.old.slots }
+    ensures put { rows.new.rows ≡ put_row row rows.old.rows }
+    ensures climbs { Climbs 0 rows.new.rows }
+    ensures slots { rows.new.slots ≡ rows.old.slots }
 {
-    match find(rows.as_slice(), row.place) {
-        Ok(i) => set_row(rows, i, row),
-        Err(i) => insert_row(rows, i, row),
+    match rows.find(row.place) {
+        Ok(i) => rows.set(i, row),
+        Err(i) => rows.insert(i, row),
     }
-}
-
-// copies rows into memory that is there
-fn copy_rows(rows: &mut SmallVec<Row, 1>, others: &[Row])
-    requires { length others.now ≤ rows.old.capacity }
-    ensures items { rows.new.items ≡ others.now }
-    ensures capacity { rows.old.capacity ≤ rows.new.capacity }
-{
-    rows.clear();
-    let _had_room = rows.extend_from_slice(others);
-}
-
-fn set_row(rows: &mut SmallVec<Row, 1>, i: usize, row: Row)
-    requires { i < length rows.old.items }
-    ensures items { rows.new.items ≡ slice_set rows.old.items i row }
-    ensures capacity { rows.new.capacity ≡ rows.old.capacity }
-{
-    rows.as_mut_slice()[i] = row;
-}
-
-fn insert_row(rows: &mut SmallVec<Row, 1>, i: usize, row: Row)
-    requires within { i ≤ length rows.old.items }
-    requires room { HasRoomFor rows.old 1 }
-    ensures items { rows.new.items ≡ insert rows.old.items i row }
-    ensures capacity { rows.new.capacity ≡ rows.old.capacity }
-{
-    let _had_room = rows.insert(i, row);
 }

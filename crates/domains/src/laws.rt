@@ -1,5 +1,5 @@
 //! Laws of sets of choices: each is the contract of a function that does nothing.
-ghost use Rattle.domains.specs.Laws.{PartsCover, PartsAreDisjoint, PlanSplits, PlanStays, SplitAddsUp, SizeFalls, SizeIsPositive, OpenHasTwo, CountFalls, CountFallsBelow, LeastOfEach, SurelyEach, MayEach, FilterIsFewer, SurelyStays, MayStays, LeastGrows, SurelyByLeast, MayByLeast};
+ghost use Rattle.domains.specs.Laws.{PartsCover, PartsAreDisjoint, PlanSplits, PlanStays, SplitAddsUp, SizeFalls, SizeIsPositive, OpenHasTwo, CountFalls, CountFallsBelow, LeastOfEach, SurelyEach, MayEach, FilterIsFewer, SurelyStays, MayStays, LeastGrows, SurelyByLeast, MayByLeast, RestoredIsBoth, LostIsRestored, LowestBefore};
 ghost use Rattle.domains.specs.Views.{SeenByRows};
 
 /// Each choice is inside or outside of a part.
@@ -112,4 +112,19 @@ pub fn may_by_least()
 /// What is seen of an element through a lens is Idle and what is seen of the rows.
 pub fn seen_by_rows()
     ensures { SeenByRows }
+{}
+
+/// The choices of a domain with what it has lost are those that it has and those that it has lost.
+pub fn restored_is_both()
+    ensures { RestoredIsBoth }
+{}
+
+/// What was lost is there again when it is put back.
+pub fn lost_is_restored()
+    ensures { LostIsRestored }
+{}
+
+/// The least value before a cut is the lower of the least values of what is left and of what was lost.
+pub fn lowest_before()
+    ensures { LowestBefore }
 {}

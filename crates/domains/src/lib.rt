@@ -9,6 +9,7 @@ mod listing;
 pub mod measure;
 pub mod parts;
 pub mod region;
+mod row_list;
 mod rows;
 #[cfg(test)]
 mod tests;

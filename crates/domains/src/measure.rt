@@ -8,10 +8,12 @@ ghost use Rattle.domains.specs.Choices.{choices, row_choices};
 ghost use Rattle.domains.specs.Parts.{stays};
 ghost use Rattle.domains.specs.Rows.{option_choices, IsRowAt};
 ghost use Rattle.domains.specs.Measures.{lower_option};
+ghost use Rattle.domains.specs.Undo.{lost_choices};
 
 use crate::domain::Domain;
 use crate::parts::{Part, Row};
 use crate::rows::outside;
+use crate::undo::Lost;
 use cluster::choices::{Choice, Instant};
 
 /// A number for each choice, which over the starts at one place is least at the first or the last.
@@ -59,6 +61,26 @@ pub fn lowest<M: Measure>(domain: &Domain, left_out: Option<Part>, m: &M) -> Opt
         }
     }
     best
+}
+
+/// The least value over the choices that a domain has lost, if there is one.
+///
+/// By the law `lowest_before` the lower of it and the least value now is the least value before.
+#[tactic(auto, using(crate::proofs::MeasureLemmas::lowest_no_row))]
+pub fn lowest_lost<M: Measure>(lost: Lost, m: &M) -> Option<u64>
+    requires { M.ready m.now }
+    ensures { result ≡ lowest_of (M.value_of m.now) (lost_choices lost) }
+{
+    match lost {
+        Lost::Nothing => None,
+        Lost::Idle => Some(m.value(Choice::Idle)),
+        Lost::Row(row) => {
+            if row.lo > row.hi {
+                return None;
+            }
+            Some(least_of_row(row, m))
+        }
+    }
 }
 
 // the least value over a row

@@ -130,6 +130,7 @@ impl Region {
         ensures machines { length self.new.machines ≡ length self.old.machines }
         ensures nodes { length self.new.nodes ≡ length self.old.nodes }
         ensures sets { (x : AnyElement) → sets self.new x ≡ keeping e (out_of_part part) (sets self.old) x }
+        ensures lost { restored result (domain_at self.new e) ≡ domain_at self.old e }
         ensures undone { with_domain self.new e (restored result (domain_at self.new e)) ≡ self.old }
         ensures can { CanRestore result (domain_at self.new e) }
     {

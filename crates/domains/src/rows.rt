@@ -26,7 +26,10 @@ pub fn is_same(a: Place, b: Place) -> bool
 }
 
 /// Where the row at a place stands, or else where it would.
-pub fn find(rows: &[Row], place: Place) -> Result<usize, usize>
+///
+/// It is sought first where it stands if there was a row at each of the first `slots` places and some were lost here
+/// and there, then as far from that as the places differ, and then by halving. So `slots` is only a hint.
+pub fn find(rows: &[Row], place: Place, slots: usize) -> Result<usize, usize>
     requires { Climbs 0 rows.now }
     ensures found { IfOk result (IsFound rows.now (place_index place)) }
     ensures gap { IfErr result (IsGap rows.now (place_index place)) }
@@ -34,19 +37,41 @@ pub fn find(rows: &[Row], place: Place) -> Result<usize, usize>
     let key = index(place);
     let mut from = 0;
     let mut to = rows.len();
+    let mut guess = (key as usize).wrapping_mul(to) / slots.max(1);
+    let mut guesses: u32 = 2;
     while from < to {
-        let middle = from + (to - from) / 2;
+        let middle = probe(guess, guesses, from, to);
         let here = index(rows[middle].place);
         if here == key {
             return Ok(middle);
         }
+        guesses = guesses.saturating_sub(1);
+
+        // from row to row the place's number rises by one at least
         if here < key {
             from = middle + 1;
+            to = from + (to - from).min((key - here) as usize);
+            guess = to - 1;
         } else {
             to = middle;
+            from = to - (to - from).min((here - key) as usize);
+            guess = from;
         }
     }
     Err(from)
+}
+
+// where to look next: at the guess, or near it, while guesses are left, and else half way
+fn probe(guess: usize, guesses: u32, from: usize, to: usize) -> usize
+    requires { from < to }
+    ensures above { from ≤ result }
+    ensures below { result < to }
+{
+    if guesses > 0 {
+        guess.max(from).min(to - 1)
+    } else {
+        from + (to - from) / 2
+    }
 }
 
 // the starts of a row from one instant to another

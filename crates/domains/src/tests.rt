@@ -3,9 +3,10 @@ ghost use Rattle.std.specs.Prelude.{◌≡◌, ◌<◌, ◌≤◌, ℕ, min, IfO
 ghost use Rattle.domains.specs.Tests.{start_of};
 
 use crate::domain::Domain;
-use crate::measure::Measure;
+use crate::measure::{Measure, lowest_lost};
 use crate::parts::{Change, Part, Row, Side};
 use crate::region::Region;
+use crate::undo::Lost;
 use crate::view::{Lens, View, lowest_seen};
 use cluster::choices::{Choice, Instant, Place};
 use cluster::ids::{Element, NodeId, VmId};
@@ -158,5 +159,9 @@ fn a_region_narrowed(rt: HostRuntime) -> Result<(), Fail> {
     assert!(rt; region.copy()?.is_fixed());
     let old = region.set(MACHINE, Domain::new(rt.alloc(), false));
     assert_eq!(rt; old.rows(), [row(HERE, 3, 3)].as_slice());
+    let mut kept = Domain::new(rt.alloc(), true);
+    kept.copy_from(&old)?;
+    assert_eq!(rt; kept.copy()?.rows(), old.rows());
+    assert_eq!(rt; lowest_lost(Lost::Row(row(HERE, 3, 7)), &Start), Some(3));
     Ok(())
 }

@@ -2,4 +2,5 @@ pub mod StepLemmas
 pub mod SafeLemmas
 pub mod GoingOn
 pub mod TableLemmas
+pub mod ReadyLemmas
 pub mod Public

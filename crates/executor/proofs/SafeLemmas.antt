@@ -1,14 +1,12 @@
 -- An execution of a valid plan keeps the rules: it is a part of the plan at the last start among what has started.
-use Rattle.std.proofs.Common.{◌≡◌, ◌≢◌, ◌⊎◌, inl, inr, ℕ, ◌+◌, ◌<◌, ◌≤◌, Bool, true, false, List, [], ◌∷◌, length, nat_le, IsSome, IsTrue, Some, refl, sym, ap, subst, ◌∙◌, arith}
-use Rattle.std.specs.Option.{option_map_or}
-use Rattle.std.proofs.lemmas.Bool.{cases_Bool, false≢true, true≢false, le-leb, leb-true}
+use Rattle.std.proofs.Common.{◌≡◌, ◌≢◌, inl, inr, ℕ, ◌+◌, ◌≤◌, Bool, true, false, List, [], ◌∷◌, IsSome, IsTrue, Some, refl, sym, ap, subst, ◌∙◌, arith}
+use Rattle.std.proofs.lemmas.Bool.{cases_Bool, false≢true, le-leb, leb-true}
 use Rattle.cluster.specs.declared.choices.Choice.{Choice}
 use Rattle.cluster.specs.declared.choices.Choice.TheVariants.{Idle, Act}
 use Rattle.cluster.specs.declared.choices.Place.{Place}
 use Rattle.cluster.specs.declared.ids.Element.{Element}
-use Rattle.cluster.specs.declared.ids.Element.TheVariants.{Vm, Node as TheNode}
 use Rattle.catalogue.specs.Instance.{Instance, IsElement, IsInstance}
-use Rattle.slices.specs.Actions.{action_duration, end_of, is_legal}
+use Rattle.slices.specs.Actions.{action_duration, is_legal}
 use Rattle.slices.specs.Parts.{IsStagePart}
 use Rattle.slices.specs.Plans.{Choices, IsPlanOf, PlanChoices, choices_of}
 use Rattle.slices.specs.Snapshots.{stage_at, stages_at}

@@ -1,5 +1,5 @@
 -- Each step of an execution keeps what is so at every moment.
-use Rattle.std.proofs.Common.{◌≡◌, ◌≢◌, ◌↔◌, ◌⊎◌, inl, inr, ℕ, true, false, IsNone, IsTrue, refl, sym, ap, subst, ◌∙◌}
+use Rattle.std.proofs.Common.{◌≡◌, ◌≢◌, ◌↔◌, ◌⊎◌, inl, inr, ℕ, false, IsNone, IsTrue, refl, sym, ap, subst, ◌∙◌}
 use Rattle.std.specs.Option.{option_map_or}
 use Rattle.std.proofs.lemmas.Bool.{cases_eq, false≢true, true≢false}
 use Rattle.cluster.specs.declared.choices.Choice.{Choice}
@@ -12,8 +12,8 @@ use Rattle.slices.specs.Starts.{start_of}
 use Rattle.executor.specs.declared.phase.Phase.{Phase}
 use Rattle.executor.specs.declared.phase.Phase.TheVariants.{None as NoAction, Waiting, Running, Ended, Failed}
 use Rattle.executor.specs.Laws.{BeginsWell, StepsKeep}
-use Rattle.executor.specs.Phases.{Moves, Phases, first_phase, first_phases}
-use Rattle.executor.specs.Steps.{Event, Start, End, Fail, IsExecution, IsStep, is_over_by, waits}
+use Rattle.executor.specs.Phases.{Moves, Phases, first_phase}
+use Rattle.executor.specs.Steps.{Start, End, Fail, IsExecution, is_over_by, waits}
 
 -- ---- elements
 

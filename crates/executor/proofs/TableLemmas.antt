@@ -1,5 +1,5 @@
 -- What the tables of a monitor say of elements.
-use Rattle.std.proofs.Common.{◌≡◌, ◌≢◌, ◌↔◌, ◌⊎◌, inl, inr, ℕ, ◌+◌, ◌<◌, ◌≤◌, Bool, true, false, not, ◌&&◌, nat_lt, List, length, Option, Some, None, IsTrue, slice_index_or, slice_set, refl, sym, ap, subst, ◌∙◌, arith}
+use Rattle.std.proofs.Common.{◌≡◌, ◌≢◌, ◌↔◌, ◌⊎◌, inl, inr, ℕ, ◌+◌, ◌<◌, Bool, true, false, not, ◌&&◌, List, length, Option, Some, None, IsTrue, slice_index_or, slice_set, refl, sym, ap, subst, ◌∙◌, arith}
 use Rattle.std.specs.Option.{option_map_or}
 use Rattle.std.proofs.lemmas.Bool.{cases_lt, false≢true, lt-ltb, le-ltb}
 use Rattle.std.proofs.lemmas.List.{get_or_past, get_or-set_same, get_or-set_other, length-set}
@@ -18,7 +18,7 @@ use Rattle.executor.specs.declared.phase.Phase.{Phase}
 use Rattle.executor.specs.declared.phase.Phase.TheVariants.{None as NoAction, Waiting, Running, Ended, Failed}
 use Rattle.executor.specs.declared.times.Times.{Times}
 use Rattle.executor.specs.Answers.{IsFirst, IsHindrance, IsOpen}
-use Rattle.executor.specs.Phases.{AllEnded, Moves, Phases, first_phase, first_phases, phase_at, phases_in}
+use Rattle.executor.specs.Phases.{AllEnded, Moves, first_phase, first_phases, phase_at, phases_in}
 use Rattle.executor.specs.Steps.{MayStart, is_over_by, waits}
 use Rattle.executor.specs.Tables.{AreTimes, IsReadyAt, is_ended, is_open_at, times_of, waits_at, waits_between}
 
@@ -119,7 +119,7 @@ no_wait p b None h = false≢true h
 no_wait p b (Some start) h = false≢true h
 
 -- what is waited for is listed
-waited_is_listed : (p : Instance) (plan : PlanChoices) → IsPlanOf p plan → (a b : Element) → IsTrue (waits p (choices_of plan) a b) → IsElement p b
+pub waited_is_listed : (p : Instance) (plan : PlanChoices) → IsPlanOf p plan → (a b : Element) → IsTrue (waits p (choices_of plan) a b) → IsElement p b
 waited_is_listed p plan is a b w =
     elim (past-idle p plan is b) [
       | inl there ↦ there

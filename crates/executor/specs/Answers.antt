@@ -9,7 +9,7 @@ use Rattle.executor.specs.declared.phase.Phase.TheVariants.{Waiting, Running, En
 use Rattle.executor.specs.declared.phase.StepFault.{StepFault}
 use Rattle.executor.specs.declared.phase.StepFault.TheVariants.{Already, NotReady, NotRunning}
 use Rattle.executor.specs.Phases.{Phases, Moves}
-use Rattle.executor.specs.Steps.{Event, Start, IsStep, MayStart, waits}
+use Rattle.executor.specs.Steps.{Start, IsStep, waits}
 
 -- element a comes before element b
 abbrev pub Precedes : Instance → Element → Element → Type 0

@@ -1,5 +1,5 @@
 -- The laws of executions.
-use Rattle.std.specs.Prelude.{◌≡◌, ◌≢◌, List, IsTrue, false}
+use Rattle.std.specs.Prelude.{◌≡◌, ◌≢◌, List, false}
 use Rattle.cluster.specs.declared.ids.Element.{Element}
 use Rattle.catalogue.specs.Instance.{Instance, IsInstance}
 use Rattle.slices.specs.declared.rule.Rule.{Rule}

@@ -1,5 +1,5 @@
 -- The tables of a monitor, by the numbers of elements: how far each action is, and when it starts and ends in the plan.
-use Rattle.std.specs.Prelude.{◌≡◌, ℕ, ◌<◌, Bool, true, false, not, ◌&&◌, nat_le, List, length, slice_index_or, Option, Some, None, IsTrue}
+use Rattle.std.specs.Prelude.{◌≡◌, ℕ, ◌<◌, ◌≤◌, Bool, true, false, not, ◌&&◌, min, nat_le, nat_lt, if◌then◌else◌, List, length, slice_index_or, Option, Some, None, IfSome, IsTrue}
 use Rattle.cluster.specs.declared.choices.Choice.{Choice}
 use Rattle.cluster.specs.declared.choices.Choice.TheVariants.{Idle, Act}
 use Rattle.cluster.specs.declared.ids.Element.{Element}
@@ -55,6 +55,32 @@ IsFirstPlace count those None = (y : ℕ) → y < count → ¬ those y
 IsFirstPlace count those (Some x) = (x < count) × those x × ((y : ℕ) → y < x → ¬ those y)
 
 -- ---- readiness
+
+-- the end of an action that has not ended
+abbrev pub open_end : Option Times → Phase → Option ℕ
+open_end None phase = None
+open_end (Some action) phase = if is_ended phase then None else Some action.end
+
+abbrev pub open_end_at : List (Option Times) → List Phase → ℕ → Option ℕ
+open_end_at times phases x = open_end (slice_index_or times x None) (phase_at phases x)
+
+-- the lesser of two ends, of which each may be missing
+abbrev pub lesser : Option ℕ → Option ℕ → Option ℕ
+lesser None b = b
+lesser (Some a) None = Some a
+lesser (Some a) (Some b) = Some (min a b)
+
+-- the least end of the actions of the first places that have not ended, if there is one
+abbrev pub IsLeastOpenEnd : List (Option Times) → List Phase → ℕ → Option ℕ → Type 0
+IsLeastOpenEnd times phases count None = (x : ℕ) → x < count → open_end_at times phases x ≡ None
+IsLeastOpenEnd times phases count (Some end) =
+    ((x : ℕ) × (x < count) × (open_end_at times phases x ≡ Some end)) × ((x : ℕ) → x < count → IfSome (open_end_at times phases x) (λ other. end ≤ other))
+
+-- an action starts before an end, where both are there
+abbrev pub starts_before : Option Times → Option ℕ → Bool
+starts_before None end = true
+starts_before (Some action) None = true
+starts_before (Some action) (Some end) = nat_lt action.start end
 
 -- the action of a place waits, and all that it waits for has ended
 pub record IsReadyAt (times : List (Option Times)) (phases : List Phase) (x : ℕ) : Type 0 where

@@ -10,3 +10,6 @@ mod times;
 
 pub use monitor::Monitor;
 pub use phase::{NewFault, Phase, StepFault};
+
+#[cfg(test)]
+mod tests;

@@ -2,7 +2,7 @@
 ghost use Rattle.std.specs.Prelude.{◌≡◌, ◌↔◌, ◌<◌, length, IfOk, IsTrue};
 ghost use Rattle.catalogue.specs.Instance.{IsElement};
 ghost use Rattle.slices.specs.Plans.{IsPlanOf, choices_of};
-ghost use Rattle.executor.specs.Tables.{AreTimes, IsFirstPlace, IsReadyAt, is_ended, is_open_at, times_of, waits_at};
+ghost use Rattle.executor.specs.Tables.{AreTimes, IsFirstPlace, IsLeastOpenEnd, IsReadyAt, is_ended, is_open_at, lesser, open_end, starts_before, times_of, waits_at};
 
 use crate::phase::Phase;
 use catalogue::problem::Problem;
@@ -92,19 +92,61 @@ pub(crate) fn first_open(times: &[Option<Times>], phases: &[Phase], a: usize) ->
     None
 }
 
-/// Whether an action waits, and waits for none that has not ended.
-fn is_ready(times: &[Option<Times>], phases: &[Phase], x: usize) -> bool
+// ---- readiness
+
+/// The end of an action that has not ended.
+fn open_end(times: Option<Times>, phase: Phase) -> Option<Instant>
+    ensures { result ≡ open_end times phase }
+{
+    match times {
+        Some(action) if !is_ended(phase) => Some(action.end),
+        Some(_) | None => None,
+    }
+}
+
+/// The lesser of a least end so far and one more.
+fn lesser(least: Option<Instant>, end: Option<Instant>) -> Option<Instant>
+    ensures { result ≡ lesser least end }
+{
+    match (least, end) {
+        (Some(x), Some(y)) => Some(x.min(y)),
+        (Some(x), None) => Some(x),
+        (None, y) => y,
+    }
+}
+
+/// The least end of the actions that have not ended.
+#[tactic(auto, using(crate::proofs::ReadyLemmas::none_below, crate::proofs::ReadyLemmas::one_more))]
+fn least_open_end(times: &[Option<Times>], phases: &[Phase]) -> Option<Instant>
+    requires { length times.now ≡ length phases.now }
+    ensures { IsLeastOpenEnd times.now phases.now (length phases.now) result }
+{
+    let mut least = None;
+    for x in 0..phases.len() {
+        least = lesser(least, open_end(times[x], phases[x]));
+    }
+    least
+}
+
+/// Whether an action starts in the plan before an end, if there is one.
+fn starts_before(times: Option<Times>, end: Option<Instant>) -> bool
+    ensures { result ≡ starts_before times end }
+{
+    match (times, end) {
+        (Some(action), Some(end)) => action.start < end,
+        (Some(_), None) | (None, _) => true,
+    }
+}
+
+/// Whether an action waits, and waits for none that has not ended: it starts before the least end of these.
+#[tactic(auto, using(crate::proofs::ReadyLemmas::ready_before, crate::proofs::ReadyLemmas::before_ready))]
+fn is_ready(times: &[Option<Times>], phases: &[Phase], least: Option<Instant>, x: usize) -> bool
     requires rows { length times.now ≡ length phases.now }
     requires place { x < length phases.now }
+    requires least { IsLeastOpenEnd times.now phases.now (length phases.now) least }
     ensures { IsTrue result ↔ IsReadyAt times.now phases.now x }
 {
-    match phases[x] {
-        Phase::Waiting => match first_open(times, phases, x) {
-            None => true,
-            Some(_) => false,
-        },
-        Phase::None | Phase::Running | Phase::Ended | Phase::Failed => false,
-    }
+    matches!(phases[x], Phase::Waiting) && starts_before(times[x], least)
 }
 
 /// The first action that is ready.
@@ -112,8 +154,9 @@ pub(crate) fn first_ready(times: &[Option<Times>], phases: &[Phase]) -> Option<u
     requires { length times.now ≡ length phases.now }
     ensures { IsFirstPlace (length phases.now) (IsReadyAt times.now phases.now) result }
 {
+    let least = least_open_end(times, phases);
     for x in 0..phases.len() {
-        if is_ready(times, phases, x) {
+        if is_ready(times, phases, least, x) {
             return Some(x);
         }
     }

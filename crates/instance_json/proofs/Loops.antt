@@ -4,7 +4,8 @@ use Rattle.std.proofs.Math.Seq.{take-suc-set}
 use Rattle.std.proofs.lemmas.List.{append-nil, get_or_default}
 use Rattle.json_walk.specs.Walk.{◌>>=◌, Fails}
 use Rattle.instance_json.specs.declared.fault.InstanceFault.{InstanceFault}
-use Rattle.instance_json.specs.Walk.{Walk, map_walk}
+use Rattle.json_walk.specs.Members.{map_walk}
+use Rattle.instance_json.specs.Walk.{Walk}
 
 -- the places before one are what the test gives of the items before it
 abbrev pub Fills : {X A : Type 0} → (X → Walk A) → List X → ℕ → List A → Type 0

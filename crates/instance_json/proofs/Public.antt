@@ -21,7 +21,9 @@ use Rattle.instance_json.specs.declared.constraint_kind.TheConstants.{CONSTRAINT
 use Rattle.instance_json.specs.declared.states.StateWord.{StateWord}
 use Rattle.instance_json.specs.declared.states.StateWord.TheVariants as words
 use Rattle.instance_json.specs.declared.states.TheConstants.{STATES}
-use Rattle.instance_json.specs.Walk.{Walk, map_walk, word_field}
+use Rattle.json_walk.specs.Members.{map_walk, word_field}
+use Rattle.instance_json.specs.declared.fault.InstanceFault.TheVariants.{Field}
+use Rattle.instance_json.specs.Walk.{Walk}
 use Rattle.instance_json.specs.Names.{name_from, listed_machine, listed_node}
 
 -- ---- words
@@ -43,7 +45,7 @@ state_at states.Gone = refl
 
 -- the word of a state is read as the state
 pub word_field-state : (state : State) (d : Data) (path key : List ℕ) → field_of d path key ≡ Ok (string (state_word state))
-    → word_field state_words STATES d path key ≡ Ok (word_of_state state)
+    → word_field Field state_words STATES d path key ≡ Ok (word_of_state state)
 unfolding word_field word_field_of word_of text_of
 word_field-state state d path key h = rw (h, place-state_word state, state_at state) refl
 
@@ -96,7 +98,7 @@ kind_at (constraint.Killed _) = refl
 
 -- the word of a constraint is read as its kind
 pub word_field-constraint : (c : Constraint) (d : Data) (path key : List ℕ) → field_of d path key ≡ Ok (string (constraint_word c))
-    → word_field constraint_words CONSTRAINT_KINDS d path key ≡ Ok (kind_of_constraint c)
+    → word_field Field constraint_words CONSTRAINT_KINDS d path key ≡ Ok (kind_of_constraint c)
 unfolding word_field word_field_of word_of text_of
 word_field-constraint c d path key h = rw (h, place-constraint_word c, kind_at c) refl
 

@@ -6,7 +6,7 @@ use Rattle.serde_json.specs.Data.{Data}
 use Rattle.serde_json.specs.Find.{get}
 use Rattle.json_walk.specs.declared.fault.FaultKind.TheVariants.{Missing, Unknown}
 use Rattle.json_walk.specs.Path.{key_path}
-use Rattle.json_walk.specs.Walk.{◌>>=◌, ◌>>◌, wants, object_of, keys_of}
+use Rattle.json_walk.specs.Walk.{◌>>=◌, ◌>>◌, wants, object_of, keys_of, fault_at}
 use Rattle.cluster.specs.declared.kinds.Kind.{Kind}
 use Rattle.cluster.specs.declared.durations.Duration.{Duration}
 use Rattle.cluster.specs.Kinds.{kind_count, machine_kind_count, kind_number, kind_word, kinds}
@@ -14,12 +14,14 @@ use Rattle.cluster.specs.Limits.{max_duration}
 use Rattle.instance_json.specs.declared.keys.TheConstants.{DURATION_KEYS}
 use Rattle.instance_json.specs.declared.durations.Owner.{Owner}
 use Rattle.instance_json.specs.declared.durations.Owner.TheVariants.{Machine, Node, Either}
-use Rattle.instance_json.specs.Walk.{Walk, Test, as_walk, field_fault, only_keys, optional_by, number_field, optional_number, map_walk}
+use Rattle.json_walk.specs.Members.{as_walk, only_keys, optional_by, number_field, optional_number, map_walk}
+use Rattle.instance_json.specs.declared.fault.InstanceFault.TheVariants.{Field}
+use Rattle.instance_json.specs.Walk.{Walk, Test}
 use Rattle.instance_json.specs.Names.{listed_resource}
 
 -- the resource whose amount is multiplied, which must be there where something is
 unfoldable pub unit_from : List (List ℕ) → ℕ → Option Data → List ℕ → Walk (Option ℕ)
-unit_from resources per None path = if per == 0 then Ok None else Err (field_fault path Missing)
+unit_from resources per None path = if per == 0 then Ok None else Err (Field (fault_at path Missing))
 unit_from resources per (Some d) path = do
   r ← listed_resource resources d path
   Ok (Some r)
@@ -27,10 +29,10 @@ unit_from resources per (Some d) path = do
 -- a duration, whose value is base + per * amount
 unfoldable pub duration_from : List (List ℕ) → Test Duration
 duration_from resources d path = do
-  base ← number_field 1 max_duration d path (codes "base")
-  per ← optional_number max_duration d path (codes "per")
+  base ← number_field Field 1 max_duration d path (codes "base")
+  per ← optional_number Field max_duration d path (codes "per")
   resource ← unit_from resources per (get (codes "resource") d) (key_path path (codes "resource"))
-  only_keys (map (λ key. key.now) DURATION_KEYS) d path
+  only_keys Field (map (λ key. key.now) DURATION_KEYS) d path
   Ok (record { base = base; per = per; resource = resource })
 
 -- ---- durations by kind
@@ -59,9 +61,9 @@ is_kind_key owner key = list_any (λ kind. has_kind owner kind && bytes_eq key (
 -- an object of durations by kind, in the order of the ten kinds
 unfoldable pub durations_from : List (List ℕ) → Owner → Test (List (Option Duration))
 durations_from resources owner d path = do
-  members ← as_walk (object_of d path)
+  members ← as_walk Field (object_of d path)
   durations ← map_walk (duration_by_kind resources owner d path) kinds
-  wants (list_all (is_kind_key owner) (keys_of members)) (field_fault path Unknown)
+  wants (list_all (is_kind_key owner) (keys_of members)) (Field (fault_at path Unknown))
   Ok durations
 
 -- a duration of no kind

@@ -14,13 +14,14 @@ use Rattle.cluster.specs.declared.machines.Machine.{Machine}
 use Rattle.cluster.specs.Inventory.{Inventory, is_online}
 use Rattle.cluster.specs.Limits.{max_amount, max_machines, max_nodes, max_resources}
 use Rattle.cluster.specs.States.{state_words}
-use Rattle.instance_json.specs.declared.fault.InstanceFault.TheVariants.{NoSuch, BadHost, Limit}
+use Rattle.instance_json.specs.declared.fault.InstanceFault.TheVariants.{Field, NoSuch, BadHost, Limit}
 use Rattle.instance_json.specs.declared.durations.Owner.TheVariants as owners
 use Rattle.instance_json.specs.declared.keys.TheConstants.{NODE_KEYS, MACHINE_KEYS, HOSTED_KEYS}
 use Rattle.instance_json.specs.declared.states.StateWord.{StateWord}
 use Rattle.instance_json.specs.declared.states.StateWord.TheVariants as state_word
 use Rattle.instance_json.specs.declared.states.TheConstants.{STATES}
-use Rattle.instance_json.specs.Walk.{Walk, Test, as_walk, only_keys, field_by, optional_by, optional_number, optional_flag, word_field, map_walk}
+use Rattle.json_walk.specs.Members.{as_walk, only_keys, field_by, optional_by, optional_number, optional_flag, word_field, map_walk}
+use Rattle.instance_json.specs.Walk.{Walk, Test}
 use Rattle.instance_json.specs.Names.{new_name_from, listed_node}
 use Rattle.instance_json.specs.Durations.{own_durations}
 
@@ -29,13 +30,13 @@ use Rattle.instance_json.specs.Durations.{own_durations}
 -- an amount of each resource, 0 where none is given, and 0 at the places past the resources
 unfoldable pub resource_amounts : List (List ℕ) → Test (List ℕ)
 resource_amounts resources d path = do
-  amounts ← map_walk (optional_number max_amount d path) resources
+  amounts ← map_walk (optional_number Field max_amount d path) resources
   Ok (amounts ++ replicate (max_resources - length resources) 0)
 
 -- an object of amounts, whose keys are resources
 unfoldable pub amounts_from : List (List ℕ) → Test (List ℕ)
 amounts_from resources d path = do
-  members ← as_walk (object_of d path)
+  members ← as_walk Field (object_of d path)
   amounts ← resource_amounts resources d path
   wants (list_all (λ key. list_any (bytes_eq key) resources) (keys_of members)) (NoSuch path)
   Ok amounts
@@ -49,11 +50,11 @@ amounts_in resources d path key = optional_by (replicate max_resources 0) (amoun
 -- a node, online where nothing else is said
 unfoldable pub node_from : Inventory → Test Node
 node_from k d path = do
-  name ← field_by (new_name_from k) d path (codes "name")
-  online ← optional_flag true d path (codes "online")
+  name ← field_by Field (new_name_from k) d path (codes "name")
+  online ← optional_flag Field true d path (codes "online")
   capacity ← amounts_in k.resources d path (codes "capacity")
   own ← own_durations k.resources owners.Node d path
-  only_keys (map (λ key. key.now) NODE_KEYS) d path
+  only_keys Field (map (λ key. key.now) NODE_KEYS) d path
   Ok (record { name = name; online = online; capacity = capacity; own = own })
 
 -- one more node
@@ -65,7 +66,7 @@ node_step path place k d = do
 -- the nodes
 unfoldable pub nodes_from : Inventory → Test Inventory
 nodes_from k d path = do
-  values ← as_walk (list_of d path)
+  values ← as_walk Field (list_of d path)
   wants (nat_le (length values) max_nodes) (Limit path)
   each (node_step path) 0 k values
 
@@ -82,13 +83,13 @@ host_from k d path = do
 unfoldable pub state_by : Inventory → StateWord → Test State
 state_by k state_word.Init d path = Ok Init
 state_by k state_word.Ready d path = Ok Ready
-state_by k state_word.Running d path = field_by (host_from k) d path (codes "node") >>= λ n. Ok (Running n)
-state_by k state_word.Sleeping d path = field_by (host_from k) d path (codes "node") >>= λ n. Ok (Sleeping n)
+state_by k state_word.Running d path = field_by Field (host_from k) d path (codes "node") >>= λ n. Ok (Running n)
+state_by k state_word.Sleeping d path = field_by Field (host_from k) d path (codes "node") >>= λ n. Ok (Sleeping n)
 state_by k state_word.Gone d path = Ok Gone
 
 unfoldable pub state_from : Inventory → Test State
 state_from k d path = do
-  word ← word_field state_words STATES d path (codes "state")
+  word ← word_field Field state_words STATES d path (codes "state")
   state_by k word d path
 
 -- only a machine that has a host names a node
@@ -102,11 +103,11 @@ machine_keys Gone = map (λ key. key.now) MACHINE_KEYS
 -- a machine
 unfoldable pub machine_from : Inventory → Test Machine
 machine_from k d path = do
-  name ← field_by (new_name_from k) d path (codes "name")
+  name ← field_by Field (new_name_from k) d path (codes "name")
   state ← state_from k d path
   usage ← amounts_in k.resources d path (codes "use")
   own ← own_durations k.resources owners.Machine d path
-  only_keys (machine_keys state) d path
+  only_keys Field (machine_keys state) d path
   Ok (record { name = name; state = state; usage = usage; own = own })
 
 -- one more machine
@@ -118,6 +119,6 @@ machine_step path place k d = do
 -- the machines
 unfoldable pub machines_from : Inventory → Test Inventory
 machines_from k d path = do
-  values ← as_walk (list_of d path)
+  values ← as_walk Field (list_of d path)
   wants (nat_le (length values) max_machines) (Limit path)
   each (machine_step path) 0 k values

@@ -10,8 +10,9 @@ use Rattle.cluster.specs.Inventory.{Inventory}
 use Rattle.catalogue.specs.Instance.{Instance}
 use Rattle.catalogue.specs.Limits.{max_horizon}
 use Rattle.instance_json.specs.declared.keys.TheConstants.{ROOT_KEYS}
-use Rattle.instance_json.specs.declared.fault.InstanceFault.TheVariants.{TooLong, NotJson}
-use Rattle.instance_json.specs.Walk.{Walk, Test, only_keys, field_by, number_field}
+use Rattle.instance_json.specs.declared.fault.InstanceFault.TheVariants.{Field, TooLong, NotJson}
+use Rattle.json_walk.specs.Members.{only_keys, field_by, number_field}
+use Rattle.instance_json.specs.Walk.{Walk, Test}
 use Rattle.instance_json.specs.Names.{resources_from}
 use Rattle.instance_json.specs.Durations.{base_durations}
 use Rattle.instance_json.specs.Elements.{nodes_from, machines_from}
@@ -20,7 +21,7 @@ use Rattle.instance_json.specs.Rules.{constraints_from}
 -- what there is before any node and machine
 unfoldable pub base_from : Test Inventory
 base_from d path = do
-  resources ← field_by resources_from d path (codes "resources")
+  resources ← field_by Field resources_from d path (codes "resources")
   durations ← base_durations resources d path
   Ok (record { resources = resources; durations = durations; nodes = []; machines = [] })
 
@@ -28,8 +29,8 @@ base_from d path = do
 unfoldable pub inventory_from : Test Inventory
 inventory_from d path = do
   base ← base_from d path
-  with_nodes ← field_by (nodes_from base) d path (codes "nodes")
-  field_by (machines_from with_nodes) d path (codes "machines")
+  with_nodes ← field_by Field (nodes_from base) d path (codes "nodes")
+  field_by Field (machines_from with_nodes) d path (codes "machines")
 
 -- a problem without constraints
 abbrev pub without_constraints : Inventory → ℕ → Instance
@@ -38,15 +39,15 @@ without_constraints k horizon = record { resources = k.resources; durations = k.
 -- the members of the root, in their order
 unfoldable pub problem_from : Test Instance
 problem_from d path = do
-  horizon ← number_field 0 max_horizon d path (codes "horizon")
+  horizon ← number_field Field 0 max_horizon d path (codes "horizon")
   inventory ← inventory_from d path
-  field_by (constraints_from (without_constraints inventory horizon)) d path (codes "constraints")
+  field_by Field (constraints_from (without_constraints inventory horizon)) d path (codes "constraints")
 
 -- the members, and then no other key
 unfoldable pub walk : Data → Walk Instance
 walk d = do
   p ← problem_from d root
-  only_keys (map (λ key. key.now) ROOT_KEYS) d root
+  only_keys Field (map (λ key. key.now) ROOT_KEYS) d root
   Ok p
 
 -- not too many bytes, which are JSON, and its walk

@@ -3,7 +3,7 @@ use Rattle.std.specs.Prelude.{ℕ, List, [], ◌∷◌, ◌++◌, length, not, n
 use Rattle.serde_json.specs.Data.{Data}
 use Rattle.json_walk.specs.declared.fault.FaultKind.TheVariants.{OutOfRange}
 use Rattle.json_walk.specs.Path.{item_path}
-use Rattle.json_walk.specs.Walk.{◌>>=◌, ◌>>◌, wants, list_of}
+use Rattle.json_walk.specs.Walk.{◌>>=◌, ◌>>◌, wants, list_of, fault_at}
 use Rattle.json_walk.specs.Each.{each}
 use Rattle.cluster.specs.declared.ids.VmId.{VmId}
 use Rattle.cluster.specs.declared.sets.NodeSet.{NodeSet}
@@ -11,8 +11,9 @@ use Rattle.cluster.specs.Sets.{has_node, no_nodes, with_node}
 use Rattle.cluster.specs.Inventory.{Inventory}
 use Rattle.catalogue.specs.Faults.{is_member, all_of}
 use Rattle.catalogue.specs.Limits.{max_groups, max_parts}
-use Rattle.instance_json.specs.declared.fault.InstanceFault.TheVariants.{Twice, Limit}
-use Rattle.instance_json.specs.Walk.{Walk, Test, as_walk, field_fault}
+use Rattle.instance_json.specs.declared.fault.InstanceFault.TheVariants.{Field, Twice, Limit}
+use Rattle.json_walk.specs.Members.{as_walk}
+use Rattle.instance_json.specs.Walk.{Walk, Test}
 use Rattle.instance_json.specs.Names.{listed_machine, listed_node}
 
 -- ---- machines
@@ -28,7 +29,7 @@ machine_item k before path place found d = do
 -- a list of machines that differ, also from those before
 unfoldable pub machines_after : Inventory → List VmId → Test (List VmId)
 machines_after k before d path = do
-  values ← as_walk (list_of d path)
+  values ← as_walk Field (list_of d path)
   each (machine_item k before path) 0 [] values
 
 -- a list of machines that differ
@@ -44,7 +45,7 @@ part_step k path place parts d = do
 -- lists of machines, which differ over all lists
 unfoldable pub parts_from : Inventory → Test (List (List VmId))
 parts_from k d path = do
-  values ← as_walk (list_of d path)
+  values ← as_walk Field (list_of d path)
   wants (nat_le (length values) max_parts) (Limit path)
   each (part_step k path) 0 [] values
 
@@ -60,7 +61,7 @@ node_item k path place found d = do
 -- a list of nodes that differ
 unfoldable pub node_set : Inventory → Test NodeSet
 node_set k d path = do
-  values ← as_walk (list_of d path)
+  values ← as_walk Field (list_of d path)
   each (node_item k path) 0 no_nodes values
 
 -- one more group
@@ -72,7 +73,7 @@ group_step k path place groups d = do
 -- lists of nodes, at least one
 unfoldable pub groups_from : Inventory → Test (List NodeSet)
 groups_from k d path = do
-  values ← as_walk (list_of d path)
-  wants (nat_lt 0 (length values)) (field_fault path OutOfRange)
+  values ← as_walk Field (list_of d path)
+  wants (nat_lt 0 (length values)) (Field (fault_at path OutOfRange))
   wants (nat_le (length values) max_groups) (Limit path)
   each (group_step k path) 0 [] values

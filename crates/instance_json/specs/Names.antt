@@ -6,7 +6,7 @@ use Rattle.std.specs.Str.{bytes_eq}
 use Rattle.serde_json.specs.Data.{Data}
 use Rattle.json_walk.specs.declared.fault.FaultKind.TheVariants.{OutOfRange}
 use Rattle.json_walk.specs.Path.{item_path}
-use Rattle.json_walk.specs.Walk.{◌>>=◌, ◌>>◌, wants, text_of, list_of}
+use Rattle.json_walk.specs.Walk.{◌>>=◌, ◌>>◌, wants, text_of, list_of, fault_at}
 use Rattle.json_walk.specs.Each.{each}
 use Rattle.cluster.specs.declared.ids.NodeId.{NodeId}
 use Rattle.cluster.specs.declared.ids.VmId.{VmId}
@@ -15,14 +15,15 @@ use Rattle.cluster.specs.declared.ids.Element.TheVariants.{Vm, Node as NodeEleme
 use Rattle.cluster.specs.Limits.{max_resources}
 use Rattle.cluster.specs.Names.{is_name}
 use Rattle.cluster.specs.Inventory.{Inventory, element_named, is_taken}
-use Rattle.instance_json.specs.declared.fault.InstanceFault.TheVariants.{Twice, NoSuch, Limit}
-use Rattle.instance_json.specs.Walk.{Walk, Test, as_walk, field_fault}
+use Rattle.instance_json.specs.declared.fault.InstanceFault.TheVariants.{Field, Twice, NoSuch, Limit}
+use Rattle.json_walk.specs.Members.{as_walk}
+use Rattle.instance_json.specs.Walk.{Walk, Test}
 
 -- a text that is a well-formed name
 unfoldable pub name_from : Test (List ℕ)
 name_from d path = do
-  text ← as_walk (text_of d path)
-  wants (is_name text) (field_fault path OutOfRange)
+  text ← as_walk Field (text_of d path)
+  wants (is_name text) (Field (fault_at path OutOfRange))
   Ok text
 
 -- ---- names that are given
@@ -44,7 +45,7 @@ resource_step path place resources d = do
 -- the names of the resources, which differ
 unfoldable pub resources_from : Test (List (List ℕ))
 resources_from d path = do
-  values ← as_walk (list_of d path)
+  values ← as_walk Field (list_of d path)
   wants (nat_le (length values) max_resources) (Limit path)
   each (resource_step path) 0 [] values
 

@@ -16,28 +16,29 @@ use Rattle.catalogue.specs.Words.{constraint_words}
 use Rattle.instance_json.specs.declared.constraint_kind.ConstraintKind.{ConstraintKind}
 use Rattle.instance_json.specs.declared.constraint_kind.ConstraintKind.TheVariants.{Spread, Ban, Fence, Gather, Lonely, Among, Split, Root, Precedence, Serialize, Preserve, ResourceCapacity, RunningCapacity, MaxOnline, Overbook, Online, Offline, Running, Sleeping, Ready, Killed}
 use Rattle.instance_json.specs.declared.constraint_kind.TheConstants.{CONSTRAINT_KINDS}
-use Rattle.instance_json.specs.declared.fault.InstanceFault.TheVariants.{Twice, Limit}
+use Rattle.instance_json.specs.declared.fault.InstanceFault.TheVariants.{Field, Twice, Limit}
 use Rattle.instance_json.specs.declared.keys.TheConstants.{MACHINES_KEYS, FLAGGED_MACHINES_KEYS, BOTH_KEYS, AMONG_KEYS, SPLIT_KEYS, PRECEDENCE_KEYS, PRESERVE_KEYS, RESOURCE_CAPACITY_KEYS, NODE_COUNT_KEYS, OVERBOOK_KEYS, NODES_KEYS}
-use Rattle.instance_json.specs.Walk.{Walk, Test, as_walk, only_keys, field_by, number_field, optional_flag, word_field}
+use Rattle.json_walk.specs.Members.{as_walk, only_keys, field_by, number_field, optional_flag, word_field}
+use Rattle.instance_json.specs.Walk.{Walk, Test}
 use Rattle.instance_json.specs.Names.{listed_machine, listed_resource}
 use Rattle.instance_json.specs.Lists.{machine_list, parts_from, node_set, groups_from}
 
 -- ---- fields of one kind
 
 abbrev machines_field : Inventory → Test (List VmId)
-machines_field k d path = field_by (machine_list k) d path (codes "machines")
+machines_field k d path = field_by Field (machine_list k) d path (codes "machines")
 
 abbrev nodes_field : Inventory → Test NodeSet
-nodes_field k d path = field_by (node_set k) d path (codes "nodes")
+nodes_field k d path = field_by Field (node_set k) d path (codes "nodes")
 
 abbrev resource_field : Inventory → Test ℕ
-resource_field k d path = field_by (listed_resource k.resources) d path (codes "resource")
+resource_field k d path = field_by Field (listed_resource k.resources) d path (codes "resource")
 
 abbrev amount_field : Test ℕ
-amount_field d path = number_field 0 max_amount d path (codes "amount")
+amount_field d path = number_field Field 0 max_amount d path (codes "amount")
 
 abbrev continuous_flag : Test Bool
-continuous_flag d path = optional_flag false d path (codes "continuous")
+continuous_flag d path = optional_flag Field false d path (codes "continuous")
 
 -- ---- the fields of a constraint, in their order
 
@@ -45,7 +46,7 @@ continuous_flag d path = optional_flag false d path (codes "continuous")
 unfoldable pub machines_fields : Inventory → Test (List VmId)
 machines_fields k d path = do
   machines ← machines_field k d path
-  only_keys (map (λ key. key.now) MACHINES_KEYS) d path
+  only_keys Field (map (λ key. key.now) MACHINES_KEYS) d path
   Ok machines
 
 -- spread, gather, lonely
@@ -53,7 +54,7 @@ unfoldable pub flagged_machines_fields : Inventory → Test (List VmId × Bool)
 flagged_machines_fields k d path = do
   machines ← machines_field k d path
   continuous ← continuous_flag d path
-  only_keys (map (λ key. key.now) FLAGGED_MACHINES_KEYS) d path
+  only_keys Field (map (λ key. key.now) FLAGGED_MACHINES_KEYS) d path
   Ok (machines, continuous)
 
 -- ban, fence
@@ -62,31 +63,31 @@ both_fields k d path = do
   machines ← machines_field k d path
   nodes ← nodes_field k d path
   continuous ← continuous_flag d path
-  only_keys (map (λ key. key.now) BOTH_KEYS) d path
+  only_keys Field (map (λ key. key.now) BOTH_KEYS) d path
   Ok (machines, nodes, continuous)
 
 unfoldable pub among_from : Inventory → Test Constraint
 among_from k d path = do
   machines ← machines_field k d path
-  groups ← field_by (groups_from k) d path (codes "groups")
+  groups ← field_by Field (groups_from k) d path (codes "groups")
   continuous ← continuous_flag d path
-  only_keys (map (λ key. key.now) AMONG_KEYS) d path
+  only_keys Field (map (λ key. key.now) AMONG_KEYS) d path
   Ok (constraint.Among machines groups continuous)
 
 unfoldable pub split_from : Inventory → Test Constraint
 split_from k d path = do
-  parts ← field_by (parts_from k) d path (codes "parts")
+  parts ← field_by Field (parts_from k) d path (codes "parts")
   continuous ← continuous_flag d path
-  only_keys (map (λ key. key.now) SPLIT_KEYS) d path
+  only_keys Field (map (λ key. key.now) SPLIT_KEYS) d path
   Ok (constraint.Split parts continuous)
 
 -- the first machine's action before that of another one
 unfoldable pub precedence_from : Inventory → Test Constraint
 precedence_from k d path = do
-  before ← field_by (listed_machine k) d path (codes "before")
-  after ← field_by (listed_machine k) d path (codes "after")
+  before ← field_by Field (listed_machine k) d path (codes "before")
+  after ← field_by Field (listed_machine k) d path (codes "after")
   wants (not (before.0 == after.0)) (Twice (key_path path (codes "after")))
-  only_keys (map (λ key. key.now) PRECEDENCE_KEYS) d path
+  only_keys Field (map (λ key. key.now) PRECEDENCE_KEYS) d path
   Ok (constraint.Precedence before after)
 
 unfoldable pub preserve_from : Inventory → Test Constraint
@@ -94,7 +95,7 @@ preserve_from k d path = do
   machines ← machines_field k d path
   resource ← resource_field k d path
   amount ← amount_field d path
-  only_keys (map (λ key. key.now) PRESERVE_KEYS) d path
+  only_keys Field (map (λ key. key.now) PRESERVE_KEYS) d path
   Ok (constraint.Preserve machines resource amount)
 
 unfoldable pub resource_capacity_from : Inventory → Test Constraint
@@ -103,7 +104,7 @@ resource_capacity_from k d path = do
   resource ← resource_field k d path
   amount ← amount_field d path
   continuous ← continuous_flag d path
-  only_keys (map (λ key. key.now) RESOURCE_CAPACITY_KEYS) d path
+  only_keys Field (map (λ key. key.now) RESOURCE_CAPACITY_KEYS) d path
   Ok (constraint.ResourceCapacity nodes resource amount continuous)
 
 -- runningCapacity, maxOnline
@@ -112,23 +113,23 @@ node_count_fields k d path = do
   nodes ← nodes_field k d path
   amount ← amount_field d path
   continuous ← continuous_flag d path
-  only_keys (map (λ key. key.now) NODE_COUNT_KEYS) d path
+  only_keys Field (map (λ key. key.now) NODE_COUNT_KEYS) d path
   Ok (nodes, amount, continuous)
 
 unfoldable pub overbook_from : Inventory → Test Constraint
 overbook_from k d path = do
   nodes ← nodes_field k d path
   resource ← resource_field k d path
-  num ← number_field 0 max_scale d path (codes "num")
-  den ← number_field 1 max_scale d path (codes "den")
-  only_keys (map (λ key. key.now) OVERBOOK_KEYS) d path
+  num ← number_field Field 0 max_scale d path (codes "num")
+  den ← number_field Field 1 max_scale d path (codes "den")
+  only_keys Field (map (λ key. key.now) OVERBOOK_KEYS) d path
   Ok (constraint.Overbook nodes resource num den)
 
 -- online, offline
 unfoldable pub nodes_fields : Inventory → Test NodeSet
 nodes_fields k d path = do
   nodes ← nodes_field k d path
-  only_keys (map (λ key. key.now) NODES_KEYS) d path
+  only_keys Field (map (λ key. key.now) NODES_KEYS) d path
   Ok nodes
 
 -- ---- constraints
@@ -160,7 +161,7 @@ constraint_by k Killed d path = machines_fields k d path >>= λ vs. Ok (constrai
 -- a constraint
 unfoldable pub constraint_from : Inventory → Test Constraint
 constraint_from k d path = do
-  kind ← word_field constraint_words CONSTRAINT_KINDS d path (codes "kind")
+  kind ← word_field Field constraint_words CONSTRAINT_KINDS d path (codes "kind")
   constraint_by k kind d path
 
 -- one more constraint
@@ -172,6 +173,6 @@ constraint_step path place p d = do
 -- at most 4,096 constraints
 unfoldable pub constraints_from : Instance → Test Instance
 constraints_from p d path = do
-  values ← as_walk (list_of d path)
+  values ← as_walk Field (list_of d path)
   wants (nat_le (length values) max_constraints) (Limit path)
   each (constraint_step path) 0 p values

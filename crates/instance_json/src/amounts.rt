@@ -9,7 +9,9 @@ ghost use Rattle.json_walk.specs.PathRef.{path_of};
 ghost use Rattle.json_walk.specs.Walk.{Gives};
 ghost use Rattle.cluster.specs.Inventory.{amounts_fit};
 ghost use Rattle.cluster.specs.Limits.{max_amount, max_resources};
-ghost use Rattle.instance_json.specs.Walk.{instance_fault_of, optional_number};
+ghost use Rattle.json_walk.specs.Members.{optional_number};
+ghost use Rattle.instance_json.specs.declared.fault.InstanceFault.TheVariants.{Field};
+ghost use Rattle.instance_json.specs.Walk.{instance_fault_of};
 ghost use Rattle.instance_json.specs.Elements.{resource_amounts, amounts_from, amounts_in};
 
 use crate::fault::InstanceFault;
@@ -28,7 +30,7 @@ fn amount(
     resource: &Name,
 ) -> Result<u64, InstanceFault>
     ensures gives { Gives instance_fault_of (λ n. n) result
-        (optional_number max_amount (view value.now) (path_of path.now) resource.now) }
+        (optional_number Field max_amount (view value.now) (path_of path.now) resource.now) }
     ensures small { IfOk result (λ n. nat_le n max_amount ≡ true) }
 {
     let key = resource.as_text();

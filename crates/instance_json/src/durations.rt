@@ -11,7 +11,8 @@ ghost use Rattle.json_walk.specs.Walk.{Gives};
 ghost use Rattle.cluster.specs.Inventory.{resource_fits, duration_fits, own_fits};
 ghost use Rattle.cluster.specs.Kinds.{kinds};
 ghost use Rattle.cluster.specs.Limits.{max_resources};
-ghost use Rattle.instance_json.specs.Walk.{instance_fault_of, optional_by, map_walk};
+ghost use Rattle.json_walk.specs.Members.{optional_by, map_walk};
+ghost use Rattle.instance_json.specs.Walk.{instance_fault_of};
 ghost use Rattle.instance_json.specs.Fitting.{kind_fits, owner_fits};
 ghost use Rattle.instance_json.specs.Durations.{unit_from, duration_from, given_duration, has_kind, duration_by_kind, is_kind_key, durations_from, own_durations, one_instant, base_durations};
 

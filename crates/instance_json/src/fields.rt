@@ -6,7 +6,9 @@ ghost use Rattle.json_walk.specs.PathRef.{path_of};
 ghost use Rattle.json_walk.specs.Walk.{Gives};
 ghost use Rattle.cluster.specs.Limits.{max_amount};
 ghost use Rattle.catalogue.specs.Faults.{are_machines, are_nodes, differ, is_resource, is_rule};
-ghost use Rattle.instance_json.specs.Walk.{instance_fault_of, field_by};
+ghost use Rattle.json_walk.specs.Members.{field_by};
+ghost use Rattle.instance_json.specs.declared.fault.InstanceFault.TheVariants.{Field};
+ghost use Rattle.instance_json.specs.Walk.{instance_fault_of};
 ghost use Rattle.instance_json.specs.Names.{listed_machine, listed_resource};
 ghost use Rattle.instance_json.specs.Rules.{machines_fields, flagged_machines_fields, both_fields, among_from, split_from, precedence_from, preserve_from, resource_capacity_from, node_count_fields, overbook_from, nodes_fields};
 
@@ -36,7 +38,7 @@ fn resource_at(
     path: &PathRef,
 ) -> Result<u8, InstanceFault>
     ensures gives { Gives instance_fault_of (λ r. r) result
-        (field_by (listed_resource cluster.now.given.resources) (view value.now) (path_of path.now) (codes "resource")) }
+        (field_by Field (listed_resource cluster.now.given.resources) (view value.now) (path_of path.now) (codes "resource")) }
     ensures listed { IfOk result (λ r. is_resource cluster.now.given r ≡ true) }
 {
     let found = json_walk::field_at(alloc, value, path, "resource")?;
@@ -52,7 +54,7 @@ fn machine_at(
     key: &str,
 ) -> Result<VmId, InstanceFault>
     ensures gives { Gives instance_fault_of (λ v. v) result
-        (field_by (listed_machine cluster.now.given) (view value.now) (path_of path.now) key.now) }
+        (field_by Field (listed_machine cluster.now.given) (view value.now) (path_of path.now) key.now) }
     ensures listed { IfOk result (λ v. v.0 < length cluster.now.given.machines) }
 {
     let found = json_walk::field_at(alloc, value, path, key)?;

@@ -7,7 +7,9 @@ ghost use Rattle.json_walk.specs.PathRef.{path_of};
 ghost use Rattle.json_walk.specs.Walk.{Gives};
 ghost use Rattle.json_walk.specs.Each.{each};
 ghost use Rattle.catalogue.specs.Faults.{are_machines, are_nodes, differ, all_of};
-ghost use Rattle.instance_json.specs.Walk.{instance_fault_of, field_by};
+ghost use Rattle.json_walk.specs.Members.{field_by};
+ghost use Rattle.instance_json.specs.declared.fault.InstanceFault.TheVariants.{Field};
+ghost use Rattle.instance_json.specs.Walk.{instance_fault_of};
 ghost use Rattle.cluster.specs.Sets.{no_nodes};
 ghost use Rattle.catalogue.specs.Limits.{max_groups, max_parts};
 ghost use Rattle.instance_json.specs.Lists.{machine_item, machines_after, machine_list, part_step, parts_from, node_item, node_set, group_step, groups_from};
@@ -94,7 +96,7 @@ pub(crate) fn machines_at(
     path: &PathRef,
 ) -> Result<Vms, InstanceFault>
     ensures gives { Gives instance_fault_of (λ vs. vs) result
-        (field_by (machine_list cluster.now.given) (view value.now) (path_of path.now) (codes "machines")) }
+        (field_by Field (machine_list cluster.now.given) (view value.now) (path_of path.now) (codes "machines")) }
     ensures listed { IfOk result (λ vs. are_machines cluster.now.given vs ≡ true) }
     ensures apart { IfOk result (λ vs. differ vs ≡ true) }
 {
@@ -174,7 +176,7 @@ pub(crate) fn parts_at(
     path: &PathRef,
 ) -> Result<Parts, InstanceFault>
     ensures gives { Gives instance_fault_of (λ ps. ps) result
-        (field_by (parts_from cluster.now.given) (view value.now) (path_of path.now) (codes "parts")) }
+        (field_by Field (parts_from cluster.now.given) (view value.now) (path_of path.now) (codes "parts")) }
     ensures listed { IfOk result (λ ps. are_machines cluster.now.given (all_of ps) ≡ true) }
     ensures apart { IfOk result (λ ps. differ (all_of ps) ≡ true) }
     ensures few { IfOk result (λ ps. nat_le (length ps) max_parts ≡ true) }
@@ -249,7 +251,7 @@ pub(crate) fn nodes_at(
     path: &PathRef,
 ) -> Result<NodeSet, InstanceFault>
     ensures gives { Gives instance_fault_of (λ s. s) result
-        (field_by (node_set cluster.now.given) (view value.now) (path_of path.now) (codes "nodes")) }
+        (field_by Field (node_set cluster.now.given) (view value.now) (path_of path.now) (codes "nodes")) }
     ensures listed { IfOk result (λ s. are_nodes cluster.now.given s ≡ true) }
 {
     let found = json_walk::field_at(alloc, value, path, "nodes")?;
@@ -326,7 +328,7 @@ pub(crate) fn groups_at(
     path: &PathRef,
 ) -> Result<Groups, InstanceFault>
     ensures gives { Gives instance_fault_of (λ gs. gs) result
-        (field_by (groups_from cluster.now.given) (view value.now) (path_of path.now) (codes "groups")) }
+        (field_by Field (groups_from cluster.now.given) (view value.now) (path_of path.now) (codes "groups")) }
     ensures listed { IfOk result (λ gs. list_all (are_nodes cluster.now.given) gs ≡ true) }
     ensures some { IfOk result (λ gs. nat_lt 0 (length gs) ≡ true) }
     ensures few { IfOk result (λ gs. nat_le (length gs) max_groups ≡ true) }

@@ -8,7 +8,9 @@ ghost use Rattle.json_walk.specs.Each.{each};
 ghost use Rattle.cluster.specs.Inventory.{is_taken, is_online, host_is_online, machine_fits};
 ghost use Rattle.cluster.specs.Limits.{max_machines};
 ghost use Rattle.cluster.specs.States.{state_words};
-ghost use Rattle.instance_json.specs.Walk.{instance_fault_of, only_keys, field_by, word_field};
+ghost use Rattle.json_walk.specs.Members.{only_keys, field_by, word_field};
+ghost use Rattle.instance_json.specs.declared.fault.InstanceFault.TheVariants.{Field};
+ghost use Rattle.instance_json.specs.Walk.{instance_fault_of};
 ghost use Rattle.instance_json.specs.Elements.{host_from, state_by, state_from, machine_keys, machine_from, machine_step, machines_from};
 
 use crate::amounts::amounts_at;
@@ -55,7 +57,7 @@ fn host_at(
     path: &PathRef,
 ) -> Result<NodeId, InstanceFault>
     ensures gives { Gives instance_fault_of (λ n. n) result
-        (field_by (host_from cluster.now.given) (view value.now) (path_of path.now) (codes "node")) }
+        (field_by Field (host_from cluster.now.given) (view value.now) (path_of path.now) (codes "node")) }
     ensures online { IfOk result (λ n. is_online cluster.now.given.nodes n.0 ≡ true) }
 {
     let found = json_walk::field_at(alloc, value, path, "node")?;
@@ -63,10 +65,10 @@ fn host_at(
 }
 
 /// The word of a machine's state.
-#[tactic(auto, unfolding(crate::specs::Walk::word_field, cluster::specs::States::state_words))]
+#[tactic(auto, unfolding(json_walk::specs::Members::word_field, cluster::specs::States::state_words))]
 fn state_word(alloc: Global, value: &Value, path: &PathRef) -> Result<StateWord, InstanceFault>
     ensures { Gives instance_fault_of (λ w. w) result
-        (word_field state_words STATES (view value.now) (path_of path.now) (codes "state")) }
+        (word_field Field state_words STATES (view value.now) (path_of path.now) (codes "state")) }
 {
     let place = json_walk::word_field(alloc, value, path, "state", &STATE_WORDS)?;
     Ok(STATES[place])
@@ -117,7 +119,7 @@ fn only_machine(
     path: &PathRef,
 ) -> Result<(), InstanceFault>
     ensures { Gives instance_fault_of (λ _. tt) result
-        (only_keys (machine_keys state) (view value.now) (path_of path.now)) }
+        (only_keys Field (machine_keys state) (view value.now) (path_of path.now)) }
 {
     match state {
         State::Running(_) | State::Sleeping(_) => {

@@ -7,7 +7,9 @@ ghost use Rattle.json_walk.specs.Walk.{Gives};
 ghost use Rattle.json_walk.specs.Each.{each};
 ghost use Rattle.cluster.specs.Inventory.{is_taken, node_fits};
 ghost use Rattle.cluster.specs.Limits.{max_nodes};
-ghost use Rattle.instance_json.specs.Walk.{instance_fault_of, field_by};
+ghost use Rattle.json_walk.specs.Members.{field_by};
+ghost use Rattle.instance_json.specs.declared.fault.InstanceFault.TheVariants.{Field};
+ghost use Rattle.instance_json.specs.Walk.{instance_fault_of};
 ghost use Rattle.instance_json.specs.Names.{new_name_from};
 ghost use Rattle.instance_json.specs.Elements.{node_from, node_step, nodes_from};
 
@@ -33,7 +35,7 @@ pub(crate) fn element_name(
     path: &PathRef,
 ) -> Result<Name, InstanceFault>
     ensures gives { Gives instance_fault_of (λ n. n) result
-        (field_by (new_name_from cluster.now.given) (view value.now) (path_of path.now) (codes "name")) }
+        (field_by Field (new_name_from cluster.now.given) (view value.now) (path_of path.now) (codes "name")) }
     ensures free { IfOk result (λ n. is_taken cluster.now.given n ≡ false) }
 {
     let found = json_walk::field_at(alloc, value, path, "name")?;

@@ -9,10 +9,11 @@ ghost use Rattle.json_walk.specs.Walk.{Gives};
 ghost use Rattle.json_walk.specs.Json.{json_of};
 ghost use Rattle.cluster.specs.Inventory.{are_distinct, duration_fits};
 ghost use Rattle.cluster.specs.Limits.{max_resources};
-ghost use Rattle.instance_json.specs.Walk.{instance_fault_of, field_by};
+ghost use Rattle.json_walk.specs.Members.{field_by};
+ghost use Rattle.instance_json.specs.Walk.{instance_fault_of};
 ghost use Rattle.instance_json.specs.Rules.{constraints_from};
 ghost use Rattle.instance_json.specs.Instance.{base_from, inventory_from, problem_from, walk, instance_of};
-ghost use Rattle.instance_json.specs.declared.fault.InstanceFault.TheVariants.{NotJson};
+ghost use Rattle.instance_json.specs.declared.fault.InstanceFault.TheVariants.{Field, NotJson};
 
 use crate::durations::base_durations;
 use crate::fault::InstanceFault;
@@ -89,7 +90,7 @@ fn constraints(
 ) -> Result<(), InstanceFault>
     requires { problem.old.given.constraints ≡ [] }
     ensures { Gives instance_fault_of (λ _. problem.new.given) result
-        (field_by (constraints_from problem.old.given) (view value.now) (path_of path.now) (codes "constraints")) }
+        (field_by Field (constraints_from problem.old.given) (view value.now) (path_of path.now) (codes "constraints")) }
 {
     let found = json_walk::field_at(alloc, value, path, "constraints")?;
     add_constraints(alloc, problem, found, &path.key("constraints"))

@@ -9,7 +9,9 @@ ghost use Rattle.catalogue.specs.Faults.{is_rule};
 ghost use Rattle.catalogue.specs.Instance.{inventory_of};
 ghost use Rattle.catalogue.specs.Limits.{max_constraints};
 ghost use Rattle.catalogue.specs.Words.{constraint_words};
-ghost use Rattle.instance_json.specs.Walk.{instance_fault_of, word_field};
+ghost use Rattle.json_walk.specs.Members.{word_field};
+ghost use Rattle.instance_json.specs.declared.fault.InstanceFault.TheVariants.{Field};
+ghost use Rattle.instance_json.specs.Walk.{instance_fault_of};
 ghost use Rattle.instance_json.specs.Rules.{constraint_by, constraint_from, constraint_step, constraints_from};
 
 use crate::constraint_kind::{CONSTRAINT_KINDS, ConstraintKind};
@@ -41,10 +43,10 @@ fn kind_place(alloc: Global, value: &Value, path: &PathRef) -> Result<usize, Wal
 }
 
 /// The kind of a constraint, by its word.
-#[tactic(auto, unfolding(crate::specs::Walk::word_field))]
+#[tactic(auto, unfolding(json_walk::specs::Members::word_field))]
 fn kind(alloc: Global, value: &Value, path: &PathRef) -> Result<ConstraintKind, InstanceFault>
     ensures { Gives instance_fault_of (λ kind. kind) result
-        (word_field constraint_words CONSTRAINT_KINDS (view value.now) (path_of path.now) (codes "kind")) }
+        (word_field Field constraint_words CONSTRAINT_KINDS (view value.now) (path_of path.now) (codes "kind")) }
 {
     let place = kind_place(alloc, value, path)?;
     Ok(kind_at(&CONSTRAINT_KINDS, place))

@@ -2,7 +2,7 @@
 use Rattle.std.specs.Prelude.{map, Option, Some, None, Ok, codes}
 use Rattle.std.specs.Option.{ok_or}
 use Rattle.json_walk.specs.declared.fault.FaultKind.TheVariants.{OutOfRange, Unknown}
-use Rattle.json_walk.specs.Walk.{◌>>=◌, ◌>>◌, wants, text_of}
+use Rattle.json_walk.specs.Walk.{◌>>=◌, ◌>>◌, wants, text_of, fault_at}
 use Rattle.cluster.specs.declared.ids.Element.{Element}
 use Rattle.cluster.specs.declared.ids.Element.TheVariants.{Vm, Node}
 use Rattle.cluster.specs.declared.kinds.Kind.{Kind}
@@ -12,16 +12,17 @@ use Rattle.cluster.specs.Kinds.{kind_of_word}
 use Rattle.cluster.specs.Names.{is_name}
 use Rattle.cluster.specs.Inventory.{Inventory, element_named}
 use Rattle.catalogue.specs.Limits.{max_horizon}
-use Rattle.plan_json.specs.declared.fault.PlanFault.TheVariants.{NoSuch}
+use Rattle.plan_json.specs.declared.fault.PlanFault.TheVariants.{Field, NoSuch}
 use Rattle.plan_json.specs.declared.fields.Action.{Action}
 use Rattle.plan_json.specs.declared.fields.TheConstants.{ACTION_KEYS}
-use Rattle.plan_json.specs.Walk.{Test, as_walk, field_fault, only_keys, field_by, optional_by, number_field}
+use Rattle.json_walk.specs.Members.{as_walk, only_keys, field_by, optional_by, number_field}
+use Rattle.plan_json.specs.Walk.{Test}
 
 -- the listed element that has the name
 unfoldable pub listed_element : Inventory → Test Element
 listed_element k d path = do
-  name ← as_walk (text_of d path)
-  wants (is_name name) (field_fault path OutOfRange)
+  name ← as_walk Field (text_of d path)
+  wants (is_name name) (Field (fault_at path OutOfRange))
   ok_or (element_named k name) (NoSuch path)
 
 -- only a node is a place
@@ -38,15 +39,15 @@ listed_place k d path = do
 -- the kind that has the word
 unfoldable pub kind_from : Test Kind
 kind_from d path = do
-  word ← as_walk (text_of d path)
-  ok_or (kind_of_word word) (field_fault path Unknown)
+  word ← as_walk Field (text_of d path)
+  ok_or (kind_of_word word) (Field (fault_at path Unknown))
 
 -- an action; without a place it is nowhere
 unfoldable pub action_from : Inventory → Test Action
 action_from k d path = do
-  element ← field_by (listed_element k) d path (codes "element")
-  kind ← field_by kind_from d path (codes "kind")
+  element ← field_by Field (listed_element k) d path (codes "element")
+  kind ← field_by Field kind_from d path (codes "kind")
   place ← optional_by Nowhere (listed_place k) d path (codes "place")
-  start ← number_field 0 max_horizon d path (codes "start")
-  only_keys (map (λ key. key.now) ACTION_KEYS) d path
+  start ← number_field Field 0 max_horizon d path (codes "start")
+  only_keys Field (map (λ key. key.now) ACTION_KEYS) d path
   Ok (record { element = element; kind = kind; place = place; start = start })

@@ -7,7 +7,7 @@ use Rattle.serde_json.specs.Find.{as_null}
 use Rattle.json_walk.specs.declared.fault.FaultKind.TheVariants.{OutOfRange}
 use Rattle.json_walk.specs.declared.reading.TheConstants.{MAX_TEXT_BYTES}
 use Rattle.json_walk.specs.Path.{root, key_path, item_path}
-use Rattle.json_walk.specs.Walk.{◌>>=◌, ◌>>◌, wants, list_of}
+use Rattle.json_walk.specs.Walk.{◌>>=◌, ◌>>◌, wants, list_of, fault_at}
 use Rattle.json_walk.specs.Json.{json_of}
 use Rattle.json_walk.specs.Each.{each}
 use Rattle.cluster.specs.declared.choices.Choice.{Choice}
@@ -21,10 +21,11 @@ use Rattle.cluster.specs.Limits.{max_machines, max_nodes}
 use Rattle.catalogue.specs.Instance.{Instance, inventory_of}
 use Rattle.slices.specs.Actions.{kind_of, is_legal}
 use Rattle.slices.specs.Plans.{PlanChoices, parted}
-use Rattle.plan_json.specs.declared.fault.PlanFault.TheVariants.{TooLong, NotJson, Twice, NotLegal, MustAct}
+use Rattle.plan_json.specs.declared.fault.PlanFault.TheVariants.{Field, TooLong, NotJson, Twice, NotLegal, MustAct}
 use Rattle.plan_json.specs.declared.fields.Action.{Action}
 use Rattle.plan_json.specs.declared.reading.TheConstants.{PLAN_KEYS}
-use Rattle.plan_json.specs.Walk.{Walk, Test, as_walk, field_fault, only_keys, field_by}
+use Rattle.json_walk.specs.Members.{as_walk, only_keys, field_by}
+use Rattle.plan_json.specs.Walk.{Walk, Test}
 use Rattle.plan_json.specs.Actions.{action_from}
 
 -- ---- the choices that actions name
@@ -71,8 +72,8 @@ action_step p path place actions d = do
 -- at most one action for each element that a problem may have
 unfoldable pub actions_from : Instance → Test (List Action)
 actions_from p d path = do
-  values ← as_walk (list_of d path)
-  wants (nat_le (length values) (max_machines + max_nodes)) (field_fault path OutOfRange)
+  values ← as_walk Field (list_of d path)
+  wants (nat_le (length values) (max_machines + max_nodes)) (Field (fault_at path OutOfRange))
   each (action_step p path) 0 [] values
 
 -- ---- elements that no action names
@@ -103,8 +104,8 @@ plan_with p actions = do
 
 unfoldable pub walk : Instance → Data → Walk PlanChoices
 walk p d = do
-  actions ← field_by (actions_from p) d root (codes "actions")
-  only_keys (map (λ key. key.now) PLAN_KEYS) d root
+  actions ← field_by Field (actions_from p) d root (codes "actions")
+  only_keys Field (map (λ key. key.now) PLAN_KEYS) d root
   plan_with p actions
 
 -- `null` is no plan

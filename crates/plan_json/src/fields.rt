@@ -6,7 +6,9 @@ ghost use Rattle.json_walk.specs.PathRef.{path_of};
 ghost use Rattle.json_walk.specs.Walk.{Gives};
 ghost use Rattle.cluster.specs.declared.choices.Place.TheVariants.{Nowhere};
 ghost use Rattle.cluster.specs.Inventory.{IsListed};
-ghost use Rattle.plan_json.specs.Walk.{plan_fault_of, field_by, optional_by};
+ghost use Rattle.json_walk.specs.Members.{field_by, optional_by};
+ghost use Rattle.plan_json.specs.declared.fault.PlanFault.TheVariants.{Field};
+ghost use Rattle.plan_json.specs.Walk.{plan_fault_of};
 ghost use Rattle.plan_json.specs.Actions.{listed_element, listed_place, kind_from, action_from};
 
 use crate::fault::PlanFault;
@@ -95,7 +97,7 @@ fn element_field(
     path: &PathRef,
 ) -> Result<Element, PlanFault>
     ensures gives { Gives plan_fault_of (λ e. e) result
-        (field_by (listed_element cluster.now.given) (view value.now) (path_of path.now) (codes "element")) }
+        (field_by Field (listed_element cluster.now.given) (view value.now) (path_of path.now) (codes "element")) }
     ensures listed { IfOk result (IsListed cluster.now.given) }
 {
     let found = json_walk::field_at(alloc, value, path, "element")?;
@@ -104,7 +106,7 @@ fn element_field(
 
 fn kind_field(alloc: Global, value: &Value, path: &PathRef) -> Result<Kind, PlanFault>
     ensures { Gives plan_fault_of (λ kind. kind) result
-        (field_by kind_from (view value.now) (path_of path.now) (codes "kind")) }
+        (field_by Field kind_from (view value.now) (path_of path.now) (codes "kind")) }
 {
     let found = json_walk::field_at(alloc, value, path, "kind")?;
     kind(alloc, found, &path.key("kind"))

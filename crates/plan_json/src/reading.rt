@@ -7,9 +7,10 @@ ghost use Rattle.json_walk.specs.Path.{root};
 ghost use Rattle.json_walk.specs.Walk.{Gives};
 ghost use Rattle.json_walk.specs.Json.{json_of};
 ghost use Rattle.slices.specs.Plans.{IsPlanOf};
-ghost use Rattle.plan_json.specs.Walk.{plan_fault_of, field_by};
+ghost use Rattle.json_walk.specs.Members.{field_by};
+ghost use Rattle.plan_json.specs.Walk.{plan_fault_of};
 ghost use Rattle.plan_json.specs.Marks.{AreActions};
-ghost use Rattle.plan_json.specs.declared.fault.PlanFault.TheVariants.{NotJson};
+ghost use Rattle.plan_json.specs.declared.fault.PlanFault.TheVariants.{Field, NotJson};
 ghost use Rattle.plan_json.specs.Plans.{actions_from, plan_with, walk, plan_or_none, plan_of};
 
 use crate::actions::actions;
@@ -29,7 +30,7 @@ pub(crate) const PLAN_KEYS: [&str; 1] = ["actions"];
 /// The member `actions`.
 fn actions_field(alloc: Global, p: &Problem, value: &Value) -> Result<Actions, PlanFault>
     ensures gives { Gives plan_fault_of (λ actions. actions) result
-        (field_by (actions_from p.now.given) (view value.now) root (codes "actions")) }
+        (field_by Field (actions_from p.now.given) (view value.now) root (codes "actions")) }
     ensures legal { IfOk result (AreActions p.now.given) }
 {
     let list = json_walk::field_at(alloc, value, &PathRef::Root, "actions")?;

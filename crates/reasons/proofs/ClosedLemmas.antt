@@ -1,6 +1,6 @@
 -- Sets that are one plan are closed exactly where the plan is valid.
 use mathlib.Core.Path.{fun_ext}
-use Rattle.std.proofs.Common.{◌≡◌, ◌⊎◌, inl, inr, ℕ, zero, suc, Bool, true, false, ◌&&◌, ◌==◌, cond, List, [], ◌∷◌, refl, sym, ap, subst, ◌∙◌, arith}
+use Rattle.std.proofs.Common.{◌≡◌, ◌⊎◌, inl, inr, ℕ, Bool, true, false, ◌&&◌, ◌==◌, cond, List, [], ◌∷◌, refl, sym, ap, subst, ◌∙◌, arith}
 use Rattle.std.specs.List.{Contains}
 use Rattle.std.proofs.lemmas.Bool.{cases_lt}
 use Rattle.std.proofs.Math.Bool.{or-false}
@@ -15,7 +15,7 @@ use Rattle.slices.specs.Rules.{IsValid, Keeps}
 use Rattle.slices.specs.Snapshots.{action_at, held_at, powered_at, present_at, snapshot_at, usable_at}
 use Rattle.slices.proofs.Public.{is_pointwise}
 use Rattle.domains.specs.Sets.{Sets, IsIn, IsOnly, same_element, setting}
-use Rattle.domains.proofs.Public.{same_is}
+use Rattle.domains.proofs.Public.{contains_one, same_is}
 use Rattle.reasons.specs.declared.reason.ReasonKind.{ReasonKind}
 use Rattle.reasons.specs.Closed.{IsClosed, IsEnd, IsFree, IsUnrefuted}
 use Rattle.reasons.specs.Laws.{OnlyClosed}
@@ -56,10 +56,6 @@ setting-only s plan e only = fun_ext (λ x. at x (same_element x e) refl)
     at x true h = ap (λ y. plan y ∷ []) (sym (same_is x e h)) ∙ sym (only x)
     at x false h = refl
 
-pub contains-one : (c d : Choice) → Contains (c ∷ []) d → d ≡ c
-contains-one c d (zero, h, e) = sym e
-contains-one c d (suc k, h, e) = absurd (omega arith)
-
 pub end-contained : (cs : List Choice) (c : Choice) → IsEnd cs c → Contains cs c
 end-contained cs Idle h = h
 end-contained cs (Act place s) h = h.0
@@ -69,13 +65,13 @@ end-only s plan e only = rw (only e) (at (plan e))
   where
     at : (c : Choice) → IsEnd (c ∷ []) c
     at Idle = (0, omega arith, refl)
-    at (Act place u) = ((0, omega arith, refl), inl (λ x h. let is = contains-one (Act place u) (Act place x) h in let e : x ≡ u = cc in omega arith))
+    at (Act place u) = ((0, omega arith, refl), inl (λ x h. let is = contains_one (Act place u) (Act place x) h in let e : x ≡ u = cc in omega arith))
 
 valid-closed : (p : Instance) → IsInstance p → (s : Sets) (plan : Choices) → IsOnly s plan → IsValid p plan → IsClosed p s
 valid-closed p sound s plan only valid = record {
   some = λ e h none. let f : (plan e ∷ []) ≡ [] = sym (only e) ∙ none in cc;
   ends = λ e c h end.
-      let is : c ≡ plan e = contains-one (plan e) c (rw (only e) at (end-contained (s e) c end)) in
+      let is : c ≡ plan e = contains_one (plan e) c (rw (only e) at (end-contained (s e) c end)) in
       let same : setting e c s ≡ s = ap (λ c. setting e c s) is ∙ setting-only s plan e only in
       rw same (valid-unrefuted p sound s plan (λ x. rw (only x) (0, omega arith, refl)) valid);
 }

@@ -14,12 +14,12 @@ use Rattle.slices.specs.Parts.{IsPartOf}
 use Rattle.slices.specs.Snapshots.{Snapshot}
 use Rattle.slices.specs.Starts.{start_of}
 use Rattle.domains.specs.Sets.{Sets, same_element, setting}
-use Rattle.domains.proofs.Public.{same_is}
+use Rattle.domains.proofs.Public.{contains_one, same_is}
 use Rattle.reasons.specs.Closed.{IsEnd, IsFree, IsUnrefuted}
 use Rattle.reasons.specs.Quiet.{AreOf, ClosedAtTurns, ClosedByKinds, IsEndStart, IsTurn, QuietAtTurns, TurnsDecide, UnrefutedAtTurns}
 use Rattle.reasons.specs.Sure.{sure}
 use Rattle.reasons.proofs.FreeLemmas.{free_stays}
-use Rattle.reasons.proofs.ClosedLemmas.{contains-one, end-contained}
+use Rattle.reasons.proofs.ClosedLemmas.{end-contained}
 use Rattle.reasons.proofs.MeasureLemmas.{IsFine, sure-next}
 use Rattle.reasons.proofs.MemberLemmas.{cases-in, first-in, later-in, none-in}
 use Rattle.reasons.proofs.PartLemmas.{parts_are_in}
@@ -148,7 +148,7 @@ AreFine cs u = (c : Choice) → Contains cs c → IsFine cs u c
 
 idle-fine : (cs : List Choice) (u : ℕ) → cs ≡ Idle ∷ [] → AreFine cs u
 idle-fine cs u is c h =
-    let same : c ≡ Idle = contains-one Idle c (rw is at h) in
+    let same : c ≡ Idle = contains_one Idle c (rw is at h) in
     inl (rw same (λ s e. cc))
 
 pub turn_or_fine : (p : Instance) (s : Sets) → AreOf p s → (u : ℕ) → IsEndStart s (suc u) ⊎ ((e : Element) → AreFine (s e) u)
@@ -207,7 +207,7 @@ setting-turn p s e c t end (inr (inr x)) = inr (inr (at (same_element x.element 
   where
     at : (b : Bool) → IsEnd (cond b (c ∷ []) (s x.element)) x.choice → IsEndStart s t
     at true h =
-        let same : x.choice ≡ c = contains-one c x.choice (end-contained (c ∷ []) x.choice h) in
+        let same : x.choice ≡ c = contains_one c x.choice (end-contained (c ∷ []) x.choice h) in
         record { element = e; choice = c; is_end = end; starts = ap start_of (sym same) ∙ x.starts }
     at false h = record { element = x.element; choice = x.choice; is_end = h; starts = x.starts }
 

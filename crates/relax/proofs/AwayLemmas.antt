@@ -1,5 +1,7 @@
 -- A machine holds nothing on nodes of which none is its host and none is where it goes.
-use Rattle.std.proofs.Common.{◌≡◌, ℕ, ◌+◌, Bool, true, false, ◌&&◌, cond, Option, Some, None, refl, sym, ap, ◌∙◌, arith}
+use Rattle.std.proofs.Common.{◌≡◌, ℕ, suc, ◌+◌, ◌-◌, ◌≤◌, Bool, true, false, cond, Option, Some, None, List, [], ◌∷◌, ◌++◌, length, get_or, refl, arith}
+use Rattle.std.specs.List.{Contains, flat_map}
+use Rattle.sums.specs.Least.{least}
 use Rattle.cluster.specs.declared.choices.Choice.{Choice}
 use Rattle.cluster.specs.declared.choices.Choice.TheVariants.{Idle, Act}
 use Rattle.cluster.specs.declared.choices.Place.{Place}
@@ -16,7 +18,10 @@ use Rattle.slices.specs.declared.slice.Weight.{Weight}
 use Rattle.slices.specs.Actions.{kind_of}
 use Rattle.slices.specs.Elements.{state_of, vm}
 use Rattle.slices.specs.Snapshots.{held_at, held_by, stage_at}
-use Rattle.slices.specs.Stages.{Nodes, acting_slices, covers, idle_slices, slices_by, slices_of, weigh, weight_of}
+use Rattle.slices.specs.Stages.{Nodes, acting_slices, idle_slices, slices_by, slices_of, weigh}
+use Rattle.domains.specs.Choices.{Climbs, DomainView, choices, row_choices, starts_from}
+use Rattle.domains.specs.declared.parts.Row.{Row}
+use Rattle.domains.proofs.Public.{least_of_each}
 use Rattle.relax.specs.Areas.{goes_in, hosted_in}
 
 -- the slice, if there is one, is on no node of the set
@@ -74,3 +79,23 @@ away p v w set t c e g =
     let x = slices-outside p v set c e g in
     let stage = stage_at p (vm v) c t in
     omega (arith, weigh-outside p v w (slices_of p v c).source stage set x.source, weigh-outside p v w (slices_of p v c).target stage set x.target, weigh-outside p v w (slices_of p v c).image stage set x.image)
+
+-- ---- by one choice
+
+pub away_least : (p : Instance) (v : ℕ) (w : Weight) (set : Nodes) (t : ℕ) (cs : List Choice) (c : Choice) → hosted_in (state_of p v) set ≡ false → Contains cs c → goes_in c set ≡ false → least (held_at p v w set t) cs ≡ 0
+away_least p v w set t cs c e h g = omega (arith, least_of_each (held_at p v w set t) cs c h, away p v w set t c e g)
+
+pub idle_in : (d : DomainView) → d.idle ≡ true → Contains (choices d) Idle
+idle_in d e = rw e (0, omega arith, refl)
+
+-- the first start is a choice
+first-in : (idle : Bool) (rows : List Row) (x : Row) → Climbs 0 rows → 1 ≤ length rows → Contains (cond idle (Idle ∷ []) [] ++ flat_map row_choices rows) (Act (get_or rows 0 x).place (get_or rows 0 x).lo)
+first-in idle [] x climbs l = absurd (omega arith)
+first-in idle (r ∷ rs) x climbs l = let more : r.hi + 1 - r.lo ≡ suc (r.hi - r.lo) = omega (arith, climbs.1) in rw more (by idle)
+  where
+    by : (b : Bool) → Contains (cond b (Idle ∷ []) [] ++ (Act r.place r.lo ∷ (starts_from r.place (r.lo + 1) (r.hi - r.lo) ++ flat_map row_choices rs))) (Act r.place r.lo)
+    by true = (1, omega arith, refl)
+    by false = (0, omega arith, refl)
+
+pub first_in : (d : DomainView) (x : Row) → Climbs 0 d.rows → 1 ≤ length d.rows → Contains (choices d) (Act (get_or d.rows 0 x).place (get_or d.rows 0 x).lo)
+first_in d x climbs l = first-in d.idle d.rows x climbs l

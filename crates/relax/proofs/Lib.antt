@@ -1,4 +1,7 @@
+-- Public has what crates above may cite; the rest is for this crate alone.
+pub mod Public
 mod AwayLemmas
+mod FloorLemmas
 mod LeastLemmas
 mod MemberLemmas
 mod PlanLemmas

@@ -19,9 +19,11 @@ use Rattle.slices.specs.Actions.{action_duration, duration_of, end_of, is_legal,
 use Rattle.slices.specs.Elements.{machine_count, node, node_count, vm}
 use Rattle.domains.specs.Choices.{ComesAfter, DomainView, choices, place_index, row_choices, starts_from, staying}
 use Rattle.domains.specs.Rows.{IsRowAt, option_choices}
-use Rattle.domains.specs.Sets.{RegionView, sets}
+use Rattle.domains.specs.Sets.{RegionView, Sets, sets}
 use Rattle.domains.specs.declared.parts.Row.{Row}
+use Rattle.reasons.proofs.Public.{start_is_legal}
 use Rattle.reasons.specs.Start.{is_element, start_sets}
+use Rattle.relax.specs.Areas.{AreLegal}
 use Rattle.relax.specs.Rows.{rows_of}
 
 -- ---- the legal starts at a place
@@ -140,3 +142,7 @@ start_of_domains p g m n machines nodes (TheNode k) =
       | inl there ↦ nodes k.0 there
       | inr past ↦ rw (get_or_past g.nodes k.0 staying (omega (arith, n)), le-ltb k.0 (node_count p) past) refl
     ]
+
+-- in which each choice is legal
+pub start_legal : (p : Instance) (s : Sets) → ((e : Element) → s e ≡ start_sets p e) → AreLegal p s
+start_legal p s is e there c h = (start_is_legal p e there c).0 (rw is at h)

@@ -1,3 +1,4 @@
 pub mod Areas
+pub mod Laws
 pub mod Members
 pub mod Rows

@@ -11,7 +11,7 @@ ghost use Rattle.reasons.specs.Reasons.{IsHall, IsOverload, IsPower, IsSetLoad, 
 ghost use Rattle.reasons.specs.Sure.{least_cost as the_least_cost, sure};
 ghost use Rattle.relax.specs.Areas.{IsSized, nodes_of};
 
-use crate::area::Area;
+use crate::area::{Area, area_of};
 use crate::sure::surely_in;
 use crate::totals::{least_cost, load, powered_nodes, presences, room};
 use catalogue::constraint::Constraint;
@@ -53,7 +53,7 @@ pub fn is_overload(p: &Problem, view: &View, r: u8, set: &NodeSet, t: Instant) -
     requires resource { r < length p.now.given.resources }
     ensures { IsTrue result ↔ IsOverload p.now.given (sure p.now.given (seen view.now.region.now view.now.lens) t) r (has_node set.now) }
 {
-    let area = Area::In(*set);
+    let area = area_of(p, set);
     room(p, view, r, &area, t) < load(p, view, r, &area, t)
 }
 
@@ -70,9 +70,9 @@ pub fn is_set_load(p: &Problem, view: &View, constraint: &Constraint, t: Instant
             resource,
             amount,
             ..
-        } => *amount < load(p, view, *resource, &Area::In(*nodes), t),
+        } => *amount < load(p, view, *resource, &area_of(p, nodes), t),
         Constraint::RunningCapacity { nodes, amount, .. } => {
-            *amount < presences(p, view, &Area::In(*nodes), t)
+            *amount < presences(p, view, &area_of(p, nodes), t)
         }
         Constraint::Spread { .. }
         | Constraint::Ban { .. }

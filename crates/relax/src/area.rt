@@ -1,5 +1,7 @@
 //! Sets of nodes as looks ask for them.
-ghost use Rattle.std.specs.Prelude.{◌≡◌};
+ghost use Rattle.std.specs.Prelude.{◌≡◌, ℕ, ◌<◌, ◌≤◌, IsTrue};
+ghost use Rattle.cluster.specs.Limits.{max_nodes};
+ghost use Rattle.cluster.specs.Sets.{has_node};
 ghost use Rattle.slices.specs.Elements.{node_count};
 ghost use Rattle.relax.specs.Areas.{nodes_of};
 
@@ -27,6 +29,31 @@ pub fn has(p: &Problem, area: &Area, n: NodeId) -> bool
         Area::In(set) => set.has(n),
         Area::OutsideOne(m) => n.0 != m.0,
         Area::Outside(set) => !set.has(n),
+    }
+}
+
+// whether a set has each of the first nodes
+fn has_each(set: &NodeSet, count: usize) -> bool
+    requires { count ≤ max_nodes }
+    ensures { IsTrue result → (n : ℕ) → n < count → IsTrue (has_node set.now n) }
+{
+    for n in 0..count {
+        if !set.has(NodeId(n as u32)) {
+            return false;
+        }
+    }
+    true
+}
+
+/// The area of a set, all nodes where it has them all and no other.
+pub fn area_of(p: &Problem, set: &NodeSet) -> Area
+    ensures { nodes_of p.now.given result ≡ has_node set.now }
+{
+    let count = node_total(p);
+    if set.is_within(count) && has_each(set, count) {
+        Area::All
+    } else {
+        Area::In(*set)
     }
 }
 

@@ -4,13 +4,17 @@
 pub mod amounts;
 pub mod area;
 pub mod elements;
+pub mod floors;
 pub mod forbidden;
 pub mod groups;
+pub mod laws;
 pub mod measures;
 pub mod named;
 pub mod plan;
 pub mod refutes;
 pub mod start;
 pub mod sure;
+#[cfg(test)]
+mod tests;
 pub mod totals;
 pub mod whole;

@@ -1,5 +1,5 @@
 //! What can be asked of one choice, as measures: over the starts at one place each is least at the first or the last.
-ghost use Rattle.std.specs.Prelude.{◌≡◌, ◌≤◌, ◌+◌, ◌^◌, ℕ, false};
+ghost use Rattle.std.specs.Prelude.{◌≡◌, ◌≤◌, ◌+◌, ◌^◌, ℕ, max, false};
 ghost use Rattle.cluster.specs.Limits.{max_amount};
 ghost use Rattle.catalogue.specs.Instance.{IsElement};
 ghost use Rattle.slices.specs.Actions.{end_of};
@@ -59,7 +59,8 @@ fn image_on(p: &Problem, area: &Area, image: Option<NodeId>) -> u64
     }
 }
 
-fn is_hosted_in(p: &Problem, state: State, area: &Area) -> bool
+/// Whether a machine in a state has its host in an area.
+pub(crate) fn is_hosted_in(p: &Problem, state: State, area: &Area) -> bool
     ensures { result ≡ hosted_in state (nodes_of p.now.given area.now) }
 {
     match state {
@@ -68,7 +69,8 @@ fn is_hosted_in(p: &Problem, state: State, area: &Area) -> bool
     }
 }
 
-fn goes_in(p: &Problem, c: Choice, area: &Area) -> bool
+/// Whether a choice acts at a node of an area.
+pub(crate) fn goes_in(p: &Problem, c: Choice, area: &Area) -> bool
     ensures { result ≡ the_goes_in c (nodes_of p.now.given area.now) }
 {
     match c {
@@ -80,8 +82,8 @@ fn goes_in(p: &Problem, c: Choice, area: &Area) -> bool
     }
 }
 
-// the state of a machine at present
-fn state(p: &Problem, v: VmId) -> State
+/// The state of a machine at present.
+pub(crate) fn state(p: &Problem, v: VmId) -> State
     requires { IsElement p.now.given (Element.Vm v) }
     ensures { result ≡ state_of p.now.given v.0 }
 {
@@ -167,6 +169,37 @@ impl Measure for HeldIn<'_> {
 
     fn floor(&self) -> u64 {
         0
+    }
+}
+
+/// The same, raised to a number that no choice is below that is asked for, so that a search for the least
+/// can stop there.
+#[derive(Drop)]
+pub struct HeldFrom<'a> {
+    pub held: HeldIn<'a>,
+    pub floor: u64,
+}
+
+impl Measure for HeldFrom<'_> {
+    ghost use Rattle.slices.proofs.Public.{held_at_ends};
+    ghost use Rattle.std.proofs.Common.{arith};
+
+    ghost ready = { λ m. IsElement m.held.problem.now.given (vm m.held.machine.0) × IsWeight m.held.problem.now.given m.held.weight };
+
+    ghost value_of = { λ m c. max m.floor (held_at m.held.problem.now.given m.held.machine.0 m.held.weight (nodes_of m.held.problem.now.given m.held.area.now) m.held.at c) };
+
+    ghost floor_of = { λ m. m.floor };
+
+    ghost least_at_ends = { λ m place lo s hi l u. Prim.omega (arith, held_at_ends m.held.problem.now.given m.held.machine.0 m.held.weight (nodes_of m.held.problem.now.given m.held.area.now) m.held.at place lo s hi l u) };
+
+    ghost above_floor = { λ m c. Prim.omega arith };
+
+    fn value(&self, c: Choice) -> u64 {
+        self.held.value(c).max(self.floor)
+    }
+
+    fn floor(&self) -> u64 {
+        self.floor
     }
 }
 

@@ -8,7 +8,7 @@ ghost use Rattle.domains.specs.Choices.{ComesAfter, choices, starts_from, stayin
 ghost use Rattle.domains.specs.Rows.{IsRowAt, option_choices};
 ghost use Rattle.domains.specs.Sets.{sets};
 ghost use Rattle.reasons.specs.Start.{start_sets};
-ghost use Rattle.relax.specs.Areas.{IsSized};
+ghost use Rattle.relax.specs.Areas.{AreLegal, IsSized};
 ghost use Rattle.relax.specs.Rows.{rows_of};
 
 use crate::area::node_total;
@@ -26,6 +26,7 @@ use std::alloc::Global;
 pub fn start_region(alloc: Global, p: &Problem) -> Result<Region, Memory>
     ensures sized { IfOk result (IsSized p.now.given) }
     ensures sets { IfOk result (λ g. (e : AnyElement) → sets g e ≡ start_sets p.now.given e) }
+    ensures legal { IfOk result (λ g. AreLegal p.now.given (sets g)) }
 {
     let machines = machine_domains(alloc, p)?;
     let nodes = node_domains(alloc, p)?;

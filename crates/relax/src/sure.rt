@@ -1,22 +1,33 @@
 //! What is sure in what is seen of a region.
-ghost use Rattle.std.specs.Prelude.{◌≡◌, ◌≤◌, ◌↔◌, ◌<◌, [], nat_lt, length, IsTrue, Option as AnyOption};
+ghost use Rattle.std.specs.Prelude.{◌≡◌, ℕ, ◌≤◌, ◌↔◌, ◌<◌, false, [], nat_lt, length, IsTrue, Option as AnyOption};
+ghost use Rattle.std.specs.List.{Contains};
+ghost use Rattle.cluster.specs.declared.choices.Choice.{Choice as AnyChoice};
 ghost use Rattle.sums.specs.Least.{lowest as lowest_of, least};
 ghost use Rattle.catalogue.specs.Instance.{IsElement};
 ghost use Rattle.slices.specs.Actions.{end_of};
+ghost use Rattle.slices.specs.Elements.{vm};
 ghost use Rattle.slices.specs.Limits.{max_held};
+ghost use Rattle.slices.specs.Snapshots.{held_at};
+ghost use Rattle.slices.specs.declared.slice.Weight.{Weight as AnyWeight};
 ghost use Rattle.slices.specs.declared.slice.Weight.TheVariants.{Image as ImageOf};
+ghost use Rattle.domains.specs.Choices.{Climbs, choices};
 ghost use Rattle.domains.specs.Laws.{is_above_none, is_nought};
+ghost use Rattle.domains.specs.Sets.{HasElement};
 ghost use Rattle.domains.specs.Views.{seen};
 ghost use Rattle.reasons.specs.Sure.{sure};
-ghost use Rattle.relax.specs.Areas.{IsSized, IsWeight, nodes_of};
+ghost use Rattle.relax.specs.Areas.{IsSized, IsWeight, goes_in as the_goes_in, nodes_of};
 
 use crate::area::Area;
-use crate::measures::{EndOf, HeldIn, IsPowered, IsSoFar, IsUnusable};
+use crate::floors::floor;
+use crate::measures::{
+    EndOf, HeldFrom, HeldIn, IsPowered, IsSoFar, IsUnusable, goes_in, is_hosted_in, state,
+};
 use catalogue::problem::Problem;
-use cluster::choices::Instant;
+use cluster::choices::{Choice, Instant};
 use cluster::ids::{Element, NodeId, VmId};
+use domains::domain::Domain;
 use domains::measure::Nought;
-use domains::view::{View, lowest_seen};
+use domains::view::{Sight, View, lowest_seen, shown};
 use slices::slice::Weight;
 use slices::stage::Progress;
 
@@ -40,6 +51,52 @@ fn is_zero(lowest: Option<u64>) -> bool
     }
 }
 
+// whether Idle, or else the first start, is a choice that does not go to an area
+fn is_first_out(p: &Problem, domain: &Domain, area: &Area) -> bool
+    requires { Climbs 0 domain.now.rows }
+    ensures { IsTrue result → (c : AnyChoice) × Contains (choices domain.now) c × (the_goes_in c (nodes_of p.now.given area.now) ≡ false) }
+{
+    if domain.idle() {
+        return true;
+    }
+    match domain.rows() {
+        [] => false,
+        [row, ..] => !goes_in(
+            p,
+            Choice::Act {
+                place: row.place,
+                start: row.lo,
+            },
+            area,
+        ),
+    }
+}
+
+// whether some choice that is seen of a machine does not go to an area, as far as the first one tells
+fn may_stay_out(p: &Problem, view: &View, v: VmId, area: &Area) -> bool
+    requires region { IsSized p.now.given view.now.region.now }
+    requires machine { IsElement p.now.given (Element.Vm v) }
+    ensures { IsTrue result → (c : AnyChoice) × Contains (seen view.now.region.now view.now.lens (vm v.0)) c × (the_goes_in c (nodes_of p.now.given area.now) ≡ false) }
+{
+    match shown(view.lens, Element::Vm(v)) {
+        Sight::All => is_first_out(p, view.region.domain(Element::Vm(v)), area),
+        Sight::In(_) | Sight::Out(_) | Sight::Only(_) => false,
+    }
+}
+
+// whether a machine that is hosted elsewhere may stay out of an area, so that the least that it holds
+// there is nothing; of most machines this tells at once
+fn is_away(p: &Problem, view: &View, v: VmId, area: &Area) -> bool
+    requires region { IsSized p.now.given view.now.region.now }
+    requires machine { IsElement p.now.given (Element.Vm v) }
+    ensures { IsTrue result → (w : AnyWeight) (t : ℕ) → least (held_at p.now.given v.0 w (nodes_of p.now.given area.now) t) (seen view.now.region.now view.now.lens (vm v.0)) ≡ 0 }
+{
+    if is_hosted_in(p, state(p, v), area) {
+        return false;
+    }
+    may_stay_out(p, view, v, area)
+}
+
 /// The least that a machine holds on the nodes of an area at an instant; 0 where it has no choice.
 #[tactic(auto, using(crate::proofs::LeastLemmas::least_held_small), unfolding(reasons::specs::Sure::sure))]
 pub fn least_held(p: &Problem, view: &View, v: VmId, weight: Weight, area: &Area, t: Instant) -> u64
@@ -49,6 +106,9 @@ pub fn least_held(p: &Problem, view: &View, v: VmId, weight: Weight, area: &Area
     ensures held { result ≡ (sure p.now.given (seen view.now.region.now view.now.lens) t).held v.0 weight (nodes_of p.now.given area.now) }
     ensures small { result ≤ max_held }
 {
+    if is_away(p, view, v, area) {
+        return 0;
+    }
     let measure = HeldIn {
         problem: p,
         machine: v,
@@ -56,7 +116,21 @@ pub fn least_held(p: &Problem, view: &View, v: VmId, weight: Weight, area: &Area
         area,
         at: t,
     };
-    lowest_seen(view, Element::Vm(v), &measure).unwrap_or(0)
+    least_from(view, v, measure, floor(p, view, v, weight, area))
+}
+
+// the least of what a machine holds, where no choice that is seen is below a number
+fn least_from(view: &View, v: VmId, held: HeldIn, floor: u64) -> u64
+    requires element { HasElement view.now.region.now (Element.Vm v) }
+    requires machine { IsElement held.problem.now.given (vm held.machine.0) }
+    requires weight { IsWeight held.problem.now.given held.weight }
+    requires floor { (c : AnyChoice) → Contains (seen view.now.region.now view.now.lens (vm v.0)) c → floor ≤ held_at held.problem.now.given held.machine.0 held.weight (nodes_of held.problem.now.given held.area.now) held.at c }
+    ensures { result ≡ least (held_at held.entry.problem.now.given held.entry.machine.0 held.entry.weight (nodes_of held.entry.problem.now.given held.entry.area.now) held.entry.at) (seen view.now.region.now view.now.lens (vm v.0)) }
+{
+    if floor == 0 {
+        return lowest_seen(view, Element::Vm(v), &held).unwrap_or(0);
+    }
+    lowest_seen(view, Element::Vm(v), &HeldFrom { held, floor }).unwrap_or(0)
 }
 
 /// Whether a machine is present on a node of an area under each of its choices.

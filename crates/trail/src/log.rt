@@ -1,8 +1,9 @@
 //! What is kept of one change, and how it is undone.
-ghost use Rattle.std.specs.Prelude.{◌≡◌, ◌++◌, ◌∷◌, [], OnOk, OnErr, length};
+ghost use Rattle.std.specs.Prelude.{◌≡◌, ◌++◌, ◌∷◌, [], OnOk, OnErr, IfOk, length};
 ghost use Rattle.cluster.specs.declared.ids.Element.{Element as AnyElement};
 ghost use Rattle.domains.specs.Parts.{in_part, out_of_part};
-ghost use Rattle.domains.specs.Sets.{HasElement, sets, keeping};
+ghost use Rattle.domains.specs.Sets.{HasElement, domain_at, sets, keeping};
+ghost use Rattle.domains.specs.Undo.{restored};
 ghost use Rattle.trail.specs.Logs.{undone, CanUndo, HasKept};
 
 use cluster::ids::Element;
@@ -54,17 +55,24 @@ pub fn keep(region: &mut Region, log: &mut Vec<Entry>, e: Element, part: Part) -
     }
 }
 
-/// Takes from an element the choices that are in a part, and keeps what it has lost in the log.
-pub fn cut(region: &mut Region, log: &mut Vec<Entry>, e: Element, part: Part) -> Result<(), Memory>
+/// Takes from an element the choices that are in a part, keeps what it has lost in the log, and says it.
+pub fn cut(
+    region: &mut Region,
+    log: &mut Vec<Entry>,
+    e: Element,
+    part: Part,
+) -> Result<Lost, Memory>
     requires { HasElement region.old e }
     ensures machines { length region.new.machines ≡ length region.old.machines }
     ensures nodes { length region.new.nodes ≡ length region.old.nodes }
+    ensures lost { IfOk result (λ lost. restored lost (domain_at region.new e) ≡ domain_at region.old e) }
     ensures sets { OnOk result ((x : AnyElement) → sets region.new x ≡ keeping e (out_of_part part) (sets region.old) x) }
     ensures kept { OnOk result (HasKept region.old region.new log.old.items log.new.items) }
     ensures err { OnErr result ((region.new ≡ region.old) × (log.new.items ≡ log.old.items)) }
 {
     let lost = region.cut(e, part);
-    write(region, log, Entry::Lost(e, lost))
+    write(region, log, Entry::Lost(e, lost))?;
+    Ok(lost)
 }
 
 // writes an entry, or undoes it where there is no memory

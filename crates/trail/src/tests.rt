@@ -7,6 +7,7 @@ use cluster::ids::{Element, NodeId, VmId};
 use domains::domain::Domain;
 use domains::parts::{Change, Part, Row, Side};
 use domains::region::Region;
+use domains::undo::{Before, Lost};
 use std::alloc::Global;
 use std::process::Abort;
 use std::test::Fail;
@@ -60,6 +61,21 @@ fn step(trail: &mut Trail, part: Part, side: Side) -> Result<(), Fail>
 {
     trail.mark()?;
     trail.apply(change(part, side))?;
+    Ok(())
+}
+
+#[test]
+fn told_what_was_there(rt: HostRuntime) -> Result<(), Fail> {
+    let mut trail = sample(rt.alloc())?;
+    let mut kept = Domain::new(rt.alloc(), false);
+    let told = trail.apply_told(change(Part::From(HERE, 5), Side::Outside), &mut kept)?;
+    assert_eq!(rt; told, Before::Lost(Lost::Row(row(HERE, 3, 7))));
+    let told = trail.apply_told(change(Part::Upto(HERE, 3), Side::Inside), &mut kept)?;
+    assert_eq!(rt; told, Before::Kept);
+    assert_eq!(rt;
+        kept.rows(),
+        [row(Place::Nowhere, 2, 2), row(HERE, 3, 4)].as_slice()
+    );
     Ok(())
 }
 

@@ -1,13 +1,17 @@
 //! The trail.
-ghost use Rattle.std.specs.Prelude.{◌≡◌, ◌<◌, ◌∷◌, [], OnOk, OnErr, length};
+ghost use Rattle.std.specs.Prelude.{◌≡◌, ◌<◌, ◌∷◌, [], OnOk, OnErr, IfOk, length};
 ghost use Rattle.cluster.specs.declared.ids.Element.{Element as AnyElement};
-ghost use Rattle.domains.specs.Parts.{on_side};
-ghost use Rattle.domains.specs.Sets.{HasElement, sets, keeping};
+ghost use Rattle.domains.specs.Parts.{on_side, out_of_part};
+ghost use Rattle.domains.specs.Sets.{HasElement, domain_at, sets, keeping};
+ghost use Rattle.domains.specs.Undo.{domain_before, restored};
 ghost use Rattle.trail.specs.Logs.{Marked};
 
 use crate::log::{Entry, cut, keep, undo};
-use domains::parts::{Change, Side};
+use cluster::ids::Element;
+use domains::domain::Domain;
+use domains::parts::{Change, Part, Side};
 use domains::region::Region;
+use domains::undo::{Before, Lost};
 use memory::Memory;
 use std::alloc::Global;
 use std::marker::Model;
@@ -58,8 +62,6 @@ impl Trail {
     }
 
     /// Narrows one element. After want of memory all is as it was.
-    ///
-    /// Who tells others of the change with the domain as it was before copies that domain before this call.
     pub fn apply(&mut self, change: Change) -> Result<(), Memory>
         requires { HasElement self.old.region change.element }
         ensures machines { length self.new.region.machines ≡ length self.old.region.machines }
@@ -74,9 +76,53 @@ impl Trail {
             return Ok(());
         }
         match change.side {
-            Side::Inside => keep(&mut self.region, &mut self.log, change.element, change.part),
-            Side::Outside => cut(&mut self.region, &mut self.log, change.element, change.part),
+            Side::Inside => keep(&mut self.region, &mut self.log, change.element, change.part)?,
+            Side::Outside => {
+                let _ = cut(&mut self.region, &mut self.log, change.element, change.part)?;
+            }
         }
+        Ok(())
+    }
+
+    /// Narrows one element as `apply` does, and says what its domain was before, for those who are told of changes.
+    ///
+    /// Where the element keeps the inside of a part, `kept` becomes its old domain, in the memory that it has where
+    /// that is enough. Where it keeps the outside, nothing is copied: the answer says what it has lost.
+    pub fn apply_told(&mut self, change: Change, kept: &mut Domain) -> Result<Before, Memory>
+        requires { HasElement self.old.region change.element }
+        ensures machines { length self.new.region.machines ≡ length self.old.region.machines }
+        ensures nodes { length self.new.region.nodes ≡ length self.old.region.nodes }
+        ensures sets { OnOk result ((e : AnyElement) → sets self.new.region e
+            ≡ keeping change.element (on_side change.side change.part) (sets self.old.region) e) }
+        ensures marks { self.new.marks ≡ self.old.marks }
+        ensures before { IfOk result (λ before. domain_before before kept.new (domain_at self.new.region change.element)
+            ≡ domain_at self.old.region change.element) }
+        ensures err { OnErr result (self.new ≡ self.old) }
+    {
+        match change.side {
+            Side::Inside => {
+                kept.copy_from(self.region.domain(change.element))?;
+                self.apply(change)?;
+                Ok(Before::Kept)
+            }
+            Side::Outside => Ok(Before::Lost(self.cut(change.element, change.part)?)),
+        }
+    }
+
+    // takes choices away, and says which
+    fn cut(&mut self, e: Element, part: Part) -> Result<Lost, Memory>
+        requires { HasElement self.old.region e }
+        ensures machines { length self.new.region.machines ≡ length self.old.region.machines }
+        ensures nodes { length self.new.region.nodes ≡ length self.old.region.nodes }
+        ensures sets { OnOk result ((x : AnyElement) → sets self.new.region x ≡ keeping e (out_of_part part) (sets self.old.region) x) }
+        ensures marks { self.new.marks ≡ self.old.marks }
+        ensures lost { IfOk result (λ lost. restored lost (domain_at self.new.region e) ≡ domain_at self.old.region e) }
+        ensures err { OnErr result (self.new ≡ self.old) }
+    {
+        if self.marks == 0 {
+            return Ok(self.region.cut(e, part));
+        }
+        cut(&mut self.region, &mut self.log, e, part)
     }
 
     /// Makes a mark, to which `back` returns.

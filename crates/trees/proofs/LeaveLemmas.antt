@@ -1,16 +1,15 @@
 -- What a tree that proves sets leaves of their valid plans.
 use mathlib.Core.Path.{fun_ext}
-use Rattle.std.proofs.Common.{◌≡◌, ◌⊎◌, inl, inr, ℕ, zero, suc, ◌≤◌, List, [], ◌∷◌, ◌++◌, refl, sym, ap, subst, ◌∙◌, arith, Option, Bool, true, false, ◌||◌}
+use Rattle.std.proofs.Common.{◌≡◌, ◌⊎◌, inl, inr, ℕ, ◌≤◌, List, [], ◌∷◌, ◌++◌, refl, sym, ap, subst, ◌∙◌, Option, Bool, true, false, ◌||◌}
 use Rattle.std.specs.List.{Contains}
 use Rattle.std.specs.Option.{IsSomeAnd}
 use Rattle.std.proofs.lemmas.Bool.{false≢true}
-use Rattle.cluster.specs.declared.choices.Choice.{Choice}
 use Rattle.catalogue.specs.Instance.{Instance, IsInstance}
 use Rattle.slices.specs.Costs.{cost_of}
 use Rattle.slices.specs.Plans.{Choices}
 use Rattle.slices.specs.Rules.{IsValid}
 use Rattle.domains.specs.Sets.{Sets, IsIn, IsOnly}
-use Rattle.domains.proofs.Public.{plan_splits}
+use Rattle.domains.proofs.Public.{contains_one, plan_splits}
 use Rattle.reasons.proofs.Public.{refuted_excludes}
 use Rattle.trees.specs.declared.steps.Step.{Step}
 use Rattle.trees.specs.declared.steps.Step.TheVariants.{Decide, Cut}
@@ -21,10 +20,6 @@ use Rattle.trees.specs.Laws.{IsInSome, ProvedExcludes, ProvedLeaves}
 use Rattle.trees.proofs.CountLemmas.{has_left_append}
 
 -- ---- at leaves
-
-contains_one : (c d : Choice) → Contains (c ∷ []) d → d ≡ c
-contains_one c d (zero, h, e) = sym e
-contains_one c d (suc k, h, e) = absurd (omega arith)
 
 -- a plan in sets that are one plan is that plan
 pub only_plan : (s : Sets) (one plan : Choices) → IsOnly s one → IsIn s plan → plan ≡ one

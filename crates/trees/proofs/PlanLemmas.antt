@@ -8,8 +8,7 @@ use Rattle.slices.specs.Plans.{Choices}
 use Rattle.slices.specs.Rules.{IsValid}
 use Rattle.domains.specs.Parts.{in_part, out_of_part}
 use Rattle.domains.specs.Sets.{Sets, IsIn, IsOnly}
-use Rattle.domains.proofs.Public.{plan_stays}
-use Rattle.domains.proofs.SplitLemmas.{contains_here}
+use Rattle.domains.proofs.Public.{contains_here, plan_stays}
 use Rattle.reasons.specs.Start.{start_sets}
 use Rattle.trees.specs.declared.steps.Step.{Step}
 use Rattle.trees.specs.declared.steps.Step.TheVariants.{Decide, Cut}

@@ -23,7 +23,7 @@ use Rattle.slices.specs.Plans.{Choices, IsPlan}
 use Rattle.slices.proofs.Public.{ends_by_duration}
 use Rattle.domains.specs.Choices.{starts_from}
 use Rattle.domains.specs.Sets.{IsIn}
-use Rattle.domains.proofs.SplitLemmas.{contains_filter, contains_here, filter_contains}
+use Rattle.domains.proofs.Public.{contains_filter, contains_here, filter_contains}
 use Rattle.reasons.specs.Start.{every_choice, is_element, places, start_sets}
 use Rattle.trees.proofs.WithinLemmas.{is_element_true, true_is_element, within}
 

@@ -9,17 +9,17 @@ const CLUSTER: &[u8] =
     br#"{"horizon":20,"resources":["cpu"],"durations":{"migrate":{"base":3}},"nodes":[{"name":"n0","capacity":{"cpu":4}},{"name":"n1","capacity":{"cpu":4}},{"name":"n2","capacity":{"cpu":4}}],"machines":[{"name":"v0","state":"running","node":"n0","use":{"cpu":1}},{"name":"v1","state":"running","node":"n1","use":{"cpu":1}}],"constraints":["#;
 
 /// The first machine is wanted on the second node, and the second one on the third.
-const FENCES: &[u8] =
+pub const FENCES: &[u8] =
     br#"{"kind":"fence","machines":["v0"],"nodes":["n1"]},{"kind":"fence","machines":["v1"],"nodes":["n2"]},"#;
 
 const ONLINE: &[u8] = br#",{"kind":"online","nodes":["n0","n1","n2"]}]}"#;
 
-const PRECEDENCE: &[u8] = br#"{"kind":"precedence","before":"v0","after":"v1"}"#;
+pub const PRECEDENCE: &[u8] = br#"{"kind":"precedence","before":"v0","after":"v1"}"#;
 
 const SERIALIZE: &[u8] = br#"{"kind":"serialize","machines":["v0","v1"]}"#;
 
 /// The second machine starts as the first one ends.
-const IN_TURN: &[u8] =
+pub const IN_TURN: &[u8] =
     br#"{"actions":[{"element":"v0","kind":"migrate","place":"n1","start":0},{"element":"v1","kind":"migrate","place":"n2","start":3}]}"#;
 
 /// The second machine starts before the first one ends.
@@ -36,7 +36,7 @@ const SECOND_LEAVES: &[u8] =
 const NO_ACTIONS: &[u8] = br#"{"actions":[]}"#;
 
 /// The instance with some constraints and one more.
-fn instance_of(alloc: Global, fences: &[u8], constraint: &[u8]) -> Result<Vec<u8>, Fail> {
+pub fn instance_of(alloc: Global, fences: &[u8], constraint: &[u8]) -> Result<Vec<u8>, Fail> {
     let mut instance = Vec::new(alloc);
     for piece in [CLUSTER, fences, constraint, ONLINE] {
         instance.extend_from_slice(piece)?;

@@ -8,13 +8,13 @@ use std::alloc::Global;
 use std::process::Abort;
 use std::test::Fail;
 
-const NO_ACTIONS: &[u8] = br#"{"actions":[]}"#;
+pub const NO_ACTIONS: &[u8] = br#"{"actions":[]}"#;
 
 /// The second machine moves, and then the first one.
-const ONE_BY_ONE: &[u8] =
+pub const ONE_BY_ONE: &[u8] =
     br#"{"actions":[{"element":"v0","kind":"migrate","place":"n1","start":3},{"element":"v1","kind":"migrate","place":"n2","start":0}]}"#;
 
-const AT_ONCE: &[u8] =
+pub const AT_ONCE: &[u8] =
     br#"{"actions":[{"element":"v0","kind":"migrate","place":"n1","start":0},{"element":"v1","kind":"migrate","place":"n2","start":0}]}"#;
 
 const LEAVES: &[u8] = br#"{"actions":[{"element":"v0","kind":"migrate","place":"n1","start":0}]}"#;

@@ -1,5 +1,5 @@
 use Rattle.std.proofs.Common.{refl, rules, arith}
-use Rattle.closing.proofs.EndLemmas.{fails_of_rows, idle_is_end, row_is_end}
+use Rattle.closing.proofs.EndLemmas.{fails_of_rows, row_is_end}
 use Rattle.closing.proofs.ends.end_that.Goals as goal
 
 pub returns-in-Some-clause-some : goal.returns-in-Some-clause-some

@@ -1,7 +1,5 @@
-use Rattle.std.proofs.Common.{ap, refl}
-use Rattle.domains.specs.Choices.{choices}
+use Rattle.std.proofs.Common.{refl}
 use Rattle.domains.specs.Sets.{sets}
-use Rattle.closing.specs.Parts.{FailAtEnds, IsEndThat, IsNotUsable}
 use Rattle.closing.proofs.UsableLemmas.{missed_met, unneeded_free, usable_free}
 use Rattle.closing.proofs.usable.found_where_usable.Goals as goal
 

@@ -1,4 +1,3 @@
-use Rattle.std.proofs.Common.{◌≡◌}
 use Rattle.executor.specs.Phases.{phases_in}
 use Rattle.executor.proofs.GoingOn.{ends_as_planned}
 use Rattle.executor.proofs.TableLemmas.{all_by_place}

@@ -5,7 +5,9 @@ use Rattle.json_walk.specs.PathRef.{path_of}
 use Rattle.json_walk.specs.Walk.{◌>>=◌}
 use Rattle.cluster.specs.Inventory.{amounts_fit}
 use Rattle.cluster.specs.Limits.{max_amount, max_resources}
-use Rattle.instance_json.specs.Walk.{instance_fault_of, optional_number, map_walk}
+use Rattle.json_walk.specs.Members.{optional_number, map_walk}
+use Rattle.instance_json.specs.declared.fault.InstanceFault.TheVariants.{Field}
+use Rattle.instance_json.specs.Walk.{instance_fault_of}
 use Rattle.instance_json.specs.Elements.{resource_amounts}
 use Rattle.instance_json.proofs.Loops.{fills_more, fills_all, fill_fails, fails_then}
 use Rattle.instance_json.proofs.Fitting.{amounts_more, amounts_all}
@@ -14,7 +16,7 @@ use Rattle.instance_json.proofs.amounts.resource_amounts.Goals as goal
 pub returns-in_err-amounts-clause-gives : goal.returns-in_err-amounts-clause-gives
 unfolding resource_amounts
 returns-in_err-amounts-clause-gives c =
-    let test = optional_number max_amount (view c.args.value.now) (path_of c.args.path.now) in
+    let test = optional_number Field max_amount (view c.args.value.now) (path_of c.args.path.now) in
     let rs = c.args.resources.now in
     let within : c.loop-i.i < length rs = omega arith in
     let fault = instance_fault_of c.in_err-amounts.field-0.0 in
@@ -24,7 +26,7 @@ returns-in_err-amounts-clause-gives c =
 
 pub loop-i-preserved : goal.loop-i-preserved
 loop-i-preserved c =
-    let test = optional_number max_amount (view c.args.value.now) (path_of c.args.path.now) in
+    let test = optional_number Field max_amount (view c.args.value.now) (path_of c.args.path.now) in
     let within : c.loop-i.i < length c.args.resources.now = omega arith in
     let inside : c.loop-i.i < length c.loop-i.amounts = omega (arith, c.loop-i.invariant.fit.long) in
     record {
@@ -35,7 +37,7 @@ loop-i-preserved c =
 pub returns-clause-gives : goal.returns-clause-gives
 unfolding resource_amounts
 returns-clause-gives c =
-    let test = optional_number max_amount (view c.args.value.now) (path_of c.args.path.now) in
+    let test = optional_number Field max_amount (view c.args.value.now) (path_of c.args.path.now) in
     let rs = c.args.resources.now in
     let i = c.loop-i.i in
     let out = c.loop-i.amounts in

@@ -1,13 +1,14 @@
 use Rattle.serde_json.specs.View.{view}
 use Rattle.json_walk.specs.PathRef.{path_of}
 use Rattle.cluster.specs.Limits.{max_amount}
-use Rattle.instance_json.specs.Walk.{optional_number}
+use Rattle.json_walk.specs.Members.{optional_number}
+use Rattle.instance_json.specs.declared.fault.InstanceFault.TheVariants.{Field}
 use Rattle.instance_json.proofs.Loops.{Fills}
 use Rattle.instance_json.proofs.Fitting.{AreAmounts}
 use Rattle.instance_json.proofs.amounts.resource_amounts.Given as goal
 
 abbrev pub invariant-loop-i : goal.invariant-loop-i
 invariant-loop-i l = record {
-  fills : Fills (optional_number max_amount (view l.value) (path_of l.path)) l.resources l.i l.amounts;
+  fills : Fills (optional_number Field max_amount (view l.value) (path_of l.path)) l.resources l.i l.amounts;
   fit : AreAmounts l.i l.amounts;
 }

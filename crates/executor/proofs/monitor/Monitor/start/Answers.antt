@@ -1,4 +1,4 @@
-use Rattle.std.proofs.Common.{◌≡◌, subst}
+use Rattle.std.proofs.Common.{subst}
 use Rattle.slices.specs.Plans.{choices_of}
 use Rattle.executor.specs.Phases.{phases_in}
 use Rattle.executor.specs.Steps.{MayStart, Start}

@@ -1,0 +1,66 @@
+-- Where a machine stands, by one of its choices.
+use Rattle.std.proofs.Common.{◌≡◌, inl, ℕ, ◌<◌, Bool, true, false, ◌&&◌, ◌||◌, List, [], length, slice_index_or, Option, Some, None, is_some, IsTrue, refl, sym, ap, ◌∙◌}
+use Rattle.std.specs.List.{Contains}
+use Rattle.std.proofs.lemmas.Bool.{eq-eqb, or_left, or_right}
+use Rattle.cluster.specs.declared.choices.Choice.{Choice}
+use Rattle.cluster.specs.declared.choices.Choice.TheVariants.{Act}
+use Rattle.cluster.specs.declared.ids.NodeId.{NodeId}
+use Rattle.catalogue.specs.Instance.{Instance}
+use Rattle.slices.specs.Elements.{vm}
+use Rattle.slices.specs.Snapshots.{present_at}
+use Rattle.slices.specs.Stages.{one}
+use Rattle.domains.specs.Choices.{DomainView, Climbs, choices, no_row}
+use Rattle.domains.specs.declared.parts.Row.{Row}
+use Rattle.domains.specs.Sets.{Sets, surely}
+use Rattle.domains.proofs.Public.{surely_each}
+use Rattle.reasons.specs.Regions.{row_at}
+use Rattle.reasons.specs.Sure.{sure}
+use Rattle.reasons.proofs.Public.{end_is_choice, ends_of_rows}
+use Rattle.closing.specs.declared.stands.Stands.{Stands}
+use Rattle.closing.specs.declared.stands.Stands.TheVariants.{On}
+use Rattle.closing.specs.Stands.{AreWithin, IsWithin, has_node_of, is_node}
+
+-- the first start of the first row is a choice
+first-choice : (d : DomainView) → Climbs 0 d.rows → 0 < length d.rows → Contains (choices d) (Act (row_at d 0).place (row_at d 0).lo)
+first-choice d climbs h = end_is_choice (choices d) (Act (row_at d 0).place (row_at d 0).lo) ((ends_of_rows d climbs (Act (row_at d 0).place (row_at d 0).lo)).1 (0, h, refl, inl refl))
+
+pub row_choice : (d : DomainView) (rows : List Row) → rows ≡ d.rows → Climbs 0 rows → 0 < length rows → Contains (choices d) (Act (slice_index_or rows 0 no_row).place (slice_index_or rows 0 no_row).lo)
+row_choice d rows same climbs h = rw same (first-choice d (rw same at climbs) (rw same at h))
+
+-- ---- who has no choice stands everywhere; else where one choice has it, and all others
+
+pub empty_stands : (p : Instance) (s : Sets) (v t n : ℕ) → s (vm v) ≡ [] → true ≡ (sure p s t).present v (one n)
+unfolding sure
+empty_stands p s v t n e = sym (ap (surely (present_at p v (one n) t)) e)
+
+both : (x y b : Bool) → (b ≡ true → (x || y) ≡ true) → ((x && b) || (y && b)) ≡ b
+both true y true f = refl
+both false true true f = refl
+both false false true f = f refl
+both true true false f = refl
+both true false false f = refl
+both false true false f = refl
+both false false false f = refl
+
+pub stands_by : (p : Instance) (s : Sets) (v t n : ℕ) (c : Choice) → Contains (s (vm v)) c → (x y a b : Bool) → present_at p v (one n) t c ≡ (x || y) → a ≡ (x && (sure p s t).present v (one n)) → b ≡ (y && (sure p s t).present v (one n)) → (a || b) ≡ (sure p s t).present v (one n)
+unfolding sure
+stands_by p s v t n c h x y a b at first second =
+    rw (first, second) (both x y (surely (present_at p v (one n) t) (s (vm v))) (λ e. sym at ∙ surely_each (present_at p v (one n) t) (s (vm v)) c h e))
+
+-- ---- a node where it stands
+
+node_there : (nodes : ℕ) (o : Option NodeId) → IsWithin nodes o → IsTrue (is_some o) → (n : ℕ) × (n < nodes) × IsTrue (is_node o n)
+node_there nodes None within h = cc
+node_there nodes (Some m) within h = (m.0, within, eq-eqb m.0 m.0 refl)
+
+pub first_there : (nodes : ℕ) (s : Stands) (a b : Option NodeId) → s ≡ On a b → AreWithin nodes s → IsTrue (is_some a) → (n : ℕ) × (n < nodes) × IsTrue (has_node_of s n)
+first_there nodes s a b is within h =
+    let both = rw is at within in
+    let w = node_there nodes a both.0 h in
+    rw is (w.0, w.1, or_left (is_node a w.0) (is_node b w.0) w.2)
+
+pub second_there : (nodes : ℕ) (s : Stands) (a b : Option NodeId) → s ≡ On a b → AreWithin nodes s → IsTrue (is_some b) → (n : ℕ) × (n < nodes) × IsTrue (has_node_of s n)
+second_there nodes s a b is within h =
+    let both = rw is at within in
+    let w = node_there nodes b both.1 h in
+    rw is (w.0, w.1, or_right (is_node a w.0) (is_node b w.0) w.2)

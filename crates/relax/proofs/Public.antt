@@ -1,0 +1,14 @@
+-- What crates above may cite.
+use Rattle.std.proofs.Common.{Bool, true, false, cond, IsTrue}
+use Rattle.std.specs.List.{Contains, filter}
+use Rattle.slices.specs.Actions.{is_legal}
+use Rattle.domains.specs.Sets.{same_element}
+use Rattle.domains.proofs.Public.{filter_is_fewer}
+use Rattle.relax.specs.Laws.{LegalStays}
+
+pub legal_stays : LegalStays
+legal_stays p s x test legal e there c h = at (same_element e x) h
+  where
+    at : (b : Bool) → Contains (cond b (filter test (s e)) (s e)) c → IsTrue (is_legal p e c)
+    at true k = legal e there c (filter_is_fewer test (s e) c k)
+    at false k = legal e there c k

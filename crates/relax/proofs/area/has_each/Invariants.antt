@@ -1,0 +1,6 @@
+use Rattle.std.proofs.Common.{ℕ, ◌<◌, IsTrue}
+use Rattle.cluster.specs.Sets.{has_node}
+use Rattle.relax.proofs.area.has_each.Given as goal
+
+abbrev pub invariant-loop-n : goal.invariant-loop-n
+invariant-loop-n l = (m : ℕ) → m < l.n → IsTrue (has_node l.set m)

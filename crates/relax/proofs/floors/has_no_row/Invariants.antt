@@ -1,0 +1,8 @@
+use Rattle.std.proofs.Common.{◌≢◌, ℕ, ◌+◌, ◌-◌, ◌<◌, ◌≤◌, length, get_or}
+use Rattle.domains.specs.Choices.{place_index}
+use Rattle.domains.specs.declared.parts.Row.{Row}
+use Rattle.relax.proofs.floors.has_no_row.Given as goal
+
+abbrev pub invariant-loop-k : goal.invariant-loop-k
+invariant-loop-k l =
+    (k : ℕ) (d : Row) → (length l.rows + l.fn.n.0) - l.fn.count ≤ k → k < l.k → k < length l.rows → place_index (get_or l.rows k d).place ≢ l.fn.n.0 + 1

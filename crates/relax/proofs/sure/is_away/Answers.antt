@@ -1,0 +1,12 @@
+use Rattle.std.proofs.Common.{◌∙◌, sym}
+use Rattle.domains.specs.Views.{seen}
+use Rattle.slices.specs.Elements.{vm}
+use Rattle.relax.specs.Areas.{nodes_of}
+use Rattle.relax.proofs.AwayLemmas.{away_least}
+use Rattle.relax.proofs.sure.is_away.Goals as goal
+
+pub returns : goal.returns
+returns c =
+    λ t w i.
+    let one = c.may_stay_out.ensures t in
+    away_least c.args.p.now.given c.args.v.0 w (nodes_of c.args.p.now.given c.args.area.now) i (seen c.args.view.now.region.now c.args.view.now.lens (vm c.args.v.0)) one.0 (sym (rw c.state.ensures at c.is_hosted_in.ensures) ∙ c.if-is_hosted_in.false) one.1 one.2

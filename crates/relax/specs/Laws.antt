@@ -1,0 +1,11 @@
+-- Helping only: regions whose choices are all legal.
+use Rattle.std.specs.Prelude.{Bool}
+use Rattle.cluster.specs.declared.choices.Choice.{Choice}
+use Rattle.cluster.specs.declared.ids.Element.{Element}
+use Rattle.catalogue.specs.Instance.{Instance}
+use Rattle.domains.specs.Sets.{Sets, keeping}
+use Rattle.relax.specs.Areas.{AreLegal}
+
+-- where an element keeps some of its choices, legal ones stay legal
+abbrev pub LegalStays : Type 0
+LegalStays = (p : Instance) (s : Sets) (x : Element) (test : Choice → Bool) → AreLegal p s → AreLegal p (keeping x test s)

@@ -1,0 +1,15 @@
+use Rattle.std.proofs.Common.{◌≡◌, ◌++◌, ◌+◌, ◌-◌, ◌≤◌, length, IsTrue}
+use Rattle.transcript.specs.Lines.{IsOneLine}
+use Rattle.transcript.specs.declared.lines.TheConstants.{MAX_LINE_BYTES}
+use Rattle.transcript.proofs.lines.read_line.Given as goal
+
+abbrev pub invariant-bytes : goal.invariant-bytes
+invariant-bytes g l = record {
+  bytes : IsTrue g.I.Source.tells → g.I.Source.rest l.fn.input ≡ l.line.items ++ g.I.Source.rest l.input;
+  one : IsOneLine l.line.items;
+  few : length l.line.items ≤ MAX_LINE_BYTES + 1;
+  faults : g.I.Source.faults l.input ≡ g.I.Source.faults l.fn.input;
+}
+
+abbrev pub decreases-bytes : goal.decreases-bytes
+decreases-bytes g l = (MAX_LINE_BYTES + 1) - length l.line.items
