@@ -11,15 +11,9 @@ use trees::steps::Goal;
 pub enum Verdict {
     /// The certificate proves its goal. The least is there exactly where the goal is `Undecided`: no
     /// valid plan costs less.
-    Yes {
-        goal: Goal,
-        least: Option<u64>,
-    },
+    Yes { goal: Goal, least: Option<u64> },
     /// A line does not hold; the plan file counts as line 0, the header as line 1.
-    No {
-        line: u64,
-        why: Why,
-    },
+    No { line: u64, why: Why },
 }
 
 /// Why there is no verdict.

@@ -70,12 +70,8 @@ impl Frontier {
         ensures sums { open_sums self.new ≡ open_sums self.old }
         ensures entered { OnOk result (IsEntered self.new.due) }
     {
-        if let Due::Outside(element, part) = self.due {
-            self.trail.apply(Change {
-                element,
-                part,
-                side: Side::Outside,
-            })?;
+        if let Due::Outside(x, part) = self.due {
+            self.trail.apply(to_side(x, part, Side::Outside))?;
             self.due = Due::Whole;
         }
         Ok(())
@@ -110,11 +106,7 @@ impl Frontier {
         ensures sums { OnOk result (open_sums self.new ≡ sum ∷ later_sums self.old) }
         ensures err { OnErr result (AreSame self.old self.new) }
     {
-        self.trail.apply(Change {
-            element,
-            part,
-            side: Side::Outside,
-        })?;
+        self.trail.apply(to_side(element, part, Side::Outside))?;
         self.sum = sum;
         Ok(())
     }
@@ -131,11 +123,8 @@ impl Frontier {
         ensures err { OnErr result (AreSame self.old self.new) }
     {
         self.trail.mark()?;
-        if let Err(failed) = self.trail.apply(Change {
-            element: outer.element,
-            part: outer.part,
-            side: Side::Inside,
-        }) {
+        let inner = to_side(outer.element, outer.part, Side::Inside);
+        if let Err(failed) = self.trail.apply(inner) {
             self.trail.back();
             return Err(failed);
         }
@@ -145,5 +134,16 @@ impl Frontier {
         }
         self.sum = inner_sum;
         Ok(())
+    }
+}
+
+// the change that keeps one side of a part
+fn to_side(element: Element, part: Part, side: Side) -> Change
+    ensures { result ≡ record { element = element; part = part; side = side } }
+{
+    Change {
+        element,
+        part,
+        side,
     }
 }
