@@ -19,7 +19,6 @@ import time
 
 TOP = os.path.dirname(os.path.dirname(os.path.realpath(__file__)))
 PROGRAM = os.path.join(TOP, "crates", "btrplan", "out", "btrplan")
-PRINTER = os.path.join(TOP, "crates", "bench_printing", "out", "bench_printing")
 MIB = 1 << 20
 MOST = 64 * MIB  # the most bytes of an instance
 EMPTY = '{"horizon":5,"resources":[],"nodes":[],"machines":[],"constraints":[]}'
@@ -190,10 +189,6 @@ MEASUREMENTS = {
 }
 
 
-# what is printed, where `bench_printing` was built by `rt run` in its folder
-PRINTED = ("names-1", "names-8", "names-64")
-
-
 def write(folder, name, pieces):
     """Writes a text into a file of the folder, and gives the file's name."""
     file = os.path.join(folder, name)
@@ -253,21 +248,6 @@ def generate(folder):
     return run("generate", os.path.join(folder, "generated.json"), before=("1",))
 
 
-def printing(folder, pieces):
-    """Prints an instance in memory: the seconds of the processor for one printing more, and the megabytes in one of them."""
-    instance_file = write(folder, "instance.json", pieces)
-    seconds = []
-    for times in ("1", "4"):
-        with subprocess.Popen([PRINTER, instance_file, times], stdin=subprocess.DEVNULL) as ran:
-            _, status, usage = os.wait4(ran.pid, 0)
-            ran.returncode = os.waitstatus_to_exitcode(status)
-        if ran.returncode:
-            return f"status {ran.returncode}"
-        seconds.append(usage.ru_utime + usage.ru_stime)
-    once = (seconds[1] - seconds[0]) / 3
-    return f"{once:.2f} s, {os.path.getsize(instance_file) / 1e6 / once:.1f} MB/s, peak {usage.ru_maxrss / 1024:.0f} MiB"
-
-
 def report(name, measured):
     size, status, seconds, used, line = measured
     cpu = used.ru_utime + used.ru_stime
@@ -293,9 +273,6 @@ def main():
                 report(name, execute(folder, parts()))
         if not wanted or "generate".startswith(wanted):
             report("generate", generate(folder))
-        for name in PRINTED:
-            if os.path.exists(PRINTER) and (not wanted or f"printing-{name}".startswith(wanted)):
-                print(f"{'printing-' + name:<16} {printing(folder, MEASUREMENTS[name]())}", flush=True)
     return 0
 
 
