@@ -5,6 +5,8 @@ mod certificate;
 mod lines;
 mod named;
 mod take;
+#[cfg(test)]
+mod tests;
 mod verdict;
 
 pub use certificate::check;
