@@ -24,7 +24,10 @@ pub enum Command<'a> {
         plan_file: &'a str,
     },
     /// Generates the problem of a seed, and writes it as the instance.
-    Generate { seed: u64, instance: &'a str },
+    Generate {
+        seed: u64,
+        instance: &'a str,
+    },
 }
 
 /// The most bytes of a file's name.

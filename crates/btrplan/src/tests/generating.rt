@@ -29,7 +29,11 @@ fn generates(rt: &impl Abort, alloc: Global, case: Case<'_>, at: usize) -> Resul
     let answer = run(alloc, &words, &mut desk, &mut input, &mut out);
     assert_eq!(rt; answer, status, "at {at}");
     assert_eq!(rt; out.written(), printed, "at {at}");
-    assert_eq!(rt; desk.get("g").map(|bytes| bytes.len()), Some(left), "at {at}");
+    assert_eq!(rt;
+        desk.get("g").map(|bytes| bytes.len()),
+        Some(left),
+        "at {at}"
+    );
     assert_eq!(rt; desk.get("other"), Some(b"kept".as_slice()), "at {at}");
     Ok(())
 }
@@ -39,8 +43,16 @@ fn answers(rt: HostRuntime) -> Result<(), Fail> {
     let alloc = rt.alloc();
     let words = (Status::Words, b"words\n".as_slice(), 3);
     let table: [Case<'_>; 11] = [
-        ("generate 1 g", (None, None), (Status::Good, b"generated 1\n", 18017)),
-        ("generate 0 g", (None, None), (Status::Good, b"generated 0\n", 18017)),
+        (
+            "generate 1 g",
+            (None, None),
+            (Status::Good, b"generated 1\n", 18017),
+        ),
+        (
+            "generate 0 g",
+            (None, None),
+            (Status::Good, b"generated 0\n", 18017),
+        ),
         (
             "generate 18446744073709551615 g",
             (None, None),
@@ -51,9 +63,21 @@ fn answers(rt: HostRuntime) -> Result<(), Fail> {
         ("generate +1 g", (None, None), words),
         ("generate  g", (None, None), words),
         ("generate 1", (None, None), words),
-        ("generate 1 g", (Some(0), None), (Status::WriteFault, b"", 3)),
-        ("generate 1 g", (Some(1), None), (Status::WriteFault, b"", 0)),
-        ("generate 1 g", (None, Some(0)), (Status::WriteFault, b"", 18017)),
+        (
+            "generate 1 g",
+            (Some(0), None),
+            (Status::WriteFault, b"", 3),
+        ),
+        (
+            "generate 1 g",
+            (Some(1), None),
+            (Status::WriteFault, b"", 0),
+        ),
+        (
+            "generate 1 g",
+            (None, Some(0)),
+            (Status::WriteFault, b"", 18017),
+        ),
     ];
     for (at, case) in table.into_iter().enumerate() {
         generates(&rt, alloc, case, at)?;
