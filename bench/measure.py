@@ -3,8 +3,9 @@
 
     bench/measure.py [WORD..]     the measurements whose names begin with a WORD, or all
 
-It writes instances of growing size, and plans for some of them, into a temporary folder, plans,
-replays or executes each, generates one, and prints a line: the measurement, the bytes of the instance, the status, the seconds,
+It writes instances of growing size, and plans and certificates for some of them, into a temporary folder, plans,
+replays, executes or checks each, generates one, and prints a line: the measurement, the bytes of the instance (or of the
+certificate, where one is checked; they have a million lines), the status, the seconds,
 those of the processor (user and system), the megabytes in a second of the processor, the peak of the
 resident memory, and the last line that the program printed. Nothing is compared with a wanted time.
 The program is built first where that is due.
@@ -171,6 +172,44 @@ EXECUTIONS = {
     "execute-at-once": lambda: moves(0, 0, 0),
 }
 
+# The most lines of cuts that a certificate below has, and the machines of the instance that it is of.
+LINES = 1_000_000
+RUNNING = 600
+
+
+def crowd(nodes, duration, horizon):
+    """600 machines that run on so many nodes, on which nothing else has room, each fenced to its own node at the end."""
+    names = [f"node-{n}" for n in range(nodes)]
+    machines = [
+        {"name": f"vm-{v}", "state": "running", "node": names[v % nodes], "use": {"cpu": 1}} for v in range(RUNNING)]
+    fences = [
+        {"kind": "fence", "machines": [f"vm-{v}" for v in range(n, RUNNING, nodes)], "nodes": [name]}
+        for n, name in enumerate(names)]
+    return {
+        "horizon": horizon, "resources": ["cpu"], "durations": {"migrate": {"base": duration}},
+        "nodes": [{"name": n, "capacity": {"cpu": RUNNING // nodes}} for n in names], "machines": machines,
+        "constraints": fences}
+
+
+def cuts(nodes, starts, reason):
+    """A certificate of 100 nodes and 600 machines: each machine is kept from each other node, start by start."""
+    yield "btrplan certificate 1\n"
+    left = LINES
+    for v in range(RUNNING):
+        for n in range(nodes):
+            for start in range(0 if n == v % nodes else min(starts, left)):
+                left -= 1
+                yield f"cut vm-{v} upto node-{n} {start} {reason(v, n, start)}\n"
+    yield "fail bound\nend optimal 0\n"
+
+
+# The certificates that are checked, with their instances: by the places that are forbidden at the end, and by the loads of nodes
+# that no machine has left yet.
+CHECKS = {
+    "check-places": lambda: (crowd(100, 3, 20), cuts(100, 17, lambda v, n, start: f"place {v % 100} 20 vm-{v} node-{n}")),
+    "check-loads": lambda: (crowd(100, 20, 60), cuts(100, 17, lambda v, n, start: f"load {start} cpu node-{n}")),
+}
+
 MEASUREMENTS = {
     "names-1": lambda: instance(512, 4096, 4096, 20),
     "names-8": lambda: instance(512, 4096, 4096, 200),
@@ -243,6 +282,14 @@ def execute(folder, parts):
         return run("execute", *files, events=lines)
 
 
+def check(folder, parts):
+    """Checks a certificate that staying costs least; the bytes are those of the certificate."""
+    instance, certificate = parts
+    files = files_of(folder, (instance, {"actions": []}))
+    lines = write(folder, "certificate.txt", certificate)
+    return os.path.getsize(lines), *run("check", *files, lines)[1:]
+
+
 def generate(folder):
     """Generates an instance, and prints it."""
     return run("generate", os.path.join(folder, "generated.json"), before=("1",))
@@ -271,6 +318,9 @@ def main():
         for name, parts in EXECUTIONS.items():
             if not wanted or name.startswith(wanted):
                 report(name, execute(folder, parts()))
+        for name, parts in CHECKS.items():
+            if not wanted or name.startswith(wanted):
+                report(name, check(folder, parts()))
         if not wanted or "generate".startswith(wanted):
             report("generate", generate(folder))
     return 0
