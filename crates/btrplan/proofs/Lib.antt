@@ -3,6 +3,7 @@ pub mod Ends
 pub mod ExecuteAnswers
 pub mod GenerateAnswers
 pub mod LastLines
+pub mod OneStep
 pub mod PlanAnswers
 pub mod Printing
 pub mod Readings
