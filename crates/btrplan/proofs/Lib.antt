@@ -1,4 +1,5 @@
 pub mod Causing
+pub mod CheckAnswers
 pub mod Ends
 pub mod ExecuteAnswers
 pub mod GenerateAnswers

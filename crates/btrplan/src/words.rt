@@ -4,7 +4,7 @@ ghost use Rattle.std.specs.Prelude.{◌≡◌, [], ◌∷◌, option_map, IfSome
 ghost use Rattle.btrplan.specs.Words.{asked, are_names, is_name, is_plain, seed_of, generate};
 ghost use Rattle.btrplan.specs.Meaning.{meaning, HasFilesApart};
 
-/// A command, with the names of its files and its seed.
+/// A command, with the names of its files, and its seed or whether the check is strict.
 #[derive(Clone, Copy, Debug, PartialEq, Eq)]
 pub enum Command<'a> {
     /// Plans the instance, and writes the plan and its certificate.
@@ -12,6 +12,13 @@ pub enum Command<'a> {
         instance: &'a str,
         plan_file: &'a str,
         certificate: &'a str,
+    },
+    /// Checks the certificate of a plan of the instance, or of none; strict: whether its tree has to be lean.
+    Check {
+        instance: &'a str,
+        plan_file: &'a str,
+        certificate: &'a str,
+        strict: bool,
     },
     /// Replays a plan of the instance, and prints the verdict on it.
     Replay {
@@ -98,6 +105,27 @@ pub fn read_words(words: &[String]) -> Option<Command<'_>>
                 instance: instance.as_str(),
                 plan_file: plan_file.as_str(),
                 certificate: certificate.as_str(),
+            })
+        }
+        [word, instance, plan_file, certificate]
+            if word.as_str() == "check"
+                && are_three_names(instance.as_str(), plan_file.as_str(), certificate.as_str()) => {
+            Some(Command::Check {
+                instance: instance.as_str(),
+                plan_file: plan_file.as_str(),
+                certificate: certificate.as_str(),
+                strict: false,
+            })
+        }
+        [word, instance, plan_file, certificate, last]
+            if word.as_str() == "check"
+                && last.as_str() == "strict"
+                && are_three_names(instance.as_str(), plan_file.as_str(), certificate.as_str()) => {
+            Some(Command::Check {
+                instance: instance.as_str(),
+                plan_file: plan_file.as_str(),
+                certificate: certificate.as_str(),
+                strict: true,
             })
         }
         [word, instance, plan_file]
