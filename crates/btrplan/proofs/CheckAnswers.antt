@@ -11,7 +11,7 @@ use Rattle.cert_check.specs.declared.verdict.Verdict.{Verdict}
 use Rattle.cert_check.specs.Verdicts.{CheckGives, CountsCheck, IsSound}
 use Rattle.btrplan.specs.Words.{check}
 use Rattle.btrplan.specs.Answer.{Outside, outside}
-use Rattle.btrplan.specs.Causes.{ReadCauses, PartCauses}
+use Rattle.btrplan.specs.Causes.{ReadCauses}
 use Rattle.btrplan.specs.Inputs.Instance.{instance_in}
 use Rattle.btrplan.specs.Inputs.Plan.{any_plan_in}
 use Rattle.btrplan.specs.Commands.{IsAnswer}
@@ -137,16 +137,3 @@ pub answered : (instance plan_file certificate : List ℕ) (strict : Bool) (sour
 answered instance plan_file certificate strict source before between then after printed p plan ended kept then_kept read plan_read ends =
     ends_more (Checks p certificate strict plan (outside before printed)) (IsAnswer (Some (check instance plan_file certificate strict)) source (outside before printed)) (outside after printed) ended
     (λ last result. checked instance plan_file certificate strict source (outside before printed) last p plan result read (rw kept at plan_read)) (rw (then_kept, kept) at ends)
-
--- the counts of a command that only reads the desk
-pub read_part : (reads_before reads_after writes_before writes_after : ℕ) (ended : Result Ending Fault) → ReadCauses reads_before reads_after ended → IfErr ended IsOfReading → writes_after ≡ writes_before →
-    PartCauses reads_before reads_after writes_before writes_after ended
-read_part reads_before reads_after writes_before writes_after ended causes kind kept = record {
-  read = causes.failed;
-  write = λ e. absurd (no_write ended kind e);
-  reads = causes.kept;
-  writes = inl kept;
-}
-  where
-    no_write : (ended : Result Ending Fault) → IfErr ended IsOfReading → ended ≡ Err fault.WriteFault → ⊥
-    no_write ended kind e = let wrong : IfErr {B = Fault} (Err {A = Ending} fault.WriteFault) IsOfReading = rw e at kind in wrong

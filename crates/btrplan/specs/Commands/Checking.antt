@@ -40,12 +40,20 @@ abbrev pub least_text : Option ℕ → List ℕ
 least_text None = []
 least_text (Some least) = codes " least " ++ decimal least
 
+-- The line of a yes to what is undecided.
+abbrev pub undecided_line : (count : ℕ) (least : Option ℕ) → List ℕ
+undecided_line count least = codes "yes undecided " ++ decimal count ++ least_text least ++ codes "\n"
+
+-- The line of a no.
+abbrev pub no_line : (number : ℕ) (cause : Why) → List ℕ
+no_line number cause = codes "no " ++ decimal number ++ codes " " ++ why_text cause ++ codes "\n"
+
 -- The line of a verdict.
 unfoldable pub verdict_line : Verdict → List ℕ
 verdict_line (Yes (Optimal cost) least) = codes "yes optimal " ++ decimal cost ++ codes "\n"
 verdict_line (Yes Infeasible least) = codes "yes infeasible\n"
-verdict_line (Yes (Undecided count) least) = codes "yes undecided " ++ decimal count ++ least_text least ++ codes "\n"
-verdict_line (No number cause) = codes "no " ++ decimal number ++ codes " " ++ why_text cause ++ codes "\n"
+verdict_line (Yes (Undecided count) least) = undecided_line count least
+verdict_line (No number cause) = no_line number cause
 
 -- Its status.
 abbrev pub verdict_status : Verdict → Status

@@ -9,8 +9,9 @@ ghost use Rattle.btrplan.specs.Words.{check};
 ghost use Rattle.btrplan.specs.Answer.{outside};
 ghost use Rattle.btrplan.specs.Causes.{PartCauses, ReadCauses};
 ghost use Rattle.btrplan.specs.Commands.{MayRun, IsAnswer};
-ghost use Rattle.btrplan.specs.Commands.Checking.{Checks, IsLineRefusal, least_text, not_a_line};
-ghost use Rattle.btrplan.specs.Commands.Checking.{too_long_line, verdict_line, verdict_status, why_text};
+ghost use Rattle.btrplan.specs.Commands.Checking.{Checks, IsLineRefusal, no_line, not_a_line};
+ghost use Rattle.btrplan.specs.Commands.Checking.{too_long_line, undecided_line, verdict_line};
+ghost use Rattle.btrplan.specs.Commands.Checking.{verdict_status, why_text};
 ghost use Rattle.btrplan.specs.Endings.{Ends, IsLastLine, IsOfReading, IsRefusal, outcome_status};
 
 use crate::fault::{Ending, Fault, Outcome};
@@ -42,14 +43,22 @@ fn why_text(why: Why) -> &'static str
     }
 }
 
-/// The least cost of what is undecided.
-fn least_text(alloc: Global, least: Option<u64>) -> Result<String, Memory>
-    ensures { IfOk result (λ text. string_bytes text ≡ least_text least) }
+/// The line of a yes to what is undecided.
+fn undecided_line(alloc: Global, count: u64, least: Option<u64>) -> Result<String, Memory>
+    ensures { IfOk result (λ line. string_bytes line ≡ undecided_line count least) }
 {
     match least {
-        None => Ok(String::new(alloc)),
-        Some(least) => Ok(format!(in alloc; " least {least}")?),
+        None => Ok(format!(in alloc; "yes undecided {count}\n")?),
+        Some(least) => Ok(format!(in alloc; "yes undecided {count} least {least}\n")?),
     }
+}
+
+/// The line of a no.
+fn no_line(alloc: Global, number: u64, why: Why) -> Result<String, Memory>
+    ensures { IfOk result (λ line. string_bytes line ≡ no_line number why) }
+{
+    let why = why_text(why);
+    Ok(format!(in alloc; "no {number} {why}\n")?)
 }
 
 /// The line of a verdict.
@@ -69,14 +78,8 @@ fn verdict_line(alloc: Global, verdict: Verdict) -> Result<String, Memory>
         Verdict::Yes {
             goal: Goal::Undecided(count),
             least,
-        } => {
-            let least = least_text(alloc, least)?;
-            Ok(format!(in alloc; "yes undecided {count}{least}\n")?)
-        }
-        Verdict::No { line, why } => {
-            let why = why_text(why);
-            Ok(format!(in alloc; "no {line} {why}\n")?)
-        }
+        } => undecided_line(alloc, count, least),
+        Verdict::No { line, why } => no_line(alloc, line, why),
     }
 }
 
