@@ -1,5 +1,6 @@
 -- What `check` answers, by the readings of its inputs and what the check gives.
-use Rattle.std.proofs.Common.{◌≡◌, ℕ, Bool, List, ◌++◌, Option, Some, Result, Ok, Err, IfOk, IfErr, refl, inl, inr}
+use Rattle.std.proofs.Common.{◌≡◌, ◌∙◌, ℕ, Bool, List, ◌++◌, Option, Some, codes, Result, Ok, Err, IfOk, IfErr, refl, sym, inl, inr, append_assoc}
+use Rattle.std.specs.Fmt.{decimal}
 use Rattle.catalogue.specs.Instance.{Instance}
 use Rattle.slices.specs.Plans.{Choices}
 use Rattle.plan_io.specs.Files.{Files, bytes_of}
@@ -15,7 +16,7 @@ use Rattle.btrplan.specs.Causes.{ReadCauses}
 use Rattle.btrplan.specs.Inputs.Instance.{instance_in}
 use Rattle.btrplan.specs.Inputs.Plan.{any_plan_in}
 use Rattle.btrplan.specs.Commands.{IsAnswer}
-use Rattle.btrplan.specs.Commands.Checking.{Checks, IsChecked, IsLineRefusal, SaysGiven, verdict_line, verdict_status, not_a_line, too_long_line, short_line}
+use Rattle.btrplan.specs.Commands.Checking.{Checks, IsChecked, IsLineRefusal, SaysGiven, undecided_line, verdict_line, verdict_status, not_a_line, too_long_line, short_line}
 use Rattle.btrplan.specs.Endings.{Ends, IsLastLine, IsOfReading, IsRefusal}
 use Rattle.btrplan.specs.declared.fault.Ending.{Ending}
 use Rattle.btrplan.specs.declared.fault.Fault.{Fault}
@@ -26,6 +27,16 @@ use Rattle.btrplan.proofs.Ends.{says, answers_well, answers_refused, ends_more}
 use Rattle.btrplan.proofs.LastLines.{ends_with_line}
 
 -- ---- a verdict
+
+-- the line of a yes with a least cost
+pub with_least : (count least : ℕ) (given : Option ℕ) (line : List ℕ) → given ≡ Some least →
+    line ≡ codes "yes undecided " ++ (decimal count ++ (codes " least " ++ (decimal least ++ codes "\n"))) → line ≡ undecided_line count given
+with_least count least given line is e =
+    let whole : codes "yes undecided " ++ decimal count ++ codes " least " ++ decimal least ++ codes "\n" ≡ codes "yes undecided " ++ (decimal count ++ (codes " least " ++ (decimal least ++ codes "\n"))) =
+        append_assoc (codes "yes undecided " ++ decimal count ++ codes " least ") (decimal least) (codes "\n")
+        ∙ append_assoc (codes "yes undecided " ++ decimal count) (codes " least ") (decimal least ++ codes "\n")
+        ∙ append_assoc (codes "yes undecided ") (decimal count) (codes " least " ++ (decimal least ++ codes "\n")) in
+    rw is (e ∙ sym whole)
 
 -- its line is due
 pub verdict_ends : (p : Instance) (certificate : List ℕ) (strict : Bool) (plan : Option Choices) (before after : Files) (printed : List ℕ) (verdict : Verdict) (ended : Result Ending Fault) →

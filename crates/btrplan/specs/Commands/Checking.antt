@@ -35,14 +35,10 @@ why_text why.Plan = codes "plan"
 why_text why.Goal = codes "goal"
 why_text why.Lean = codes "lean"
 
--- The least cost that is proved of what is undecided.
-abbrev pub least_text : Option ℕ → List ℕ
-least_text None = []
-least_text (Some least) = codes " least " ++ decimal least
-
--- The line of a yes to what is undecided.
+-- The line of a yes to what is undecided, with the least cost that is proved of it, if one is.
 abbrev pub undecided_line : (count : ℕ) (least : Option ℕ) → List ℕ
-undecided_line count least = codes "yes undecided " ++ decimal count ++ least_text least ++ codes "\n"
+undecided_line count None = codes "yes undecided " ++ decimal count ++ codes "\n"
+undecided_line count (Some least) = codes "yes undecided " ++ decimal count ++ codes " least " ++ decimal least ++ codes "\n"
 
 -- The line of a no.
 abbrev pub no_line : (number : ℕ) (cause : Why) → List ℕ

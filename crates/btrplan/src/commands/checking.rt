@@ -9,7 +9,7 @@ ghost use Rattle.btrplan.specs.Words.{check};
 ghost use Rattle.btrplan.specs.Answer.{outside};
 ghost use Rattle.btrplan.specs.Causes.{PartCauses, ReadCauses};
 ghost use Rattle.btrplan.specs.Commands.{MayRun, IsAnswer};
-ghost use Rattle.btrplan.specs.Commands.Checking.{Checks, IsLineRefusal, least_text, no_line, not_a_line};
+ghost use Rattle.btrplan.specs.Commands.Checking.{Checks, IsLineRefusal, no_line, not_a_line};
 ghost use Rattle.btrplan.specs.Commands.Checking.{too_long_line, undecided_line, verdict_line};
 ghost use Rattle.btrplan.specs.Commands.Checking.{verdict_status, why_text};
 ghost use Rattle.btrplan.specs.Endings.{Ends, IsLastLine, IsOfReading, IsRefusal, outcome_status};
@@ -43,25 +43,14 @@ fn why_text(why: Why) -> &'static str
     }
 }
 
-/// The least cost of what is undecided.
-fn least_text(alloc: Global, least: Option<u64>) -> Result<String, Memory>
-    ensures { IfOk result (λ text. string_bytes text ≡ least_text least) }
-{
-    match least {
-        None => Ok(String::new(alloc)),
-        Some(least) => Ok(format!(in alloc; " least {least}")?),
-    }
-}
-
 /// The line of a yes to what is undecided.
 fn undecided_line(alloc: Global, count: u64, least: Option<u64>) -> Result<String, Memory>
     ensures { IfOk result (λ line. string_bytes line ≡ undecided_line count least) }
 {
-    let least = least_text(alloc, least)?;
-    let mut line = format!(in alloc; "yes undecided {count}")?;
-    line.push_str(least.as_str())?;
-    line.push_str("\n")?;
-    Ok(line)
+    match least {
+        None => Ok(format!(in alloc; "yes undecided {count}\n")?),
+        Some(least) => Ok(format!(in alloc; "yes undecided {count} least {least}\n")?),
+    }
 }
 
 /// The line of a no.
