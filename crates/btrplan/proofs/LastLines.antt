@@ -1,8 +1,8 @@
 -- How a part ends that has a last line, and what is so however it ends.
-use Rattle.std.proofs.Common.{◌≡◌, ℕ, List, ◌++◌, Option, Some, None, Result, Ok, Err, option_map, String, string_bytes, refl, sym, subst}
+use Rattle.std.proofs.Common.{◌≡◌, ℕ, Bool, List, ◌++◌, Option, Some, None, Result, Ok, Err, option_map, String, string_bytes, refl, sym, subst}
 use Rattle.std.specs.declared.alloc.Global.{Global}
 use Rattle.sums.proofs.Prefixes.{whole, longer}
-use Rattle.btrplan.specs.Words.{Command, plan, replay}
+use Rattle.btrplan.specs.Words.{Command, plan, check, replay}
 use Rattle.btrplan.specs.Answer.{Outside, outside}
 use Rattle.btrplan.specs.Commands.{Takes}
 use Rattle.btrplan.specs.Commands.Executing.{Taking}
@@ -81,6 +81,11 @@ pub plan_takes : (command : Option Command) (instance plan_file certificate : Li
     command ≡ Some (plan instance plan_file certificate) → EndsAnyhow (Takes command taking before) after ended
 plan_takes command instance plan_file certificate taking before after ended is =
     rw is (always_anyhow (Takes (Some (plan instance plan_file certificate)) taking before) after ended (λ then result. tt))
+
+pub check_takes : (command : Option Command) (instance plan_file certificate : List ℕ) (strict : Bool) (taking : Taking) (before after : Outside) (ended : Result Ending Fault) →
+    command ≡ Some (check instance plan_file certificate strict) → EndsAnyhow (Takes command taking before) after ended
+check_takes command instance plan_file certificate strict taking before after ended is =
+    rw is (always_anyhow (Takes (Some (check instance plan_file certificate strict)) taking before) after ended (λ then result. tt))
 
 pub replay_takes : (command : Option Command) (instance plan_file : List ℕ) (taking : Taking) (before after : Outside) (ended : Result Ending Fault) → command ≡ Some (replay instance plan_file) →
     EndsAnyhow (Takes command taking before) after ended

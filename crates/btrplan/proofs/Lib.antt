@@ -1,8 +1,10 @@
 pub mod Causing
+pub mod CheckAnswers
 pub mod Ends
 pub mod ExecuteAnswers
 pub mod GenerateAnswers
 pub mod LastLines
+pub mod OneStep
 pub mod PlanAnswers
 pub mod Printing
 pub mod Readings

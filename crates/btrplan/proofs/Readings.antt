@@ -1,5 +1,5 @@
 -- What the readings of an instance and of a plan answer.
-use Rattle.std.proofs.Common.{◌≡◌, ◌<◌, ◌≤◌, ℕ, List, Bool, length, nat_le, true, false, Some, None, Result, Ok, Err, if◌then◌else◌, codes, refl, ap, arith}
+use Rattle.std.proofs.Common.{◌≡◌, ◌<◌, ◌≤◌, ℕ, List, Bool, length, nat_le, true, false, Option, Some, None, Result, Ok, Err, if◌then◌else◌, codes, refl, ap, arith}
 use Rattle.std.proofs.lemmas.Bool.Decides.{nat_tests}
 use Rattle.catalogue.specs.Instance.{Instance, inventory_of}
 use Rattle.json_walk.specs.Walk.{Fails}
@@ -14,10 +14,11 @@ use Rattle.plan_json.specs.Texts.{fault_text as plan_fault_text}
 use Rattle.plan_json.specs.Walk.{plan_fault_of}
 use Rattle.plan_json.specs.declared.fault.PlanFault.{PlanFault}
 use Rattle.plan_json.specs.declared.fault.PlanFault.TheVariants as of_plan
+use Rattle.cert_model.specs.Walks.{choices_handed}
 use Rattle.json_walk.specs.declared.reading.TheConstants.{MAX_TEXT_BYTES}
 use Rattle.btrplan.specs.Inputs.{input_line, whole_of}
 use Rattle.btrplan.specs.Inputs.Instance.{reading_of, instance_line, lined}
-use Rattle.btrplan.specs.Inputs.Plan.{plan_reading_of, plan_line, plan_lined}
+use Rattle.btrplan.specs.Inputs.Plan.{plan_reading_of, plan_line, plan_lined, any_plan_reading_of, any_plan_lined}
 
 -- ---- all bytes of an input
 
@@ -96,5 +97,31 @@ first_plan_fault p bytes of_plan.Memory other h = absurd (other refl)
 pub long_plan : (p : Instance) (bytes line : List ℕ) → whole_of (codes "plan") bytes ≡ Err line → plan_reading_of p bytes ≡ Err line
 unfolding plan_reading_of plan_of plan_fault_text
 long_plan p bytes line h =
+    let long = long_line (codes "plan") bytes line h in
+    rw (long.0, long.1) refl
+
+-- ---- a plan or none
+
+-- what the bytes are
+pub any_plan : (p : Instance) (bytes : List ℕ) (plan : Option PlanChoices) → plan_of p bytes ≡ Ok plan → any_plan_reading_of p bytes ≡ Ok (choices_handed plan)
+unfolding any_plan_reading_of
+any_plan p bytes plan h = ap (any_plan_lined p) h
+
+-- a fault that is not want of memory is the first one
+pub first_fault_of_any_plan : (p : Instance) (bytes : List ℕ) (f : PlanFault) → ¬ (f ≡ of_plan.Memory) → Fails (plan_fault_of f) (plan_of p bytes) → any_plan_reading_of p bytes ≡ Err (plan_line (plan_fault_text (inventory_of p) f))
+unfolding any_plan_reading_of
+first_fault_of_any_plan p bytes of_plan.TooLong other h = ap (any_plan_lined p) h
+first_fault_of_any_plan p bytes of_plan.NotJson other h = ap (any_plan_lined p) h
+first_fault_of_any_plan p bytes (of_plan.Field x) other h = ap (any_plan_lined p) h
+first_fault_of_any_plan p bytes (of_plan.NoSuch x) other h = ap (any_plan_lined p) h
+first_fault_of_any_plan p bytes (of_plan.Twice x) other h = ap (any_plan_lined p) h
+first_fault_of_any_plan p bytes (of_plan.NotLegal x) other h = ap (any_plan_lined p) h
+first_fault_of_any_plan p bytes (of_plan.MustAct x) other h = ap (any_plan_lined p) h
+first_fault_of_any_plan p bytes of_plan.Memory other h = absurd (other refl)
+
+-- the line that its bytes are too many refuses it
+pub long_any_plan : (p : Instance) (bytes line : List ℕ) → whole_of (codes "plan") bytes ≡ Err line → any_plan_reading_of p bytes ≡ Err line
+unfolding any_plan_reading_of plan_of plan_fault_text
+long_any_plan p bytes line h =
     let long = long_line (codes "plan") bytes line h in
     rw (long.0, long.1) refl

@@ -1,14 +1,16 @@
 -- What each command answers and leaves: a line for each command in each table, and a room for each below.
 pub mod Planning
+pub mod Checking
 pub mod Replaying
 pub mod Executing
 pub mod Generating
 use Rattle.std.specs.Prelude.{◌≡◌, Bool, ℕ, List, Option, Some, None, IsTrue, codes}
 use Rattle.plan_io.specs.Files.{Files}
-use Rattle.btrplan.specs.Words.{Command, plan, replay, execute, generate}
+use Rattle.btrplan.specs.Words.{Command, plan, check, replay, execute, generate}
 use Rattle.btrplan.specs.Inputs.Instance.{instance_in}
 use Rattle.btrplan.specs.Answer.{Outside, Says, AnswersBy, LeavesBy}
 use Rattle.btrplan.specs.Commands.Planning.{IsPlanned, LeavesPlanned}
+use Rattle.btrplan.specs.Commands.Checking.{IsChecked}
 use Rattle.btrplan.specs.Commands.Replaying.{IsReplayed}
 use Rattle.btrplan.specs.Commands.Executing.{IsExecuted, Starts, Taking, TakesRead}
 use Rattle.btrplan.specs.Commands.Generating.{IsGenerated, LeavesGenerated}
@@ -19,6 +21,7 @@ use Rattle.btrplan.specs.declared.status.Status.TheVariants as status
 abbrev pub MayRun : (reads writes : List ℕ → Bool) → Option Command → Type 0
 MayRun reads writes None = Unit {0}
 MayRun reads writes (Some (plan instance plan_file certificate)) = IsTrue (reads instance) × IsTrue (writes plan_file) × IsTrue (writes certificate)
+MayRun reads writes (Some (check instance plan_file certificate strict)) = IsTrue (reads instance) × IsTrue (reads plan_file) × IsTrue (reads certificate)
 MayRun reads writes (Some (replay instance plan_file)) = IsTrue (reads instance) × IsTrue (reads plan_file)
 MayRun reads writes (Some (execute instance plan_file)) = IsTrue (reads instance) × IsTrue (reads plan_file)
 MayRun reads writes (Some (generate seed instance)) = IsTrue (writes instance)
@@ -28,6 +31,8 @@ unfoldable pub IsAnswer : Option Command → Option (List ℕ) → Outside → O
 IsAnswer None source before after result = Says (codes "words\n") status.Words before after result
 IsAnswer (Some (plan instance plan_file certificate)) source before after result =
     AnswersBy (IsPlanned plan_file certificate) (instance_in before.files instance) before after result
+IsAnswer (Some (check instance plan_file certificate strict)) source before after result =
+    AnswersBy (IsChecked plan_file certificate strict) (instance_in before.files instance) before after result
 IsAnswer (Some (replay instance plan_file)) source before after result =
     AnswersBy (IsReplayed plan_file) (instance_in before.files instance) before after result
 IsAnswer (Some (execute instance plan_file)) source before after result =
@@ -38,6 +43,7 @@ IsAnswer (Some (generate seed instance)) source before after result = IsGenerate
 abbrev pub Leaves : Option Command → Files → Files → Type 0
 Leaves None before after = after ≡ before
 Leaves (Some (plan instance plan_file certificate)) before after = LeavesBy (LeavesPlanned plan_file certificate) (instance_in before instance) before after
+Leaves (Some (check instance plan_file certificate strict)) before after = after ≡ before
 Leaves (Some (replay instance plan_file)) before after = after ≡ before
 Leaves (Some (execute instance plan_file)) before after = after ≡ before
 Leaves (Some (generate seed instance)) before after = LeavesGenerated seed instance before after
@@ -46,6 +52,7 @@ Leaves (Some (generate seed instance)) before after = LeavesGenerated seed insta
 abbrev pub LeavesAtFailedRead : Option Command → Files → Files → Type 0
 LeavesAtFailedRead None before after = after ≡ before
 LeavesAtFailedRead (Some (plan instance plan_file certificate)) before after = after ≡ before
+LeavesAtFailedRead (Some (check instance plan_file certificate strict)) before after = after ≡ before
 LeavesAtFailedRead (Some (replay instance plan_file)) before after = after ≡ before
 LeavesAtFailedRead (Some (execute instance plan_file)) before after = after ≡ before
 LeavesAtFailedRead (Some (generate seed instance)) before after = ⊥
@@ -54,6 +61,7 @@ LeavesAtFailedRead (Some (generate seed instance)) before after = ⊥
 abbrev pub KeepsSource : {S : Type 0} → Bool → Files → Option Command → S → S → Type 0
 KeepsSource told files None before after = after ≡ before
 KeepsSource told files (Some (plan instance plan_file certificate)) before after = after ≡ before
+KeepsSource told files (Some (check instance plan_file certificate strict)) before after = after ≡ before
 KeepsSource told files (Some (replay instance plan_file)) before after = after ≡ before
 KeepsSource told files (Some (execute instance plan_file)) before after = IsTrue told → ¬ Starts files instance plan_file → after ≡ before
 KeepsSource told files (Some (generate seed instance)) before after = after ≡ before
@@ -62,6 +70,7 @@ KeepsSource told files (Some (generate seed instance)) before after = after ≡ 
 abbrev pub Takes : Option Command → Taking → Outside → Outside → Status → Type 0
 Takes None taking before after result = Unit {0}
 Takes (Some (plan instance plan_file certificate)) taking before after result = Unit {0}
+Takes (Some (check instance plan_file certificate strict)) taking before after result = Unit {0}
 Takes (Some (replay instance plan_file)) taking before after result = Unit {0}
 Takes (Some (execute instance plan_file)) taking before after result = TakesRead instance plan_file taking before after result
 Takes (Some (generate seed instance)) taking before after result = Unit {0}
@@ -70,6 +79,7 @@ Takes (Some (generate seed instance)) taking before after result = Unit {0}
 abbrev pub KeepsDeskWrites : Option Command → ℕ → ℕ → Type 0
 KeepsDeskWrites None before after = after ≡ before
 KeepsDeskWrites (Some (plan instance plan_file certificate)) before after = Unit {0}
+KeepsDeskWrites (Some (check instance plan_file certificate strict)) before after = after ≡ before
 KeepsDeskWrites (Some (replay instance plan_file)) before after = after ≡ before
 KeepsDeskWrites (Some (execute instance plan_file)) before after = after ≡ before
 KeepsDeskWrites (Some (generate seed instance)) before after = Unit {0}
@@ -78,6 +88,7 @@ KeepsDeskWrites (Some (generate seed instance)) before after = Unit {0}
 abbrev pub KeepsDeskReads : Option Command → ℕ → ℕ → Type 0
 KeepsDeskReads None before after = after ≡ before
 KeepsDeskReads (Some (plan instance plan_file certificate)) before after = Unit {0}
+KeepsDeskReads (Some (check instance plan_file certificate strict)) before after = Unit {0}
 KeepsDeskReads (Some (replay instance plan_file)) before after = Unit {0}
 KeepsDeskReads (Some (execute instance plan_file)) before after = Unit {0}
 KeepsDeskReads (Some (generate seed instance)) before after = after ≡ before
@@ -86,6 +97,7 @@ KeepsDeskReads (Some (generate seed instance)) before after = after ≡ before
 abbrev pub ReadsInput : Option Command → Type 0
 ReadsInput None = ⊥
 ReadsInput (Some (plan instance plan_file certificate)) = Unit {0}
+ReadsInput (Some (check instance plan_file certificate strict)) = Unit {0}
 ReadsInput (Some (replay instance plan_file)) = Unit {0}
 ReadsInput (Some (execute instance plan_file)) = Unit {0}
 ReadsInput (Some (generate seed instance)) = ⊥

@@ -1,11 +1,12 @@
 -- A command as the program holds it.
-use Rattle.btrplan.specs.Words.{Command, plan, replay, execute, generate}
+use Rattle.btrplan.specs.Words.{Command, plan, check, replay, execute, generate}
 use Rattle.btrplan.specs.declared.words.Command.{Command as Read}
-use Rattle.btrplan.specs.declared.words.Command.TheVariants.{Plan, Replay, Execute, Generate}
+use Rattle.btrplan.specs.declared.words.Command.TheVariants.{Plan, Check, Replay, Execute, Generate}
 use Rattle.std.specs.Prelude.{◌≢◌}
 
 abbrev pub meaning : Read → Command
 meaning (Plan instance plan_file certificate) = plan instance.now plan_file.now certificate.now
+meaning (Check instance plan_file certificate strict) = check instance.now plan_file.now certificate.now strict
 meaning (Replay instance plan_file) = replay instance.now plan_file.now
 meaning (Execute instance plan_file) = execute instance.now plan_file.now
 meaning (Generate seed instance) = generate seed instance.now
@@ -13,6 +14,7 @@ meaning (Generate seed instance) = generate seed instance.now
 -- The files that a command creates are different files.
 abbrev pub HasFilesApart : Command → Type 0
 HasFilesApart (plan instance plan_file certificate) = plan_file ≢ certificate
+HasFilesApart (check instance plan_file certificate strict) = Unit {0}
 HasFilesApart (replay instance plan_file) = Unit {0}
 HasFilesApart (execute instance plan_file) = Unit {0}
 HasFilesApart (generate seed instance) = Unit {0}

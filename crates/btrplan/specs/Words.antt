@@ -6,9 +6,10 @@ use Rattle.std.specs.Str.Parse.{digits_value}
 use Rattle.std.specs.declared.alloc.Global.{Global}
 use Rattle.btrplan.specs.declared.words.TheConstants.{LONGEST_NAME}
 
--- A command, with the names of its files and its seed.
+-- A command, with the names of its files, and its seed or whether the check is strict.
 pub data Command : Type 0 where
   plan : (instance plan_file certificate : List ℕ) → Command
+  check : (instance plan_file certificate : List ℕ) (strict : Bool) → Command
   replay : (instance plan_file : List ℕ) → Command
   execute : (instance plan_file : List ℕ) → Command
   generate : (seed : ℕ) (instance : List ℕ) → Command
@@ -35,7 +36,10 @@ is_plain (x ∷ y ∷ rest) = not (x == 43) && not (x == 48)
 -- The command that these words are, if any.
 abbrev pub command_of : List (List ℕ) → Option Command
 command_of (word ∷ instance ∷ plan_file ∷ certificate ∷ []) =
-    if bytes_eq word (codes "plan") && are_names (instance ∷ plan_file ∷ certificate ∷ []) then Some (plan instance plan_file certificate) else None
+    if bytes_eq word (codes "plan") && are_names (instance ∷ plan_file ∷ certificate ∷ []) then Some (plan instance plan_file certificate) else
+    if bytes_eq word (codes "check") && are_names (instance ∷ plan_file ∷ certificate ∷ []) then Some (check instance plan_file certificate false) else None
+command_of (word ∷ instance ∷ plan_file ∷ certificate ∷ last ∷ []) =
+    if bytes_eq word (codes "check") && bytes_eq last (codes "strict") && are_names (instance ∷ plan_file ∷ certificate ∷ []) then Some (check instance plan_file certificate true) else None
 command_of (word ∷ first ∷ second ∷ []) =
     if bytes_eq word (codes "replay") && are_names (first ∷ second ∷ []) then Some (replay first second) else
     if bytes_eq word (codes "execute") && are_names (first ∷ second ∷ []) then Some (execute first second) else

@@ -1,5 +1,6 @@
 //! The commands, each in a room of its own.
 
+pub mod checking;
 pub mod executing;
 pub mod generating;
 pub mod planning;

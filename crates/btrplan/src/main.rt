@@ -6,7 +6,6 @@ mod commands;
 mod deciding;
 mod fault;
 mod inputs;
-mod lines;
 mod run;
 mod status;
 mod words;

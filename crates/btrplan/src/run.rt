@@ -13,6 +13,7 @@ ghost use Rattle.btrplan.specs.Printed.{PrintsPrefix};
 ghost use Rattle.btrplan.specs.Causes.{Counts, Causes, CommandCauses, NothingFailed, counts};
 ghost use Rattle.btrplan.specs.Endings.{Ends, EndsAnyhow, IsAnswered, LineEnds};
 
+use crate::commands::checking::check;
 use crate::commands::executing::execute;
 use crate::commands::generating::generate;
 use crate::commands::planning::plan;
@@ -24,7 +25,7 @@ use plan_io::{Desk, OutFault, Sink, Source, write_text};
 use std::alloc::Global;
 
 /// Does what the words ask for, but for the last line where one is still to be printed.
-#[tactic(auto, using(crate::proofs::Ends::no_command, crate::proofs::LastLines::no_command_takes, crate::proofs::LastLines::plan_takes, crate::proofs::LastLines::replay_takes, crate::proofs::GenerateAnswers::generate_takes, crate::proofs::Printing::prints_nothing))]
+#[tactic(auto, using(crate::proofs::Ends::no_command, crate::proofs::LastLines::no_command_takes, crate::proofs::LastLines::plan_takes, crate::proofs::LastLines::check_takes, crate::proofs::LastLines::replay_takes, crate::proofs::GenerateAnswers::generate_takes, crate::proofs::Printing::prints_nothing))]
 fn answer<D: Desk, I: Source, O: Sink>(
     alloc: Global,
     words: &[String],
@@ -72,6 +73,14 @@ fn answer<D: Desk, I: Source, O: Sink>(
                 certificate,
             },
         ) => plan(alloc, desk, instance, plan_file, certificate),
+        Some(
+            Command::Check {
+                instance,
+                plan_file,
+                certificate,
+                strict,
+            },
+        ) => check(alloc, desk, instance, plan_file, certificate, strict),
         Some(
             Command::Replay {
                 instance,

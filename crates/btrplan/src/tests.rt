@@ -6,6 +6,7 @@ use std::process::Abort;
 use std::test::Fail;
 
 mod acting;
+mod checking;
 mod executing;
 mod generating;
 mod instances;
@@ -106,6 +107,11 @@ fn words_in_no_command(rt: HostRuntime) -> Result<(), Fail> {
         "replay i p c",
         "execute i",
         "execute p p",
+        "check i p",
+        "check i p p",
+        "check p p c strict",
+        "check i p c lean",
+        "check i p c strict strict",
     ];
     for (at, line) in lines.into_iter().enumerate() {
         let given = Given {

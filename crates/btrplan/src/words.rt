@@ -1,10 +1,10 @@
 //! The words of the command line.
 
 ghost use Rattle.std.specs.Prelude.{◌≡◌, [], ◌∷◌, option_map, IfSome};
-ghost use Rattle.btrplan.specs.Words.{asked, are_names, is_name, is_plain, seed_of, generate};
+ghost use Rattle.btrplan.specs.Words.{asked, command_of, are_names, is_name, is_plain, seed_of, generate};
 ghost use Rattle.btrplan.specs.Meaning.{meaning, HasFilesApart};
 
-/// A command, with the names of its files and its seed.
+/// A command, with the names of its files, and its seed or whether the check is strict.
 #[derive(Clone, Copy, Debug, PartialEq, Eq)]
 pub enum Command<'a> {
     /// Plans the instance, and writes the plan and its certificate.
@@ -12,6 +12,13 @@ pub enum Command<'a> {
         instance: &'a str,
         plan_file: &'a str,
         certificate: &'a str,
+    },
+    /// Checks the certificate of a plan of the instance, or of none; strict: whether its tree has to be lean.
+    Check {
+        instance: &'a str,
+        plan_file: &'a str,
+        certificate: &'a str,
+        strict: bool,
     },
     /// Replays a plan of the instance, and prints the verdict on it.
     Replay {
@@ -85,40 +92,102 @@ fn generating<'a>(seed: &str, instance: &'a str) -> Option<Command<'a>>
     }
 }
 
+/// The command that this word is before the names of two files, or before a seed and the name of a file.
+fn with_two<'a>(word: &str, first: &'a str, second: &'a str) -> Option<Command<'a>>
+    ensures meaning { let command = command_of (word.now ∷ first.now ∷ second.now ∷ []) in
+        option_map meaning result ≡ command }
+    ensures apart { IfSome result (λ command. HasFilesApart (meaning command)) }
+{
+    if word == "replay" && are_two_names(first, second) {
+        Some(Command::Replay {
+            instance: first,
+            plan_file: second,
+        })
+    } else if word == "execute" && are_two_names(first, second) {
+        Some(Command::Execute {
+            instance: first,
+            plan_file: second,
+        })
+    } else if word == "generate" && is_name(second) {
+        generating(first, second)
+    } else {
+        None
+    }
+}
+
+/// The command that this word is before the names of three files.
+fn with_three<'a>(
+    word: &str,
+    instance: &'a str,
+    plan_file: &'a str,
+    certificate: &'a str,
+) -> Option<Command<'a>>
+    ensures meaning { let command = command_of (word.now ∷ instance.now ∷ plan_file.now ∷ certificate.now ∷ []) in
+        option_map meaning result ≡ command }
+    ensures apart { IfSome result (λ command. HasFilesApart (meaning command)) }
+{
+    if word == "plan" && are_three_names(instance, plan_file, certificate) {
+        Some(Command::Plan {
+            instance,
+            plan_file,
+            certificate,
+        })
+    } else if word == "check" && are_three_names(instance, plan_file, certificate) {
+        Some(Command::Check {
+            instance,
+            plan_file,
+            certificate,
+            strict: false,
+        })
+    } else {
+        None
+    }
+}
+
+/// The command that this word is before the names of three files and a last word.
+fn with_last<'a>(
+    word: &str,
+    instance: &'a str,
+    plan_file: &'a str,
+    certificate: &'a str,
+    last: &str,
+) -> Option<Command<'a>>
+    ensures meaning { let words = word.now ∷ instance.now ∷ plan_file.now ∷ certificate.now ∷ last.now ∷ [] in
+        option_map meaning result ≡ command_of words }
+    ensures apart { IfSome result (λ command. HasFilesApart (meaning command)) }
+{
+    if word == "check" && last == "strict" && are_three_names(instance, plan_file, certificate) {
+        Some(Command::Check {
+            instance,
+            plan_file,
+            certificate,
+            strict: true,
+        })
+    } else {
+        None
+    }
+}
+
 /// The command that these words are; `None` where they are in no command.
 pub fn read_words(words: &[String]) -> Option<Command<'_>>
     ensures meaning { option_map meaning result ≡ asked words.now }
     ensures apart { IfSome result (λ command. HasFilesApart (meaning command)) }
 {
     match words {
-        [word, instance, plan_file, certificate]
-            if word.as_str() == "plan"
-                && are_three_names(instance.as_str(), plan_file.as_str(), certificate.as_str()) => {
-            Some(Command::Plan {
-                instance: instance.as_str(),
-                plan_file: plan_file.as_str(),
-                certificate: certificate.as_str(),
-            })
-        }
-        [word, instance, plan_file]
-            if word.as_str() == "replay" && are_two_names(instance.as_str(), plan_file.as_str()) =>
-            {
-                Some(Command::Replay {
-                    instance: instance.as_str(),
-                    plan_file: plan_file.as_str(),
-                })
-            }
-        [word, instance, plan_file]
-            if word.as_str() == "execute" && are_two_names(instance.as_str(), plan_file.as_str()) =>
-            {
-                Some(Command::Execute {
-                    instance: instance.as_str(),
-                    plan_file: plan_file.as_str(),
-                })
-            }
-        [word, seed, instance] if word.as_str() == "generate" && is_name(instance.as_str()) => {
-            generating(seed.as_str(), instance.as_str())
-        }
+        [word, first, second] => with_two(word.as_str(), first.as_str(), second.as_str()),
+        [word, instance, plan_file, certificate] => with_three(
+            word.as_str(),
+            instance.as_str(),
+            plan_file.as_str(),
+            certificate.as_str(),
+        ),
+        [word, instance, plan_file, certificate, last] => with_last(
+            word.as_str(),
+            instance.as_str(),
+            plan_file.as_str(),
+            certificate.as_str(),
+            last.as_str(),
+        ),
         _ => None,
     }
 }

@@ -1,29 +1,32 @@
 //! The command `plan`.
 
-ghost use Rattle.std.specs.Prelude.{◌≡◌, ◌≢◌, ℕ, List, Option, Some, Err};
+ghost use Rattle.std.specs.Prelude.{◌≡◌, ◌≢◌, [], ◌∷◌, ℕ, List, Option, Some, Err};
 ghost use Rattle.std.specs.Prelude.{IsTrue, IfOk, IfErr, OnOk, string_bytes};
 ghost use Rattle.plan_io.specs.Causes.{CountsWrites};
 ghost use Rattle.plan_io.specs.Files.{OthersStay, IsCut};
 ghost use Rattle.slices.specs.Plans.{IsPlanOf};
 ghost use Rattle.plan_json.specs.Print.{plan_text};
+ghost use Rattle.cert_text.specs.Spelling.{HasStep, certificate_text};
 ghost use Rattle.btrplan.specs.Words.{plan};
 ghost use Rattle.btrplan.specs.Answer.{outside};
 ghost use Rattle.btrplan.specs.Causes.{PartCauses, WriteCauses};
 ghost use Rattle.btrplan.specs.Commands.{MayRun, IsAnswer, Leaves, LeavesAtFailedRead};
-ghost use Rattle.btrplan.specs.Commands.Planning.{optimal_line, certificate_text, IsWritten};
+ghost use Rattle.btrplan.specs.Commands.Planning.{optimal_line, plan_certificate, IsWritten};
 ghost use Rattle.btrplan.specs.Commands.Planning.{IsWrittenInPart, IsPlanned, LeavesPlanned};
 ghost use Rattle.btrplan.specs.Endings.{Ends, IsOfDeciding};
 
 use crate::deciding::decided;
 use crate::fault::{Ending, Fault, Outcome};
 use crate::inputs::instance::problem_at;
-use crate::lines::write_lines;
 use catalogue::problem::Problem;
+use cert_write::CertWriter;
 use memory::Memory;
 use plan_io::{Desk, OutFault, write_whole};
 use plan_json::print_plan;
+use reasons::reason::Reason;
 use slices::plan::{Plan, cost};
 use std::alloc::Global;
+use trees::steps::{Goal, Step};
 
 /// The line that a plan is optimal, with its cost.
 #[tactic(auto, unfolding(crate::specs::Commands::Planning::optimal_line))]
@@ -34,8 +37,34 @@ fn optimal_line(alloc: Global, p: &Problem, plan: &Plan) -> Result<String, Memor
     Ok(format!(in alloc; "optimal {}\n", cost(p, plan))?)
 }
 
-/// Writes the certificate of a plan, line by line.
-#[tactic(auto, unfolding(crate::specs::Commands::Planning::certificate_text))]
+/// Writes the certificate with one step and this goal, line by line.
+#[tactic(auto, using(crate::proofs::OneStep::text, crate::proofs::OneStep::cut_header, crate::proofs::OneStep::cut_step, crate::proofs::OneStep::cut_end))]
+fn write_one_step<D: Desk>(
+    alloc: Global,
+    desk: &mut D,
+    p: &Problem,
+    step: &Step,
+    goal: Goal,
+    certificate: &str,
+) -> Result<(), OutFault>
+    requires writes { IsTrue (D.writes certificate.now) }
+    requires step { HasStep p.now.given step.now }
+    ensures written { let text = certificate_text p.now.given (step.now ∷ []) goal in
+        IsTrue D.tells → OnOk result (D.files desk.new certificate.now ≡ Some text) }
+    ensures cut { let text = certificate_text p.now.given (step.now ∷ []) goal in
+        IsTrue D.tells
+        → IsCut (D.files desk.old certificate.now) text (D.files desk.new certificate.now) }
+    ensures others { IsTrue D.tells
+        → OthersStay certificate.now (D.files desk.old) (D.files desk.new) }
+    ensures cause { CountsWrites (D.write_faults desk.old) (D.write_faults desk.new) result }
+    ensures reads_kept { D.read_faults desk.new ≡ D.read_faults desk.old }
+{
+    let mut writer = CertWriter::new(alloc, desk, certificate)?;
+    writer.step(desk, p, step)?;
+    writer.end(desk, goal)
+}
+
+/// Writes the certificate of a plan whose cost the bound alone shows to be least.
 fn write_certificate<D: Desk>(
     alloc: Global,
     desk: &mut D,
@@ -45,9 +74,9 @@ fn write_certificate<D: Desk>(
 ) -> Result<(), OutFault>
     requires writes { IsTrue (D.writes certificate.now) }
     requires plan { IsPlanOf p.now.given plan.now }
-    ensures written { let text = certificate_text p.now.given plan.now in
+    ensures written { let text = plan_certificate p.now.given plan.now in
         IsTrue D.tells → OnOk result (D.files desk.new certificate.now ≡ Some text) }
-    ensures cut { let text = certificate_text p.now.given plan.now in
+    ensures cut { let text = plan_certificate p.now.given plan.now in
         IsTrue D.tells
         → IsCut (D.files desk.old certificate.now) text (D.files desk.new certificate.now) }
     ensures others { IsTrue D.tells
@@ -55,10 +84,15 @@ fn write_certificate<D: Desk>(
     ensures cause { CountsWrites (D.write_faults desk.old) (D.write_faults desk.new) result }
     ensures reads_kept { D.read_faults desk.new ≡ D.read_faults desk.old }
 {
-    let line = optimal_line(alloc, p, plan)?;
-    let end = format!(in alloc; "end {line}")?;
-    let lines = ["btrplan certificate 1\n", "fail bound\n", end.as_str()];
-    write_lines(desk, certificate, &lines)
+    let goal = Goal::Optimal(cost(p, plan));
+    write_one_step(
+        alloc,
+        desk,
+        p,
+        &Step::Fail(Reason::Bound),
+        goal,
+        certificate,
+    )
 }
 
 /// Writes a plan.

@@ -1,10 +1,12 @@
-//! The plan that a command reads.
+//! The plan that a command reads, where there has to be one and where there may be none.
 
-ghost use Rattle.std.specs.Prelude.{◌≡◌, ◌≢◌, Result, IsTrue, IfOk, IfErr, Err};
+ghost use Rattle.std.specs.Prelude.{◌≡◌, ◌≢◌, Result, IsTrue, IfOk, IfErr, IfSome, Err};
 ghost use Rattle.catalogue.specs.Instance.{inventory_of};
 ghost use Rattle.slices.specs.Plans.{IsPlanOf, choices_of};
 ghost use Rattle.plan_json.specs.Texts.{fault_text};
+ghost use Rattle.cert_model.specs.Walks.{choices_handed};
 ghost use Rattle.btrplan.specs.Inputs.Plan.{plan_reading_of, plan_in, plan_line};
+ghost use Rattle.btrplan.specs.Inputs.Plan.{any_plan_reading_of, any_plan_in};
 ghost use Rattle.btrplan.specs.Causes.{ReadCauses};
 ghost use Rattle.btrplan.specs.Endings.{Reads, IsRefusal, IsOfReading};
 
@@ -56,4 +58,39 @@ pub fn plan_at<D: Desk>(alloc: Global, desk: &mut D, p: &Problem, name: &str) ->
 {
     let bytes = bytes_at(alloc, desk, name, "plan")?;
     plan_of(alloc, p, &bytes)
+}
+
+/// The plan that these bytes are for a problem, or none, or the line that refuses them.
+#[tactic(auto, using(crate::proofs::Readings::any_plan, crate::proofs::Readings::first_fault_of_any_plan))]
+fn any_plan_of(alloc: Global, p: &Problem, bytes: &[u8]) -> Result<Option<Plan>, Fault>
+    ensures reading { Reads choices_handed result (any_plan_reading_of p.now.given bytes.now) }
+    ensures plan { IfOk result (λ plan. IfSome plan (IsPlanOf p.now.given)) }
+    ensures kind { IfErr result IsOfReading }
+{
+    match read_plan(alloc, p, bytes) {
+        Ok(plan) => Ok(plan),
+        Err(PlanFault::Memory) => Err(Fault::Memory),
+        Err(fault) => Err(refusal_of(alloc, p, &fault)),
+    }
+}
+
+/// The plan for a problem in the file of this name, or none, or the line that refuses it.
+#[tactic(auto, using(crate::proofs::Readings::long_any_plan))]
+pub fn any_plan_at<D: Desk>(
+    alloc: Global,
+    desk: &mut D,
+    p: &Problem,
+    name: &str,
+) -> Result<Option<Plan>, Fault>
+    requires { IsTrue (D.reads name.now) }
+    ensures reading { IsTrue D.tells → result ≢ Err Fault.ReadFault
+        → Reads choices_handed result (any_plan_in p.now.given (D.files desk.old) name.now) }
+    ensures plan { IfOk result (λ plan. IfSome plan (IsPlanOf p.now.given)) }
+    ensures files { IsTrue D.tells → D.files desk.new ≡ D.files desk.old }
+    ensures causes { ReadCauses (D.read_faults desk.old) (D.read_faults desk.new) result }
+    ensures writes_kept { D.write_faults desk.new ≡ D.write_faults desk.old }
+    ensures kind { IfErr result IsOfReading }
+{
+    let bytes = bytes_at(alloc, desk, name, "plan")?;
+    any_plan_of(alloc, p, &bytes)
 }

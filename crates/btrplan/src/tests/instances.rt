@@ -56,3 +56,27 @@ pub const SHARED_AT_THE_END: &[u8] =
 /// The same, and the two nodes may never bear more.
 pub const SHARED_ALWAYS: &[u8] =
     br#"{"horizon":20,"resources":["cpu"],"durations":{"migrate":{"base":3},"allocate":{"base":1},"node_boot":{"base":4},"node_shutdown":{"base":2}},"nodes":[{"name":"n0","capacity":{"cpu":4}},{"name":"n1","capacity":{"cpu":4}}],"machines":[{"name":"v0","state":"running","node":"n0","use":{"cpu":2}}],"constraints":[{"kind":"ban","machines":["v0"],"nodes":["n0"]},{"kind":"resourceCapacity","nodes":["n0","n1"],"resource":"cpu","amount":3,"continuous":true},{"kind":"online","nodes":["n0","n1"]}]}"#;
+
+/// Two machines, each of which is to take the place of the other.
+pub const CROSSED: &[u8] =
+    br#"{"horizon":20,"resources":["cpu"],"durations":{"migrate":{"base":3},"allocate":{"base":1},"node_boot":{"base":4},"node_shutdown":{"base":2}},"nodes":[{"name":"n0","capacity":{"cpu":4}},{"name":"n1","capacity":{"cpu":4}}],"machines":[{"name":"v0","state":"running","node":"n0","use":{"cpu":3}},{"name":"v1","state":"running","node":"n1","use":{"cpu":3}}],"constraints":[{"kind":"fence","machines":["v0"],"nodes":["n1"]},{"kind":"fence","machines":["v1"],"nodes":["n0"]},{"kind":"online","nodes":["n0","n1"]}]}"#;
+
+/// A machine that is to leave its node within 10.
+pub const BANNED: &[u8] =
+    br#"{"horizon":10,"resources":["cpu"],"durations":{"migrate":{"base":3},"allocate":{"base":1},"node_boot":{"base":4},"node_shutdown":{"base":2}},"nodes":[{"name":"n0","capacity":{"cpu":4}},{"name":"n1","capacity":{"cpu":4}},{"name":"n2","capacity":{"cpu":4}}],"machines":[{"name":"v0","state":"running","node":"n0","use":{"cpu":1}}],"constraints":[{"kind":"ban","machines":["v0"],"nodes":["n0"]},{"kind":"online","nodes":["n0","n1","n2"]}]}"#;
+
+/// Two machines that are too much for their node.
+pub const OVERLOADED: &[u8] =
+    br#"{"horizon":20,"resources":["cpu"],"durations":{"migrate":{"base":3},"allocate":{"base":1},"node_boot":{"base":4},"node_shutdown":{"base":2}},"nodes":[{"name":"n0","capacity":{"cpu":4}},{"name":"n1","capacity":{"cpu":4}}],"machines":[{"name":"v0","state":"running","node":"n0","use":{"cpu":3}},{"name":"v1","state":"running","node":"n0","use":{"cpu":2}}],"constraints":[{"kind":"online","nodes":["n0","n1"]}]}"#;
+
+/// Three machines that are to be apart, on two nodes.
+pub const CROWDED: &[u8] =
+    br#"{"horizon":20,"resources":["cpu"],"durations":{"migrate":{"base":3},"allocate":{"base":1},"node_boot":{"base":4},"node_shutdown":{"base":2}},"nodes":[{"name":"n0","capacity":{"cpu":4}},{"name":"n1","capacity":{"cpu":4}}],"machines":[{"name":"v0","state":"running","node":"n0","use":{"cpu":1}},{"name":"v1","state":"running","node":"n0","use":{"cpu":1}},{"name":"v2","state":"running","node":"n1","use":{"cpu":1}}],"constraints":[{"kind":"spread","machines":["v0","v1","v2"]},{"kind":"online","nodes":["n0","n1"]}]}"#;
+
+/// A machine that is to leave its node at once.
+pub const NO_TIME: &[u8] =
+    br#"{"horizon":0,"resources":["cpu"],"durations":{"migrate":{"base":3},"allocate":{"base":1},"node_boot":{"base":4},"node_shutdown":{"base":2}},"nodes":[{"name":"n0","capacity":{"cpu":4}},{"name":"n1","capacity":{"cpu":4}}],"machines":[{"name":"v0","state":"running","node":"n0","use":{"cpu":1}}],"constraints":[{"kind":"ban","machines":["v0"],"nodes":["n0"]},{"kind":"online","nodes":["n0","n1"]}]}"#;
+
+/// A machine on a node that is not listed, and a constraint of no kind.
+pub const UNLISTED: &[u8] =
+    br#"{"horizon":20,"resources":["cpu"],"nodes":[{"name":"n0","capacity":{"cpu":4}}],"machines":[{"name":"v0","state":"running","node":"n9","use":{"cpu":1}}],"constraints":[{"kind":"sprad"}]}"#;

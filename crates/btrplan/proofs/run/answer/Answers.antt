@@ -1,7 +1,7 @@
 use Rattle.std.proofs.Common.{◌≡◌, Option, Some, sym, subst, rules}
-use Rattle.btrplan.specs.Words.{Command, asked, execute, plan}
+use Rattle.btrplan.specs.Words.{Command, asked, check, execute, plan}
 use Rattle.btrplan.specs.Commands.{KeepsSource}
-use Rattle.btrplan.proofs.LastLines.{plan_takes}
+use Rattle.btrplan.proofs.LastLines.{check_takes, plan_takes}
 use Rattle.btrplan.proofs.run.answer.Goals as goal
 
 pub returns-in-Some-Execute-clause-source : goal.returns-in-Some-Execute-clause-source
@@ -13,3 +13,8 @@ pub returns-in-Some-Plan-clause-takes : goal.returns-in-Some-Plan-clause-takes
 returns-in-Some-Plan-clause-takes g c = λ desk_tells source_tells sink_tells.
     let is : Some (plan c.in-Some-Plan.instance.now c.in-Some-Plan.plan_file.now c.in-Some-Plan.certificate.now) ≡ asked c.args.words.now = search rules in
     plan_takes (asked c.args.words.now) c.in-Some-Plan.instance.now c.in-Some-Plan.plan_file.now c.in-Some-Plan.certificate.now _ _ _ _ (sym is)
+
+pub returns-in-Some-Check-clause-takes : goal.returns-in-Some-Check-clause-takes
+returns-in-Some-Check-clause-takes g c = λ desk_tells source_tells sink_tells.
+    let is : Some (check c.in-Some-Check.instance.now c.in-Some-Check.plan_file.now c.in-Some-Check.certificate.now c.in-Some-Check.strict) ≡ asked c.args.words.now = search rules in
+    check_takes (asked c.args.words.now) c.in-Some-Check.instance.now c.in-Some-Check.plan_file.now c.in-Some-Check.certificate.now c.in-Some-Check.strict _ _ _ _ (sym is)
