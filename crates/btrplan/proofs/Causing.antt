@@ -1,5 +1,5 @@
 -- The causes of a status, from those of how the command ended.
-use Rattle.std.proofs.Common.{◌≡◌, ◌⊎◌, ◌∙◌, ℕ, Result, Ok, Err, inl, inr, refl, subst}
+use Rattle.std.proofs.Common.{◌≡◌, ◌⊎◌, ℕ, Result, Err, inl, inr, refl, subst}
 use Rattle.plan_io.specs.Causes.{Rose}
 use Rattle.btrplan.specs.Causes.{Counts, counts, Causes, CommandCauses, NothingFailed, PartCauses}
 use Rattle.btrplan.specs.Endings.{IsAnswered}

@@ -33,9 +33,9 @@ pub with_least : (count least : ℕ) (given : Option ℕ) (line : List ℕ) → 
     line ≡ codes "yes undecided " ++ (decimal count ++ (codes " least " ++ (decimal least ++ codes "\n"))) → line ≡ undecided_line count given
 with_least count least given line is e =
     let whole : codes "yes undecided " ++ decimal count ++ codes " least " ++ decimal least ++ codes "\n" ≡ codes "yes undecided " ++ (decimal count ++ (codes " least " ++ (decimal least ++ codes "\n"))) =
-        append_assoc (codes "yes undecided " ++ decimal count ++ codes " least ") (decimal least) (codes "\n")
-        ∙ append_assoc (codes "yes undecided " ++ decimal count) (codes " least ") (decimal least ++ codes "\n")
-        ∙ append_assoc (codes "yes undecided ") (decimal count) (codes " least " ++ (decimal least ++ codes "\n")) in
+    append_assoc (codes "yes undecided " ++ decimal count ++ codes " least ") (decimal least) (codes "\n")
+    ∙ append_assoc (codes "yes undecided " ++ decimal count) (codes " least ") (decimal least ++ codes "\n")
+    ∙ append_assoc (codes "yes undecided ") (decimal count) (codes " least " ++ (decimal least ++ codes "\n")) in
     rw is (e ∙ sym whole)
 
 -- its line is due

@@ -1,5 +1,5 @@
 -- How commands end: what each command's answers are built of.
-use Rattle.std.proofs.Common.{◌≡◌, ℕ, List, ◌++◌, Option, Some, None, Result, Ok, Err, refl}
+use Rattle.std.proofs.Common.{◌≡◌, ℕ, List, ◌++◌, Option, None, Result, Ok, Err, refl}
 use Rattle.plan_io.specs.Files.{Files}
 use Rattle.plan_io.specs.declared.faults.OutFault.{OutFault}
 use Rattle.plan_io.specs.declared.faults.OutFault.TheVariants as out

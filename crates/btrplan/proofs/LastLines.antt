@@ -8,7 +8,6 @@ use Rattle.btrplan.specs.Commands.{Takes}
 use Rattle.btrplan.specs.Commands.Executing.{Taking}
 use Rattle.btrplan.specs.Endings.{Ends, EndsAnyhow, IsLastLine, LastEnds, LineEnds, line_of, fault_status, outcome_status, printed_with}
 use Rattle.btrplan.specs.declared.status.Status.{Status}
-use Rattle.btrplan.specs.declared.status.Status.TheVariants as status
 use Rattle.btrplan.specs.declared.fault.Ending.{Ending}
 use Rattle.btrplan.specs.declared.fault.Fault.{Fault}
 use Rattle.btrplan.specs.declared.fault.Fault.TheVariants as fault

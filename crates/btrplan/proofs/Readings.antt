@@ -1,5 +1,5 @@
 -- What the readings of an instance and of a plan answer.
-use Rattle.std.proofs.Common.{◌≡◌, ◌<◌, ◌≤◌, ℕ, List, Bool, length, nat_le, true, false, Option, Some, None, Result, Ok, Err, if◌then◌else◌, codes, refl, ap, arith}
+use Rattle.std.proofs.Common.{◌≡◌, ◌<◌, ◌≤◌, ℕ, List, Bool, length, nat_le, true, false, Option, Some, None, Ok, Err, if◌then◌else◌, codes, refl, ap, arith}
 use Rattle.std.proofs.lemmas.Bool.Decides.{nat_tests}
 use Rattle.catalogue.specs.Instance.{Instance, inventory_of}
 use Rattle.json_walk.specs.Walk.{Fails}

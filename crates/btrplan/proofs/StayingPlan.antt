@@ -1,8 +1,7 @@
 -- The plan in which every element stays as it is.
-use Rattle.std.proofs.Common.{◌≡◌, ◌≤◌, ◌+◌, ◌-◌, ℕ, zero, suc, List, take, drop, slice_index_or, refl, sym, ◌∙◌, ap, subst, arith}
+use Rattle.std.proofs.Common.{◌≡◌, ◌≤◌, ◌+◌, ◌-◌, take, drop, slice_index_or, sym, ◌∙◌, ap, subst, arith}
 use Rattle.std.specs.Prelude.{replicate}
 use Rattle.std.proofs.lemmas.List.{take-replicate, drop-replicate, length-replicate}
-use Rattle.cluster.specs.declared.choices.Choice.{Choice}
 use Rattle.cluster.specs.declared.choices.Choice.TheVariants.{Idle}
 use Rattle.catalogue.specs.Instance.{Instance, inventory_of}
 use Rattle.sums.proofs.Lists.{copies_at}
@@ -11,9 +10,9 @@ use Rattle.sums.specs.Sums.{sum_to}
 use Rattle.slices.specs.Actions.{end_of}
 use Rattle.cluster.specs.Elements.{element_count}
 use Rattle.slices.specs.Elements.{machine_count, node_count, vm, node}
-use Rattle.slices.specs.Plans.{PlanChoices, choices_of, parted, IsPlan, IsPlanOf}
+use Rattle.slices.specs.Plans.{PlanChoices, choices_of, parted, IsPlanOf}
 use Rattle.slices.specs.Rules.{IsValid}
-use Rattle.slices.specs.Costs.{IsOptimal, cost_of}
+use Rattle.slices.specs.Costs.{cost_of}
 use Rattle.btrplan.specs.Deciding.{staying, MayStay, IsFound}
 
 -- Idle for each element is to stay

@@ -10,6 +10,7 @@ mod checking;
 mod executing;
 mod generating;
 mod instances;
+mod one_byte;
 mod planning;
 mod replaying;
 

@@ -41,7 +41,7 @@ struct Files<'a> {
 }
 
 /// The certificate of `LINES` with this text in place of the line of this number.
-fn forged(alloc: Global, number: usize, text: &str) -> Result<Vec<u8>, Fail> {
+pub(super) fn forged(alloc: Global, number: usize, text: &str) -> Result<Vec<u8>, Fail> {
     let mut certificate = Vec::new(alloc);
     for (i, line) in LINES.iter().enumerate() {
         let line = if i + 1 == number { text } else { *line };
