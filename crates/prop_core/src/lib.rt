@@ -1,0 +1,4 @@
+//! Propagators: what closes a region, as boxed objects of the caller, and lists of them.
+#![tactic(auto)]
+
+pub mod propagator;
