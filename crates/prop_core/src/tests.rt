@@ -168,7 +168,8 @@ fn step(
     mark_all(rules)?;
     trail.mark()?;
     let before = trail.apply_told(change, kept)?;
-    tell_all(p, trail.region(), rules, change, before, kept)
+    tell_all(p, trail.region(), rules, change, before, kept)?;
+    Ok(())
 }
 
 /// Goes back to the one mark.
@@ -187,7 +188,7 @@ fn back(p: &Problem, trail: &mut Trail, rules: &mut Vec<Box<dyn Propagator>>)
 fn fails(p: &Problem, trail: &Trail, rules: &mut Vec<Box<dyn Propagator>>) -> Option<bool>
     requires region { IsRegionOf p.now.given trail.now.region }
     requires follow { AllFollow (λ b. meaning b) p.now.given trail.now rules.old.items }
-    ensures follow { AllFollow (λ b. meaning b) p.now.given trail.now rules.new.items }
+    ensures { AllFollow (λ b. meaning b) p.now.given trail.now rules.new.items }
 {
     match ask_all(p, trail.region(), rules) {
         Ok(answer) => Some(matches!(answer, Answer::Fail(_))),
