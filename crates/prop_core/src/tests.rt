@@ -236,13 +236,10 @@ fn two_in_a_list(rt: HostRuntime) -> Result<(), Fail> {
     let p = problem(alloc)?;
     let mut rules: Vec<Box<dyn Propagator>> = Vec::new(alloc);
     rules.push(Box::new(alloc, LoadAtFive::new(false))?)?;
-    assert_eq!(rt; covered(&rules), false);
-    assert_eq!(rt;
-        answers(alloc, &p, &mut rules)?,
-        [Some(false), Some(true), Some(false)]
-    );
     rules.push(Box::new(alloc, LoadAtFive::new(true))?)?;
-    assert_eq!(rt; covered(&rules), true);
-    assert_eq!(rt; answers(alloc, &p, &mut rules)?, [None, Some(true), None]);
+    let covered = covered(&rules);
+    let answers = answers(alloc, &p, &mut rules)?;
+    assert_eq!(rt; covered, true);
+    assert_eq!(rt; answers, [None, Some(true), None]);
     Ok(())
 }
