@@ -1,5 +1,5 @@
 -- Where all are quiet, and each standard kind is covered, the sets are closed.
-use Rattle.std.proofs.Common.{◌≡◌, true, List, get_or, All, subst}
+use Rattle.std.proofs.Common.{◌≡◌, true, List, All, subst}
 use Rattle.std.proofs.lemmas.List.Folds.{Any-from_list_any}
 use Rattle.catalogue.specs.Instance.{Instance}
 use Rattle.domains.specs.Sets.{Sets}
