@@ -1,5 +1,5 @@
 -- The least end of an element before it lost choices, and after.
-use Rattle.std.proofs.Common.{◌≡◌, ℕ, ◌+◌, ◌≤◌, max, unwrap_or, true, Option, Some, None, List, [], ◌∷◌, refl, sym, ap, ◌∙◌, arith}
+use Rattle.std.proofs.Common.{◌≡◌, ℕ, ◌+◌, ◌≤◌, max, unwrap_or, Option, Some, None, List, [], ◌∷◌, refl, sym, ap, ◌∙◌, arith}
 use Rattle.std.specs.List.{filter}
 use Rattle.sums.specs.Least.{lower, lowest, least}
 use Rattle.cluster.specs.declared.choices.Choice.{Choice}

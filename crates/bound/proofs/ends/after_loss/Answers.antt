@@ -1,4 +1,4 @@
-use Rattle.std.proofs.Common.{arith, ap, sym, ◌∙◌}
+use Rattle.std.proofs.Common.{arith, sym, ◌∙◌}
 use Rattle.slices.specs.Actions.{end_of}
 use Rattle.bound.proofs.EndLemmas.{all_lost, none_lost, some_left}
 use Rattle.bound.proofs.ends.after_loss.Goals as goal
