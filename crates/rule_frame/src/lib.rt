@@ -1,0 +1,4 @@
+//! Rules as lists of watches with marks.
+#![tactic(auto)]
+
+pub mod marks;
