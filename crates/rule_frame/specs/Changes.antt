@@ -1,5 +1,5 @@
 -- What a change of one element's choices weighs on.
-use Rattle.std.specs.Prelude.{◌≡◌, ◌⊎◌, ℕ, ◌<◌, ◌≤◌, Bool, false, List, [], ◌∷◌, length, slice_index_or, IsTrue, if◌then◌else◌}
+use Rattle.std.specs.Prelude.{◌≡◌, ◌⊎◌, ℕ, ◌<◌, ◌≤◌, Bool, false, List, [], ◌∷◌, length, slice_index_or, IsTrue}
 use Rattle.cluster.specs.declared.choices.Choice.{Choice}
 use Rattle.cluster.specs.declared.ids.Element.{Element}
 use Rattle.cluster.specs.declared.ids.Element.TheVariants.{Vm, Node as TheNode}
@@ -9,15 +9,11 @@ use Rattle.slices.specs.declared.slice.Weight.{Weight}
 use Rattle.slices.specs.declared.stage.Progress.{Progress}
 use Rattle.slices.specs.Snapshots.{held_at, present_at, usable_at, powered_at, action_at}
 use Rattle.slices.specs.Stages.{Nodes}
-use Rattle.domains.specs.Sets.{Sets, same_element, surely, may}
+use Rattle.domains.specs.Sets.{Sets, surely, may}
 use Rattle.reasons.specs.Closed.{IsEnd}
 use Rattle.closing.specs.Watches.{Scope, Watch}
 use Rattle.closing.specs.Looks.{IsClean}
 use Rattle.rule_frame.specs.Levels.{Levels}
-
--- the element x has other choices, and the others keep theirs
-abbrev pub putting : Element → List Choice → Sets → Sets
-putting x cs s e = if same_element e x then cs else s e
 
 -- ---- one set of choices beside another, at an instant
 
@@ -47,8 +43,8 @@ pub record IsStill (p : Instance) (k : Scope) (x : Element) (old now : List Choi
 -- ---- marks
 
 -- each watch that is not marked is clean
-abbrev pub AreClean : (ℕ → Watch) → Instance → Sets → List Bool → Type 0
-AreClean watch p s flags = (i : ℕ) → i < length flags → slice_index_or flags i false ≡ false → IsClean (watch i) p s
+pub record AreClean (watch : ℕ → Watch) (p : Instance) (s : Sets) (flags : List Bool) : Type 0 where
+  pub clean : (i : ℕ) → i < length flags → slice_index_or flags i false ≡ false → IsClean (watch i) p s
 
 -- each watch on which a change of x weighs is marked, and no mark is gone
 pub record IsDisturbed (watch : ℕ → Watch) (p : Instance) (x : Element) (old now : List Choice) (m n : Levels) : Type 0 where

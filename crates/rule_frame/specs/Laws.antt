@@ -6,7 +6,8 @@ use Rattle.catalogue.specs.Instance.{Instance, IsElement}
 use Rattle.domains.specs.Sets.{Sets}
 use Rattle.closing.specs.Watches.{IsLocal, IsUnseen, Scope, Watch}
 use Rattle.closing.specs.Looks.{IsClean}
-use Rattle.rule_frame.specs.Changes.{IsStill, putting}
+use Rattle.prop_core.specs.Propagators.{putting}
+use Rattle.rule_frame.specs.Changes.{IsStill}
 
 -- a clean watch stays clean where a change does not weigh on it
 abbrev pub StillClean : Type 1

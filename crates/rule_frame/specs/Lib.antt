@@ -1,5 +1,8 @@
 -- what a reader must believe
 pub mod Levels
 pub mod Changes
--- what the laws and the code say beside it
+pub mod Caches
+pub mod Asked
+pub mod Rules
+-- what the laws say beside it
 pub mod Laws
