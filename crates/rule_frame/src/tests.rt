@@ -1,8 +1,8 @@
 //! Marks that go back, and a rule at a concrete type.
 ghost use Rattle.prop_core.specs.Propagators.{IsRegionOf};
 
+use crate::index::{ConstraintIndex, mark_looking};
 use crate::marks::Marks;
-use crate::no_cache::NoCache;
 use crate::rule::Rule;
 use crate::watcher::Watcher;
 use catalogue::problem::Problem;
@@ -41,23 +41,24 @@ fn marks_go_back(rt: HostRuntime) -> Result<(), Fail> {
     Ok(())
 }
 
-/// No watch at all.
+/// The constraints, of which it never sees one broken.
 #[derive(Drop)]
-struct NoWatch;
+struct Blind;
 
-impl Watcher<NoCache> for NoWatch {
+impl Watcher<ConstraintIndex> for Blind {
     ghost use Rattle.std.specs.Prelude.{false};
     ghost use Rattle.std.proofs.lemmas.Bool.{false≢true};
-    ghost use Rattle.closing.specs.Kinds.{nothing};
+    ghost use Rattle.std.specs.Prelude.{length};
+    ghost use Rattle.closing.specs.Kinds.{constraint_watch};
 
-    ghost watch = { λ w p i. record { scope = nothing; broken = λ s last. ⊥ } };
+    ghost watch = { λ w p i. record { scope = (constraint_watch p i).scope; broken = λ s last. ⊥ } };
 
-    ghost count_of = { λ w p. 0 };
+    ghost count_of = { λ w p. length p.constraints };
 
     ghost kinds = { λ w kind. false };
 
-    fn count(&self, _p: &Problem) -> usize {
-        0
+    fn count(&self, p: &Problem) -> usize {
+        p.constraints().len()
     }
 
     fn covers(&self, _kind: ReasonKind) -> bool {
@@ -66,18 +67,18 @@ impl Watcher<NoCache> for NoWatch {
 
     fn disturb(
         &self,
-        _k: &NoCache,
-        _p: &Problem,
+        k: &ConstraintIndex,
+        p: &Problem,
         _g: &Region,
-        _change: Change,
+        change: Change,
         _before: Before,
         _kept: &Domain,
         marks: &mut Marks,
     ) {
-        marks.set_all();
+        mark_looking(k, p, change.element, marks);
     }
 
-    fn look(&self, _k: &NoCache, _p: &Problem, _g: &Region, _i: usize) -> Look {
+    fn look(&self, _k: &ConstraintIndex, _p: &Problem, _g: &Region, _i: usize) -> Look {
         Look::Clean
     }
 
@@ -101,7 +102,7 @@ fn rules_have_levels(rt: HostRuntime) -> Result<(), Fail> {
     let cluster = Cluster::new(rt.alloc(), Vec::new(rt.alloc()), [ONE; 10])?;
     let p = Problem::new(rt.alloc(), cluster, 5);
     let g = start_region(rt.alloc(), &p)?;
-    let mut rule = Rule::new(rt.alloc(), NoWatch, NoCache::new());
+    let mut rule = Rule::new(rt.alloc(), Blind, ConstraintIndex::new(rt.alloc()));
     rule.post(&p, &g)?;
     rule.mark()?;
     let quiet = matches!(rule.propagate(&p, &g)?, Answer::Quiet);
