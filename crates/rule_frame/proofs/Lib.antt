@@ -1,0 +1,6 @@
+pub mod Public
+mod AskLemmas
+mod ChangeLemmas
+mod EndLemmas
+mod TellLemmas
+mod WidenLemmas

@@ -1,0 +1,8 @@
+-- what a reader must believe
+pub mod Levels
+pub mod Changes
+pub mod Caches
+pub mod Asked
+pub mod Rules
+-- what the laws say beside it
+pub mod Laws

@@ -1,0 +1,9 @@
+//! Rules as lists of watches with marks.
+#![tactic(auto)]
+
+pub mod keeper;
+pub mod marks;
+pub mod no_cache;
+pub mod rule;
+pub mod watcher;
+pub mod widen;
