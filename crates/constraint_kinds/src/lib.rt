@@ -2,7 +2,7 @@
 #![tactic(auto)]
 
 ghost use Rattle.std.specs.Prelude.{◌≡◌};
-ghost use Rattle.constraint_kinds.specs.Given.{reason_kind as the_reason_kind};
+ghost use Rattle.constraint_kinds.specs.Given.{MayGive, reason_kind as the_reason_kind};
 
 use catalogue::constraint::Constraint;
 use reasons::reason::ReasonKind;
@@ -10,7 +10,8 @@ use reasons::reason::ReasonKind;
 /// The kind of the reasons that a constraint gives where it is broken. `None` where it is part of the
 /// demand, of the capacity or of the legal choices, so that no region that is legal breaks it.
 pub fn reason_kind(constraint: &Constraint) -> Option<ReasonKind>
-    ensures { result ≡ the_reason_kind constraint.now }
+    ensures kind { result ≡ the_reason_kind constraint.now }
+    ensures may { MayGive result }
 {
     match constraint {
         Constraint::Spread { .. } | Constraint::Split { .. } | Constraint::Lonely { .. } => {

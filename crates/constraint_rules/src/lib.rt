@@ -1,0 +1,7 @@
+//! The rules of constraints: machines kept apart, places, whole groups, and amounts on nodes.
+#![tactic(auto)]
+
+mod pairs;
+mod places;
+mod reasons;
+pub mod watcher;
