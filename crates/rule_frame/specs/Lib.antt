@@ -4,5 +4,6 @@ pub mod Changes
 pub mod Caches
 pub mod Asked
 pub mod Rules
+pub mod Indexes
 -- what the laws say beside it
 pub mod Laws
