@@ -1,9 +1,23 @@
--- What is marked.
-use Rattle.std.specs.Prelude.{◌≡◌, ℕ, ◌<◌, true, false, length, slice_index_or}
+-- What is marked where a change may weigh on the watches of nodes.
+use Rattle.std.specs.Prelude.{◌≡◌, ℕ, ◌-◌, ◌<◌, ◌≤◌, Bool, true, false, List, length, slice_index_or}
+use Rattle.cluster.specs.declared.choices.Choice.{Choice}
+use Rattle.cluster.specs.declared.ids.Element.{Element}
+use Rattle.catalogue.specs.Instance.{Instance}
+use Rattle.closing.specs.Kinds.{usable_watch}
+use Rattle.rule_frame.specs.Changes.{IsStill}
 use Rattle.rule_frame.specs.Levels.{Levels}
 
--- each watch is marked
-pub record AreAllMarked (m n : Levels) : Type 0 where
+-- those from `first` on and before `end` are marked, and no mark is gone
+pub record AreMarkedFrom (first end : ℕ) (m n : Levels) : Type 0 where
   pub older : n.older ≡ m.older
   pub count : length n.top ≡ length m.top
-  pub all : (i : ℕ) → i < length n.top → slice_index_or n.top i false ≡ true
+  pub kept : (i : ℕ) → slice_index_or n.top i false ≡ false → slice_index_or m.top i false ≡ false
+  pub marked : (i : ℕ) → first ≤ i → i < end → i < length n.top → slice_index_or n.top i false ≡ true
+
+-- after the constraints each watch of a node is marked on which a change of x weighs, and no mark is gone
+pub record AreNodesMarked (p : Instance) (x : Element) (old now : List Choice) (m n : Levels) : Type 0 where
+  pub older : n.older ≡ m.older
+  pub count : length n.top ≡ length m.top
+  pub kept : (i : ℕ) → slice_index_or n.top i false ≡ false → slice_index_or m.top i false ≡ false
+  pub still : (i : ℕ) → length p.constraints ≤ i → i < length n.top → slice_index_or n.top i false ≡ false →
+      IsStill p (usable_watch p (i - length p.constraints)).scope x old now

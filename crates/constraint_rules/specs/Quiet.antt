@@ -66,11 +66,11 @@ module _ (kinds : ReasonKind → Bool) (p : Instance) (s : Sets) (clean : AllCle
   free off Empty on = tt
   free off Bound on = tt
   free off Load on = cc
-  free off Pair on = none-broken Pair (HasPair p _) on (pair_kind p _) (λ k h. inl h)
-  free off Place on = none-broken Place (HasPlace p _) on (place_kind p _) (λ k h. inr (inl h))
-  free off Group on = none-broken Group (IsGroup p _) on (group_kind p _) (λ k h. inr (inr (inl h)))
-  free off SetLoad on = none-broken SetLoad (IsSetLoad p _) on (set_load_kind p _) (λ k h. inr (inr (inr (inl h))))
-  free off Power on = none-broken Power (IsPower p _) on (power_kind p _) (λ k h. inr (inr (inr (inr h))))
+  free off Pair on = none-broken Pair (HasPair p (sure p (setting e c s) t)) on (pair_kind p (sure p (setting e c s) t)) (λ k h. inl h)
+  free off Place on = none-broken Place (HasPlace p (sure p (setting e c s) t)) on (place_kind p (sure p (setting e c s) t)) (λ k h. inr (inl h))
+  free off Group on = none-broken Group (IsGroup p (sure p (setting e c s) t)) on (group_kind p (sure p (setting e c s) t)) (λ k h. inr (inr (inl h)))
+  free off SetLoad on = none-broken SetLoad (IsSetLoad p (sure p (setting e c s) t)) on (set_load_kind p (sure p (setting e c s) t)) (λ k h. inr (inr (inr (inl h))))
+  free off Power on = none-broken Power (IsPower p (sure p (setting e c s) t)) on (power_kind p (sure p (setting e c s) t)) (λ k h. inr (inr (inr (inr h))))
   free off Usable on = λ v n i j h. none-needed on n j (v, i, h)
   free off Hall on = tt
 

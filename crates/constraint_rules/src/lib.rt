@@ -3,5 +3,6 @@
 
 mod pairs;
 mod places;
-mod reasons;
+pub mod rules;
 pub mod watcher;
+mod witnesses;

@@ -30,8 +30,8 @@ fn has(machines: &[VmId], v: VmId) -> bool
 fn have(parts: &[Vms], v: VmId) -> bool
     ensures { result ≡ false → (i : ℕ) → ¬ IsInPart parts.now i v.0 }
 {
-    for part in parts {
-        if has(part.items(), v) {
+    for i in 0..parts.len() {
+        if has(parts[i].items(), v) {
             return true;
         }
     }

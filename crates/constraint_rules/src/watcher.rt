@@ -1,19 +1,21 @@
 //! The watches of constraints that give reasons of some kinds.
-ghost use Rattle.std.specs.Prelude.{◌≡◌, ◌+◌, ◌<◌, length, slice_get, if◌then◌else◌};
+ghost use Rattle.std.specs.Prelude.{◌≡◌, ◌+◌, ◌-◌, ◌<◌, ◌≤◌, IfNone, IfSome, List, length, slice_get, if◌then◌else◌};
+ghost use Rattle.cluster.specs.declared.choices.Choice.{Choice as AnyChoice};
+ghost use Rattle.catalogue.specs.Instance.{IsElement};
 ghost use Rattle.slices.specs.Elements.{node_count};
 ghost use Rattle.domains.specs.Sets.{sets};
 ghost use Rattle.prop_core.specs.Propagators.{IsRegionOf};
 ghost use Rattle.closing.specs.Looks.{IsLook};
-ghost use Rattle.constraint_rules.specs.Marking.{AreAllMarked};
+ghost use Rattle.constraint_rules.specs.Marking.{AreMarkedFrom, AreNodesMarked};
 ghost use Rattle.constraint_rules.specs.Watches.{kept_watch, watch_at, watch_count};
 ghost use Rattle.constraint_rules.specs.Quiet.{kinds_are_quiet, watches_are_local};
 
-use crate::reasons::{constraint_reason, usable_reason};
+use crate::witnesses::{constraint_reason, usable_reason};
 use catalogue::problem::Problem;
 use closing::look::Look;
 use closing::watch::{look_at_constraint, look_at_usable};
 use cluster::choices::Instant;
-use cluster::ids::NodeId;
+use cluster::ids::{Element, NodeId};
 use constraint_kinds::reason_kind;
 use domains::domain::Domain;
 use domains::parts::Change;
@@ -21,8 +23,8 @@ use domains::region::Region;
 use domains::undo::Before;
 use domains::view::View;
 use reasons::reason::{Reason, ReasonKind};
+use rule_frame::index::{ConstraintIndex, mark_looking};
 use rule_frame::marks::Marks;
-use rule_frame::no_cache::NoCache;
 use rule_frame::watcher::Watcher;
 
 /// The kinds of reasons that a rule covers.
@@ -70,32 +72,51 @@ fn count_of(p: &Problem, nodes: bool) -> usize
     }
 }
 
-// marks each watch
-fn mark_all(marks: &mut Marks)
-    ensures { AreAllMarked marks.old marks.new }
+// marks each watch from one on
+fn mark_from(marks: &mut Marks, first: usize)
+    requires { first ≤ length marks.old.top }
+    ensures { AreMarkedFrom first (length marks.old.top) marks.old marks.new }
 {
-    for i in 0..marks.count() {
+    for i in first..marks.count() {
         marks.put(i, true);
+    }
+}
+
+// marks the watches of nodes on which a change of an element weighs
+fn mark_nodes(p: &Problem, e: Element, marks: &mut Marks)
+    requires element { IsElement p.now.given e }
+    requires count { length marks.old.top ≡ length p.now.given.constraints + node_count p.now.given }
+    ensures { (old now : List AnyChoice) → AreNodesMarked p.now.given e old now marks.old marks.new }
+{
+    let constraints = p.constraints().len();
+    match e {
+        Element::Vm(_) => mark_from(marks, constraints),
+        Element::Node(n) => marks.put(constraints + n.0 as usize, true),
+    }
+}
+
+// the node of the watch of a number, if it is past those of the constraints
+fn node_of(p: &Problem, i: usize) -> Option<NodeId>
+    requires { i < length p.now.given.constraints + node_count p.now.given }
+    ensures none { IfNone result (i < length p.now.given.constraints) }
+    ensures some { IfSome result (λ n. (length p.now.given.constraints ≤ i) × (n.0 ≡ i - length p.now.given.constraints) × (n.0 < node_count p.now.given)) }
+{
+    let constraints = p.constraints().len();
+    if i < constraints {
+        None
+    } else {
+        Some(NodeId((i - constraints) as u32))
     }
 }
 
 /// The watches of the constraints that give reasons of some kinds, by their numbers; where nodes that are
 /// needed are to be usable, one for each node after them.
-#[derive(Drop)]
+#[derive(Default, Drop)]
 pub struct ConstraintWatcher<S> {
     kinds: S,
 }
 
-impl<S: Kinds> ConstraintWatcher<S> {
-    /// The watches of these kinds.
-    pub fn new(kinds: S) -> ConstraintWatcher<S>
-        ensures { result.kinds ≡ kinds }
-    {
-        ConstraintWatcher { kinds }
-    }
-}
-
-impl<S: Kinds> Watcher<NoCache> for ConstraintWatcher<S> {
+impl<S: Kinds> Watcher<ConstraintIndex> for ConstraintWatcher<S> {
     ghost watch = { λ w. watch_at (S.kinds w.kinds) };
 
     ghost count_of = { λ w. watch_count (S.kinds w.kinds) };
@@ -112,32 +133,31 @@ impl<S: Kinds> Watcher<NoCache> for ConstraintWatcher<S> {
 
     fn disturb(
         &self,
-        _k: &NoCache,
-        _p: &Problem,
+        k: &ConstraintIndex,
+        p: &Problem,
         _g: &Region,
-        _change: Change,
+        change: Change,
         _before: Before,
         _kept: &Domain,
         marks: &mut Marks,
     ) {
-        mark_all(marks);
+        mark_looking(k, p, change.element, marks);
+        if self.kinds.covers(ReasonKind::Usable) {
+            mark_nodes(p, change.element, marks);
+        }
     }
 
-    fn look(&self, _k: &NoCache, p: &Problem, g: &Region, i: usize) -> Look {
-        let constraints = p.constraints().len();
-        if i < constraints {
-            look_at(&self.kinds, p, g, i)
-        } else {
-            look_at_usable(p, g, NodeId((i - constraints) as u32))
+    fn look(&self, _k: &ConstraintIndex, p: &Problem, g: &Region, i: usize) -> Look {
+        match node_of(p, i) {
+            None => look_at(&self.kinds, p, g, i),
+            Some(n) => look_at_usable(p, g, n),
         }
     }
 
     fn reason(&self, p: &Problem, view: &View, i: usize, t: Instant) -> Reason {
-        let constraints = p.constraints().len();
-        if i < constraints {
-            constraint_reason(p, view, i as u32, t)
-        } else {
-            usable_reason(p, view, NodeId((i - constraints) as u32), t)
+        match node_of(p, i) {
+            None => constraint_reason(p, view, i as u32, t),
+            Some(n) => usable_reason(p, view, n, t),
         }
     }
 
