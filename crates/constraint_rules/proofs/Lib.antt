@@ -1,3 +1,4 @@
 pub mod Public
 mod MarkLemmas
+mod NodeLemmas
 mod WatchLemmas

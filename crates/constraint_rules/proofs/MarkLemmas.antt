@@ -28,7 +28,7 @@ use Rattle.constraint_rules.specs.Watches.{choose, kept_watch, no_watch, passes,
 -- ---- one mark more
 
 -- what is not marked after one more mark was not marked before, and is another one
-other : (flags : List Bool) (k i : ℕ) → k < length flags → get_or (set flags k true) i false ≡ false → (i ≢ k) × (get_or flags i false ≡ false)
+pub other : (flags : List Bool) (k i : ℕ) → k < length flags → get_or (set flags k true) i false ≡ false → (i ≢ k) × (get_or flags i false ≡ false)
 other flags k i low e = by (cases_eq i k)
   where
     by : (i ≡ k) ⊎ (i ≢ k) → (i ≢ k) × (get_or flags i false ≡ false)

@@ -1,21 +1,19 @@
 //! The watches of constraints that give reasons of some kinds.
-ghost use Rattle.std.specs.Prelude.{◌≡◌, ◌+◌, ◌-◌, ◌<◌, ◌≤◌, IfNone, IfSome, List, length, slice_get, if◌then◌else◌};
-ghost use Rattle.cluster.specs.declared.choices.Choice.{Choice as AnyChoice};
-ghost use Rattle.catalogue.specs.Instance.{IsElement};
+ghost use Rattle.std.specs.Prelude.{◌≡◌, ◌+◌, ◌-◌, ◌<◌, ◌≤◌, IfNone, IfSome, length, slice_get, if◌then◌else◌};
 ghost use Rattle.slices.specs.Elements.{node_count};
 ghost use Rattle.domains.specs.Sets.{sets};
 ghost use Rattle.prop_core.specs.Propagators.{IsRegionOf};
 ghost use Rattle.closing.specs.Looks.{IsLook};
-ghost use Rattle.constraint_rules.specs.Marking.{AreMarkedFrom, AreNodesMarked};
 ghost use Rattle.constraint_rules.specs.Watches.{kept_watch, watch_at, watch_count};
 ghost use Rattle.constraint_rules.specs.Quiet.{kinds_are_quiet, watches_are_local};
 
+use crate::nodes::mark_nodes;
 use crate::witnesses::{constraint_reason, usable_reason};
 use catalogue::problem::Problem;
 use closing::look::Look;
 use closing::watch::{look_at_constraint, look_at_usable};
 use cluster::choices::Instant;
-use cluster::ids::{Element, NodeId};
+use cluster::ids::NodeId;
 use constraint_kinds::reason_kind;
 use domains::domain::Domain;
 use domains::parts::Change;
@@ -72,29 +70,6 @@ fn count_of(p: &Problem, nodes: bool) -> usize
     }
 }
 
-// marks each watch from one on
-fn mark_from(marks: &mut Marks, first: usize)
-    requires { first ≤ length marks.old.top }
-    ensures { AreMarkedFrom first (length marks.old.top) marks.old marks.new }
-{
-    for i in first..marks.count() {
-        marks.put(i, true);
-    }
-}
-
-// marks the watches of nodes on which a change of an element weighs
-fn mark_nodes(p: &Problem, e: Element, marks: &mut Marks)
-    requires element { IsElement p.now.given e }
-    requires count { length marks.old.top ≡ length p.now.given.constraints + node_count p.now.given }
-    ensures { (old now : List AnyChoice) → AreNodesMarked p.now.given e old now marks.old marks.new }
-{
-    let constraints = p.constraints().len();
-    match e {
-        Element::Vm(_) => mark_from(marks, constraints),
-        Element::Node(n) => marks.put(constraints + n.0 as usize, true),
-    }
-}
-
 // the node of the watch of a number, if it is past those of the constraints
 fn node_of(p: &Problem, i: usize) -> Option<NodeId>
     requires { i < length p.now.given.constraints + node_count p.now.given }
@@ -135,7 +110,7 @@ impl<S: Kinds> Watcher<ConstraintIndex> for ConstraintWatcher<S> {
         &self,
         k: &ConstraintIndex,
         p: &Problem,
-        _g: &Region,
+        g: &Region,
         change: Change,
         _before: Before,
         _kept: &Domain,
@@ -143,7 +118,7 @@ impl<S: Kinds> Watcher<ConstraintIndex> for ConstraintWatcher<S> {
     ) {
         mark_looking(k, p, change.element, marks);
         if self.kinds.covers(ReasonKind::Usable) {
-            mark_nodes(p, change.element, marks);
+            mark_nodes(p, g, change, marks);
         }
     }
 
