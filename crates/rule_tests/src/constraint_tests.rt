@@ -80,7 +80,8 @@ const ANSWERS: [(u8, &str, &str); 12] = [
 
 /// The text of the problem with these constraints.
 fn text(alloc: Global, constraints: &str) -> Result<String, Fail> {
-    let head = r#"{"resources":["cpu"],"horizon":10,"durations":{"allocate":{"base":2},"boot":{"base":2},"forge":{"base":2},"kill":{"base":2},"migrate":{"base":2},"node_boot":{"base":2},"node_shutdown":{"base":2},"resume":{"base":2},"shutdown":{"base":2},"suspend":{"base":2}},"nodes":[{"capacity":{"cpu":4},"name":"n0","online":true},{"capacity":{"cpu":4},"name":"n1","online":true},{"capacity":{"cpu":4},"name":"n2","online":false}],"machines":[{"name":"v0","node":"n0","state":"running","use":{"cpu":2}},{"name":"v1","node":"n0","state":"running","use":{"cpu":2}},{"name":"v2","node":"n1","state":"running","use":{"cpu":2}}],"constraints":["#;
+    let head =
+        r#"{"resources":["cpu"],"horizon":10,"durations":{"allocate":{"base":2},"boot":{"base":2},"forge":{"base":2},"kill":{"base":2},"migrate":{"base":2},"node_boot":{"base":2},"node_shutdown":{"base":2},"resume":{"base":2},"shutdown":{"base":2},"suspend":{"base":2}},"nodes":[{"capacity":{"cpu":4},"name":"n0","online":true},{"capacity":{"cpu":4},"name":"n1","online":true},{"capacity":{"cpu":4},"name":"n2","online":false}],"machines":[{"name":"v0","node":"n0","state":"running","use":{"cpu":2}},{"name":"v1","node":"n0","state":"running","use":{"cpu":2}},{"name":"v2","node":"n1","state":"running","use":{"cpu":2}}],"constraints":["#;
     Ok(format!(in alloc; "{head}{constraints}]}}")?)
 }
 
@@ -105,7 +106,10 @@ fn first_answer(rule: &mut Box<dyn Propagator>, p: &Problem, g: &Region) -> Resu
 /// A reason as it stands in a certificate.
 fn reason_text(alloc: Global, reason: Reason) -> Result<String, Fail> {
     match reason {
-        Reason::Pair(c, t, v, w, n) => Ok(format!(in alloc; "pair {c} {t} {} {} {}", v.0, w.0, n.0)?),
+        Reason::Pair(c, t, v, w, n) => Ok(format!(in alloc;
+            "pair {c} {t} {} {} {}",
+            v.0, w.0, n.0
+        )?),
         Reason::Place(c, t, v, n) => Ok(format!(in alloc; "place {c} {t} {} {}", v.0, n.0)?),
         Reason::Group(c, t) => Ok(format!(in alloc; "group {c} {t}")?),
         Reason::SetLoad(c, t) => Ok(format!(in alloc; "setload {c} {t}")?),
