@@ -24,6 +24,7 @@ use domains::region::Region;
 use domains::undo::Before;
 use memory::Memory;
 use std::alloc::Global;
+use std::default::MadeWith;
 use std::marker::Model;
 
 /// By machine and by node the numbers of constraints.
@@ -191,6 +192,12 @@ impl ConstraintIndex {
     }
 }
 
+impl MadeWith<Global> for ConstraintIndex {
+    fn made_with(alloc: Global) -> ConstraintIndex {
+        ConstraintIndex::new(alloc)
+    }
+}
+
 impl Keeper for ConstraintIndex {
     ghost use Rattle.std.specs.Prelude.{length};
     ghost use Rattle.rule_frame.specs.Indexes.{IsIndexOf};
@@ -240,7 +247,7 @@ fn mark_each(numbers: &[u32], marks: &mut Marks)
 pub fn mark_looking(index: &ConstraintIndex, p: &Problem, e: Element, marks: &mut Marks)
     requires right { IsIndexOf p.now.given (length p.now.given.constraints) index.now.lists }
     requires element { IsElement p.now.given e }
-    requires count { length marks.old.top ≡ length p.now.given.constraints }
+    requires count { length p.now.given.constraints ≤ length marks.old.top }
     ensures looking { AreLooking p.now.given e marks.old marks.new }
     ensures disturbed { (old now : List AnyChoice) → IsDisturbed (constraint_watch p.now.given) p.now.given e old now marks.old marks.new }
 {

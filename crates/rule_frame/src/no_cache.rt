@@ -10,7 +10,7 @@ use domains::undo::Before;
 use memory::Memory;
 
 /// Keeps nothing but the number of its levels. It takes no memory.
-#[derive(Clone, Copy)]
+#[derive(Clone, Copy, Default)]
 pub struct NoCache {
     level: u64,
 }

@@ -19,6 +19,7 @@ use memory::Memory;
 use prop_core::propagator::{Answer, Propagator};
 use reasons::reason::ReasonKind;
 use std::alloc::Global;
+use std::default::MadeWith;
 
 // the answer for what asking the watches found, with a part as wide as is seen
 fn answer<K: Keeper, W: Watcher<K>>(w: &W, p: &Problem, g: &Region, asked: Asked) -> Answer
@@ -67,8 +68,8 @@ pub struct Rule<W, K> {
 }
 
 impl<K: Keeper, W: Watcher<K>> Rule<W, K> {
-    /// A rule that has answered nothing yet. It takes no memory.
-    pub fn new(alloc: Global, watcher: W, keeper: K) -> Rule<W, K>
+    /// A rule of these watches that has answered nothing yet. It takes no memory.
+    pub fn of(alloc: Global, watcher: W, keeper: K) -> Rule<W, K>
         ensures { result.given ≡ 0 }
     {
         Rule {
@@ -77,6 +78,15 @@ impl<K: Keeper, W: Watcher<K>> Rule<W, K> {
             marks: Marks::new(alloc),
             given: 0,
         }
+    }
+}
+
+impl<K: Keeper + MadeWith<Global>, W: Watcher<K> + Default> Rule<W, K> {
+    /// The rule of its types, which has answered nothing yet. It takes no memory.
+    pub fn new(alloc: Global) -> Rule<W, K>
+        ensures { result.given ≡ 0 }
+    {
+        Rule::of(alloc, W::default(), K::made_with(alloc))
     }
 }
 

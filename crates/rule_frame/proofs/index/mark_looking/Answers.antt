@@ -20,12 +20,12 @@ pub returns-in-Vm-clause-disturbed : goal.returns-in-Vm-clause-disturbed
 returns-in-Vm-clause-disturbed c =
     λ old now. rw c.in-Vm.is
     (looking_disturbs (constraint_watch c.args.p.now.given) c.args.p.now.given (Vm c.in-Vm.v) old now _ _ (λ k unseen. unseen)
-    (looking_machine c.args.p.now.given c.args.index.now.lists c.requires.right c.args.marks.now c.requires.count c.in-Vm.v c.of_machine.result.now c.mark_each.new.marks c.mark_each-in-Vm.new.marks
+    (looking_machine c.args.p.now.given c.args.index.now.lists c.requires.right c.args.marks.now c.in-Vm.v c.of_machine.result.now c.mark_each.new.marks c.mark_each-in-Vm.new.marks
     (rw c.in-Vm.is at c.requires.element) c.of_machine.ensures c.mark_each.ensures (rw c.everywhere.ensures at c.mark_each-in-Vm.ensures)))
 
 pub returns-in-Node-clause-disturbed : goal.returns-in-Node-clause-disturbed
 returns-in-Node-clause-disturbed c =
     λ old now. rw c.in-Node.is
     (looking_disturbs (constraint_watch c.args.p.now.given) c.args.p.now.given (TheNode c.in-Node.n) old now _ _ (λ k unseen. unseen)
-    (looking_node c.args.p.now.given c.args.index.now.lists c.requires.right c.args.marks.now c.requires.count c.in-Node.n c.of_node.result.now c.mark_each-in-Node.new.marks
+    (looking_node c.args.p.now.given c.args.index.now.lists c.requires.right c.args.marks.now c.in-Node.n c.of_node.result.now c.mark_each-in-Node.new.marks
     (rw c.in-Node.is at c.requires.element) c.of_node.ensures c.mark_each-in-Node.ensures))

@@ -1,0 +1,4 @@
+pub mod Public
+mod MarkLemmas
+mod NodeLemmas
+mod WatchLemmas

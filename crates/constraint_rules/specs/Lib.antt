@@ -1,0 +1,7 @@
+-- what a reader must believe
+pub mod Watches
+pub mod Covers
+-- what the code says beside it
+pub mod Marking
+-- what the trait of watchers asks a proof of
+pub mod Quiet

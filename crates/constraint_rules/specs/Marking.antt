@@ -1,0 +1,42 @@
+-- What is marked where a change may weigh on the watches of nodes.
+use Rattle.std.specs.Prelude.{◌≡◌, ℕ, ◌-◌, ◌<◌, ◌≤◌, true, false, List, length, slice_index_or, IsTrue}
+use Rattle.std.specs.List.{Contains}
+use Rattle.cluster.specs.declared.choices.Choice.{Choice}
+use Rattle.cluster.specs.declared.ids.Element.{Element}
+use Rattle.catalogue.specs.Instance.{Instance}
+use Rattle.slices.specs.Elements.{state_of}
+use Rattle.slices.specs.Stages.{one}
+use Rattle.domains.specs.declared.parts.Part.{Part}
+use Rattle.domains.specs.Parts.{in_part}
+use Rattle.relax.specs.Areas.{goes_in, hosted_in}
+use Rattle.closing.specs.Kinds.{usable_watch}
+use Rattle.rule_frame.specs.Changes.{IsStill}
+use Rattle.rule_frame.specs.Levels.{Levels}
+
+-- those from `first` on and before `end` are marked, and no mark is gone
+pub record AreMarkedFrom (first end : ℕ) (m n : Levels) : Type 0 where
+  pub older : n.older ≡ m.older
+  pub count : length n.top ≡ length m.top
+  pub kept : (i : ℕ) → slice_index_or n.top i false ≡ false → slice_index_or m.top i false ≡ false
+  pub marked : (i : ℕ) → first ≤ i → i < end → i < length n.top → slice_index_or n.top i false ≡ true
+
+-- after the constraints each watch of a node is marked on which a change of x weighs, and no mark is gone
+pub record AreNodesMarked (p : Instance) (x : Element) (old now : List Choice) (m n : Levels) : Type 0 where
+  pub older : n.older ≡ m.older
+  pub count : length n.top ≡ length m.top
+  pub kept : (i : ℕ) → slice_index_or n.top i false ≡ false → slice_index_or m.top i false ≡ false
+  pub still : (i : ℕ) → length p.constraints ≤ i → i < length n.top → slice_index_or n.top i false ≡ false →
+      IsStill p (usable_watch p (i - length p.constraints)).scope x old now
+
+-- after the constraints each watch of a node is marked that is not spared, and no mark is gone
+pub record AreSpared (p : Instance) (passes : ℕ → Type 0) (m n : Levels) : Type 0 where
+  pub older : n.older ≡ m.older
+  pub count : length n.top ≡ length m.top
+  pub kept : (i : ℕ) → slice_index_or n.top i false ≡ false → slice_index_or m.top i false ≡ false
+  pub spared : (i : ℕ) → length p.constraints ≤ i → i < length n.top → slice_index_or n.top i false ≡ false → passes (i - length p.constraints)
+
+-- a node that is not the machine's host, to which no choice in the part goes, and not all choices that are left
+pub record IsUntouched (p : Instance) (v : ℕ) (piece : Part) (now : List Choice) (k : ℕ) : Type 0 where
+  pub host : hosted_in (state_of p v) (one k) ≡ false
+  pub part : (c : Choice) → IsTrue (in_part piece c) → goes_in c (one k) ≡ false
+  pub elsewhere : (c : Choice) × Contains now c × (goes_in c (one k) ≡ false)

@@ -1,0 +1,9 @@
+//! The rules of constraints: machines kept apart, places, whole groups, and amounts on nodes.
+#![tactic(auto)]
+
+mod nodes;
+mod pairs;
+mod places;
+pub mod rules;
+pub mod watcher;
+mod witnesses;

@@ -1,0 +1,149 @@
+//! Two machines on one node that a constraint keeps apart, looked for.
+ghost use Rattle.std.specs.Prelude.{◌≡◌, ℕ, ◌<◌, false, IfNone, IfSome, IsTrue};
+ghost use Rattle.slices.specs.Elements.{machine_count, node_count};
+ghost use Rattle.domains.specs.Views.{seen};
+ghost use Rattle.reasons.specs.Reasons.{IsPair};
+ghost use Rattle.reasons.specs.Sure.{sure};
+ghost use Rattle.relax.specs.Areas.{IsSized};
+ghost use Rattle.catalogue.specs.Faults.{is_member};
+ghost use Rattle.slices.specs.Holds.{ForbidsPair, IsInPart};
+ghost use Rattle.closing.specs.Kinds.{HasPair};
+
+use catalogue::constraint::Constraint;
+use catalogue::lists::Vms;
+use catalogue::problem::Problem;
+use cluster::choices::Instant;
+use cluster::ids::{Element, NodeId, VmId};
+use domains::view::{Lens, View};
+use relax::area::Area;
+use relax::elements::is_pair;
+use relax::sure::surely_in;
+
+// whether a machine is in a list
+fn has(machines: &[VmId], v: VmId) -> bool
+    ensures { result ≡ is_member machines.now v.0 }
+{
+    machines.iter().any(|x| x.0 == v.0)
+}
+
+// whether it is in one of several
+fn have(parts: &[Vms], v: VmId) -> bool
+    ensures { result ≡ false → (i : ℕ) → ¬ IsInPart parts.now i v.0 }
+{
+    for i in 0..parts.len() {
+        if has(parts[i].items(), v) {
+            return true;
+        }
+    }
+    false
+}
+
+// whether a constraint may keep a machine apart from others
+fn parts(constraint: &Constraint, v: VmId) -> bool
+    ensures { result ≡ false → (w : ℕ) → ¬ ForbidsPair constraint.now v.0 w }
+{
+    match constraint {
+        Constraint::Spread { machines, .. } | Constraint::Lonely { machines, .. } => {
+            has(machines.items(), v)
+        }
+        Constraint::Split { parts, .. } => have(parts.items(), v),
+        Constraint::Ban { .. }
+        | Constraint::Fence { .. }
+        | Constraint::Gather { .. }
+        | Constraint::Among { .. }
+        | Constraint::Root { .. }
+        | Constraint::Precedence { .. }
+        | Constraint::Serialize { .. }
+        | Constraint::Preserve { .. }
+        | Constraint::ResourceCapacity { .. }
+        | Constraint::RunningCapacity { .. }
+        | Constraint::MaxOnline { .. }
+        | Constraint::Overbook { .. }
+        | Constraint::Online { .. }
+        | Constraint::Offline { .. }
+        | Constraint::Running { .. }
+        | Constraint::Sleeping { .. }
+        | Constraint::Ready { .. }
+        | Constraint::Killed { .. } => false,
+    }
+}
+
+// a machine that is on a node with this one
+fn other_on(
+    p: &Problem,
+    view: &View,
+    constraint: &Constraint,
+    v: VmId,
+    n: NodeId,
+    t: Instant,
+) -> Option<VmId>
+    requires region { IsSized p.now.given view.now.region.now }
+    requires machine { v.0 < machine_count p.now.given }
+    ensures none { IfNone result ((w : ℕ) → w < machine_count p.now.given → ¬ IsPair p.now.given (sure p.now.given (seen view.now.region.now view.now.lens) t) constraint.now v.0 w n.0) }
+    ensures some { IfSome result (λ w. (w.0 < machine_count p.now.given) × IsPair p.now.given (sure p.now.given (seen view.now.region.now view.now.lens) t) constraint.now v.0 w.0 n.0) }
+{
+    if !surely_in(p, view, v, &Area::One(n), t) {
+        return None;
+    }
+    for i in 0..p.cluster().machines().len() {
+        let w = VmId(i as u32);
+        if is_pair(p, view, constraint, v, w, n, t) {
+            return Some(w);
+        }
+    }
+    None
+}
+
+// a machine and a node on which it is with this one
+fn pair_with(
+    p: &Problem,
+    view: &View,
+    constraint: &Constraint,
+    v: VmId,
+    t: Instant,
+) -> Option<(VmId, NodeId)>
+    requires region { IsSized p.now.given view.now.region.now }
+    requires machine { v.0 < machine_count p.now.given }
+    ensures none { IfNone result ((w n : ℕ) → w < machine_count p.now.given → n < node_count p.now.given → ¬ IsPair p.now.given (sure p.now.given (seen view.now.region.now view.now.lens) t) constraint.now v.0 w n) }
+    ensures some { IfSome result (λ x. (x.0.0 < machine_count p.now.given) × (x.1.0 < node_count p.now.given) × IsPair p.now.given (sure p.now.given (seen view.now.region.now view.now.lens) t) constraint.now v.0 x.0.0 x.1.0) }
+{
+    if !parts(constraint, v) {
+        return None;
+    }
+    for i in 0..p.cluster().nodes().len() {
+        let n = NodeId(i as u32);
+        if let Some(w) = other_on(p, view, constraint, v, n, t) {
+            return Some((w, n));
+        }
+    }
+    None
+}
+
+/// Two machines and a node on which both surely are, where the constraint keeps them apart. The machine
+/// that is set to a choice is tried first.
+pub fn pair_on(
+    p: &Problem,
+    view: &View,
+    constraint: &Constraint,
+    t: Instant,
+) -> Option<(VmId, VmId, NodeId)>
+    requires region { IsSized p.now.given view.now.region.now }
+    ensures none { IfNone result (¬ HasPair p.now.given (sure p.now.given (seen view.now.region.now view.now.lens) t) constraint.now) }
+    ensures some { IfSome result (λ x. (x.0.0 < machine_count p.now.given) × (x.1.0 < machine_count p.now.given) × (x.2.0 < node_count p.now.given) × IsPair p.now.given (sure p.now.given (seen view.now.region.now view.now.lens) t) constraint.now x.0.0 x.1.0 x.2.0) }
+{
+    let machines = p.cluster().machines().len();
+    if let Lens::Set(Element::Vm(v), _) = view.lens {
+        if (v.0 as usize) < machines {
+            if let Some((w, n)) = pair_with(p, view, constraint, v, t) {
+                return Some((v, w, n));
+            }
+        }
+    }
+    for i in 0..machines {
+        let v = VmId(i as u32);
+        if let Some((w, n)) = pair_with(p, view, constraint, v, t) {
+            return Some((v, w, n));
+        }
+    }
+    None
+}

@@ -1,0 +1,124 @@
+//! A machine where a constraint lets it not be, and one that needs a node that is not usable, looked for.
+ghost use Rattle.std.specs.Prelude.{◌≡◌, ℕ, ◌<◌, false, IfNone, IfSome, IsTrue};
+ghost use Rattle.catalogue.specs.Faults.{is_member};
+ghost use Rattle.catalogue.specs.Instance.{Instance};
+ghost use Rattle.slices.specs.Elements.{machine_count, node_count};
+ghost use Rattle.slices.specs.Holds.{ForbidsPlace};
+ghost use Rattle.domains.specs.Views.{seen};
+ghost use Rattle.reasons.specs.Reasons.{IsPlace, IsUnusable};
+ghost use Rattle.reasons.specs.Sure.{sure};
+ghost use Rattle.relax.specs.Areas.{IsSized};
+ghost use Rattle.closing.specs.Kinds.{HasPlace, IsNeeded};
+
+use catalogue::constraint::Constraint;
+use catalogue::problem::Problem;
+use cluster::choices::Instant;
+use cluster::ids::{Element, NodeId, VmId};
+use domains::view::{Lens, View};
+use relax::elements::{is_place, is_unusable};
+
+// whether a machine is in a list
+fn has(machines: &[VmId], v: VmId) -> bool
+    ensures { result ≡ is_member machines.now v.0 }
+{
+    machines.iter().any(|x| x.0 == v.0)
+}
+
+// whether a constraint may keep a machine off nodes
+fn keeps_off(constraint: &Constraint, v: VmId) -> bool
+    ensures { result ≡ false → (p : Instance) (n : ℕ) → ¬ ForbidsPlace p constraint.now v.0 n }
+{
+    match constraint {
+        Constraint::Ban { machines, .. }
+        | Constraint::Fence { machines, .. }
+        | Constraint::Root { machines } => has(machines.items(), v),
+        Constraint::Spread { .. }
+        | Constraint::Gather { .. }
+        | Constraint::Lonely { .. }
+        | Constraint::Among { .. }
+        | Constraint::Split { .. }
+        | Constraint::Precedence { .. }
+        | Constraint::Serialize { .. }
+        | Constraint::Preserve { .. }
+        | Constraint::ResourceCapacity { .. }
+        | Constraint::RunningCapacity { .. }
+        | Constraint::MaxOnline { .. }
+        | Constraint::Overbook { .. }
+        | Constraint::Online { .. }
+        | Constraint::Offline { .. }
+        | Constraint::Running { .. }
+        | Constraint::Sleeping { .. }
+        | Constraint::Ready { .. }
+        | Constraint::Killed { .. } => false,
+    }
+}
+
+// a node on which a machine is, where the constraint lets it not be
+fn place_of(
+    p: &Problem,
+    view: &View,
+    constraint: &Constraint,
+    v: VmId,
+    t: Instant,
+) -> Option<NodeId>
+    requires region { IsSized p.now.given view.now.region.now }
+    requires machine { v.0 < machine_count p.now.given }
+    ensures none { IfNone result ((n : ℕ) → n < node_count p.now.given → ¬ IsPlace p.now.given (sure p.now.given (seen view.now.region.now view.now.lens) t) constraint.now v.0 n) }
+    ensures some { IfSome result (λ n. (n.0 < node_count p.now.given) × IsPlace p.now.given (sure p.now.given (seen view.now.region.now view.now.lens) t) constraint.now v.0 n.0) }
+{
+    if !keeps_off(constraint, v) {
+        return None;
+    }
+    for i in 0..p.cluster().nodes().len() {
+        let n = NodeId(i as u32);
+        if is_place(p, view, constraint, v, n, t) {
+            return Some(n);
+        }
+    }
+    None
+}
+
+/// A machine and a node on which it surely is, where the constraint lets it not be. The machine that is
+/// set to a choice is tried first.
+pub fn place_on(
+    p: &Problem,
+    view: &View,
+    constraint: &Constraint,
+    t: Instant,
+) -> Option<(VmId, NodeId)>
+    requires region { IsSized p.now.given view.now.region.now }
+    ensures none { IfNone result (¬ HasPlace p.now.given (sure p.now.given (seen view.now.region.now view.now.lens) t) constraint.now) }
+    ensures some { IfSome result (λ x. (x.0.0 < machine_count p.now.given) × (x.1.0 < node_count p.now.given) × IsPlace p.now.given (sure p.now.given (seen view.now.region.now view.now.lens) t) constraint.now x.0.0 x.1.0) }
+{
+    let machines = p.cluster().machines().len();
+    if let Lens::Set(Element::Vm(v), _) = view.lens {
+        if (v.0 as usize) < machines {
+            if let Some(n) = place_of(p, view, constraint, v, t) {
+                return Some((v, n));
+            }
+        }
+    }
+    for i in 0..machines {
+        let v = VmId(i as u32);
+        if let Some(n) = place_of(p, view, constraint, v, t) {
+            return Some((v, n));
+        }
+    }
+    None
+}
+
+/// A machine that surely is on a node or surely has its image there, where the node is surely not usable.
+pub fn machine_in_need(p: &Problem, view: &View, n: NodeId, t: Instant) -> Option<VmId>
+    requires region { IsSized p.now.given view.now.region.now }
+    requires node { n.0 < node_count p.now.given }
+    ensures none { IfNone result (¬ IsNeeded p.now.given n.0 (sure p.now.given (seen view.now.region.now view.now.lens) t)) }
+    ensures some { IfSome result (λ v. (v.0 < machine_count p.now.given) × IsUnusable (sure p.now.given (seen view.now.region.now view.now.lens) t) v.0 n.0) }
+{
+    for i in 0..p.cluster().machines().len() {
+        let v = VmId(i as u32);
+        if is_unusable(p, view, v, n, t) {
+            return Some(v);
+        }
+    }
+    None
+}
