@@ -1,0 +1,38 @@
+-- What crates above may cite: the laws, by the names of their statements in specs/.
+use Rattle.std.proofs.Common.{◌≡◌, ◌≢◌, ℕ, ◌+◌, ◌<◌, Bool, true, false, ◌&&◌, nat_lt, cond, List, [], ◌∷◌, refl, sym, ap, ◌∙◌, arith}
+use Rattle.std.proofs.lemmas.Bool.Decides.{nat_tests}
+use Rattle.sums.specs.Least.{least}
+use Rattle.cluster.specs.declared.choices.Choice.{Choice}
+use Rattle.catalogue.specs.Instance.{Instance}
+use Rattle.slices.specs.declared.slice.Weight.{Weight}
+use Rattle.slices.specs.declared.slice.Weight.TheVariants.{Presence}
+use Rattle.slices.specs.Elements.{state_of}
+use Rattle.slices.specs.Snapshots.{held_at}
+use Rattle.slices.specs.Stages.{one}
+use Rattle.domains.specs.Sets.{surely}
+use Rattle.relax.specs.Areas.{hosted_in}
+use Rattle.standing.specs.declared.numbers.Standing.{Standing}
+use Rattle.standing.specs.Laws.{KeptLaw, PresentLaw}
+use Rattle.standing.specs.Standings.{IsStanding, base, gain, has_come, have_come, kept_use, leave_of, never}
+use Rattle.standing.proofs.ChoiceLemmas.{apart, held_one}
+use Rattle.standing.proofs.ListLemmas.{in_parts, least_in_parts, least_same, positive_each}
+
+-- what is held at the least, by the set itself
+by-set : (p : Instance) (v : ℕ) (w : Weight) (n t : ℕ) (cs : List Choice) → t < never → least (held_at p v w (one n) t) cs ≡ cond (hosted_in (state_of p v) (one n) && nat_lt t (least (leave_of p v) cs)) (base p v w) 0 + cond (have_come n t cs) (gain p v w n) 0
+by-set p v w n t [] h = none (hosted_in (state_of p v) (one n)) (base p v w)
+  where
+    none : (b : Bool) (k : ℕ) → 0 ≡ cond (b && nat_lt t 0) k 0 + 0
+    none b k = let never_before : nat_lt t 0 ≡ false = grind (arith, nat_tests) in rw never_before (at b)
+      where
+        at : (b : Bool) → 0 ≡ cond (b && false) k 0 + 0
+        at true = refl
+        at false = refl
+by-set p v w n t (c ∷ cs) h =
+    least_same (held_at p v w (one n) t) (in_parts (leave_of p v) (has_come n t) (hosted_in (state_of p v) (one n)) (base p v w) (gain p v w n) t) (λ d. held_one p v w n t d h) (c ∷ cs)
+    ∙ least_in_parts (leave_of p v) (has_come n t) (hosted_in (state_of p v) (one n)) (base p v w) (gain p v w n) t (λ d there out come. apart p v w n t d h there out come) c cs
+
+pub kept_law : KeptLaw
+kept_law p v w n t cs k h is = by-set p v w n t cs h ∙ rw (is.leave, is.come n t) refl
+
+pub present_law : PresentLaw
+present_law p v n t cs k h some is = positive_each (held_at p v Presence (one n) t) cs some ∙ ap (nat_lt 0) (kept_law p v Presence n t cs k h is)
