@@ -1,19 +1,23 @@
 -- What crates above may cite: the laws, by the names of their statements in specs/.
+use Rattle.std.specs.Prelude.{slice_index_or}
 use Rattle.std.proofs.Common.{◌≡◌, ◌≢◌, ℕ, ◌+◌, ◌<◌, Bool, true, false, ◌&&◌, nat_lt, cond, List, [], ◌∷◌, refl, sym, ap, ◌∙◌, arith}
 use Rattle.std.proofs.lemmas.Bool.Decides.{nat_tests}
 use Rattle.sums.specs.Least.{least}
+use Rattle.sums.proofs.Sums.{sum_to-same}
 use Rattle.cluster.specs.declared.choices.Choice.{Choice}
 use Rattle.catalogue.specs.Instance.{Instance}
 use Rattle.slices.specs.declared.slice.Weight.{Weight}
-use Rattle.slices.specs.declared.slice.Weight.TheVariants.{Presence}
-use Rattle.slices.specs.Elements.{state_of}
+use Rattle.slices.specs.declared.slice.Weight.TheVariants.{Amount, Presence}
+use Rattle.slices.specs.Elements.{machine_count, state_of, vm}
 use Rattle.slices.specs.Snapshots.{held_at}
 use Rattle.slices.specs.Stages.{one}
 use Rattle.domains.specs.Sets.{surely}
 use Rattle.relax.specs.Areas.{hosted_in}
 use Rattle.standing.specs.declared.numbers.Standing.{Standing}
-use Rattle.standing.specs.Laws.{KeptLaw, PresentLaw}
+use Rattle.reasons.specs.Sure.{sure}
+use Rattle.standing.specs.Laws.{KeptLaw, LoadLaw, PresencesLaw, PresentLaw}
 use Rattle.standing.specs.Standings.{IsStanding, base, gain, has_come, have_come, kept_use, leave_of, never}
+use Rattle.standing.specs.Tables.{no_standing}
 use Rattle.standing.proofs.ChoiceLemmas.{apart, held_one}
 use Rattle.standing.proofs.ListLemmas.{in_parts, least_in_parts, least_same, positive_each}
 
@@ -36,3 +40,15 @@ kept_law p v w n t cs k h is = by-set p v w n t cs h ∙ rw (is.leave, is.come n
 
 pub present_law : PresentLaw
 present_law p v n t cs k h some is = positive_each (held_at p v Presence (one n) t) cs some ∙ ap (nat_lt 0) (kept_law p v Presence n t cs k h is)
+
+pub load_law : LoadLaw
+unfolding sure
+load_law p s ks r n t h are =
+    sum_to-same (machine_count p) (λ v. least (held_at p v (Amount r) (one n) t) (s (vm v))) (λ v. kept_use p v (Amount r) n t (slice_index_or ks v no_standing))
+    (λ v l. kept_law p v (Amount r) n t (s (vm v)) (slice_index_or ks v no_standing) h (are.each v l))
+
+pub presences_law : PresencesLaw
+unfolding sure
+presences_law p s ks n t h are =
+    sum_to-same (machine_count p) (λ v. least (held_at p v Presence (one n) t) (s (vm v))) (λ v. kept_use p v Presence n t (slice_index_or ks v no_standing))
+    (λ v l. kept_law p v Presence n t (s (vm v)) (slice_index_or ks v no_standing) h (are.each v l))

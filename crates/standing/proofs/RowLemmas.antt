@@ -1,6 +1,6 @@
 -- Where all choices of a domain go, by its rows.
-use Rattle.std.proofs.Common.{◌≡◌, ℕ, zero, suc, ◌+◌, ◌-◌, ◌<◌, ◌≤◌, Bool, true, false, ◌&&◌, ◌==◌, nat_le, cond, Option, Some, None, List, [], ◌∷◌, ◌++◌, refl, sym, ap, ◌∙◌, arith}
-use Rattle.std.specs.List.{Contains, flat_map}
+use Rattle.std.proofs.Common.{◌≡◌, ◌⊎◌, inl, inr, ℕ, zero, suc, ◌+◌, ◌-◌, ◌<◌, ◌≤◌, Bool, true, false, ◌&&◌, ◌==◌, nat_le, cond, Option, Some, None, List, [], ◌∷◌, ◌++◌, length, slice_index_or, refl, sym, ap, ◌∙◌, arith}
+use Rattle.std.specs.List.{filter, flat_map}
 use Rattle.std.proofs.lemmas.Bool.{false≢true}
 use Rattle.std.proofs.lemmas.Bool.Decides.{Decides-eqb, nat_tests}
 use Rattle.cluster.specs.declared.choices.Choice.{Choice}
@@ -11,12 +11,13 @@ use Rattle.cluster.specs.declared.ids.NodeId.{NodeId}
 use Rattle.slices.specs.Stages.{one}
 use Rattle.domains.specs.declared.parts.Row.{Row}
 use Rattle.domains.specs.Choices.{Climbs, DomainView, choices, place_index, row_choices, starts_from}
+use Rattle.domains.specs.Parts.{stays}
 use Rattle.domains.specs.Sets.{surely}
 use Rattle.standing.specs.declared.numbers.Arrival.{Arrival}
 use Rattle.standing.specs.Standings.{comes_by, has_come, have_come}
 
 -- where the rows tell that all choices go, and the last start there
-abbrev come_at : Place → ℕ → Option Arrival
+abbrev pub come_at : Place → ℕ → Option Arrival
 come_at Nowhere last = None
 come_at (At n) last = Some (record { node = n; last = last })
 
@@ -28,7 +29,7 @@ come_of false (r ∷ q ∷ rs) = None
 
 -- of starts that follow each other at one node all have come by the last
 starts-come : (n t : ℕ) (m : NodeId) (from count : ℕ) → surely (has_come n t) (starts_from (At m) from (suc count)) ≡ (one n m.0 && nat_le (from + count) t)
-starts-come n t m from zero = by (one n m.0) (nat_le from t)
+starts-come n t m from zero = let same : from + 0 ≡ from = omega arith in rw same (by (one n m.0) (nat_le from t))
   where
     by : (a b : Bool) → ((a && b) && true) ≡ (a && b)
     by true true = refl
@@ -94,3 +95,22 @@ come_law d climbs n t = by d.idle d.rows climbs
     by false [] c = refl
     by false (r ∷ []) c = one-row n t r c.1
     by false (r ∷ q ∷ rs) c = sym (two-rows n t r q rs c)
+
+-- as the code comes to it
+pub come_one : (d : DomainView) (rows : List Row) (x : Row) (a : Option Arrival) → Climbs 0 d.rows → d.idle ≡ false → rows ≡ d.rows → 1 ≤ length rows → length rows < 2 → come_at (slice_index_or rows 0 x).place (slice_index_or rows 0 x).hi ≡ a → (n t : ℕ) → comes_by n t a ≡ have_come n t (choices d)
+come_one d [] x a climbs idle e low high is n t = absurd (omega (arith, low))
+come_one d (r ∷ []) x a climbs idle e low high is n t = rw (← is) (ap (comes_by n t) (let o : come_of d.idle d.rows ≡ come_at r.place r.hi = rw (idle, ← e) refl in sym o) ∙ come_law d climbs n t)
+come_one d (r ∷ q ∷ rs) x a climbs idle e low high is n t = absurd (omega (arith, high))
+
+pub come_two : (d : DomainView) (rows : List Row) → Climbs 0 d.rows → d.idle ≡ false → rows ≡ d.rows → 2 ≤ length rows → (n t : ℕ) → false ≡ have_come n t (choices d)
+come_two d [] climbs idle e two n t = absurd (omega (arith, two))
+come_two d (r ∷ []) climbs idle e two n t = absurd (omega (arith, two))
+come_two d (r ∷ q ∷ rs) climbs idle e two n t = ap (comes_by n t) (let o : come_of d.idle d.rows ≡ None = rw (idle, ← e) refl in sym o) ∙ come_law d climbs n t
+
+pub come_idle : (d : DomainView) → d.idle ≡ true → (n t : ℕ) → false ≡ have_come n t (choices d)
+come_idle d idle n t = rw idle refl
+
+-- all choices stay where nothing is left out
+pub all_stay : (cs : List Choice) → filter (stays None) cs ≡ cs
+all_stay [] = refl
+all_stay (c ∷ cs) = ap (λ xs. c ∷ xs) (all_stay cs)

@@ -1,15 +1,19 @@
 -- The laws of the two numbers: what a machine surely has on one node at each instant is a function of them.
-use Rattle.std.specs.Prelude.{◌≡◌, ◌≢◌, ℕ, ◌<◌, List, [], nat_lt}
+use Rattle.std.specs.Prelude.{◌≡◌, ◌≢◌, ℕ, ◌<◌, List, [], nat_lt, slice_index_or}
 use Rattle.cluster.specs.declared.choices.Choice.{Choice}
 use Rattle.catalogue.specs.Instance.{Instance}
 use Rattle.sums.specs.Least.{least}
+use Rattle.sums.specs.Sums.{sum_to}
 use Rattle.slices.specs.declared.slice.Weight.{Weight}
-use Rattle.slices.specs.declared.slice.Weight.TheVariants.{Presence}
-use Rattle.slices.specs.Snapshots.{held_at, present_at}
+use Rattle.slices.specs.declared.slice.Weight.TheVariants.{Amount, Presence}
+use Rattle.slices.specs.Elements.{machine_count}
+use Rattle.slices.specs.Snapshots.{held_at, load, present_at, presences}
 use Rattle.slices.specs.Stages.{one}
-use Rattle.domains.specs.Sets.{surely}
+use Rattle.domains.specs.Sets.{Sets, surely}
+use Rattle.reasons.specs.Sure.{sure}
 use Rattle.standing.specs.declared.numbers.Standing.{Standing}
 use Rattle.standing.specs.Standings.{IsStanding, kept_use, never}
+use Rattle.standing.specs.Tables.{AreStanding, no_standing}
 
 -- the least that is held over the choices: amounts, presences and images, whatever the machine's state
 abbrev pub KeptLaw : Type 0
@@ -22,3 +26,14 @@ abbrev pub PresentLaw : Type 0
 PresentLaw =
     (p : Instance) (v n t : ℕ) (cs : List Choice) (k : Standing) → t < never → cs ≢ [] → IsStanding p v cs k →
     surely (present_at p v (one n) t) cs ≡ nat_lt 0 (kept_use p v Presence n t k)
+
+-- the load of a node, and the presences there, are sums over the numbers of all machines
+abbrev pub LoadLaw : Type 0
+LoadLaw =
+    (p : Instance) (s : Sets) (ks : List Standing) (r n t : ℕ) → t < never → AreStanding p s ks →
+    load p (sure p s t) r (one n) ≡ sum_to (machine_count p) (λ v. kept_use p v (Amount r) n t (slice_index_or ks v no_standing))
+
+abbrev pub PresencesLaw : Type 0
+PresencesLaw =
+    (p : Instance) (s : Sets) (ks : List Standing) (n t : ℕ) → t < never → AreStanding p s ks →
+    presences p (sure p s t) (one n) ≡ sum_to (machine_count p) (λ v. kept_use p v Presence n t (slice_index_or ks v no_standing))

@@ -1,6 +1,6 @@
 //! Laws of the definitions: each is the contract of a function that does nothing, and a lemma of the
 //! same name in proofs/Public proves it.
-ghost use Rattle.standing.specs.Laws.{KeptLaw, PresentLaw};
+ghost use Rattle.standing.specs.Laws.{KeptLaw, LoadLaw, PresencesLaw, PresentLaw};
 
 /// What a machine surely has on a node is a function of its two numbers.
 #[tactic(auto, using(crate::proofs::Public::kept_law))]
@@ -12,4 +12,16 @@ pub fn kept_law()
 #[tactic(auto, using(crate::proofs::Public::present_law))]
 pub fn present_law()
     ensures { PresentLaw }
+{}
+
+/// The load of a node is a sum over the numbers of all machines.
+#[tactic(auto, using(crate::proofs::Public::load_law))]
+pub fn load_law()
+    ensures { LoadLaw }
+{}
+
+/// So are the presences there.
+#[tactic(auto, using(crate::proofs::Public::presences_law))]
+pub fn presences_law()
+    ensures { PresencesLaw }
 {}
