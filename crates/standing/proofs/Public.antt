@@ -1,7 +1,9 @@
--- What crates above may cite: the laws, by the names of their statements in specs/.
+-- What crates above may cite: the laws, by the names of their statements in specs/; and `each_push`, for lists that are filled in order.
+pub use Rattle.standing.proofs.TableLemmas.{each_push}
 use Rattle.std.specs.Prelude.{slice_index_or}
-use Rattle.std.proofs.Common.{◌≡◌, ◌≢◌, ℕ, ◌+◌, ◌<◌, Bool, true, false, ◌&&◌, nat_lt, cond, List, [], ◌∷◌, refl, sym, ap, ◌∙◌, arith}
-use Rattle.std.proofs.lemmas.Bool.Decides.{nat_tests}
+use Rattle.std.proofs.Common.{◌≡◌, ◌≢◌, ℕ, ◌+◌, ◌<◌, Bool, true, false, ◌&&◌, nat_lt, cond, List, [], ◌∷◌, refl, sym, ap, subst, ◌∙◌, arith}
+use Rattle.std.specs.List.{Contains}
+use Rattle.std.proofs.lemmas.Bool.Decides.{Decides-eqb, nat_tests}
 use Rattle.sums.specs.Least.{least}
 use Rattle.sums.proofs.Sums.{sum_to-same}
 use Rattle.cluster.specs.declared.choices.Choice.{Choice}
@@ -11,13 +13,17 @@ use Rattle.slices.specs.declared.slice.Weight.TheVariants.{Amount, Presence}
 use Rattle.slices.specs.Elements.{machine_count, state_of, vm}
 use Rattle.slices.specs.Snapshots.{held_at}
 use Rattle.slices.specs.Stages.{one}
-use Rattle.domains.specs.Sets.{surely}
+use Rattle.cluster.specs.declared.ids.Element.{Element}
+use Rattle.cluster.specs.declared.ids.Element.TheVariants.{Vm, Node}
+use Rattle.domains.specs.Choices.{choices}
+use Rattle.domains.specs.Sets.{same_element, sets, surely}
+use Rattle.domains.proofs.Public.{filter_is_fewer, same_is}
 use Rattle.relax.specs.Areas.{hosted_in}
 use Rattle.standing.specs.declared.numbers.Standing.{Standing}
 use Rattle.reasons.specs.Sure.{sure}
-use Rattle.standing.specs.Laws.{KeptLaw, LoadLaw, PresencesLaw, PresentLaw}
+use Rattle.standing.specs.Laws.{BeforeLaw, FewerLaw, KeptLaw, LoadLaw, PresencesLaw, PresentLaw}
 use Rattle.standing.specs.Standings.{IsStanding, base, gain, has_come, have_come, kept_use, leave_of, never}
-use Rattle.standing.specs.Tables.{no_standing}
+use Rattle.standing.specs.Tables.{no_standing, sets_before}
 use Rattle.standing.proofs.ChoiceLemmas.{apart, held_one}
 use Rattle.standing.proofs.ListLemmas.{in_parts, least_in_parts, least_same, positive_each}
 
@@ -52,3 +58,24 @@ unfolding sure
 presences_law p s ks n t h are =
     sum_to-same (machine_count p) (λ v. least (held_at p v Presence (one n) t) (s (vm v))) (λ v. kept_use p v Presence n t (slice_index_or ks v no_standing))
     (λ v l. kept_law p v Presence n t (s (vm v)) (slice_index_or ks v no_standing) h (are.each v l))
+
+-- ---- what was told of a change
+
+pub before_law : BeforeLaw
+before_law g now x test before kept was left = λ i e. by (same_element e x) e refl i
+  where
+    other : (e : Element) → same_element e x ≡ false → sets now e ≡ sets g e
+    other e off = left e ∙ rw off refl
+
+    by : (same : Bool) (e : Element) → same_element e x ≡ same → sets_before now x before kept e ≡ sets g e
+    by true e is = rw is (ap choices was ∙ ap (sets g) (sym (same_is e x is)))
+    by false e off = rw off (other e off)
+
+pub fewer_law : FewerLaw
+fewer_law g now x test before kept was left c h =
+    let same : same_element x x ≡ true = itself x in
+    rw was (filter_is_fewer test (sets g x) c (subst (λ cs. Contains cs c) (left x ∙ rw same refl) h))
+  where
+    itself : (x : Element) → same_element x x ≡ true
+    itself (Vm v) = (Decides-eqb v.0 v.0).1 refl
+    itself (Node n) = (Decides-eqb n.0 n.0).1 refl

@@ -56,15 +56,19 @@ few_marks top log marks l = omega (arith, l.count, marks-few top (reverse log), 
 
 -- ---- one machine's numbers
 
+-- what holds of each item holds with one more
+pub each_push : {A : Type 0} (P : ℕ → A → Type 0) (d : A) (n : ℕ) (xs : List A) (x : A) → length xs ≡ n → ((v : ℕ) → v < n → P v (slice_index_or xs v d)) → P n x → (v : ℕ) → v < n + 1 → P v (slice_index_or (xs ++ x ∷ []) v d)
+each_push P d n xs x count each is v h = elim (cases_eq v n) [
+  | inl same ↦
+      let at : slice_index_or (xs ++ x ∷ []) n d ≡ x = ap (λ i. slice_index_or (xs ++ x ∷ []) i d) (sym count) ∙ get_or-append_seam xs x [] d in
+      rw (same, at) is
+  | inr other ↦ rw (get_or_append_left xs (x ∷ []) d v (omega (arith, count))) (each v (omega arith))
+]
+
 pub first_push : (p : Instance) (s : Sets) (n : ℕ) (ks : List Standing) (k : Standing) → AreFirst p s n ks → IsStanding p n (s (vm n)) k → AreFirst p s (n + 1) (ks ++ k ∷ [])
 first_push p s n ks k first is = record {
   count = omega (arith, length-append ks (k ∷ []), first.count);
-  each = λ v h. elim (cases_eq v n) [
-    | inl same ↦
-        let at : get_or (ks ++ k ∷ []) n no_standing ≡ k = ap (λ i. get_or (ks ++ k ∷ []) i no_standing) (sym first.count) ∙ get_or-append_seam ks k [] no_standing in
-        rw (same, at) is
-    | inr other ↦ rw (get_or_append_left ks (k ∷ []) no_standing v (omega (arith, first.count))) (first.each v (omega arith))
-  ];
+  each = each_push (λ v k. IsStanding p v (s (vm v)) k) no_standing n ks k first.count first.each is;
 }
 
 pub standing_put : (p : Instance) (s : Sets) (v : ℕ) (cs : List Choice) (ks : List Standing) (k : Standing) → AreStanding p (putting (vm v) cs s) ks → v < machine_count p → IsStanding p v (s (vm v)) k → AreStanding p s (slice_set ks v k)

@@ -1,6 +1,6 @@
 //! Laws of the definitions: each is the contract of a function that does nothing, and a lemma of the
 //! same name in proofs/Public proves it.
-ghost use Rattle.standing.specs.Laws.{KeptLaw, LoadLaw, PresencesLaw, PresentLaw};
+ghost use Rattle.standing.specs.Laws.{BeforeLaw, FewerLaw, KeptLaw, LoadLaw, PresencesLaw, PresentLaw};
 
 /// What a machine surely has on a node is a function of its two numbers.
 #[tactic(auto, using(crate::proofs::Public::kept_law))]
@@ -24,4 +24,15 @@ pub fn load_law()
 #[tactic(auto, using(crate::proofs::Public::presences_law))]
 pub fn presences_law()
     ensures { PresencesLaw }
+{}
+
+/// The sets before a change that is told are those of the region before it.
+#[tactic(auto, using(crate::proofs::Public::before_law))]
+pub fn before_law()
+    ensures { BeforeLaw }
+{}
+
+/// By the change its element has fewer choices.
+pub fn fewer_law()
+    ensures { FewerLaw }
 {}

@@ -3,7 +3,7 @@ ghost use Rattle.std.specs.Prelude.{◌≡◌, ◌≤◌, ℕ, IsTrue};
 ghost use Rattle.sums.specs.Least.{least};
 ghost use Rattle.catalogue.specs.Instance.{IsElement};
 ghost use Rattle.slices.specs.Elements.{vm};
-ghost use Rattle.domains.specs.Choices.{Climbs, choices};
+ghost use Rattle.domains.specs.Choices.{choices};
 ghost use Rattle.domains.specs.Laws.{AreFewer};
 ghost use Rattle.domains.specs.Undo.{domain_before, restored};
 ghost use Rattle.standing.specs.Standings.{IsStanding, comes_by, have_come, kept_until as the_kept_until, leave_of};
@@ -128,7 +128,6 @@ fn leave(p: &Problem, v: VmId, domain: &Domain) -> u64
 // where all choices go; two rows go to two places
 #[tactic(auto, using(crate::proofs::RowLemmas::come_idle))]
 fn come(domain: &Domain) -> Option<Arrival>
-    requires { Climbs 0 domain.now.rows }
     ensures { (n t : ℕ) → comes_by n t result ≡ have_come n t (choices domain.now) }
 {
     if domain.idle() {
@@ -145,8 +144,7 @@ fn come(domain: &Domain) -> Option<Arrival>
 
 /// Where a machine surely stands that has the choices of a domain.
 pub fn standing_of(p: &Problem, v: VmId, domain: &Domain) -> Standing
-    requires machine { IsElement p.now.given (Element.Vm v) }
-    requires climbs { Climbs 0 domain.now.rows }
+    requires { IsElement p.now.given (Element.Vm v) }
     ensures { IsStanding p.now.given v.0 (choices domain.now) result }
 {
     Standing {
@@ -190,7 +188,6 @@ pub fn standing_after(
     old: Standing,
 ) -> Standing
     requires machine { IsElement p.now.given (Element.Vm v) }
-    requires climbs { Climbs 0 domain.now.rows }
     requires fewer { AreFewer (choices domain.now) (choices (domain_before before _kept.now domain.now)) }
     requires was { IsStanding p.now.given v.0 (choices (domain_before before _kept.now domain.now)) old }
     ensures { IsStanding p.now.given v.0 (choices domain.now) result }
