@@ -33,7 +33,7 @@ pub total_is : (p : Instance) (s : Sets) (x : ProfileView) (t : ℕ) → t < nev
 total_is p s x t h is =
     let here : load p (sure p s t) x.resource (one x.node) ≡ sum_to (machine_count p) (λ v. kept_use p v (Amount x.resource) x.node t (slice_index_or x.top v no_standing)) = load_law p s x.top x.resource x.node t h is.standing in
     let each : sum_to (machine_count p) (λ v. kept_use p v (Amount x.resource) x.node t (slice_index_or x.top v no_standing)) ≡ sum_to (machine_count p) (λ v. share_use x.node t (slice_index_or x.shares v no_share) (slice_index_or x.top v no_standing)) =
-      sum_to-same (machine_count p) _ _ (λ v l. share-is p x.node x.resource v t (slice_index_or x.shares v no_share) (slice_index_or x.top v no_standing) (is.shares.each v l)) in
+    sum_to-same (machine_count p) _ _ (λ v l. share-is p x.node x.resource v t (slice_index_or x.shares v no_share) (slice_index_or x.top v no_standing) (is.shares.each v l)) in
     sym (here ∙ each ∙ ap (λ m. sum_to m (λ v. share_use x.node t (slice_index_or x.shares v no_share) (slice_index_or x.top v no_standing))) (sym is.shares.count))
 
 -- ---- one machine more

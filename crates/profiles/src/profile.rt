@@ -48,13 +48,7 @@ impl Model for Profile {
 
 impl Profile {
     /// The profile of a region, without a mark. The only error is want of memory.
-    pub fn new(
-        alloc: Global,
-        p: &Problem,
-        g: &Region,
-        n: NodeId,
-        r: u8,
-    ) -> Result<Profile, Memory>
+    pub fn new(alloc: Global, p: &Problem, g: &Region, n: NodeId, r: u8) -> Result<Profile, Memory>
         requires region { IsSized p.now.given g.now }
         requires resource { r < length p.now.given.resources }
         ensures node { IfOk result (λ x. x.node ≡ n.0) }
@@ -116,11 +110,6 @@ impl Profile {
     pub fn at(&self, t: Instant) -> u64
         ensures { (p : Instance) (s : Sets) → IsProfile p s self.now → result ≡ load p (sure p s t) self.now.resource (one self.now.node) }
     {
-        total_use(
-            self.node,
-            t,
-            self.shares.as_slice(),
-            self.table.standings(),
-        )
+        total_use(self.node, t, self.shares.as_slice(), self.table.standings())
     }
 }

@@ -102,8 +102,19 @@ fn profile_of_an_exchange(rt: HostRuntime) -> Result<(), Fail> {
     profile.mark()?;
     let kept = Domain::new(alloc, false);
     cut(&p, &mut g, &mut profile, V0, Part::Idle, &kept)?;
-    cut(&p, &mut g, &mut profile, V0, Part::From(Place::At(NodeId(2)), 0), &kept)?;
-    assert_at(&rt, &profile, &[(0, 3), (2, 3), (3, 0), (16, 0), (17, 3), (20, 3)]);
+    cut(
+        &p,
+        &mut g,
+        &mut profile,
+        V0,
+        Part::From(Place::At(NodeId(2)), 0),
+        &kept,
+    )?;
+    assert_at(
+        &rt,
+        &profile,
+        &[(0, 3), (2, 3), (3, 0), (16, 0), (17, 3), (20, 3)],
+    );
     profile.back();
     assert_at(&rt, &profile, &first);
     Ok(())

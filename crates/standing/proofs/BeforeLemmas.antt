@@ -1,6 +1,6 @@
 -- Until when a machine stays, after some of its choices were lost.
-use Rattle.std.proofs.Common.{◌≡◌, ℕ, ◌<◌, Option, Some, None, unwrap_or, refl, ap, ◌∙◌, sym, arith}
-use Rattle.sums.specs.Least.{least, lower, lowest}
+use Rattle.std.proofs.Common.{◌≡◌, ℕ, ◌<◌, Option, Some, None, unwrap_or, refl, ap, ◌∙◌, arith}
+use Rattle.sums.specs.Least.{least, lowest}
 use Rattle.cluster.specs.declared.choices.Choice.{Choice}
 use Rattle.domains.specs.declared.undo.Lost.{Lost}
 use Rattle.domains.specs.Choices.{DomainView, choices}

@@ -1,7 +1,7 @@
 -- What crates above may cite: the laws, by the names of their statements in specs/; and `each_push`, for lists that are filled in order.
 pub use Rattle.standing.proofs.TableLemmas.{each_push}
 use Rattle.std.specs.Prelude.{slice_index_or}
-use Rattle.std.proofs.Common.{◌≡◌, ◌≢◌, ℕ, ◌+◌, ◌<◌, Bool, true, false, ◌&&◌, nat_lt, cond, List, [], ◌∷◌, refl, sym, ap, subst, ◌∙◌, arith}
+use Rattle.std.proofs.Common.{◌≡◌, ℕ, ◌+◌, ◌<◌, Bool, true, false, ◌&&◌, nat_lt, cond, List, [], ◌∷◌, refl, sym, ap, subst, ◌∙◌, arith}
 use Rattle.std.specs.List.{Contains}
 use Rattle.std.proofs.lemmas.Bool.Decides.{Decides-eqb, nat_tests}
 use Rattle.sums.specs.Least.{least}
@@ -16,13 +16,12 @@ use Rattle.slices.specs.Stages.{one}
 use Rattle.cluster.specs.declared.ids.Element.{Element}
 use Rattle.cluster.specs.declared.ids.Element.TheVariants.{Vm, Node}
 use Rattle.domains.specs.Choices.{choices}
-use Rattle.domains.specs.Sets.{same_element, sets, surely}
+use Rattle.domains.specs.Sets.{same_element, sets}
 use Rattle.domains.proofs.Public.{filter_is_fewer, same_is}
 use Rattle.relax.specs.Areas.{hosted_in}
-use Rattle.standing.specs.declared.numbers.Standing.{Standing}
 use Rattle.reasons.specs.Sure.{sure}
 use Rattle.standing.specs.Laws.{BeforeLaw, FewerLaw, KeptLaw, LoadLaw, PresencesLaw, PresentLaw}
-use Rattle.standing.specs.Standings.{IsStanding, base, gain, has_come, have_come, kept_use, leave_of, never}
+use Rattle.standing.specs.Standings.{base, gain, has_come, have_come, kept_use, leave_of, never}
 use Rattle.standing.specs.Tables.{no_standing, sets_before}
 use Rattle.standing.proofs.ChoiceLemmas.{apart, held_one}
 use Rattle.standing.proofs.ListLemmas.{in_parts, least_in_parts, least_same, positive_each}

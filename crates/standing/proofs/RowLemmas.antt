@@ -1,5 +1,5 @@
 -- Where all choices of a domain go, by its rows.
-use Rattle.std.proofs.Common.{◌≡◌, ◌⊎◌, inl, inr, ℕ, zero, suc, ◌+◌, ◌-◌, ◌<◌, ◌≤◌, Bool, true, false, ◌&&◌, ◌==◌, nat_le, cond, Option, Some, None, List, [], ◌∷◌, ◌++◌, length, slice_index_or, refl, sym, ap, ◌∙◌, arith}
+use Rattle.std.proofs.Common.{◌≡◌, ℕ, zero, suc, ◌+◌, ◌-◌, ◌<◌, ◌≤◌, Bool, true, false, ◌&&◌, ◌==◌, nat_le, cond, Option, Some, None, List, [], ◌∷◌, ◌++◌, length, slice_index_or, refl, sym, ap, ◌∙◌, arith}
 use Rattle.std.specs.List.{filter, flat_map}
 use Rattle.std.proofs.lemmas.Bool.{false≢true}
 use Rattle.std.proofs.lemmas.Bool.Decides.{Decides-eqb, nat_tests}
@@ -78,10 +78,10 @@ two-rows n t r q rs climbs =
     let first : r.hi + 1 - r.lo ≡ suc (r.hi - r.lo) = omega (arith, climbs.1) in
     let second : q.hi + 1 - q.lo ≡ suc (q.hi - q.lo) = omega (arith, climbs.2.1) in
     rw first (not-true _ (λ e.
-      let here = and-both (has_come n t (Act r.place r.lo)) _ e in
-      let there = surely-append (has_come n t) (starts_from r.place (r.lo + 1) (r.hi - r.lo)) (row_choices q ++ flat_map row_choices rs) here.1 in
-      let next = and-both (has_come n t (Act q.place q.lo)) _ (rw second at there) in
-      absurd (omega (arith, climbs.2.0, index n t r.place r.lo here.0, index n t q.place q.lo next.0))))
+    let here = and-both (has_come n t (Act r.place r.lo)) _ e in
+    let there = surely-append (has_come n t) (starts_from r.place (r.lo + 1) (r.hi - r.lo)) (row_choices q ++ flat_map row_choices rs) here.1 in
+    let next = and-both (has_come n t (Act q.place q.lo)) _ (rw second at there) in
+    absurd (omega (arith, climbs.2.0, index n t r.place r.lo here.0, index n t q.place q.lo next.0))))
   where
     not-true : (b : Bool) → (b ≡ true → ⊥) → b ≡ false
     not-true true f = absurd (f refl)

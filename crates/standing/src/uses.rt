@@ -53,11 +53,7 @@ fn brought(kind: Option<Kind>) -> Option<What>
             Kind::Boot | Kind::Resume | Kind::Migrate => Some(What::Demand),
             Kind::Suspend => Some(What::Image),
             Kind::Allocate => Some(What::Raise),
-            Kind::Forge
-            | Kind::Shutdown
-            | Kind::Kill
-            | Kind::NodeBoot
-            | Kind::NodeShutdown => None,
+            Kind::Forge | Kind::Shutdown | Kind::Kill | Kind::NodeBoot | Kind::NodeShutdown => None,
         },
     }
 }
@@ -101,7 +97,12 @@ pub fn gain(p: &Problem, v: VmId, weight: Weight, n: NodeId) -> u64
     ensures gain { result ≡ the_gain p.now.given v.0 weight n.0 }
     ensures small { result ≤ 1_000_000_000 }
 {
-    weight_of(p, v, weight, brought(kind_of(p, Element::Vm(v), Place::At(n))))
+    weight_of(
+        p,
+        v,
+        weight,
+        brought(kind_of(p, Element::Vm(v), Place::At(n))),
+    )
 }
 
 /// Whether an arrival, if there is one, says that all choices have come to a node by an instant.

@@ -1,7 +1,6 @@
-use Rattle.std.proofs.Common.{◌≡◌, Some, None, Option, refl, sym, subst, ◌∙◌}
+use Rattle.std.proofs.Common.{◌≡◌, Some, None, refl, sym, subst, ◌∙◌}
 use Rattle.std.specs.Prelude.{slice_index_or}
 use Rattle.domains.specs.Choices.{Climbs, no_row}
-use Rattle.standing.specs.declared.numbers.Arrival.{Arrival}
 use Rattle.standing.proofs.RowLemmas.{come_at, come_one, come_two}
 use Rattle.standing.proofs.numbers.come.Goals as goal
 
