@@ -1,8 +1,8 @@
 -- A constraint in the lists of all that it looks at.
-use Rattle.std.proofs.Common.{◌≡◌, ◌⊎◌, inl, inr, ℕ, ◌+◌, ◌<◌, false, List, [], length, Some, IsTrue, refl, sym, subst, ◌∙◌, arith}
+use Rattle.std.proofs.Common.{◌≡◌, ◌⊎◌, inl, inr, ℕ, zero, suc, ◌+◌, ◌<◌, ◌≤◌, Bool, false, List, [], ◌∷◌, length, Option, Some, None, IsTrue, refl, sym, subst, ◌∙◌, arith}
 use Rattle.std.specs.Prelude.{slice_get, slice_index_or}
 use Rattle.std.specs.List.{Contains}
-use Rattle.std.proofs.lemmas.Bool.{cases_eq}
+use Rattle.std.proofs.lemmas.Bool.{cases_eq, cases_lt}
 use Rattle.cluster.specs.declared.ids.Element.{Element}
 use Rattle.cluster.specs.declared.ids.Element.TheVariants.{Vm, Node as TheNode}
 use Rattle.cluster.specs.declared.ids.VmId.{VmId}
@@ -11,7 +11,7 @@ use Rattle.cluster.specs.declared.sets.NodeSet.{NodeSet}
 use Rattle.cluster.specs.Sets.{has_node}
 use Rattle.catalogue.specs.declared.constraint.Constraint.{Constraint}
 use Rattle.catalogue.specs.Instance.{Instance, IsElement}
-use Rattle.closing.specs.Kinds.{actions_of, constraint_watch, powered_in_set, presences_of, scope_of, watch_of}
+use Rattle.closing.specs.Kinds.{actions_of, constraint_watch, nothing, powered_in_set, presences_of, scope_of, watch_of}
 use Rattle.closing.specs.Watches.{IsMachineUnseen, IsNodeUnseen, IsUnseen, Scope}
 use Rattle.rule_frame.specs.Levels.{Levels}
 use Rattle.rule_frame.specs.Indexes.{AreLooking, AreMarked, HasList, IsAdded, IsIndexOf, IsListed, IsPut, Lists}
@@ -100,13 +100,27 @@ index_more p c k old new is index added = record {
 
 -- ---- marks of all constraints that look at an element
 
-module _ (p : Instance) (l : Lists) (index : IsIndexOf p (length p.constraints) l) (m : Levels) (many : length m.top ≡ length p.constraints) where
+-- past the constraints there is none, which looks at nothing
+none-past : (ks : List Constraint) (c : ℕ) → length ks ≤ c → slice_get ks c ≡ None
+none-past [] c h = refl
+none-past (k ∷ ks) zero h = absurd (omega arith)
+none-past (k ∷ ks) (suc c) h = none-past ks c (omega (arith, h))
+
+nothing-seen : (e : Element) → IsUnseen nothing e
+nothing-seen (Vm v) = record { held = λ w set h. h; present = λ set h. h; action = λ far h. h }
+nothing-seen (TheNode n) = record { usable = λ h. h; powered = λ h. h }
+
+module _ (p : Instance) (l : Lists) (index : IsIndexOf p (length p.constraints) l) (m : Levels) where
+  unseen-where : (e : Element) (c : ℕ) → IsElement p e → (c < length p.constraints) ⊎ (length p.constraints ≤ c) → ¬ IsListed l e c → IsUnseen (constraint_watch p c).scope e
+  unseen-where e c element (inl low) out = index.unseen e c element low out
+  unseen-where e c element (inr high) out = rw (none-past p.constraints c high) (nothing-seen e)
+
   pub looking_machine : (v : VmId) (named : List ℕ) (n o : Levels) → IsElement p (Vm v) → named ≡ slice_index_or l.machines v.0 [] → AreMarked (length named) named m n → AreMarked (length l.everywhere) l.everywhere n o → AreLooking p (Vm v) m o
   looking_machine v named n o element is first second = record {
     older = second.older ∙ first.older;
     count = second.count ∙ first.count;
     kept = λ c h e. first.kept c (omega (arith, h, second.count)) (second.kept c h e);
-    unseen = λ c h e. index.unseen (Vm v) c element (omega (arith, h, second.count, first.count, many)) (out c h e);
+    unseen = λ c h e. unseen-where (Vm v) c element (cases_lt c (length p.constraints)) (out c h e);
   }
     where
       out : (c : ℕ) → c < length o.top → slice_index_or o.top c false ≡ false → ¬ IsListed l (Vm v) c
@@ -118,5 +132,5 @@ module _ (p : Instance) (l : Lists) (index : IsIndexOf p (length p.constraints) 
     older = first.older;
     count = first.count;
     kept = first.kept;
-    unseen = λ c h e. index.unseen (TheNode k) c element (omega (arith, h, first.count, many)) (λ x. let y = subst (λ xs. Contains xs c) (sym is) x in first.others c y.0 h e y.1 y.2);
+    unseen = λ c h e. unseen-where (TheNode k) c element (cases_lt c (length p.constraints)) (λ x. let y = subst (λ xs. Contains xs c) (sym is) x in first.others c y.0 h e y.1 y.2);
   }
