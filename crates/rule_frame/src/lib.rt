@@ -7,5 +7,7 @@ pub mod marks;
 pub mod no_cache;
 mod number_lists;
 pub mod rule;
+#[cfg(test)]
+mod tests;
 pub mod watcher;
 pub mod widen;

@@ -73,6 +73,13 @@ impl Marks {
         self.top[i] = marked;
     }
 
+    /// Marks all watches.
+    pub fn set_all(&mut self)
+        ensures { self.new ≡ record self.old { top = replicate (length self.old.top) true } }
+    {
+        self.top.fill(true);
+    }
+
     /// A new level, which begins as the top is. After want of memory all is as it was.
     pub fn mark(&mut self) -> Result<(), Memory>
         ensures ok { OnOk result (self.new ≡ record self.old { older = self.old.older ++ self.old.top ∷ [] }) }

@@ -1,4 +1,4 @@
-use Rattle.std.proofs.Common.{ℕ, ◌<◌, IsTrue}
+use Rattle.std.proofs.Common.{◌<◌, IsTrue}
 use Rattle.cluster.specs.Sets.{has_node}
 use Rattle.rule_frame.specs.Indexes.{IsPut}
 use Rattle.rule_frame.proofs.index.put_nodes.Given as goal
