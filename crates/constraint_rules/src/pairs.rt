@@ -19,8 +19,8 @@ use relax::area::Area;
 use relax::elements::is_pair;
 use relax::sure::surely_in;
 
-// whether a machine is in a list
-fn has(machines: &[VmId], v: VmId) -> bool
+/// Whether a machine is in a list.
+pub fn has(machines: &[VmId], v: VmId) -> bool
     ensures { result ≡ is_member machines.now v.0 }
 {
     machines.iter().any(|x| x.0 == v.0)

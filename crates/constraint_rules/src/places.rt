@@ -1,6 +1,5 @@
 //! A machine where a constraint lets it not be, and one that needs a node that is not usable, looked for.
 ghost use Rattle.std.specs.Prelude.{◌≡◌, ℕ, ◌<◌, false, IfNone, IfSome, IsTrue};
-ghost use Rattle.catalogue.specs.Faults.{is_member};
 ghost use Rattle.catalogue.specs.Instance.{Instance};
 ghost use Rattle.slices.specs.Elements.{machine_count, node_count};
 ghost use Rattle.slices.specs.Holds.{ForbidsPlace};
@@ -10,19 +9,13 @@ ghost use Rattle.reasons.specs.Sure.{sure};
 ghost use Rattle.relax.specs.Areas.{IsSized};
 ghost use Rattle.closing.specs.Kinds.{HasPlace, IsNeeded};
 
+use crate::pairs::has;
 use catalogue::constraint::Constraint;
 use catalogue::problem::Problem;
 use cluster::choices::Instant;
 use cluster::ids::{Element, NodeId, VmId};
 use domains::view::{Lens, View};
 use relax::elements::{is_place, is_unusable};
-
-// whether a machine is in a list
-fn has(machines: &[VmId], v: VmId) -> bool
-    ensures { result ≡ is_member machines.now v.0 }
-{
-    machines.iter().any(|x| x.0 == v.0)
-}
 
 // whether a constraint may keep a machine off nodes
 fn keeps_off(constraint: &Constraint, v: VmId) -> bool

@@ -102,7 +102,7 @@ fn rules_have_levels(rt: HostRuntime) -> Result<(), Fail> {
     let cluster = Cluster::new(rt.alloc(), Vec::new(rt.alloc()), [ONE; 10])?;
     let p = Problem::new(rt.alloc(), cluster, 5);
     let g = start_region(rt.alloc(), &p)?;
-    let mut rule = Rule::new(rt.alloc(), Blind, ConstraintIndex::new(rt.alloc()));
+    let mut rule = Rule::of(rt.alloc(), Blind, ConstraintIndex::new(rt.alloc()));
     rule.post(&p, &g)?;
     rule.mark()?;
     let quiet = matches!(rule.propagate(&p, &g)?, Answer::Quiet);
