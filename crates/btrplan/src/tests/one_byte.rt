@@ -16,7 +16,9 @@ struct OneByteDesk {
 }
 
 impl Desk for OneByteDesk {
+    ghost use Rattle.std.specs.Prelude.{true, false};
     ghost use Rattle.plan_io.specs.DeskSure.{sure_files, sure_current};
+    ghost use Rattle.plan_io.specs.Fits.{sure_fits};
 
     // what its files hold no clause tells: that is seen here
     ghost tells = { false };
@@ -33,7 +35,7 @@ impl Desk for OneByteDesk {
 
     ghost write_faults = { λ _. 0 };
 
-    ghost fits = { λ d name told. absurd (told) };
+    ghost fits = { λ d name _. sure_fits d.desk name };
 
     fn read_at(&mut self, name: &str, place: u64, buf: &mut [u8]) -> Result<usize, Failed> {
         let most = buf.len().min(1);
