@@ -1,10 +1,9 @@
 -- What breaks a constraint is a reason of its kind.
-use Rattle.std.proofs.Common.{◌≡◌, ◌≢◌, inl, inr, ℕ, Bool, Option, Some, None, refl, sym, ◌∙◌}
+use Rattle.std.proofs.Common.{◌≡◌, inl, inr, Some, None, refl}
 use Rattle.catalogue.specs.declared.constraint.Constraint.{Constraint}
 use Rattle.catalogue.specs.declared.constraint.Constraint.TheVariants.{Spread, Ban, Fence, Gather, Lonely, Among, Split, Root, Precedence, Serialize, Preserve, ResourceCapacity, RunningCapacity, MaxOnline, Overbook, Online, Offline, Running, Sleeping, Ready, Killed}
 use Rattle.catalogue.specs.Instance.{Instance}
 use Rattle.slices.specs.Snapshots.{Snapshot}
-use Rattle.reasons.specs.declared.reason.ReasonKind.{ReasonKind}
 use Rattle.reasons.specs.declared.reason.ReasonKind.TheVariants.{Pair, Place, Group, SetLoad, Power}
 use Rattle.reasons.specs.Reasons.{IsGroup, IsPower, IsSetLoad}
 use Rattle.closing.specs.Kinds.{HasPair, HasPlace, IsBroken}

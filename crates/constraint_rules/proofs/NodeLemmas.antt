@@ -1,7 +1,7 @@
 -- The watches of nodes on which a change of a machine does not weigh.
-use Rattle.std.proofs.Common.{◌≡◌, ◌≢◌, ◌⊎◌, inl, inr, ℕ, ◌+◌, ◌-◌, ◌<◌, ◌≤◌, ◌==◌, Bool, true, false, List, [], ◌∷◌, length, get_or, set, IsTrue, refl, sym, ◌∙◌, arith}
+use Rattle.std.proofs.Common.{◌≡◌, ◌≢◌, ◌⊎◌, inl, inr, ℕ, ◌+◌, ◌-◌, ◌<◌, ◌≤◌, Bool, true, false, List, [], ◌∷◌, length, set, IsTrue, refl, sym, ◌∙◌, arith}
 use Rattle.std.specs.List.{Contains, filter}
-use Rattle.std.proofs.lemmas.Bool.{cases_lt, and_parts, eqb-true, false≢true}
+use Rattle.std.proofs.lemmas.Bool.{and_parts, eqb-true, false≢true}
 use Rattle.std.proofs.lemmas.Bool.Decides.{nat_tests}
 use Rattle.std.proofs.lemmas.List.{length-set}
 use Rattle.cluster.specs.declared.choices.Choice.{Choice}
@@ -12,21 +12,18 @@ use Rattle.cluster.specs.declared.ids.Element.TheVariants.{Vm}
 use Rattle.cluster.specs.declared.ids.NodeId.{NodeId}
 use Rattle.cluster.specs.declared.ids.VmId.{VmId}
 use Rattle.catalogue.specs.Instance.{Instance}
-use Rattle.sums.specs.Least.{least}
-use Rattle.slices.specs.declared.slice.Weight.TheVariants.{Image, Presence}
+use Rattle.slices.specs.declared.slice.Weight.TheVariants.{Presence}
 use Rattle.slices.specs.Elements.{node_count, state_of}
-use Rattle.slices.specs.Snapshots.{held_at, present_at}
-use Rattle.slices.specs.Stages.{Nodes, one}
+use Rattle.slices.specs.Snapshots.{present_at}
+use Rattle.slices.specs.Stages.{one}
 use Rattle.domains.specs.Choices.{same_place}
 use Rattle.domains.specs.declared.parts.Part.{Part}
 use Rattle.domains.specs.declared.parts.Part.TheVariants.{Idle, Upto, From}
 use Rattle.domains.specs.declared.parts.Side.{Side}
 use Rattle.domains.specs.declared.parts.Side.TheVariants.{Inside, Outside}
 use Rattle.domains.specs.Parts.{in_part, on_side}
-use Rattle.domains.specs.Sets.{surely}
 use Rattle.domains.proofs.Public.{contains_filter, filter_contains, surely_each}
 use Rattle.reasons.specs.Closed.{IsEnd}
-use Rattle.reasons.proofs.Public.{end_is_choice}
 use Rattle.relax.specs.Areas.{goes_in, hosted_in}
 use Rattle.relax.proofs.Public.{away, away_least}
 use Rattle.closing.specs.Kinds.{usable_watch}

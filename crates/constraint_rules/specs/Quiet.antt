@@ -1,13 +1,12 @@
 -- Helping only: the watches of a rule look at nothing past their scopes, and where all are clean its kinds are quiet.
-use Rattle.std.proofs.Common.{◌≡◌, ◌≢◌, inl, inr, ℕ, zero, suc, ◌+◌, ◌-◌, ◌<◌, ◌≤◌, Bool, true, false, nat_lt, ◌==◌, ◌||◌, List, [], ◌∷◌, length, Option, Some, None, IsTrue, refl, sym, subst, ◌∙◌, arith}
+use Rattle.std.proofs.Common.{◌≡◌, inl, inr, ℕ, zero, suc, ◌+◌, ◌-◌, ◌<◌, ◌≤◌, Bool, true, false, nat_lt, ◌==◌, List, [], ◌∷◌, length, Option, Some, None, arith}
 use Rattle.std.proofs.lemmas.Bool.Decides.{nat_tests}
 use Rattle.std.specs.Prelude.{slice_get}
 use Rattle.cluster.specs.declared.choices.Choice.{Choice}
 use Rattle.cluster.specs.declared.ids.Element.{Element}
 use Rattle.catalogue.specs.declared.constraint.Constraint.{Constraint}
 use Rattle.catalogue.specs.Instance.{Instance, IsElement}
-use Rattle.catalogue.specs.Kinds.{is_continuous}
-use Rattle.slices.specs.Elements.{machine_count, node_count}
+use Rattle.slices.specs.Elements.{node_count}
 use Rattle.domains.specs.Sets.{Sets, setting}
 use Rattle.reasons.specs.Closed.{IsEnd, IsFree, IsQuietKind, NoneBroken}
 use Rattle.reasons.specs.declared.reason.ReasonKind.{ReasonKind}
