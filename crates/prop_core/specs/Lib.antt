@@ -1,0 +1,5 @@
+-- what a reader must believe
+pub mod Propagators
+pub mod Lists
+pub mod Levels
+pub mod Tests

@@ -1,0 +1,19 @@
+-- What telling leaves clean.
+use Rattle.std.proofs.Common.{ℕ, List, arith}
+use Rattle.cluster.specs.declared.choices.Choice.{Choice}
+use Rattle.cluster.specs.declared.ids.Element.{Element}
+use Rattle.catalogue.specs.Instance.{Instance, IsElement}
+use Rattle.domains.specs.Sets.{Sets}
+use Rattle.closing.specs.Watches.{IsLocal, Watch}
+use Rattle.prop_core.specs.Propagators.{putting}
+use Rattle.rule_frame.specs.Changes.{AreClean, IsDisturbed, IsKept}
+use Rattle.rule_frame.specs.Levels.{Levels}
+use Rattle.rule_frame.proofs.ChangeLemmas.{still_clean}
+
+-- what is not marked was clean before the change, and the change does not weigh on it
+pub told_kept : (watch : ℕ → Watch) (p : Instance) (s : Sets) (x : Element) (old : List Choice) (m n : Levels) → ((i : ℕ) → IsLocal (watch i)) → IsElement p x → IsDisturbed watch p x old (s x) m n → AreClean watch p (putting x old s) m.top → IsKept watch p s m n
+told_kept watch p s x old m n local element d clean = record {
+  older = d.older;
+  count = d.count;
+  clean = record { clean = λ i h e. still_clean (watch i) p s x old (local i) element (d.still i h e) (clean.clean i (omega (arith, h, d.count)) (d.kept i h e)) };
+}

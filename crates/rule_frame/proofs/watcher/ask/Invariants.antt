@@ -1,0 +1,6 @@
+use Rattle.domains.specs.Sets.{sets}
+use Rattle.rule_frame.specs.Changes.{IsSettling}
+use Rattle.rule_frame.proofs.watcher.ask.Given as goal
+
+abbrev pub invariant-loop-i : goal.invariant-loop-i
+invariant-loop-i g l = IsSettling (g.W.Watcher.watch l.w l.p.given) l.p.given (sets l.g) l.i l.fn.marks l.marks

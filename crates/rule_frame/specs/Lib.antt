@@ -1,0 +1,9 @@
+-- what a reader must believe
+pub mod Levels
+pub mod Changes
+pub mod Caches
+pub mod Asked
+pub mod Rules
+pub mod Indexes
+-- what the laws say beside it
+pub mod Laws

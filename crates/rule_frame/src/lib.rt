@@ -1,0 +1,13 @@
+//! Rules as lists of watches with marks.
+#![tactic(auto)]
+
+pub mod index;
+pub mod keeper;
+pub mod marks;
+pub mod no_cache;
+mod number_lists;
+pub mod rule;
+#[cfg(test)]
+mod tests;
+pub mod watcher;
+pub mod widen;

@@ -1,0 +1,102 @@
+//! Marks on watches, with levels.
+ghost use Rattle.std.specs.Prelude.{◌≡◌, ◌<◌, [], ◌∷◌, ◌++◌, length, OnOk, OnErr, true, false, replicate, slice_index_or, slice_set};
+
+use memory::Memory;
+use std::alloc::Global;
+use std::marker::Model;
+
+/// A mark for each watch that has to be looked at again, and the marks of the levels below.
+#[derive(Drop)]
+pub struct Marks {
+    older: Vec<Vec<bool>>,
+    top: Vec<bool>,
+}
+
+impl Model for Marks {
+    ghost use Rattle.std.specs.Prelude.{map, Bool, Vec};
+    ghost use Rattle.std.specs.declared.alloc.Global.{Global};
+    ghost use Rattle.rule_frame.specs.Levels.{Levels};
+
+    ghost Value = { Levels };
+
+    ghost view = { λ m. record { older = map (λ (v : Vec Bool Global). v.items) m.older.items; top = m.top.items } };
+}
+
+impl Marks {
+    /// One level, without a watch.
+    pub fn new(alloc: Global) -> Marks
+        ensures { result ≡ record { older = []; top = [] } }
+    {
+        Marks {
+            older: Vec::new(alloc),
+            top: Vec::new(alloc),
+        }
+    }
+
+    /// How many levels stand below the top.
+    pub fn level(&self) -> u64
+        ensures { result ≡ length self.now.older }
+    {
+        self.older.len() as u64
+    }
+
+    /// How many watches there are.
+    pub fn count(&self) -> usize
+        ensures { result ≡ length self.now.top }
+    {
+        self.top.len()
+    }
+
+    /// Starts anew, with one level and so many watches, all marked.
+    pub fn reset(&mut self, count: usize) -> Result<(), Memory>
+        ensures { OnOk result (self.new ≡ record { older = []; top = replicate count true }) }
+    {
+        self.older.clear();
+        self.top.clear();
+        self.top.resize(count, true)?;
+        Ok(())
+    }
+
+    /// Whether a watch is marked.
+    pub fn is_set(&self, i: usize) -> bool
+        requires { i < length self.now.top }
+        ensures { result ≡ slice_index_or self.now.top i false }
+    {
+        self.top[i]
+    }
+
+    /// Marks a watch, or takes its mark away.
+    pub fn put(&mut self, i: usize, marked: bool)
+        requires { i < length self.old.top }
+        ensures { self.new ≡ record self.old { top = slice_set self.old.top i marked } }
+    {
+        self.top[i] = marked;
+    }
+
+    /// Marks all watches.
+    pub fn set_all(&mut self)
+        ensures { self.new ≡ record self.old { top = replicate (length self.old.top) true } }
+    {
+        self.top.fill(true);
+    }
+
+    /// A new level, which begins as the top is. After want of memory all is as it was.
+    pub fn mark(&mut self) -> Result<(), Memory>
+        ensures ok { OnOk result (self.new ≡ record self.old { older = self.old.older ++ self.old.top ∷ [] }) }
+        ensures err { OnErr result (self.new ≡ self.old) }
+    {
+        let copy = self.top.as_slice().to_vec(*self.top.allocator())?;
+        self.older.push(copy)?;
+        Ok(())
+    }
+
+    /// The top is dropped, and the level below is the top again.
+    pub fn back(&mut self)
+        requires { 0 < length self.old.older }
+        ensures { self.old.older ≡ self.new.older ++ self.new.top ∷ [] }
+    {
+        if let Some(top) = self.older.pop() {
+            self.top = top;
+        }
+    }
+}

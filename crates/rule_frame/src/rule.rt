@@ -1,0 +1,147 @@
+//! A rule: watches with marks, and what is kept beside them.
+ghost use Rattle.std.specs.Prelude.{◌≡◌, ◌<◌, ◌≤◌};
+ghost use Rattle.domains.specs.Sets.{sets};
+ghost use Rattle.prop_core.specs.Propagators.{IsRegionOf, counted};
+ghost use Rattle.rule_frame.specs.Asked.{IsAskedOf};
+ghost use Rattle.rule_frame.specs.Rules.{AnswerHolds, meaning_of};
+
+use crate::keeper::Keeper;
+use crate::marks::Marks;
+use crate::watcher::{Asked, Watcher, ask, tell};
+use crate::widen::widen;
+use catalogue::problem::Problem;
+use domains::domain::Domain;
+use domains::parts::Change;
+use domains::region::Region;
+use domains::undo::Before;
+use domains::view::{Lens, View};
+use memory::Memory;
+use prop_core::propagator::{Answer, Propagator};
+use reasons::reason::ReasonKind;
+use std::alloc::Global;
+
+// the answer for what asking the watches found, with a part as wide as is seen
+fn answer<K: Keeper, W: Watcher<K>>(w: &W, p: &Problem, g: &Region, asked: Asked) -> Answer
+    requires region { IsRegionOf p.now.given g.now }
+    requires asked { IsAskedOf (W.watch w.now p.now.given) p.now.given (sets g.now) (W.count_of w.now p.now.given) asked }
+    ensures { AnswerHolds (W.kinds w.now) p.now.given (sets g.now) result }
+{
+    match asked {
+        Asked::Quiet => Answer::Quiet,
+        Asked::Failed(i, t) => {
+            let view = View {
+                region: g,
+                lens: Lens::Whole,
+            };
+            Answer::Fail(w.reason(p, &view, i, t))
+        }
+        Asked::Cuts(i, e, c, t) => {
+            let view = View {
+                region: g,
+                lens: Lens::Set(e, c),
+            };
+            let reason = w.reason(p, &view, i, t);
+            let (part, reason) = widen(p, g, e, c, t, reason);
+            Answer::Cut(e, part, reason)
+        }
+    }
+}
+
+// the count after an answer
+fn count(given: u64, answer: Answer) -> u64
+    ensures { result ≡ counted given answer }
+{
+    match answer {
+        Answer::Quiet => given,
+        Answer::Cut(..) | Answer::Fail(_) => given.saturating_add(1),
+    }
+}
+
+/// A rule of watches: each has a mark where it may have to be looked at, and whatever has none is clean.
+#[derive(Drop)]
+pub struct Rule<W, K> {
+    watcher: W,
+    keeper: K,
+    marks: Marks,
+    given: u64,
+}
+
+impl<K: Keeper, W: Watcher<K>> Rule<W, K> {
+    /// A rule that has answered nothing yet. It takes no memory.
+    pub fn new(alloc: Global, watcher: W, keeper: K) -> Rule<W, K>
+        ensures { result.given ≡ 0 }
+    {
+        Rule {
+            watcher,
+            keeper,
+            marks: Marks::new(alloc),
+            given: 0,
+        }
+    }
+}
+
+impl<K: Keeper, W: Watcher<K> + Drop> Propagator for Rule<W, K> {
+    ghost meaning = { λ r. meaning_of (W.Watcher.watch r.watcher) (W.Watcher.count_of r.watcher) (W.Watcher.kinds r.watcher) r.marks (K.cache r.keeper) r.given };
+
+    fn covers(&self, kind: ReasonKind) -> bool {
+        self.watcher.covers(kind)
+    }
+
+    fn level(&self) -> u64 {
+        self.marks.level()
+    }
+
+    fn given(&self) -> u64 {
+        self.given
+    }
+
+    fn post(&mut self, p: &Problem, g: &Region) -> Result<(), Memory> {
+        self.keeper.post(p, g)?;
+        self.marks.reset(self.watcher.count(p))
+    }
+
+    fn told(
+        &mut self,
+        p: &Problem,
+        g: &Region,
+        change: Change,
+        before: Before,
+        kept: &Domain,
+    ) -> Result<(), Memory> {
+        self.keeper.told(p, g, change, before, kept)?;
+        tell(
+            &self.watcher,
+            &self.keeper,
+            p,
+            g,
+            change,
+            before,
+            kept,
+            &mut self.marks,
+        );
+        Ok(())
+    }
+
+    fn mark(&mut self) -> Result<(), Memory> {
+        self.keeper.mark()?;
+        match self.marks.mark() {
+            Ok(()) => Ok(()),
+            Err(e) => {
+                self.keeper.back();
+                Err(e)
+            }
+        }
+    }
+
+    fn back(&mut self) {
+        self.keeper.back();
+        self.marks.back()
+    }
+
+    fn propagate(&mut self, p: &Problem, g: &Region) -> Result<Answer, Memory> {
+        let asked = ask(&self.watcher, &self.keeper, p, g, &mut self.marks);
+        let found = answer(&self.watcher, p, g, asked);
+        self.given = count(self.given, found);
+        Ok(found)
+    }
+}

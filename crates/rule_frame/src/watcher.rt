@@ -1,0 +1,145 @@
+//! Watches of a rule, which are looked at again where a change weighs on them.
+ghost use Rattle.std.specs.Prelude.{◌≡◌, ◌<◌, ◌≤◌, None, length};
+ghost use Rattle.domains.specs.Choices.{choices};
+ghost use Rattle.domains.specs.Sets.{domain_at, sets};
+ghost use Rattle.domains.specs.Undo.{domain_before};
+ghost use Rattle.domains.specs.Views.{seen};
+ghost use Rattle.reasons.specs.Sure.{sure};
+ghost use Rattle.closing.specs.Looks.{IsLook, broken_at};
+ghost use Rattle.prop_core.specs.Propagators.{FailHolds, IsNarrowed, IsRegionOf, sets_before};
+ghost use Rattle.rule_frame.specs.Asked.{IsAskedOf};
+ghost use Rattle.rule_frame.specs.Caches.{IsCacheFor};
+ghost use Rattle.rule_frame.specs.Changes.{AreClean, IsDisturbed, IsKept};
+
+use crate::keeper::Keeper;
+use crate::marks::Marks;
+use catalogue::problem::Problem;
+use closing::look::Look;
+use cluster::choices::{Choice, Instant};
+use cluster::ids::Element;
+use domains::domain::Domain;
+use domains::parts::Change;
+use domains::region::Region;
+use domains::undo::Before;
+use domains::view::View;
+use reasons::reason::{Reason, ReasonKind};
+
+/// What asking the watches finds.
+#[derive(Clone, Copy)]
+pub enum Asked {
+    /// Each watch is clean.
+    Quiet,
+    /// The watch of the number is broken in the region at the instant.
+    Failed(usize, Instant),
+    /// It is broken at the instant with the element set to that end of its choices.
+    Cuts(usize, Element, Choice, Instant),
+}
+
+/// The watches of a rule, by their numbers, looked at with the help of what is kept beside them.
+pub trait Watcher<K: Keeper> {
+    ghost use Rattle.std.specs.Prelude.{◌≡◌, ℕ, Bool, true};
+    ghost use Rattle.catalogue.specs.Instance.{Instance};
+    ghost use Rattle.domains.specs.Sets.{Sets};
+    ghost use Rattle.reasons.specs.Closed.{IsQuietKind};
+    ghost use Rattle.reasons.specs.declared.reason.ReasonKind.{ReasonKind as AnyKind};
+    ghost use Rattle.closing.specs.Watches.{IsLocal, Watch};
+    ghost use Rattle.rule_frame.specs.Asked.{AllClean};
+
+    ghost watch: { Self → Instance → ℕ → Watch };
+
+    ghost count_of: { Self → Instance → ℕ };
+
+    ghost kinds: { Self → AnyKind → Bool };
+
+    /// How many watches there are.
+    fn count(&self, p: &Problem) -> usize
+        ensures { result ≡ count_of self.now p.now.given };
+
+    /// Whether the watches are those of a kind of reasons.
+    fn covers(&self, kind: ReasonKind) -> bool
+        ensures { result ≡ kinds self.now kind };
+
+    /// Marks each watch on which a change weighs. What is kept has been told of the change.
+    fn disturb(
+        &self,
+        k: &K,
+        p: &Problem,
+        g: &Region,
+        change: Change,
+        before: Before,
+        kept: &Domain,
+        marks: &mut Marks,
+    )
+        requires region { IsRegionOf p.now.given g.now }
+        requires right { IsCacheFor (K.cache k.now) p.now.given (sets g.now) }
+        requires narrowed { IsNarrowed p.now.given g.now change before kept.now }
+        requires count { length marks.old.top ≡ count_of self.now p.now.given }
+        ensures { IsDisturbed (watch self.now p.now.given) p.now.given change.element (choices (domain_before before kept.now (domain_at g.now change.element))) (sets g.now change.element) marks.old marks.new };
+
+    /// A look at one watch at all instants.
+    fn look(&self, k: &K, p: &Problem, g: &Region, i: usize) -> Look
+        requires region { IsRegionOf p.now.given g.now }
+        requires right { IsCacheFor (K.cache k.now) p.now.given (sets g.now) }
+        requires watch { i < count_of self.now p.now.given }
+        ensures { IsLook (watch self.now p.now.given i) p.now.given (sets g.now) result };
+
+    /// The reason why a watch is broken at an instant, in what is seen of a region.
+    fn reason(&self, p: &Problem, view: &View, i: usize, t: Instant) -> Reason
+        requires region { IsRegionOf p.now.given view.now.region.now }
+        requires watch { i < count_of self.now p.now.given }
+        requires within { t ≤ p.now.given.horizon }
+        requires broken { broken_at (watch self.now p.now.given i) p.now.given t (sure p.now.given (seen view.now.region.now view.now.lens) t) }
+        ensures { FailHolds p.now.given (seen view.now.region.now view.now.lens) result };
+
+    ghost local: { (w : Self) (p : Instance) (i : ℕ) → IsLocal (watch w p i) };
+
+    ghost quiet: { (w : Self) (p : Instance) (s : Sets) (kind : AnyKind) → kinds w kind ≡ true → AllClean (watch w p) p s (count_of w p) → IsQuietKind p s kind };
+}
+
+/// Marks what a change weighs on, of which what is kept has been told.
+pub fn tell<K: Keeper, W: Watcher<K>>(
+    w: &W,
+    k: &K,
+    p: &Problem,
+    g: &Region,
+    change: Change,
+    before: Before,
+    kept: &Domain,
+    marks: &mut Marks,
+)
+    requires region { IsRegionOf p.now.given g.now }
+    requires right { IsCacheFor (K.cache k.now) p.now.given (sets g.now) }
+    requires narrowed { IsNarrowed p.now.given g.now change before kept.now }
+    requires count { length marks.old.top ≡ W.count_of w.now p.now.given }
+    requires agreed { AreClean (W.watch w.now p.now.given) p.now.given (sets_before g.now change.element before kept.now) marks.old.top }
+    ensures { IsKept (W.watch w.now p.now.given) p.now.given (sets g.now) marks.old marks.new }
+{
+    w.disturb(k, p, g, change, before, kept, marks);
+}
+
+/// Looks at each watch that is marked, until something is found. What is clean has no mark afterwards.
+pub fn ask<K: Keeper, W: Watcher<K>>(
+    w: &W,
+    k: &K,
+    p: &Problem,
+    g: &Region,
+    marks: &mut Marks,
+) -> Asked
+    requires region { IsRegionOf p.now.given g.now }
+    requires right { IsCacheFor (K.cache k.now) p.now.given (sets g.now) }
+    requires count { length marks.old.top ≡ W.count_of w.now p.now.given }
+    requires agreed { AreClean (W.watch w.now p.now.given) p.now.given (sets g.now) marks.old.top }
+    ensures kept { IsKept (W.watch w.now p.now.given) p.now.given (sets g.now) marks.old marks.new }
+    ensures answer { IsAskedOf (W.watch w.now p.now.given) p.now.given (sets g.now) (W.count_of w.now p.now.given) result }
+{
+    for i in 0..marks.count() {
+        if marks.is_set(i) {
+            match w.look(k, p, g, i) {
+                Look::Clean => marks.put(i, false),
+                Look::Fail(t) => return Asked::Failed(i, t),
+                Look::Cut(e, c, t) => return Asked::Cuts(i, e, c, t),
+            }
+        }
+    }
+    Asked::Quiet
+}

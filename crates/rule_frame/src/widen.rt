@@ -1,0 +1,196 @@
+//! The widest part of an element's choices that a reason is seen to take away.
+ghost use Rattle.std.specs.Prelude.{◌≡◌, ◌⊎◌, ◌≤◌, [], ◌∷◌, filter, IfSome, None};
+ghost use Rattle.catalogue.specs.Instance.{IsElement};
+ghost use Rattle.cluster.specs.declared.choices.Choice.{Choice as AnyChoice};
+ghost use Rattle.domains.specs.Choices.{choices};
+ghost use Rattle.domains.specs.Parts.{in_part};
+ghost use Rattle.domains.specs.Sets.{keeping, setting, sets};
+ghost use Rattle.reasons.specs.Closed.{IsEnd};
+ghost use Rattle.relax.specs.Areas.{IsSized};
+ghost use Rattle.prop_core.specs.Propagators.{CutHolds, FailHolds, MayAnswer};
+
+use catalogue::problem::Problem;
+use cluster::choices::{Choice, Instant, Place};
+use cluster::ids::Element;
+use domains::domain::Domain;
+use domains::parts::{Part, Row};
+use domains::region::Region;
+use reasons::reason::Reason;
+use relax::refutes::refutes_inside;
+
+// the row that an end of the choices is of: its first start, or its last
+fn row_of_end(d: &Domain, place: Place, start: Instant) -> Row
+    requires { IsEnd (choices d.now) (AnyChoice.Act place start) }
+    ensures place { result.place ≡ place }
+    ensures is_end { (result.lo ≡ start) ⊎ (result.hi ≡ start) }
+    ensures within { start ≤ result.hi }
+    ensures first { result.lo ≡ start → filter (in_part (Part.Upto place start)) (choices d.now) ≡ AnyChoice.Act place start ∷ [] }
+    ensures last { result.hi ≡ start → filter (in_part (Part.From place start)) (choices d.now) ≡ AnyChoice.Act place start ∷ [] }
+{
+    let rows = d.rows();
+    for i in 0..rows.len() {
+        if rows[i].place == place {
+            return rows[i];
+        }
+    }
+    // there is such a row
+    Row {
+        place,
+        lo: start,
+        hi: start,
+    }
+}
+
+// the reason at another instant
+fn at_instant(reason: Reason, t: Instant) -> Reason
+    requires { MayAnswer reason }
+    ensures { MayAnswer result }
+{
+    match reason {
+        Reason::Empty(_) | Reason::Bound => reason,
+        Reason::Load(_, r, set) => Reason::Load(t, r, set),
+        Reason::Pair(c, _, v, w, n) => Reason::Pair(c, t, v, w, n),
+        Reason::Place(c, _, v, n) => Reason::Place(c, t, v, n),
+        Reason::Group(c, _) => Reason::Group(c, t),
+        Reason::SetLoad(c, _) => Reason::SetLoad(c, t),
+        Reason::Power(c, _) => Reason::Power(c, t),
+        Reason::Usable(_, v, n) => Reason::Usable(t, v, n),
+        Reason::Hall(c, _, set) => Reason::Hall(c, t, set),
+    }
+}
+
+// a reason that refutes the region inside a part: the one handed in, at an instant or at its own
+fn refuting(
+    p: &Problem,
+    g: &Region,
+    e: Element,
+    part: Part,
+    t: Instant,
+    reason: Reason,
+) -> Option<Reason>
+    requires region { IsSized p.now.given g.now }
+    requires may { MayAnswer reason }
+    ensures { IfSome result (FailHolds p.now.given (keeping e (in_part part) (sets g.now))) }
+{
+    let moved = at_instant(reason, t);
+    if refutes_inside(p, None, g, e, part, &moved) {
+        return Some(moved);
+    }
+    if refutes_inside(p, None, g, e, part, &reason) {
+        return Some(reason);
+    }
+    None
+}
+
+// as many of the starts from the first one on as the reason takes away, up to the last one of the row
+fn from_the_first(
+    p: &Problem,
+    g: &Region,
+    e: Element,
+    row: Row,
+    t: Instant,
+    reason: Reason,
+) -> (Part, Reason)
+    requires region { IsSized p.now.given g.now }
+    requires holds { CutHolds p.now.given (sets g.now) e (Part.Upto row.place row.lo) reason }
+    ensures { CutHolds p.now.given (sets g.now) e result.0 result.1 }
+{
+    let place = row.place;
+    let mut best = row.lo;
+    let mut found = reason;
+    let mut top = row.hi;
+    'halves: while best < top {
+        let middle = best + (top - best).div_ceil(2);
+        match refuting(p, g, e, Part::Upto(place, middle), t.max(middle), reason) {
+            Some(r) => {
+                best = middle;
+                found = r;
+            }
+            None => top = middle - 1,
+        }
+    }
+    (Part::Upto(place, best), found)
+}
+
+// as many of the starts up to the last one as the reason takes away, from the first one of the row on
+fn up_to_the_last(
+    p: &Problem,
+    g: &Region,
+    e: Element,
+    row: Row,
+    t: Instant,
+    reason: Reason,
+) -> (Part, Reason)
+    requires region { IsSized p.now.given g.now }
+    requires holds { CutHolds p.now.given (sets g.now) e (Part.From row.place row.hi) reason }
+    ensures { CutHolds p.now.given (sets g.now) e result.0 result.1 }
+{
+    let place = row.place;
+    let mut best = row.hi;
+    let mut found = reason;
+    let mut low = row.lo;
+    'halves: while low < best {
+        let middle = low + (best - low) / 2;
+        match refuting(p, g, e, Part::From(place, middle), t.max(middle), reason) {
+            Some(r) => {
+                best = middle;
+                found = r;
+            }
+            None => low = middle + 1,
+        }
+    }
+    (Part::From(place, best), found)
+}
+
+// the widest part that is seen for an end of a row: the whole row, or what halving finds
+fn widened_row(
+    p: &Problem,
+    g: &Region,
+    e: Element,
+    place: Place,
+    start: Instant,
+    t: Instant,
+    reason: Reason,
+) -> (Part, Reason)
+    requires region { IsSized p.now.given g.now }
+    requires element { IsElement p.now.given e }
+    requires is_end { IsEnd (sets g.now e) (AnyChoice.Act place start) }
+    requires refuted { FailHolds p.now.given (setting e (AnyChoice.Act place start) (sets g.now)) reason }
+    ensures { CutHolds p.now.given (sets g.now) e result.0 result.1 }
+{
+    let row = row_of_end(g.domain(e), place, start);
+    let whole = Part::Upto(place, row.hi);
+    if let Some(r) = refuting(p, g, e, whole, p.horizon(), reason) {
+        return (whole, r);
+    }
+    if row.lo == start {
+        from_the_first(p, g, e, row, t, reason)
+    } else {
+        up_to_the_last(p, g, e, row, t, reason)
+    }
+}
+
+/// A part that holds an end of an element's choices, and a reason that refutes the region inside it, where
+/// one refutes the region with the element set to that end, as is seen at an instant.
+///
+/// Of a row as much is taken as is seen to be refuted, by the reason at its own instant or at a later one:
+/// the whole row, or what halving finds from that end on.
+pub fn widen(
+    p: &Problem,
+    g: &Region,
+    e: Element,
+    end: Choice,
+    t: Instant,
+    reason: Reason,
+) -> (Part, Reason)
+    requires region { IsSized p.now.given g.now }
+    requires element { IsElement p.now.given e }
+    requires is_end { IsEnd (sets g.now e) end }
+    requires refuted { FailHolds p.now.given (setting e end (sets g.now)) reason }
+    ensures { CutHolds p.now.given (sets g.now) e result.0 result.1 }
+{
+    match end {
+        Choice::Idle => (Part::Idle, reason),
+        Choice::Act { place, start } => widened_row(p, g, e, place, start, t, reason),
+    }
+}
