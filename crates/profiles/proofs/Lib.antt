@@ -1,0 +1,2 @@
+-- for this crate alone
+mod ProfileLemmas

@@ -1,0 +1,11 @@
+use Rattle.std.proofs.Common.{◌≡◌, ◌*◌, ◌≤◌, slice_index_or}
+use Rattle.sums.specs.Sums.{sum_to}
+use Rattle.standing.specs.Tables.{no_standing}
+use Rattle.profiles.specs.Profiles.{no_share, share_use}
+use Rattle.profiles.proofs.share.total_use.Given as goal
+
+abbrev pub invariant-loop-i : goal.invariant-loop-i
+invariant-loop-i l = record {
+  total : l.total ≡ sum_to l.i (λ v. share_use l.n.0 l.t (slice_index_or l.shares v no_share) (slice_index_or l.standings v no_standing));
+  small : l.total ≤ l.i * 2_000_000_000;
+}

@@ -1,0 +1,7 @@
+//! What a node surely holds of a resource at each instant, kept with levels.
+#![tactic(auto)]
+
+pub mod profile;
+pub mod share;
+#[cfg(test)]
+mod tests;

@@ -1,0 +1,30 @@
+-- Until when a machine stays, after some of its choices were lost.
+use Rattle.std.proofs.Common.{◌≡◌, ℕ, ◌<◌, Option, Some, None, unwrap_or, refl, ap, ◌∙◌, arith}
+use Rattle.sums.specs.Least.{least, lowest}
+use Rattle.cluster.specs.declared.choices.Choice.{Choice}
+use Rattle.domains.specs.declared.undo.Lost.{Lost}
+use Rattle.domains.specs.Choices.{DomainView, choices}
+use Rattle.domains.specs.Laws.{AreFewer}
+use Rattle.domains.specs.Measures.{lower_option}
+use Rattle.domains.specs.Undo.{lost_choices, restored}
+use Rattle.domains.proofs.Public.{lowest_before}
+
+-- nothing was lost
+pub least_kept : (f : Choice → ℕ) (lost : Lost) (d : DomainView) (old : ℕ) → AreFewer (choices d) (choices (restored lost d)) → old ≡ least f (choices (restored lost d)) → lowest f (lost_choices lost) ≡ None → old ≡ least f (choices d)
+least_kept f lost d old fewer was none =
+    let same : lowest f (choices (restored lost d)) ≡ lowest f (choices d) = lowest_before f lost d fewer ∙ rw none (by (lowest f (choices d))) in
+    was ∙ ap (λ o. unwrap_or o 0) same
+  where
+    by : (o : Option ℕ) → lower_option o None ≡ o
+    by None = refl
+    by (Some a) = refl
+
+-- what was lost did not give the least value
+pub least_stays : (f : Choice → ℕ) (lost : Lost) (d : DomainView) (old x : ℕ) → AreFewer (choices d) (choices (restored lost d)) → old ≡ least f (choices (restored lost d)) → lowest f (lost_choices lost) ≡ Some x → old < x → old ≡ least f (choices d)
+least_stays f lost d old x fewer was some less =
+    let both : lowest f (choices (restored lost d)) ≡ lower_option (lowest f (choices d)) (Some x) = rw some at (lowest_before f lost d fewer) in
+    by (lowest f (choices d)) (was ∙ ap (λ o. unwrap_or o 0) both)
+  where
+    by : (o : Option ℕ) → old ≡ unwrap_or (lower_option o (Some x)) 0 → old ≡ unwrap_or o 0
+    by None e = absurd (omega (arith, e))
+    by (Some a) e = omega (arith, e)

@@ -1,0 +1,8 @@
+-- Public has what crates above may cite; the rest is for this crate alone.
+pub mod Public
+mod ChoiceLemmas
+mod BeforeLemmas
+mod ListLemmas
+mod NumberLemmas
+mod RowLemmas
+mod TableLemmas

@@ -1,0 +1,87 @@
+-- What a log tells, and the numbers of all machines after a change of one.
+use Rattle.std.proofs.Common.{◌≡◌, ◌≢◌, inl, inr, ℕ, zero, suc, ◌+◌, ◌<◌, ◌≤◌, ◌==◌, true, false, List, [], ◌∷◌, ◌++◌, length, reverse, get_or, refl, sym, ap, subst, ◌∙◌, arith}
+use Rattle.std.specs.Prelude.{slice_set, slice_index_or}
+use Rattle.std.proofs.Math.Seq.{get_or-append_seam}
+use Rattle.std.proofs.lemmas.List.{get_or_append_left, length-append, length-reverse, length-set, get_or-set_same, get_or-set_other, reverse-append}
+use Rattle.std.proofs.lemmas.Bool.{cases_eq, ne_eqb}
+use Rattle.std.proofs.lemmas.Bool.Decides.{Decides-eqb}
+use Rattle.cluster.specs.declared.choices.Choice.{Choice}
+use Rattle.cluster.specs.declared.ids.VmId.{VmId}
+use Rattle.catalogue.specs.Instance.{Instance}
+use Rattle.slices.specs.Elements.{machine_count, vm}
+use Rattle.domains.specs.Sets.{Sets}
+use Rattle.standing.specs.declared.numbers.Standing.{Standing}
+use Rattle.standing.specs.declared.table.Entry.{Entry}
+use Rattle.standing.specs.declared.table.Entry.TheVariants.{Mark, Undo}
+use Rattle.standing.specs.Standings.{IsStanding}
+use Rattle.standing.specs.Tables.{AreFirst, AreStanding, IsLog, no_standing, olders, putting}
+
+-- ---- the log
+
+-- what was there before is there again
+set_back : (top : List Standing) (v : ℕ) (k d : Standing) → slice_set (slice_set top v k) v (slice_index_or top v d) ≡ top
+set_back [] zero k d = refl
+set_back [] (suc v) k d = refl
+set_back (e ∷ es) zero k d = refl
+set_back (e ∷ es) (suc v) k d = ap (λ t. e ∷ t) (set_back es v k d)
+
+-- what is there already changes nothing
+pub set_same : (top : List Standing) (v : ℕ) (k d : Standing) → k ≡ slice_index_or top v d → slice_set top v k ≡ top
+set_same [] zero k d e = refl
+set_same [] (suc v) k d e = refl
+set_same (x ∷ xs) zero k d e = rw e refl
+set_same (x ∷ xs) (suc v) k d e = ap (λ t. x ∷ t) (set_same xs v k d e)
+
+-- what one entry means
+pub olders_put : (top : List Standing) (log more : List Entry) (v : VmId) (k old d : Standing) → more ≡ log ++ Undo v old ∷ [] → old ≡ slice_index_or top v.0 d → olders (slice_set top v.0 k) (reverse more) ≡ olders top (reverse log)
+olders_put top log more v k old d push was = rw (push, reverse-append log (Undo v old ∷ []), was) (ap (λ t. olders t (reverse log)) (set_back top v.0 k d))
+
+pub log_put : (top : List Standing) (log more : List Entry) (v : VmId) (k old d : Standing) (marks : ℕ) → more ≡ log ++ Undo v old ∷ [] → old ≡ slice_index_or top v.0 d → marks ≢ 0 → IsLog top (reverse log) marks → IsLog (slice_set top v.0 k) (reverse more) marks
+log_put top log more v k old d marks push was some l = record {
+  count = l.count ∙ ap (λ os. length os) (sym (olders_put top log more v k old d push was));
+  empty = λ none. absurd (some none);
+}
+
+pub reverse_push : (es : List Entry) (e : Entry) → reverse (es ++ e ∷ []) ≡ e ∷ reverse es
+reverse_push es e = reverse-append es (e ∷ [])
+
+marks-few : (top : List Standing) (es : List Entry) → length (olders top es) ≤ length es
+marks-few top [] = omega arith
+marks-few top (Mark ∷ es) = omega (arith, marks-few top es, length-append (olders top es) (top ∷ []))
+marks-few top (Undo v k ∷ es) = omega (arith, marks-few (slice_set top v.0 k) es)
+
+-- there are no more marks than entries
+pub few_marks : (top : List Standing) (log : List Entry) (marks : ℕ) → IsLog top (reverse log) marks → marks ≤ length log
+few_marks top log marks l = omega (arith, l.count, marks-few top (reverse log), length-reverse log)
+
+-- ---- one machine's numbers
+
+-- what holds of each item holds with one more
+pub each_push : {A : Type 0} (P : ℕ → A → Type 0) (d : A) (n : ℕ) (xs : List A) (x : A) → length xs ≡ n → ((v : ℕ) → v < n → P v (slice_index_or xs v d)) → P n x → (v : ℕ) → v < n + 1 → P v (slice_index_or (xs ++ x ∷ []) v d)
+each_push P d n xs x count each is v h = elim (cases_eq v n) [
+  | inl same ↦
+      let at : slice_index_or (xs ++ x ∷ []) n d ≡ x = ap (λ i. slice_index_or (xs ++ x ∷ []) i d) (sym count) ∙ get_or-append_seam xs x [] d in
+      rw (same, at) is
+  | inr other ↦ rw (get_or_append_left xs (x ∷ []) d v (omega (arith, count))) (each v (omega arith))
+]
+
+pub first_push : (p : Instance) (s : Sets) (n : ℕ) (ks : List Standing) (k : Standing) → AreFirst p s n ks → IsStanding p n (s (vm n)) k → AreFirst p s (n + 1) (ks ++ k ∷ [])
+first_push p s n ks k first is = record {
+  count = omega (arith, length-append ks (k ∷ []), first.count);
+  each = each_push (λ v k. IsStanding p v (s (vm v)) k) no_standing n ks k first.count first.each is;
+}
+
+pub standing_put : (p : Instance) (s : Sets) (v : ℕ) (cs : List Choice) (ks : List Standing) (k : Standing) → AreStanding p (putting (vm v) cs s) ks → v < machine_count p → IsStanding p v (s (vm v)) k → AreStanding p s (slice_set ks v k)
+standing_put p s v cs ks k was h is = record {
+  count = length-set ks v k ∙ was.count;
+  each = λ i l. elim (cases_eq i v) [
+    | inl same ↦ rw (same, get_or-set_same ks v k no_standing (omega (arith, was.count))) is
+    | inr other ↦
+        rw (get_or-set_other ks v i k no_standing other)
+        (subst (λ cs. IsStanding p i cs (get_or ks i no_standing)) (let off : (i == v) ≡ false = ne_eqb i v other in rw off refl) (was.each i l))
+  ];
+}
+
+-- its numbers before
+pub standing_was : (p : Instance) (s : Sets) (v : ℕ) (cs : List Choice) (ks : List Standing) → AreStanding p (putting (vm v) cs s) ks → v < machine_count p → IsStanding p v cs (slice_index_or ks v no_standing)
+standing_was p s v cs ks was h = let same : (v == v) ≡ true = (Decides-eqb v v).1 refl in subst (λ cs. IsStanding p v cs (slice_index_or ks v no_standing)) (rw same refl) (was.each v h)

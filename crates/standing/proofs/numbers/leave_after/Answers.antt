@@ -1,0 +1,12 @@
+use Rattle.std.proofs.Common.{sym, ◌∙◌}
+use Rattle.standing.specs.Standings.{leave_of}
+use Rattle.standing.proofs.BeforeLemmas.{least_kept, least_stays}
+use Rattle.standing.proofs.numbers.leave_after.Goals as goal
+
+pub returns-in-None : goal.returns-in-None
+returns-in-None c =
+    least_kept (leave_of c.args.p.now.given c.args.v.0) c.args.lost c.args.domain.now c.args.old c.requires.fewer c.requires.was (sym c.lowest_lost.ensures ∙ c.in-None.is)
+
+pub returns-then-old-first : goal.returns-then-old-first
+returns-then-old-first c =
+    least_stays (leave_of c.args.p.now.given c.args.v.0) c.args.lost c.args.domain.now c.args.old c.in-Some.first c.requires.fewer c.requires.was (sym c.lowest_lost.ensures ∙ c.in-Some.is) c.if-old-first.true

@@ -1,0 +1,31 @@
+-- Helping only: over the starts at one place, a choice keeps the host shortest at the first or the last.
+use Rattle.std.specs.Prelude.{ℕ, ◌≤◌, Option, Some, None}
+use Rattle.std.proofs.Common.{arith}
+use Rattle.cluster.specs.declared.kinds.Kind.{Kind}
+use Rattle.cluster.specs.declared.kinds.Kind.TheVariants.{Forge, Boot, Shutdown, Suspend, Resume, Migrate, Allocate, Kill, NodeBoot, NodeShutdown}
+use Rattle.cluster.specs.declared.choices.Choice.TheVariants.{Act}
+use Rattle.catalogue.specs.Instance.{Instance}
+use Rattle.slices.specs.Actions.{end_of, kind_of}
+use Rattle.slices.specs.Elements.{vm}
+use Rattle.slices.specs.Ends.{IsLeastAtEnds}
+use Rattle.slices.proofs.Public.{ends_by_duration}
+use Rattle.standing.specs.Standings.{kept_until, leave_of}
+
+-- what ends later keeps the host no shorter
+kept-longer : (o : Option Kind) (a b : ℕ) → a ≤ b → kept_until o a ≤ kept_until o b
+kept-longer None a b l = omega arith
+kept-longer (Some Forge) a b l = l
+kept-longer (Some Boot) a b l = l
+kept-longer (Some Shutdown) a b l = l
+kept-longer (Some Suspend) a b l = l
+kept-longer (Some Resume) a b l = l
+kept-longer (Some Migrate) a b l = l
+kept-longer (Some Allocate) a b l = omega arith
+kept-longer (Some Kill) a b l = l
+kept-longer (Some NodeBoot) a b l = l
+kept-longer (Some NodeShutdown) a b l = l
+
+pub leave_at_ends : (p : Instance) (v : ℕ) → IsLeastAtEnds (leave_of p v)
+leave_at_ends p v place lo s hi l h =
+    let later : end_of p (vm v) (Act place lo) ≤ end_of p (vm v) (Act place s) = omega (arith, ends_by_duration p (vm v) place lo, ends_by_duration p (vm v) place s) in
+    omega (arith, kept-longer (kind_of p (vm v) place) (end_of p (vm v) (Act place lo)) (end_of p (vm v) (Act place s)) later)

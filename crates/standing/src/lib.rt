@@ -1,0 +1,7 @@
+//! Where each machine surely stands: two numbers of its choices, kept with levels.
+#![tactic(auto)]
+
+pub mod laws;
+pub mod numbers;
+pub mod table;
+pub mod uses;

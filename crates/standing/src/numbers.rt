@@ -1,0 +1,203 @@
+//! The two numbers of a machine.
+ghost use Rattle.std.specs.Prelude.{◌≡◌, ◌≤◌, ℕ, IsTrue};
+ghost use Rattle.sums.specs.Least.{least};
+ghost use Rattle.catalogue.specs.Instance.{IsElement};
+ghost use Rattle.slices.specs.Elements.{vm};
+ghost use Rattle.domains.specs.Choices.{choices};
+ghost use Rattle.domains.specs.Laws.{AreFewer};
+ghost use Rattle.domains.specs.Undo.{domain_before, restored};
+ghost use Rattle.standing.specs.Standings.{IsStanding, comes_by, have_come, kept_until as the_kept_until, leave_of};
+
+use catalogue::problem::Problem;
+use cluster::choices::{Choice, Instant, Place};
+use cluster::ids::{Element, NodeId, VmId};
+use cluster::kinds::Kind;
+use domains::domain::Domain;
+use domains::measure::{Measure, lowest, lowest_lost};
+use domains::undo::{Before, Lost};
+use relax::measures::end;
+use slices::actions::kind_of;
+
+/// The node that all choices of a machine go to, and the last of their starts there.
+#[derive(Clone, Copy, Debug, PartialEq, Eq)]
+pub struct Arrival {
+    pub node: NodeId,
+    pub last: Instant,
+}
+
+/// Where a machine surely stands.
+#[derive(Clone, Copy, Debug, PartialEq, Eq)]
+pub struct Standing {
+    /// Under each choice it keeps what it has on its host at present until this instant, or longer; from
+    /// `NEVER` on, for ever.
+    pub leave: u64,
+    /// Where all its choices go, if they go to one node.
+    pub come: Option<Arrival>,
+}
+
+/// Later than every instant.
+pub const NEVER: u64 = 4_294_967_296;
+
+/// Whether two pairs of numbers are the same.
+#[tactic(auto, using(crate::proofs::NumberLemmas::same_none, crate::proofs::NumberLemmas::same_some))]
+pub(crate) fn is_same(a: Standing, b: Standing) -> bool
+    ensures { IsTrue result → a ≡ b }
+{
+    match a.come {
+        None => match b.come {
+            None => a.leave == b.leave,
+            Some(_) => false,
+        },
+        Some(x) => match b.come {
+            None => false,
+            Some(y) => a.leave == b.leave && x.node.0 == y.node.0 && x.last == y.last,
+        },
+    }
+}
+
+// until when an action of a kind keeps what its machine has on its host, where it ends at an instant
+fn kept_until(kind: Option<Kind>, end: u64) -> u64
+    ensures { result ≡ the_kept_until kind end }
+{
+    match kind {
+        None => 0,
+        Some(kind) => match kind {
+            Kind::Allocate => NEVER,
+            Kind::Forge
+            | Kind::Boot
+            | Kind::Shutdown
+            | Kind::Suspend
+            | Kind::Resume
+            | Kind::Migrate
+            | Kind::Kill
+            | Kind::NodeBoot
+            | Kind::NodeShutdown => end,
+        },
+    }
+}
+
+/// Until when a choice keeps what its machine has on its host.
+#[derive(Drop)]
+pub struct Leaving<'a> {
+    pub problem: &'a Problem,
+    pub machine: VmId,
+}
+
+impl Measure for Leaving<'_> {
+    ghost use Rattle.standing.specs.Ends.{leave_at_ends};
+    ghost use Rattle.std.proofs.Common.{arith};
+
+    ghost ready = { λ m. IsElement m.problem.now.given (vm m.machine.0) };
+
+    ghost value_of = { λ m. leave_of m.problem.now.given m.machine.0 };
+
+    ghost floor_of = { λ m. 0 };
+
+    ghost least_at_ends = { λ m. leave_at_ends m.problem.now.given m.machine.0 };
+
+    ghost above_floor = { λ m c. Prim.omega arith };
+
+    fn value(&self, c: Choice) -> u64 {
+        match c {
+            Choice::Idle => NEVER,
+            Choice::Act { place, start: _ } => {
+                let e = Element::Vm(self.machine);
+                kept_until(kind_of(self.problem, e, place), end(self.problem, e, c))
+            }
+        }
+    }
+
+    fn floor(&self) -> u64 {
+        0
+    }
+}
+
+// until when each choice of a machine keeps its host
+#[tactic(auto, using(crate::proofs::RowLemmas::all_stay))]
+fn leave(p: &Problem, v: VmId, domain: &Domain) -> u64
+    requires { IsElement p.now.given (Element.Vm v) }
+    ensures { result ≡ least (leave_of p.now.given v.0) (choices domain.now) }
+{
+    let leaving = Leaving {
+        problem: p,
+        machine: v,
+    };
+    lowest(domain, None, &leaving).unwrap_or(0)
+}
+
+// where all choices go; two rows go to two places
+#[tactic(auto, using(crate::proofs::RowLemmas::come_idle))]
+fn come(domain: &Domain) -> Option<Arrival>
+    ensures { (n t : ℕ) → comes_by n t result ≡ have_come n t (choices domain.now) }
+{
+    if domain.idle() {
+        return None;
+    }
+    match domain.rows() {
+        [row] => match row.place {
+            Place::Nowhere => None,
+            Place::At(node) => Some(Arrival { node, last: row.hi }),
+        },
+        _ => None,
+    }
+}
+
+/// Where a machine surely stands that has the choices of a domain.
+pub fn standing_of(p: &Problem, v: VmId, domain: &Domain) -> Standing
+    requires { IsElement p.now.given (Element.Vm v) }
+    ensures { IsStanding p.now.given v.0 (choices domain.now) result }
+{
+    Standing {
+        leave: leave(p, v, domain),
+        come: come(domain),
+    }
+}
+
+// until when each choice keeps the host, where it was `old` before some were lost; no row is read where those
+// that were lost keep it longer
+#[tactic(auto, using(crate::proofs::BeforeLemmas::least_kept, crate::proofs::BeforeLemmas::least_stays))]
+fn leave_after(p: &Problem, v: VmId, domain: &Domain, lost: Lost, old: u64) -> u64
+    requires machine { IsElement p.now.given (Element.Vm v) }
+    requires fewer { AreFewer (choices domain.now) (choices (restored lost domain.now)) }
+    requires was { old ≡ least (leave_of p.now.given v.0) (choices (restored lost domain.now)) }
+    ensures { result ≡ least (leave_of p.now.given v.0) (choices domain.now) }
+{
+    let leaving = Leaving {
+        problem: p,
+        machine: v,
+    };
+    match lowest_lost(lost, &leaving) {
+        None => old,
+        Some(first) => if old < first {
+            old
+        } else {
+            leave(p, v, domain)
+        },
+    }
+}
+
+/// Where a machine surely stands after a change of its domain, by where it stood before.
+///
+/// Where a row or Idle was taken away that did not give `leave`, this reads two rows at most.
+pub fn standing_after(
+    p: &Problem,
+    v: VmId,
+    domain: &Domain,
+    before: Before,
+    _kept: &Domain,
+    old: Standing,
+) -> Standing
+    requires machine { IsElement p.now.given (Element.Vm v) }
+    requires fewer { AreFewer (choices domain.now) (choices (domain_before before _kept.now domain.now)) }
+    requires was { IsStanding p.now.given v.0 (choices (domain_before before _kept.now domain.now)) old }
+    ensures { IsStanding p.now.given v.0 (choices domain.now) result }
+{
+    let leave = match before {
+        Before::Kept => leave(p, v, domain),
+        Before::Lost(lost) => leave_after(p, v, domain, lost, old.leave),
+    };
+    Standing {
+        leave,
+        come: come(domain),
+    }
+}
