@@ -1,0 +1,6 @@
+use Rattle.std.proofs.Common.{◌≡◌, ℕ, nat_lt}
+use Rattle.cluster.specs.Sets.{has_node}
+use Rattle.rule_load.proofs.nodes.all_of.Given as goal
+
+abbrev pub invariant-loop-n : goal.invariant-loop-n
+invariant-loop-n l = (m : ℕ) → has_node l.set m ≡ nat_lt m l.n

@@ -1,0 +1,9 @@
+use Rattle.std.proofs.Common.{ℕ, ◌<◌}
+use Rattle.cluster.specs.Sets.{has_node}
+use Rattle.domains.specs.Views.{seen}
+use Rattle.reasons.specs.Reasons.{IsOverload}
+use Rattle.reasons.specs.Sure.{sure}
+use Rattle.rule_load.proofs.reason.overloaded.Given as goal
+
+abbrev pub invariant-loop-r : goal.invariant-loop-r
+invariant-loop-r l = (r : ℕ) → r < l.r → ¬ IsOverload l.p.given (sure l.p.given (seen l.view.region.now l.view.lens) l.t) r (has_node l.set)

@@ -1,0 +1,13 @@
+use Rattle.std.proofs.Common.{subst}
+use Rattle.std.specs.List.{Contains}
+use Rattle.domains.specs.Choices.{choices}
+use Rattle.domains.specs.Parts.{on_side}
+use Rattle.domains.specs.Sets.{domain_at}
+use Rattle.domains.specs.Undo.{domain_before}
+use Rattle.domains.proofs.Public.{filter_is_fewer}
+use Rattle.rule_load.proofs.standings.StandingsKeeper.told.Goals as goal
+
+pub told-requires-clause-fewer : goal.told-requires-clause-fewer
+told-requires-clause-fewer c =
+    λ d h. filter_is_fewer (on_side c.args.change.side c.args.change.part) (choices (domain_before c.args.before c.args.kept.now (domain_at c.args.g.now c.args.change.element))) d
+    (subst (λ cs. Contains cs d) c.requires.narrowed.left h)

@@ -1,0 +1,71 @@
+//! The watches of the rule of loads.
+ghost use Rattle.std.specs.Prelude.{◌+◌};
+ghost use Rattle.slices.specs.Elements.{node_count};
+ghost use Rattle.closing.proofs.Public.{load_is_local};
+ghost use Rattle.rule_load.specs.Quiet.{load_is_quiet};
+ghost use Rattle.rule_load.specs.Watched.{is_load, nodes_at, watch_at};
+
+use crate::marking::mark_disturbed;
+use crate::nodes::{node_at, node_total};
+use crate::reason::load_reason;
+use crate::standings::Standings;
+use catalogue::problem::Problem;
+use closing::look::Look;
+use closing::watch::{look_at_load, look_at_total_load};
+use cluster::choices::Instant;
+use domains::domain::Domain;
+use domains::parts::Change;
+use domains::region::Region;
+use domains::undo::Before;
+use domains::view::View;
+use reasons::reason::{Reason, ReasonKind};
+use rule_frame::marks::Marks;
+use rule_frame::watcher::Watcher;
+
+/// Watch i is the load of node i, and the last one that of all nodes together.
+#[derive(Clone, Copy, Default)]
+pub struct Loads;
+
+impl Watcher<Standings> for Loads {
+    ghost watch = { λ w. watch_at };
+
+    ghost count_of = { λ w p. node_count p + 1 };
+
+    ghost kinds = { λ w. is_load };
+
+    fn count(&self, p: &Problem) -> usize {
+        node_total(p) + 1
+    }
+
+    fn covers(&self, kind: ReasonKind) -> bool {
+        matches!(kind, ReasonKind::Load)
+    }
+
+    fn disturb(
+        &self,
+        k: &Standings,
+        p: &Problem,
+        g: &Region,
+        change: Change,
+        _before: Before,
+        _kept: &Domain,
+        marks: &mut Marks,
+    ) {
+        mark_disturbed(k, p, g, change.element, marks);
+    }
+
+    fn look(&self, _k: &Standings, p: &Problem, g: &Region, i: usize) -> Look {
+        match node_at(p, i) {
+            None => look_at_total_load(p, g),
+            Some(n) => look_at_load(p, g, n),
+        }
+    }
+
+    fn reason(&self, p: &Problem, view: &View, i: usize, t: Instant) -> Reason {
+        load_reason(p, view, i, t)
+    }
+
+    ghost local = { λ w p i. load_is_local p (nodes_at p i) };
+
+    ghost quiet = { λ w. load_is_quiet };
+}
