@@ -1,0 +1,3 @@
+use Rattle.search.proofs.StepLemmas as a
+use Rattle.search.proofs.TextLemmas as b
+use Rattle.search.proofs.NamedLemmas as c
