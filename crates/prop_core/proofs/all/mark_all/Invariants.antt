@@ -1,0 +1,6 @@
+use Rattle.prop_core.specs.Lists.{MarkedSame}
+use Rattle.prop_core.proofs.TurnLemmas.{Turned}
+use Rattle.prop_core.proofs.all.mark_all.Given as goal
+
+abbrev pub invariant-loop-i : goal.invariant-loop-i
+invariant-loop-i g l = Turned (λ b. (goal.Propagator-dyn g (b.vtable, b.value)).meaning b.value) MarkedSame l.i l.fn.rules.items l.rules.items
