@@ -21,15 +21,16 @@ use Rattle.domains.specs.declared.parts.Part.{Part}
 use Rattle.domains.specs.declared.parts.Part.TheVariants as part
 use Rattle.domains.specs.Choices.{same_place}
 use Rattle.domains.specs.Parts.{in_part}
-use Rattle.domains.specs.Sets.{Sets}
+use Rattle.domains.specs.Sets.{Sets, keeping}
 use Rattle.domains.proofs.Public.{contains_here, filter_contains}
 use Rattle.reasons.specs.declared.reason.Reason.{Reason}
 use Rattle.reasons.specs.declared.reason.Reason.TheVariants.{Empty, Bound, Load, Pair, Place as AtPlace, Group, SetLoad, Power, Usable, Hall}
 use Rattle.reasons.specs.Reasons.{Refutes}
 use Rattle.relax.specs.Areas.{AreLegal}
-use Rattle.trees.specs.declared.steps.Step.TheVariants.{Decide}
+use Rattle.trees.specs.declared.steps.Step.TheVariants.{Cut, Decide}
 use Rattle.trees.specs.Proving.{IsSplit}
 use Rattle.cert_text.specs.Spelling.{HasPart, HasPlace, HasReason, HasStep}
+use Rattle.prop_core.specs.Propagators.{CutHolds}
 
 -- all that a reason names is there where it refutes
 pub has_reason : (p : Instance) (bound : Option ℕ) (s : Sets) (reason : Reason) → Refutes p bound s reason → HasReason p reason
@@ -95,3 +96,7 @@ split_named p s x part legal split =
     let one = some_choice (filter (in_part part) (s x)) split.some_inside in
     let held = filter_contains (in_part part) (s x) one.0 one.1 in
     (split.element, has_part p x part one.0 (legal x split.element one.0 held.0) held.1)
+
+pub cut_named : (p : Instance) (s : Sets) (x : Element) (part : Part) (reason : Reason) → AreLegal p s → CutHolds p s x part reason → HasStep p (Cut x part reason)
+cut_named p s x part reason legal holds =
+    (holds.exists, has_part p x part holds.held.0 (legal x holds.exists holds.held.0 holds.held.1) holds.held.2, has_reason p None (keeping x (in_part part) s) reason holds.refuted)

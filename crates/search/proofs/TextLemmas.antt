@@ -70,16 +70,29 @@ module _ (p : Instance) (tells : Bool) where
   pub leaves_lined : (old new : List ℕ) (s : Step) → (IsTrue tells → new ≡ old ++ step_line p s) → LeavesLines p tells old new
   leaves_lined old new s h = leaves_all old new (s ∷ []) (λ t. text_line p old new s (h t))
 
+  -- after nothing
+  pub leaves_same : (old mid new : List ℕ) → (IsTrue tells → mid ≡ old) → LeavesLines p tells mid new → LeavesLines p tells old new
+  leaves_same old mid new e l = record {
+    some = l.some;
+    front = λ t. subst (λ k. StartsWith (k ++ lines p l.some) new) (e t) (l.front t);
+    stays = λ t. subst (StartsWith new) (e t) (l.stays t);
+  }
+
   -- ---- whole texts
 
   pub text_none : (old : List ℕ) → LeavesText p tells old old
-  text_none old = record { some = []; goal = goal.Infeasible; front = λ t. longer old (lines p [] ++ end_line goal.Infeasible) old (whole_front old); stays = λ t. whole_front old }
+  text_none old = record {
+    some = [];
+    goal = goal.Infeasible;
+    front = λ t. longer (old ++ lines p []) (end_line goal.Infeasible) old (longer old (lines p []) old (whole_front old));
+    stays = λ t. whole_front old;
+  }
 
   pub text_some : (old new : List ℕ) → LeavesLines p tells old new → LeavesText p tells old new
   text_some old new l = record {
     some = l.some;
     goal = goal.Infeasible;
-    front = λ t. subst (λ k. StartsWith k new) (append_assoc old (lines p l.some) (end_line goal.Infeasible)) (longer (old ++ lines p l.some) (end_line goal.Infeasible) new (l.front t));
+    front = λ t. longer (old ++ lines p l.some) (end_line goal.Infeasible) new (l.front t);
     stays = l.stays;
   }
 
@@ -88,6 +101,6 @@ module _ (p : Instance) (tells : Bool) where
   text_end old mid new more claimed e h k = record {
     some = more;
     goal = claimed;
-    front = λ t. subst (λ a. StartsWith a new) (ap (λ a. a ++ end_line claimed) (e t) ∙ append_assoc old (lines p more) (end_line claimed)) (h t);
+    front = λ t. subst (λ a. StartsWith (a ++ end_line claimed) new) (e t) (h t);
     stays = λ t. still old mid new (lines p more) (e t) (k t);
   }

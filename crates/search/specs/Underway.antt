@@ -61,3 +61,7 @@ abbrev pub found_of : Option Best → Option ℕ → Found
 found_of None None = Infeasible
 found_of (Some best) None = Optimal best.plan
 found_of best (Some sum) = Undecided (plan_kept best) (lower sum (cost_kept best))
+
+-- nothing is kept yet
+abbrev pub none_yet : Counts
+none_yet = record { spent = 0; best = None; least = None }

@@ -1,9 +1,11 @@
 -- What a search leaves in the file of its certificate.
-use Rattle.std.specs.Prelude.{◌≡◌, ℕ, ◌+◌, List, [], ◌∷◌, ◌++◌, Option, Bool, IsTrue}
+use Rattle.std.specs.Prelude.{◌≡◌, ℕ, ◌+◌, List, [], ◌∷◌, ◌++◌, Option, Bool, true, false, IsTrue}
 use Rattle.std.specs.Io.{StartsWith}
 use Rattle.std.specs.List.{flat_map}
+use Rattle.cluster.specs.declared.ids.Element.{Element}
 use Rattle.catalogue.specs.Instance.{Instance}
 use Rattle.plan_io.specs.Files.{Files, OthersStay}
+use Rattle.domains.specs.declared.parts.Part.{Part}
 use Rattle.reasons.specs.declared.reason.Reason.{Reason}
 use Rattle.reasons.specs.declared.reason.Reason.TheVariants.{Empty, Bound, Load, Pair, Place, Group, SetLoad, Power, Usable, Hall}
 use Rattle.trees.specs.declared.steps.Goal.{Goal}
@@ -57,3 +59,9 @@ answered (Cut x part reason ∷ steps) = 1 + answered steps
 answered (Fail reason ∷ steps) = by_rule reason + answered steps
 answered (Plan cost ∷ steps) = answered steps
 answered (Left ∷ steps) = answered steps
+
+-- ---- a cut, with the failure after it where it leaves no choice
+
+abbrev pub cut_steps : Bool → Element → Part → Reason → List Step
+cut_steps true x part reason = Cut x part reason ∷ []
+cut_steps false x part reason = Cut x part reason ∷ Fail (Empty x) ∷ []

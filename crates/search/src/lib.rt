@@ -1,9 +1,17 @@
-//! The search: one region on a trail, a stack of outer sides that wait, and each line of the certificate written when
-//! it is found.
+//! The search: one region on a trail, a stack of outer sides that wait, and each line of the certificate
+//! written when it is found.
 #![tactic(auto)]
 
+mod closing;
 mod counts;
 mod found;
+mod ground;
 pub mod laws;
+mod leaves;
+mod levels;
+mod solving;
+mod staying;
+mod turns;
 
 pub use found::Found;
+pub use solving::solve;
