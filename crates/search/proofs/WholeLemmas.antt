@@ -1,5 +1,5 @@
 -- The whole search: what it shows.
-use Rattle.std.proofs.Common.{◌≡◌, ℕ, ◌+◌, ◌≤◌, Bool, List, [], ◌∷◌, ◌++◌, length, All, refl, sym, ap, subst, ◌∙◌, append-nil, arith, Option, Some, None, IsTrue}
+use Rattle.std.proofs.Common.{◌≡◌, ℕ, ◌+◌, ◌≤◌, Bool, List, [], ◌∷◌, ◌++◌, length, All, refl, sym, ap, subst, ◌∙◌, arith, Option, Some, None, IsTrue}
 use Rattle.std.specs.Prelude.{IfSome}
 use Rattle.std.specs.Io.{StartsWith}
 use Rattle.cluster.specs.declared.ids.Element.{Element}
@@ -15,6 +15,7 @@ use Rattle.trees.specs.Trees.{steps_of}
 use Rattle.cert_text.specs.Spelling.{end_line}
 use Rattle.prop_core.specs.Lists.{Pairs, Rise, given_sum}
 use Rattle.prop_core.specs.Propagators.{Meaning, SameRule, most}
+use Rattle.prop_core.proofs.Public.{Rise-trans}
 use Rattle.search.specs.declared.counts.Counts.{Counts}
 use Rattle.search.specs.declared.found.Found.{Found}
 use Rattle.search.specs.Answers.{IsTreeOf, IsTrueOf, goal_in, plan_in}
@@ -24,7 +25,7 @@ use Rattle.search.specs.Written.{LeavesText, answered, lines}
 use Rattle.search.proofs.EndLemmas.{plan_whole, tree_found, tree_is_true}
 use Rattle.search.proofs.StepLemmas.{step_fail}
 use Rattle.search.proofs.TextLemmas.{text_end}
-use Rattle.search.proofs.WorkLemmas.{goes_then, rise_rule}
+use Rattle.search.proofs.WorkLemmas.{rise_less, rise_rule}
 
 -- nothing was done yet
 pub underway_start : (p : Instance) (budget : ℕ) → Underway p budget none_yet [] (start_sets p ∷ [])
@@ -52,18 +53,10 @@ module _ {B : Type 0} (m : B → Meaning) (p : Instance) (budget : ℕ) (tells :
   goes_start k l old new xs ys zs s none is same count g = record {
     more = g.more;
     text = g.text;
-    given = posted.given;
-    runs = λ e u. subst (λ (r : Sets). (steps : List Step) → Underway p budget none_yet steps (r ∷ []) → Underway p budget l (steps ++ g.more) []) is
-        (subst (λ (c : Counts). (steps : List Step) → Underway p budget c steps (s ∷ []) → Underway p budget l (steps ++ g.more) []) none g.runs) e u;
+    given = rise_less m (0 + answered g.more) (answered g.more) xs zs (omega arith) (Rise-trans m 0 (answered g.more) xs ys zs same.count count (rise_rule m xs ys same) g.given);
+    runs = subst (λ (r : Sets). (steps : List Step) → Underway p budget none_yet steps (r ∷ []) → Underway p budget l (steps ++ g.more) []) is
+        (subst (λ (c : Counts). (steps : List Step) → Underway p budget c steps (s ∷ []) → Underway p budget l (steps ++ g.more) []) none g.runs);
   }
-    where
-      posted : Goes m p budget tells k l old new xs zs (s ∷ []) []
-      posted = goes_then m p budget tells k k l old old new xs ys zs (s ∷ []) (s ∷ []) [] same.count count (record {
-        more = [];
-        text = λ t. sym (append-nil old);
-        given = rise_rule m xs ys same;
-        runs = λ e u. subst (λ a. Underway p budget k a (s ∷ [])) (sym (append-nil e)) u;
-      }) g
 
   -- the plan that is answered is whole
   pub found_whole : (l : Counts) (old new : List ℕ) (xs ys : List B) (found : Found) → Goes m p budget tells none_yet l old new xs ys (start_sets p ∷ []) [] → found ≡ found_of l.best l.least → IfSome (plan_in found) (IsPlanOf p)

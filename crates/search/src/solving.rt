@@ -75,9 +75,9 @@ fn write_tree<D: Desk>(
     ensures covers { Pairs (λ b. meaning b) SameCover rules.old.items rules.new.items }
     ensures goes { IfOk result (λ counts. Goes (λ b. meaning b) p.now.given budget D.tells none_yet counts (bytes_of (D.files desk.old out.old)) (bytes_of (D.files desk.new out.old)) rules.old.items rules.new.items (start_sets p.now.given ∷ []) []) }
 {
-    let region = start_region(alloc, p)?;
-    post_all(p, &region, rules)?;
-    let mut ground = Ground::new(alloc, p, region)?;
+    let start = start_region(alloc, p)?;
+    post_all(p, &start, rules)?;
+    let mut ground = Ground::new(alloc, p, start)?;
     let mut counts = Counts {
         spent: 0,
         best: None,

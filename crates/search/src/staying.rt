@@ -1,7 +1,9 @@
 //! Staying as all is, where that is a valid plan.
-ghost use Rattle.std.specs.Prelude.{◌≡◌, None, Some, IfOk, IfSome, IsTrue};
+ghost use Rattle.std.specs.Prelude.{◌≡◌, ◌↔◌, None, Some, IfOk, IfSome, IsTrue};
 ghost use Rattle.plan_io.specs.Causes.{CountsWrites};
 ghost use Rattle.plan_io.specs.Files.{bytes_of};
+ghost use Rattle.slices.specs.Plans.{IsPlanOf, choices_of};
+ghost use Rattle.slices.specs.Rules.{IsValid};
 ghost use Rattle.search.specs.Staying.{IsStayed, IsStayingPlan, MayStay};
 ghost use Rattle.search.specs.Written.{IsKept, LeavesText};
 
@@ -17,6 +19,14 @@ use slices::plan::{Plan, is_plan};
 use std::alloc::Global;
 use trees::steps::{Goal, Step};
 
+// whether the judge finds no broken rule in a plan
+fn is_valid(p: &Problem, plan: &Plan) -> bool
+    requires { IsPlanOf p.now.given plan.now }
+    ensures { IsTrue result ↔ IsValid p.now.given (choices_of plan.now) }
+{
+    judge(p, plan).is_none()
+}
+
 /// The plan in which nothing is done, where it is one and valid. The only error is want of memory.
 pub fn staying_plan(alloc: Global, p: &Problem) -> Result<Option<Plan>, Memory>
     ensures some { IfOk result (λ found. IfSome found (IsStayingPlan p.now.given)) }
@@ -27,7 +37,7 @@ pub fn staying_plan(alloc: Global, p: &Problem) -> Result<Option<Plan>, Memory>
         return Ok(None);
     }
     let plan = Plan::idle_or(p, choices);
-    if judge(p, &plan).is_some() {
+    if !is_valid(p, &plan) {
         return Ok(None);
     }
     Ok(Some(plan))

@@ -27,7 +27,7 @@ returns-then-counts-budget-clause-front g c = leaves_lined _ _ _ _ Left (λ t. a
 
 pub returns-then-counts-budget-clause-settled : goal.returns-then-counts-budget-clause-settled
 returns-then-counts-budget-clause-settled g c =
-    leaf_left _ _ _ _ _ _ _ _ c.sum-sum.result (c.sum-sum.ensures ∙ c.requires.ground.top) c.requires.clear c.requires.ground.trail.region.sized (λ f. let e = c.if-is_fixed.ensures.1 (rw c.region.ensures f) in cc) c.if-counts-budget.true _ c.lower-counts.ensures refl
+    leaf_left _ _ _ _ _ _ _ _ c.sum-sum.result (c.sum-sum.ensures ∙ c.requires.ground.top) c.requires.clear c.requires.ground.trail.region.sized (λ f. let e = c.if-is_fixed.ensures.1 (rw c.region.ensures f) in cc) c.if-counts-budget.true _ c.lower.ensures refl
     (λ t. text_line _ _ _ Left (ap bytes_of (c.in_ok-step-2.ensures.grown t)))
 
 pub returns-clause-settled : goal.returns-clause-settled

@@ -11,9 +11,6 @@ use Rattle.search.proofs.TextLemmas.{leaves_line, leaves_lined, text_line}
 use Rattle.search.proofs.WorkLemmas.{rule_trans}
 use Rattle.search.proofs.leaves.split.Goals as goal
 
-pub choose-element-requires-clause-inhabited : goal.choose-element-requires-clause-inhabited
-choose-element-requires-clause-inhabited g c = rw c.region.ensures c.requires.clear.closed.some
-
 pub step-requires-clause-step : goal.step-requires-clause-step
 step-requires-clause-step g c = split_named _ _ c.choose-element.result.0 c.choose-element.result.1 c.requires.ground.trail.region.legal (rw c.region.ensures at c.choose-element.ensures)
 

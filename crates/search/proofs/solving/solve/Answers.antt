@@ -3,11 +3,8 @@ use Rattle.search.proofs.TextLemmas.{text_none}
 use Rattle.search.proofs.WorkLemmas.{cover_same}
 use Rattle.search.proofs.solving.solve.Goals as goal
 
-pub returns-in_err-staying_plan-clause-front : goal.returns-in_err-staying_plan-clause-front
-returns-in_err-staying_plan-clause-front g c = text_none _ _ _
-
-pub returns-in_err-staying_plan-clause-covers : goal.returns-in_err-staying_plan-clause-covers
-returns-in_err-staying_plan-clause-covers g c = cover_same _ _
+pub returns-in_err-plan-clause-front : goal.returns-in_err-plan-clause-front
+returns-in_err-plan-clause-front g c = text_none _ _ _
 
 pub returns-in-Some-clause-covers : goal.returns-in-Some-clause-covers
 returns-in-Some-clause-covers g c = cover_same _ _

@@ -10,11 +10,11 @@ use Rattle.search.proofs.WholeLemmas.{goes_start, start_empty}
 use Rattle.search.proofs.WorkLemmas.{cover_rule, cover_same, cover_trans}
 use Rattle.search.proofs.solving.write_tree.Goals as goal
 
-pub returns-in_err-region-clause-front : goal.returns-in_err-region-clause-front
-returns-in_err-region-clause-front g c = leaves_none _ _ _
+pub returns-in_err-start-clause-front : goal.returns-in_err-start-clause-front
+returns-in_err-start-clause-front g c = leaves_none _ _ _
 
-pub returns-in_err-region-clause-covers : goal.returns-in_err-region-clause-covers
-returns-in_err-region-clause-covers g c = cover_same _ _
+pub returns-in_err-start-clause-covers : goal.returns-in_err-start-clause-covers
+returns-in_err-start-clause-covers g c = cover_same _ _
 
 pub returns-in_err-post_all-clause-front : goal.returns-in_err-post_all-clause-front
 returns-in_err-post_all-clause-front g c = leaves_none _ _ _
@@ -42,7 +42,7 @@ returns-clause-covers g c = cover_trans _ _ _ _ (cover_rule _ _ _ c.in_ok-post_a
 
 pub returns-clause-goes : goal.returns-clause-goes
 returns-clause-goes g c =
-    goes_start _ _ c.args.budget _ none_yet c.run.new.counts _ _ _ _ _ _ refl (ap (λ (v : Marked). sets v.region) c.in_ok-ground.ensures.trail ∙ same_sets _ _ c.in_ok-region.ensures.sets) c.in_ok-post_all.ensures.same c.in_ok-run.ensures.covers.count c.in_ok-run.ensures.goes
+    goes_start _ _ c.args.budget _ none_yet c.run.new.counts _ _ _ _ _ _ refl (ap (λ (v : Marked). sets v.region) c.in_ok-ground.ensures.trail ∙ same_sets _ _ c.in_ok-start.ensures.sets) c.in_ok-post_all.ensures.same c.in_ok-run.ensures.covers.count c.in_ok-run.ensures.goes
 
 pub returns-in-Some-clause-covers : goal.returns-in-Some-clause-covers
 returns-in-Some-clause-covers g c = cover_rule _ _ _ c.in_ok-post_all.ensures.same
@@ -51,5 +51,5 @@ pub returns-in-Some-clause-goes : goal.returns-in-Some-clause-goes
 returns-in-Some-clause-goes g c =
     let x = rw c.region.ensures at c.in-Some.ensures in
     let none : sets c.in_ok-ground.ground.trail.region c.in-Some.x ≡ [] = x.1 in
-    let same = ap (λ (v : Marked). sets v.region c.in-Some.x) c.in_ok-ground.ensures.trail ∙ c.in_ok-region.ensures.sets c.in-Some.x in
+    let same = ap (λ (v : Marked). sets v.region c.in-Some.x) c.in_ok-ground.ensures.trail ∙ c.in_ok-start.ensures.sets c.in-Some.x in
     start_empty _ _ c.args.budget _ none_yet _ _ _ _ _ c.in-Some.x x.0 (sym same ∙ none) (λ t. ap bytes_of (c.in_ok-fail.ensures.written t)) c.in_ok-post_all.ensures.same

@@ -35,17 +35,6 @@ returns-in_err-side-clause-front g c =
 pub returns-in_err-side-clause-covers : goal.returns-in_err-side-clause-covers
 returns-in_err-side-clause-covers g c = cover_trans _ _ _ _ c.in_ok-is_clear.ensures.covers (cover_rule _ _ _ c.split.ensures.same)
 
-pub split-side-requires-clause-clear : goal.split-side-requires-clause-clear
-split-side-requires-clause-clear g c =
-    let due = rw c.if-is_leaf.false at c.in_ok-is_leaf.ensures.settled in
-    rw due.counts (c.in_ok-is_clear.ensures.clear c.if-not-is_clear.false)
-
-pub split-side-requires-clause-free : goal.split-side-requires-clause-free
-split-side-requires-clause-free g c = let due = rw c.if-is_leaf.false at c.in_ok-is_leaf.ensures.settled in due.free
-
-pub split-side-requires-clause-room : goal.split-side-requires-clause-room
-split-side-requires-clause-room g c = let due = rw c.if-is_leaf.false at c.in_ok-is_leaf.ensures.settled in let room = due.room in let same = c.in_ok-is_leaf.ensures.spent in search (rules, room, same)
-
 pub returns-clause-front : goal.returns-clause-front
 returns-clause-front g c =
     let w = rw c.if-not-is_clear.false at c.in_ok-is_clear.ensures.works in

@@ -8,7 +8,7 @@ use Rattle.search.proofs.turns.run.Goals as goal
 
 pub turns-init : goal.turns-init
 turns-init g c = record {
-  paired = paired_start _ _ _ c.requires.unmarked c.new-splits.ensures.items;
+  paired = paired_start c.args.p.now.given c.args.ground.now.trail _ c.requires.unmarked c.new-splits.ensures.items;
   name = refl;
   kept = search rules;
   faults = refl;
@@ -16,7 +16,7 @@ turns-init g c = record {
   follow = c.requires.follow;
   ground = c.requires.ground;
   some = c.requires.some;
-  goes = goes_start_open _ _ c.args.budget _ c.args.counts.now _ _ _ _ c.requires.unmarked c.new-splits.ensures.items;
+  goes = goes_start_open _ _ c.args.budget _ c.args.counts.now _ _ c.args.ground.now.trail _ c.requires.unmarked c.new-splits.ensures.items;
 }
 
 pub turn-requires-clause-covered : goal.turn-requires-clause-covered

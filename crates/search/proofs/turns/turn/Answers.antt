@@ -31,3 +31,8 @@ returns-in_err-narrow_all-clause-covers g c = cover_trans _ _ _ _ c.in_ok-side.e
 
 pub returns-clause-covers : goal.returns-clause-covers
 returns-clause-covers g c = cover_trans _ _ _ _ c.in_ok-side.ensures.covers (cover_trans _ _ _ _ (cover_rule _ _ _ c.back_levels.ensures.same) (cover_rule _ _ _ c.in_ok-narrow_all.ensures.same))
+
+pub returns-in-Some-clause-turned : goal.returns-in-Some-clause-turned
+returns-in-Some-clause-turned g c =
+    let enters = rw c.in-Some.is at c.in_ok-side.ensures.visited in
+    next_inside _ _ c.args.budget _ c.args.counts.now c.at_region.new.counts _ _ _ _ c.args.ground.now.trail c.at_region.new.ground.trail c.args.splits.now.items c.push.new.self.items c.in-Some.side enters c.in_ok-push.ensures.items c.requires.paired
