@@ -1,0 +1,2 @@
+-- What crates above may cite: the laws, by the names of their statements in specs/.
+pub use Rattle.bound.proofs.CostLemmas.{cost_is_small, cost_put_back, narrowing_tells, same_cost}

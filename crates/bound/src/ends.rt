@@ -1,0 +1,106 @@
+//! The least end of one element, and what a change of its domain makes of a sum of least ends.
+ghost use Rattle.std.specs.Prelude.{◌≡◌, ◌+◌, ◌≤◌, max};
+ghost use Rattle.sums.specs.Least.{least};
+ghost use Rattle.catalogue.specs.Instance.{IsElement};
+ghost use Rattle.slices.specs.Actions.{end_of};
+ghost use Rattle.slices.specs.Limits.{max_cost};
+ghost use Rattle.domains.specs.Choices.{choices};
+ghost use Rattle.domains.specs.Laws.{AreFewer};
+ghost use Rattle.domains.specs.Undo.{domain_before, restored};
+
+use catalogue::problem::Problem;
+use cluster::choices::Choice;
+use cluster::ids::Element;
+use domains::domain::Domain;
+use domains::measure::{Measure, lowest, lowest_lost};
+use domains::undo::{Before, Lost};
+use relax::measures::EndOf;
+
+/// The least instant at which the action of an element ends under a choice of a domain, 0 where it has no choice.
+pub fn least_end(p: &Problem, e: Element, domain: &Domain) -> u64
+    requires { IsElement p.now.given e }
+    ensures { result ≡ least (end_of p.now.given e) (choices domain.now) }
+{
+    let ends = EndOf {
+        problem: p,
+        element: e,
+    };
+    lowest(domain, None, &ends).unwrap_or(0)
+}
+
+/// What a sum with the least end of an element's domain before a change is with that of its domain now.
+pub fn after_change(
+    p: &Problem,
+    e: Element,
+    domain: &Domain,
+    before: Before,
+    kept: &Domain,
+    sum: u64,
+) -> u64
+    requires element { IsElement p.now.given e }
+    requires narrowed { AreFewer (choices domain.now) (choices (domain_before before kept.now domain.now)) }
+    requires within { least (end_of p.now.given e) (choices (domain_before before kept.now domain.now)) ≤ sum }
+    requires small { sum + least (end_of p.now.given e) (choices domain.now)
+        ≤ max_cost + least (end_of p.now.given e) (choices (domain_before before kept.now domain.now)) }
+    ensures { result + least (end_of p.now.given e) (choices (domain_before before kept.now domain.now))
+        ≡ sum + least (end_of p.now.given e) (choices domain.now) }
+{
+    match before {
+        Before::Kept => sum - least_end(p, e, kept) + least_end(p, e, domain),
+        Before::Lost(lost) => after_loss(p, e, domain, lost, sum),
+    }
+}
+
+// where the change is told by what was lost, rows are read until one ends no later than that
+fn after_loss(p: &Problem, e: Element, domain: &Domain, lost: Lost, sum: u64) -> u64
+    requires element { IsElement p.now.given e }
+    requires narrowed { AreFewer (choices domain.now) (choices (restored lost domain.now)) }
+    requires within { least (end_of p.now.given e) (choices (restored lost domain.now)) ≤ sum }
+    requires small { sum + least (end_of p.now.given e) (choices domain.now)
+        ≤ max_cost + least (end_of p.now.given e) (choices (restored lost domain.now)) }
+    ensures { result + least (end_of p.now.given e) (choices (restored lost domain.now))
+        ≡ sum + least (end_of p.now.given e) (choices domain.now) }
+{
+    let ends = EndOf {
+        problem: p,
+        element: e,
+    };
+    match lowest_lost(lost, &ends) {
+        None => sum,
+        Some(floor) => match lowest(domain, None, &EndFrom { ends, floor }) {
+            None => sum - floor,
+            Some(end) => sum + (end - floor),
+        },
+    }
+}
+
+/// When an element's action ends, raised to an instant: a search for the least stops at the first choice
+/// that ends by then.
+#[derive(Drop)]
+struct EndFrom<'a> {
+    ends: EndOf<'a>,
+    floor: u64,
+}
+
+impl Measure for EndFrom<'_> {
+    ghost use Rattle.slices.proofs.Public.{ends_by_duration};
+    ghost use Rattle.std.proofs.Common.{arith};
+
+    ghost ready = { λ m. IsElement m.ends.problem.now.given m.ends.element };
+
+    ghost value_of = { λ m c. max m.floor (end_of m.ends.problem.now.given m.ends.element c) };
+
+    ghost floor_of = { λ m. m.floor };
+
+    ghost least_at_ends = { λ m place lo s hi l u. Prim.omega (arith, ends_by_duration m.ends.problem.now.given m.ends.element place lo, ends_by_duration m.ends.problem.now.given m.ends.element place s, ends_by_duration m.ends.problem.now.given m.ends.element place hi) };
+
+    ghost above_floor = { λ m c. Prim.omega arith };
+
+    fn value(&self, c: Choice) -> u64 {
+        self.ends.value(c).max(self.floor)
+    }
+
+    fn floor(&self) -> u64 {
+        self.floor
+    }
+}

@@ -1,0 +1,128 @@
+//! A sum that follows a trail: changes of each sort, a mark, and back.
+ghost use Rattle.std.specs.Prelude.{◌≡◌, ◌<◌, ◌≤◌, IfOk, OnOk, length};
+ghost use Rattle.catalogue.specs.Instance.{IsElement};
+ghost use Rattle.domains.specs.Sets.{sets};
+ghost use Rattle.reasons.specs.Sure.{least_cost as least_cost_of};
+ghost use Rattle.relax.specs.Areas.{AreLegal, IsSized};
+ghost use Rattle.slices.specs.Elements.{machine_count};
+
+use crate::lower_bound::LowerBound;
+use catalogue::problem::Problem;
+use cluster::choices::Place;
+use cluster::durations::Duration;
+use cluster::ids::{Element, NodeId, VmId};
+use cluster::inventory::Cluster;
+use cluster::machines::Machine;
+use cluster::names::Name;
+use cluster::nodes::Node;
+use cluster::states::State;
+use domains::domain::Domain;
+use domains::parts::{Change, Part, Side};
+use relax::start::start_region;
+use std::alloc::Global;
+use std::test::Fail;
+use trail::trail::Trail;
+
+const THREE: Duration = Duration {
+    base: 3,
+    per: 0,
+    resource: None,
+};
+
+const THERE: Place = Place::At(NodeId(1));
+
+/// A machine on node 0, which may move to node 1 or stay; each action lasts 3.
+fn problem(alloc: Global) -> Result<Problem, Fail> {
+    let mut cluster = Cluster::new(alloc, Vec::new(alloc), [THREE; 10])?;
+    for name in [b"n0", b"n1"] {
+        cluster.add_node(Node {
+            name: Name::new(alloc, name)?,
+            online: true,
+            capacity: [0; 8],
+            own: [None; 10],
+        })?;
+    }
+    cluster.add_machine(Machine {
+        name: Name::new(alloc, b"v0")?,
+        state: State::Running(NodeId(0)),
+        usage: [0; 8],
+        own: [None; 10],
+    })?;
+    Ok(Problem::new(alloc, cluster, 20))
+}
+
+/// Narrows the machine, and tells the sum of it.
+fn narrow(
+    p: &Problem,
+    trail: &mut Trail,
+    bound: &mut LowerBound,
+    kept: &mut Domain,
+    part: Part,
+    side: Side,
+) -> Result<u64, Fail>
+    requires machine { 0 < machine_count p.now.given }
+    requires sized { IsSized p.now.given trail.old.region }
+    requires legal { AreLegal p.now.given (sets trail.old.region) }
+    requires agreed { bound.old.top ≡ least_cost_of p.now.given (sets trail.old.region) }
+    ensures sized { OnOk result (IsSized p.now.given trail.new.region) }
+    ensures legal { OnOk result (AreLegal p.now.given (sets trail.new.region)) }
+    ensures agreed { OnOk result (bound.new.top ≡ least_cost_of p.now.given (sets trail.new.region)) }
+    ensures older { bound.new.older ≡ bound.old.older }
+{
+    let element = Element::Vm(VmId(0));
+    let change = Change {
+        element,
+        part,
+        side,
+    };
+    let before = trail.apply_told(change, kept)?;
+    bound.told(p, trail.region(), element, before, kept);
+    Ok(bound.sum())
+}
+
+/// The sums after a mark and three changes, and after going back.
+fn sums(alloc: Global, p: &Problem) -> Result<[u64; 5], Fail>
+    requires { 0 < machine_count p.now.given }
+{
+    let region = start_region(alloc, p)?;
+    let mut bound = LowerBound::new(alloc, p, &region)?;
+    let mut trail = Trail::new(alloc, region);
+    let mut kept = Domain::new(alloc, false);
+    let first = bound.sum();
+    bound.mark()?;
+    let moves = narrow(
+        p,
+        &mut trail,
+        &mut bound,
+        &mut kept,
+        Part::Idle,
+        Side::Outside,
+    )?;
+    let later = narrow(
+        p,
+        &mut trail,
+        &mut bound,
+        &mut kept,
+        Part::Upto(THERE, 4),
+        Side::Outside,
+    )?;
+    let last = narrow(
+        p,
+        &mut trail,
+        &mut bound,
+        &mut kept,
+        Part::From(THERE, 9),
+        Side::Inside,
+    )?;
+    bound.back();
+    Ok([first, moves, later, last, bound.sum()])
+}
+
+#[test]
+fn follows_a_trail(rt: HostRuntime) -> Result<(), Fail> {
+    let p = problem(rt.alloc())?;
+    if !p.cluster().machines().is_empty() {
+        assert_eq!(&rt; sums(rt.alloc(), &p)?, [0, 3, 8, 12, 0]);
+    }
+    Ok(())
+}

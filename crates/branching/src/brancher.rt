@@ -1,0 +1,32 @@
+//! What a search asks where to split.
+ghost use Rattle.std.specs.Prelude.{◌≡◌};
+ghost use Rattle.domains.specs.Sets.{IsFixed, sets};
+ghost use Rattle.reasons.specs.Closed.{HaveChoices};
+ghost use Rattle.relax.specs.Areas.{AreLegal, IsSized};
+ghost use Rattle.slices.specs.Plans.{IsPlanOf};
+ghost use Rattle.trees.specs.Proving.{IsSplit};
+
+use catalogue::problem::Problem;
+use cluster::ids::Element;
+use domains::parts::Part;
+use domains::region::Region;
+use reasons::reason::Reason;
+use slices::plan::Plan;
+
+/// Chooses where regions are split, and may learn from what the search meets. No call takes memory.
+pub trait Brancher: Drop {
+    /// An element of a region that is not fixed, and a part that holds a choice of it and leaves one out.
+    fn choose(&mut self, p: &Problem, g: &Region) -> (Element, Part)
+        requires sized { IsSized p.now.given g.now }
+        requires legal { AreLegal p.now.given (sets g.now) }
+        requires inhabited { HaveChoices p.now.given (sets g.now) }
+        requires free { ¬ IsFixed g.now }
+        ensures { IsSplit p.now.given (sets g.now) result.0 result.1 };
+
+    /// The search has met a plan that costs less than all before.
+    fn met_plan(&mut self, p: &Problem, plan: &Plan)
+        requires { IsPlanOf p.now.given plan.now };
+
+    /// A reason refuted a region: `element` is the one that was split or narrowed last, if there is one.
+    fn failed(&mut self, p: &Problem, element: Option<Element>, reason: &Reason);
+}
