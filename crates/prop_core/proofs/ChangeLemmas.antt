@@ -1,6 +1,6 @@
 -- From what a trail says of a change to what those who are told of it require.
 use mathlib.Core.Path.{fun_ext}
-use Rattle.std.proofs.Common.{◌≡◌, Bool, true, false, cond, List, length, get_or, refl, sym, ◌∙◌, ap, subst, All}
+use Rattle.std.proofs.Common.{◌≡◌, Bool, true, false, cond, List, length, refl, sym, ◌∙◌, ap, subst}
 use Rattle.std.proofs.lemmas.Bool.{eq-eqb}
 use Rattle.std.specs.List.{Contains, filter}
 use Rattle.cluster.specs.declared.choices.Choice.{Choice}
@@ -18,7 +18,7 @@ use Rattle.domains.proofs.Public.{filter_is_fewer, same_is}
 use Rattle.relax.specs.Areas.{AreLegal}
 use Rattle.relax.proofs.Public.{legal_stays}
 use Rattle.trail.specs.Logs.{Marked}
-use Rattle.prop_core.specs.Propagators.{IsNarrowed, IsRegionOf, Meaning, putting, sets_before}
+use Rattle.prop_core.specs.Propagators.{IsNarrowed, IsRegionOf, Meaning, sets_before}
 use Rattle.prop_core.specs.Lists.{TopsAgree}
 use Rattle.prop_core.specs.Levels.{AllFollow}
 use Rattle.prop_core.proofs.LevelLemmas.{tops}

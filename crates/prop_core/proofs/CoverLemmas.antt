@@ -1,8 +1,10 @@
 -- What a list covers, kind by kind, and after calls that leave the kinds.
 use Rattle.std.proofs.Common.{◌≡◌, ◌∙◌, ◌↔◌, ◌&&◌, Bool, IsTrue, refl, true, false, List, [], ◌∷◌, length, suc, arith}
+use Rattle.catalogue.specs.Instance.{Instance}
+use Rattle.domains.specs.Sets.{Sets}
 use Rattle.reasons.specs.declared.reason.ReasonKind.{ReasonKind}
 use Rattle.reasons.specs.declared.reason.ReasonKind.TheVariants as kind
-use Rattle.prop_core.specs.Propagators.{IsStandard, Meaning}
+use Rattle.prop_core.specs.Propagators.{IsAsked, IsStandard, Meaning, SameRule}
 use Rattle.prop_core.specs.Lists.{Covered, Pairs, SameCover, is_covered}
 
 and_true : (a b : Bool) → (a && b) ≡ true → (a ≡ true) × (b ≡ true)
@@ -51,3 +53,10 @@ any-same m k (x ∷ xs) (y ∷ ys) r =
 -- what is covered stays so where all cover the same kinds
 pub covered_after : {B : Type 0} (m : B → Meaning) (xs ys : List B) → Pairs m SameCover xs ys → Covered m xs → Covered m ys
 covered_after m xs ys r c = record { each = λ k is. any-same m k xs ys r ∙ c.each k is }
+
+-- the calls leave the kinds
+pub covers_same : (a b : Meaning) → SameRule a b → SameCover a b
+covers_same a b r = record { covers = r.covers }
+
+pub covers_asked : (p : Instance) (s : Sets) (a b : Meaning) → IsAsked p s a b → SameCover a b
+covers_asked p s a b r = record { covers = r.covers }

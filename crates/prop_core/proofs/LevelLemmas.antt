@@ -1,7 +1,7 @@
 -- Levels that follow the marks of a trail.
 use Rattle.std.proofs.Common.{◌≡◌, ℕ, suc, ◌+◌, ◌<◌, ◌≤◌, List, [], ◌∷◌, length, get_or, sym, ◌∙◌, ap, subst, arith, All}
 use Rattle.catalogue.specs.Instance.{Instance}
-use Rattle.domains.specs.Sets.{RegionView, Sets, sets}
+use Rattle.domains.specs.Sets.{RegionView, sets}
 use Rattle.trail.specs.Logs.{Marked}
 use Rattle.prop_core.specs.Propagators.{IsAsked, KeepsBelow, Meaning, TopAgrees, most}
 use Rattle.prop_core.specs.Lists.{BackSame, MarkedSame, Pairs, PostedSame, ToldSame, TopsAgree}

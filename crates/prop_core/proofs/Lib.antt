@@ -6,4 +6,5 @@ mod PairLemmas
 mod CoverLemmas
 mod LevelLemmas
 mod ChangeLemmas
+mod TrailLemmas
 mod QuietLemmas

@@ -1,15 +1,15 @@
 -- Where all are quiet, and each standard kind is covered, the sets are closed.
-use Rattle.std.proofs.Common.{◌≡◌, true, List, get_or, All, subst}
+use Rattle.std.proofs.Common.{◌≡◌, true, List, All, subst}
 use Rattle.std.proofs.lemmas.List.Folds.{Any-from_list_any}
 use Rattle.catalogue.specs.Instance.{Instance}
 use Rattle.domains.specs.Sets.{Sets}
 use Rattle.reasons.specs.declared.reason.ReasonKind.{ReasonKind}
 use Rattle.reasons.specs.declared.reason.ReasonKind.TheVariants as kind
-use Rattle.reasons.specs.Closed.{IsQuietKind}
+use Rattle.reasons.specs.Closed.{HaveChoices, IsClosed, IsQuietKind}
 use Rattle.reasons.proofs.Public.{closed_by_kinds}
+use Rattle.prop_core.specs.declared.propagator.Answer.TheVariants.{Quiet}
 use Rattle.prop_core.specs.Propagators.{AllQuiet, IsStandard, Meaning}
-use Rattle.prop_core.specs.Lists.{Covered, is_covered}
-use Rattle.prop_core.specs.Laws.{ClosedWhenQuiet}
+use Rattle.prop_core.specs.Lists.{AllRight, Covered, is_covered}
 
 -- a kind that some propagator covers is quiet where all are
 covered-quiet : {B : Type 0} (m : B → Meaning) (p : Instance) (s : Sets) (xs : List B) (k : ReasonKind) → is_covered m xs k ≡ true → All (λ b. AllQuiet p s (m b)) xs → IsQuietKind p s k
@@ -18,8 +18,8 @@ covered-quiet {B} m p s xs k some all =
     let quiet : AllQuiet p s (m a.1) = subst (λ (b : B). AllQuiet p s (m b)) a.3 (all a.0 a.1 a.2) in
     quiet.each k a.4
 
-pub closed_when_quiet : ClosedWhenQuiet
-closed_when_quiet B m p s xs cover all some = (closed_by_kinds p s).1 (some, quiet)
+pub closed_when_quiet : {B : Type 0} (m : B → Meaning) (p : Instance) (s : Sets) (xs : List B) → Covered m xs → AllRight m p s xs Quiet → HaveChoices p s → IsClosed p s
+closed_when_quiet m p s xs cover all some = (closed_by_kinds p s).1 (some, quiet)
   where
     of : (k : ReasonKind) → IsStandard k → IsQuietKind p s k
     of k is = covered-quiet m p s xs k (cover.each k is) all

@@ -1,7 +1,8 @@
 //! Asking the propagators of a list, one after the other.
 ghost use Rattle.std.specs.Prelude.{◌≡◌, IfOk, MatchResult};
 ghost use Rattle.domains.specs.Sets.{sets};
-ghost use Rattle.prop_core.specs.Lists.{AllRight, Pairs, Rise, TopsAgree, steps_shown};
+ghost use Rattle.reasons.specs.Closed.{HaveChoices, IsClosed};
+ghost use Rattle.prop_core.specs.Lists.{AllRight, Covered, Pairs, Rise, TopsAgree, steps_shown};
 ghost use Rattle.prop_core.specs.Propagators.{IsAsked, IsRegionOf, IsRight, TopAgrees, counted};
 
 use crate::propagator::{Answer, Propagator};
@@ -44,3 +45,12 @@ pub fn ask_all(
     }
     Ok(Answer::Quiet)
 }
+
+/// The law for who asks: where all were quiet, each standard kind is covered, and each element has a choice, the
+/// region is closed. It does nothing.
+pub fn closed_when_quiet(p: &Problem, g: &Region, rules: &Vec<Box<dyn Propagator>>)
+    requires covered { Covered (λ b. meaning b) rules.now.items }
+    requires quiet { AllRight (λ b. meaning b) p.now.given (sets g.now) rules.now.items Answer.Quiet }
+    requires choices { HaveChoices p.now.given (sets g.now) }
+    ensures { IsClosed p.now.given (sets g.now) }
+{}

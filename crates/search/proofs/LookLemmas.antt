@@ -89,8 +89,8 @@ module _ {B : Type 0} (m : B → Meaning) (p : Instance) (tells : Bool) (k : Cou
 
 -- all are quiet
 pub look_clear : {B : Type 0} (m : B → Meaning) (p : Instance) (best : Option Best) (s : Sets) (sum : ℕ) (xs ys : List B) → Covered m xs → Pairs m (IsAsked p s) xs ys → All (λ b. AllQuiet p s (m b)) ys → HaveChoices p s → sum ≡ least_cost p s → IfSome (cost_kept best) (λ known. sum < known) → IsClear p best s
-look_clear {B} m p best s sum xs ys covered asked quiet some is below = record {
-  closed = closed_when_quiet B m p s ys (covered_after m xs ys (cover_asked m p s xs ys asked) covered) quiet some;
+look_clear m p best s sum xs ys covered asked quiet some is below = record {
+  closed = closed_when_quiet m p s ys (covered_after m xs ys (cover_asked m p s xs ys asked) covered) quiet some;
   below = subst (λ n. IfSome (cost_kept best) (λ known. n < known)) is below;
 }
 
