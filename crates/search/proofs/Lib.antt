@@ -13,3 +13,5 @@ pub mod LeafLemmas
 pub mod TurnLemmas
 pub mod WholeLemmas
 pub mod StayLemmas
+-- of the tests
+pub mod TestLemmas

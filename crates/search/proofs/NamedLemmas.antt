@@ -87,7 +87,7 @@ has_part p e (part.Upto place start) (Act q s) legal held = same_has p q place (
 has_part p e (part.From place start) Idle legal held = absurd (cc)
 has_part p e (part.From place start) (Act q s) legal held = same_has p q place (both_true (same_place q place) (nat_le start s) held).0 (legal_place p e q s legal)
 
-some_choice : (cs : List Choice) → cs ≢ [] → (c : Choice) × Contains cs c
+pub some_choice : (cs : List Choice) → cs ≢ [] → (c : Choice) × Contains cs c
 some_choice [] some = absurd (some refl)
 some_choice (c ∷ cs) some = (c, contains_here c cs)
 

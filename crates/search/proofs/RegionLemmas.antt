@@ -14,9 +14,10 @@ use Rattle.domains.specs.Choices.{DomainView, choices}
 use Rattle.domains.specs.Laws.{AreFewer}
 use Rattle.domains.specs.Parts.{in_part, on_side, out_of_part}
 use Rattle.domains.specs.Sets.{HasElement, IsFixed, RegionView, Sets, domain_at, keeping, same_element, sets, with_domain}
-use Rattle.domains.specs.Sizes.{IsOneOf, choice_count}
+use Rattle.domains.specs.Sizes.{choice_count}
 use Rattle.domains.specs.Undo.{domain_before}
-use Rattle.domains.proofs.Public.{count_falls_below, same_is}
+use Rattle.domains.proofs.Public.{same_is}
+use Rattle.reasons.specs.declared.reason.Reason.{Reason}
 use Rattle.reasons.specs.Closed.{HaveChoices}
 use Rattle.reasons.specs.Sure.{least_cost}
 use Rattle.relax.specs.Areas.{IsSized}
@@ -26,18 +27,10 @@ use Rattle.trees.specs.Trees.{inside, outside}
 use Rattle.trees.specs.Proving.{IsSplit}
 use Rattle.bound.proofs.Public.{cost_put_back}
 use Rattle.prop_core.specs.Levels.{IsTrailOf}
-use Rattle.prop_core.specs.Propagators.{IsNarrowed, IsRegionOf}
-use Rattle.prop_core.proofs.Public.{narrowed_by, narrowed_is_fewer, region_stays}
+use Rattle.prop_core.specs.Propagators.{CutHolds, IsNarrowed, IsRegionOf}
+use Rattle.prop_core.proofs.Public.{cut_falls, narrowed_by, narrowed_is_fewer, region_stays, trail_changed}
 
 -- ---- elements
-
-pub has_element : (p : Instance) (g : RegionView) (x : Element) → IsSized p g → IsElement p x → HasElement g x
-has_element p g (Vm v) sized i = subst (λ n. v.0 < n) (sym sized.machines) i
-has_element p g (Node n) sized i = subst (λ k. n.0 < k) (sym sized.nodes) i
-
-is_one_of : (p : Instance) (x : Element) → IsElement p x → IsOneOf (machine_count p) (node_count p) x
-is_one_of p (Vm v) i = i
-is_one_of p (Node n) i = i
 
 pub sets_fixed : (p : Instance) (g : RegionView) → IsSized p g → AreFixed p (sets g) → IsFixed g
 sets_fixed p g sized fixed (Vm v) i = fixed (Vm v) (subst (λ n. v.0 < n) sized.machines i)
@@ -77,31 +70,15 @@ pub some_outside : (p : Instance) (s t : Sets) (x : Element) (part : Part) → H
 some_outside p s t x part some split kept =
     still_some p s t x (out_of_part part) some kept (λ none. split.some_outside (sym (kept_here x (out_of_part part) s) ∙ sym (kept x) ∙ none))
 
--- a cut that takes a choice away leaves fewer
-pub fewer_left : (p : Instance) (s t : Sets) (x : Element) (part : Part) (c : Choice) → IsElement p x → Contains (s x) c → IsTrue (in_part part c) → t ≡ outside x part s →
+-- a cut leaves fewer choices
+pub fewer_left : (p : Instance) (s t : Sets) (x : Element) (part : Part) (reason : Reason) → CutHolds p s x part reason → t ≡ outside x part s →
     choice_count (machine_count p) (node_count p) t < choice_count (machine_count p) (node_count p) s
-fewer_left p s t x part c i has held is =
-    subst (λ (r : Sets). choice_count (machine_count p) (node_count p) r < choice_count (machine_count p) (node_count p) s) (sym is)
-    (count_falls_below (machine_count p) (node_count p) s x (out_of_part part) c (is_one_of p x i) has (ap not held))
+fewer_left p s t x part reason holds is =
+    subst (λ (r : Sets). choice_count (machine_count p) (node_count p) r < choice_count (machine_count p) (node_count p) s) (sym is) (cut_falls p s x part reason holds)
 
 -- ---- marks
 
-all_cons : {A : Type 0} (P : A → Type 0) (x : A) (xs : List A) → P x → All P xs → All P (x ∷ xs)
-all_cons P x xs h all zero d l = h
-all_cons P x xs h all (suc k) d l = all k d (omega arith)
-
-all_rest : {A : Type 0} (P : A → Type 0) (x : A) (xs : List A) → All P (x ∷ xs) → P x × All P xs
-all_rest P x xs all = (all 0 x (omega arith), λ k d l. all (suc k) d (omega arith))
-
-pub trail_marked : (p : Instance) (t u : Marked) → IsTrailOf p t → u ≡ record { region = t.region; marks = t.region ∷ t.marks } → IsTrailOf p u
-trail_marked p t u is e = subst (IsTrailOf p) (sym e) (record { region = is.region; marks = all_cons (IsRegionOf p) t.region t.marks is.region is.marks })
-
-pub trail_back : (p : Instance) (t u : Marked) → IsTrailOf p t → t.marks ≡ u.region ∷ u.marks → IsTrailOf p u
-trail_back p t u is e =
-    let both = all_rest (IsRegionOf p) u.region u.marks (subst (λ ms. All (IsRegionOf p) ms) e is.marks) in
-    record { region = both.0; marks = both.1 }
-
-abbrev pub sum_at : Instance → RegionView → ℕ
+abbrev sum_at : Instance → RegionView → ℕ
 sum_at p g = least_cost p (sets g)
 
 first_of : (a b : ℕ) (more rest : List ℕ) → a ∷ more ≡ b ∷ rest → (a ≡ b) × (more ≡ rest)
@@ -121,7 +98,7 @@ module _ (p : Instance) (t u : Marked) (change : Change) (before : Before) (kept
   region_next = region_stays p t.region u.region change.element (on_side change.side change.part) is.region machines nodes narrower
 
   pub trail_next : u.marks ≡ t.marks → IsTrailOf p u
-  trail_next same = record { region = region_next; marks = subst (λ ms. All (IsRegionOf p) ms) (sym same) is.marks }
+  trail_next same = trail_changed p t u change.element (on_side change.side change.part) is machines nodes narrower same
 
   module _ (was : domain_before before kept (domain_at u.region change.element) ≡ domain_at t.region change.element) where
     pub narrowed_next : IsNarrowed p u.region change before kept

@@ -11,6 +11,8 @@ mod leaves;
 mod levels;
 mod solving;
 mod staying;
+#[cfg(test)]
+mod tests;
 mod turns;
 
 pub use found::Found;

@@ -51,7 +51,7 @@ pub returns-else-not-is_left-clause-smaller : goal.returns-else-not-is_left-clau
 returns-else-not-is_left-clause-smaller g c =
     let done = c.in_ok-is_left-in-Cut.ensures in
     let h = rw (c.in-Cut.is, c.region.ensures) at c.in_ok-ask_all.ensures.answer in
-    λ _. fewer_left c.args.p.now.given (sets c.args.ground.now.trail.region) (sets c.cut.new.ground.trail.region) c.in-Cut.element c.in-Cut.part h.held.0 h.exists h.held.1 h.held.2 (same_sets _ _ done.sets)
+    λ _. fewer_left c.args.p.now.given (sets c.args.ground.now.trail.region) (sets c.cut.new.ground.trail.region) c.in-Cut.element c.in-Cut.part c.in-Cut.reason h (same_sets _ _ done.sets)
 
 pub returns-else-not-is_left-clause-works : goal.returns-else-not-is_left-clause-works
 returns-else-not-is_left-clause-works g c =

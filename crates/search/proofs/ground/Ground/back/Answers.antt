@@ -1,4 +1,5 @@
-use Rattle.search.proofs.RegionLemmas.{sums_back, trail_back}
+use Rattle.prop_core.proofs.Public.{trail_back}
+use Rattle.search.proofs.RegionLemmas.{sums_back}
 use Rattle.search.proofs.ground.Ground.back.Goals as goal
 
 pub returns-clause-ground : goal.returns-clause-ground
