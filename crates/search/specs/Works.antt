@@ -14,8 +14,8 @@ use Rattle.cert_text.specs.Spelling.{end_line}
 use Rattle.prop_core.specs.Levels.{IsTrailOf}
 use Rattle.prop_core.specs.Lists.{Rise, given_sum}
 use Rattle.prop_core.specs.Propagators.{Meaning, most}
-use Rattle.search.specs.declared.closing.Look.{Look}
-use Rattle.search.specs.declared.closing.Look.TheVariants.{Clear, Narrowed, Refuted}
+use Rattle.search.specs.declared.looks.Look.{Look}
+use Rattle.search.specs.declared.looks.Look.TheVariants.{Clear, Narrowed, Refuted}
 use Rattle.search.specs.declared.counts.Best.{Best}
 use Rattle.search.specs.declared.counts.Counts.{Counts}
 use Rattle.search.specs.declared.found.Found.{Found}

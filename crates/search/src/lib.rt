@@ -2,13 +2,13 @@
 //! written when it is found.
 #![tactic(auto)]
 
-mod closing;
 mod counts;
 mod found;
 mod ground;
 pub mod laws;
 mod leaves;
 mod levels;
+mod looks;
 mod solving;
 mod staying;
 #[cfg(test)]

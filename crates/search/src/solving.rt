@@ -15,7 +15,7 @@ ghost use Rattle.search.specs.Underway.{found_of, none_yet};
 ghost use Rattle.search.specs.Works.{Goes, IsShown};
 ghost use Rattle.search.specs.Written.{IsKept, LeavesLines, LeavesText};
 
-use crate::closing::fail;
+use crate::looks::fail;
 use crate::counts::Counts;
 use crate::found::Found;
 use crate::ground::Ground;

@@ -11,7 +11,7 @@ ghost use Rattle.prop_core.specs.Lists.{Covered, Pairs, SameCover};
 ghost use Rattle.search.specs.Works.{ArePaired, Goes, IsGround, IsTurned, IsVisited};
 ghost use Rattle.search.specs.Written.{IsKept, LeavesLines};
 
-use crate::closing::{close, fail};
+use crate::looks::{close, fail};
 use crate::counts::Counts;
 use crate::ground::Ground;
 use crate::leaves::{settle, split};

@@ -8,7 +8,7 @@ use Rattle.prop_core.specs.Levels.{AllFollow}
 use Rattle.prop_core.specs.Lists.{Pairs, SameCover}
 use Rattle.search.specs.Works.{IsGround, Works}
 use Rattle.search.specs.Written.{IsKept}
-use Rattle.search.proofs.closing.close.Given as goal
+use Rattle.search.proofs.looks.close.Given as goal
 
 abbrev pub invariant-looks : goal.invariant-looks
 invariant-looks g l = record {

@@ -1,7 +1,7 @@
 use Rattle.std.proofs.Common.{◌∙◌, refl, rules}
 use Rattle.prop_core.proofs.Public.{covered_after}
 use Rattle.search.proofs.WorkLemmas.{cover_same, cover_trans, rise_none, works_front, works_none, works_then}
-use Rattle.search.proofs.closing.close.Goals as goal
+use Rattle.search.proofs.looks.close.Goals as goal
 
 pub looks-init : goal.looks-init
 looks-init g c = record {

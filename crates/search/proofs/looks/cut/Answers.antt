@@ -3,7 +3,7 @@ use Rattle.plan_io.specs.Files.{bytes_of}
 use Rattle.trees.specs.declared.steps.Step.TheVariants.{Cut}
 use Rattle.search.proofs.NamedLemmas.{cut_named}
 use Rattle.search.proofs.TextLemmas.{leaves_line, leaves_lined, leaves_then, text_line}
-use Rattle.search.proofs.closing.cut.Goals as goal
+use Rattle.search.proofs.looks.cut.Goals as goal
 
 pub step-requires-clause-step : goal.step-requires-clause-step
 step-requires-clause-step g c = cut_named _ _ c.args.element c.args.part c.args.reason c.requires.ground.trail.region.legal c.requires.holds

@@ -6,7 +6,7 @@ use Rattle.trees.proofs.Public.{same_sets}
 use Rattle.search.proofs.LookLemmas.{asked_told, look_bound, look_clear, look_cut, look_empty, look_fail}
 use Rattle.search.proofs.RegionLemmas.{fewer_left}
 use Rattle.search.proofs.WorkLemmas.{rise_none, works_none}
-use Rattle.search.proofs.closing.look_once.Goals as goal
+use Rattle.search.proofs.looks.look_once.Goals as goal
 
 pub returns-then-is_reached-clause-works : goal.returns-then-is_reached-clause-works
 returns-then-is_reached-clause-works g c =
