@@ -32,6 +32,10 @@ use Rattle.prop_core.proofs.Public.{cut_falls, narrowed_by, narrowed_is_fewer, r
 
 -- ---- elements
 
+pub has_element : (p : Instance) (g : RegionView) (x : Element) → IsSized p g → IsElement p x → HasElement g x
+has_element p g (Vm v) sized i = subst (λ n. v.0 < n) (sym sized.machines) i
+has_element p g (Node n) sized i = subst (λ k. n.0 < k) (sym sized.nodes) i
+
 pub sets_fixed : (p : Instance) (g : RegionView) → IsSized p g → AreFixed p (sets g) → IsFixed g
 sets_fixed p g sized fixed (Vm v) i = fixed (Vm v) (subst (λ n. v.0 < n) sized.machines i)
 sets_fixed p g sized fixed (Node n) i = fixed (Node n) (subst (λ k. n.0 < k) sized.nodes i)
