@@ -1,0 +1,80 @@
+-- What is written at a closed region.
+use Rattle.std.proofs.Common.{◌≡◌, ℕ, ◌+◌, ◌<◌, ◌≤◌, Bool, List, [], ◌∷◌, ◌++◌, length, refl, sym, ap, subst, ◌∙◌, arith, Option, Some, None, IsTrue}
+use Rattle.std.specs.Prelude.{IfSome}
+use Rattle.sums.specs.Least.{lower, lowest}
+use Rattle.cluster.specs.declared.ids.Element.{Element}
+use Rattle.catalogue.specs.Instance.{Instance, IsInstance}
+use Rattle.slices.specs.Plans.{IsPlanOf, PlanChoices, choices_of}
+use Rattle.domains.specs.declared.parts.Part.{Part}
+use Rattle.domains.specs.Sets.{IsFixed, IsOnly, RegionView, Sets, sets}
+use Rattle.reasons.specs.Closed.{IsClosed}
+use Rattle.reasons.specs.Sure.{least_cost}
+use Rattle.reasons.proofs.Public.{only_closed, only_costs}
+use Rattle.relax.specs.Areas.{IsSized}
+use Rattle.trail.specs.Logs.{Marked}
+use Rattle.trees.specs.declared.steps.Step.{Step}
+use Rattle.trees.specs.declared.steps.Step.TheVariants.{Decide, Left, Plan}
+use Rattle.trees.specs.Trees.{inside, outside}
+use Rattle.trees.specs.Proving.{IsOnePlan, IsSplit}
+use Rattle.trees.specs.Searching.{AllAbove, IsUndecided, plan_costs}
+use Rattle.trees.proofs.Public.{IsAbove, above_cheapest}
+use Rattle.prop_core.specs.Lists.{Pairs, Rise}
+use Rattle.prop_core.specs.Propagators.{Meaning, SameRule}
+use Rattle.prop_core.proofs.Public.{Rise-trans}
+use Rattle.search.specs.declared.counts.Best.{Best}
+use Rattle.search.specs.declared.counts.Counts.{Counts}
+use Rattle.search.specs.Underway.{IsPlanOfCost, Underway, cost_kept}
+use Rattle.search.specs.Works.{IsClear, IsDue, IsLeaf, Works}
+use Rattle.search.specs.Written.{lines}
+use Rattle.search.proofs.RegionLemmas.{sets_fixed}
+use Rattle.search.proofs.StepLemmas.{step_decide, step_left, step_plan}
+use Rattle.search.proofs.WorkLemmas.{rise_less, rise_rule}
+
+above_some : (n : ℕ) (known : Option ℕ) → IfSome known (λ m. n < m) → IsAbove n known
+above_some n None h = tt
+above_some n (Some m) h = h
+
+-- the sets are undecided where they are clear and not fixed
+pub undecided_of : (p : Instance) (budget : ℕ) (k : Counts) (g : RegionView) (e : List Step) (rest : List Sets) → IsSized p g → IsClear p k.best (sets g) → ¬ IsFixed g → Underway p budget k e (sets g ∷ rest) → IsUndecided p e (sets g)
+undecided_of p budget k g e rest sized clear free u = record {
+  closed = clear.closed;
+  not_one = λ fixed. free (sets_fixed p g sized fixed);
+  below = (above_cheapest (least_cost p (sets g)) (plan_costs e)).1 (subst (IsAbove (least_cost p (sets g))) u.best.cheapest (above_some (least_cost p (sets g)) (cost_kept k.best) clear.below));
+}
+
+module _ (p : Instance) (budget : ℕ) (tells : Bool) (k l : Counts) (old new : List ℕ) (g : RegionView) (sum : ℕ) (is : sum ≡ least_cost p (sets g)) (clear : IsClear p k.best (sets g)) where
+  pub leaf_plan : IsInstance p → (plan : PlanChoices) → IsPlanOf p plan → IsOnly (sets g) (choices_of plan) → l ≡ record { spent = k.spent; best = Some (record { plan = plan; cost = sum }); least = k.least } →
+      (IsTrue tells → new ≡ old ++ lines p (Plan sum ∷ [])) → IsLeaf p budget tells k l old new (sets g)
+  leaf_plan sound plan whole only now text =
+      let costs : least_cost p (sets g) ≡ _ = only_costs p (sets g) (choices_of plan) only in
+      let best : Best = record { plan = plan; cost = sum } in
+      record {
+        step = Plan sum;
+        text = text;
+        given = refl;
+        runs = λ e rest u. step_plan p budget k e (sets g) rest u l best
+            (record { plan = choices_of plan; only = only; valid = (only_closed p sound (sets g) (choices_of plan) only).0 clear.closed; costs = sym costs ∙ sym is }) only
+            (record { whole = whole; costs = is ∙ costs }) (subst (λ n. IfSome (cost_kept k.best) (λ known. n < known)) (sym is) clear.below)
+            (ap (λ (c : Counts). c.spent) now) (ap (λ (c : Counts). c.best) now) (ap (λ (c : Counts). c.least) now);
+      }
+
+  pub leaf_left : IsSized p g → ¬ IsFixed g → budget ≤ k.spent → (least : ℕ) → least ≡ lower sum k.least → l ≡ record { spent = k.spent; best = k.best; least = Some least } → (IsTrue tells → new ≡ old ++ lines p (Left ∷ [])) → IsLeaf p budget tells k l old new (sets g)
+  leaf_left sized free full least low now text = record {
+    step = Left;
+    text = text;
+    given = refl;
+    runs = λ e rest u.
+        let all : k.spent ≡ budget = (let w = u.within in omega arith) in
+        step_left p budget k e (sets g) rest u l sum (undecided_of p budget k g e rest sized clear free u) all (ap (λ (c : Counts). c.spent) now) (ap (λ (c : Counts). c.best) now) (ap (λ (c : Counts). c.least) now ∙ ap (λ n. Some n) low) is;
+  }
+
+-- a split
+pub split_works : {B : Type 0} (m : B → Meaning) (p : Instance) (tells : Bool) (k l : Counts) (old new : List ℕ) (xs ys zs : List B) (g : RegionView) (x : Element) (part : Part) → IsSized p g → IsClear p k.best (sets g) → ¬ IsFixed g → IsSplit p (sets g) x part →
+    l ≡ record { spent = k.spent + 1; best = k.best; least = k.least } → (IsTrue tells → new ≡ old ++ lines p (Decide x part ∷ [])) → Pairs m SameRule xs ys → Pairs m SameRule ys zs → (budget : ℕ) → k.spent < budget →
+    Works m p budget tells k l old new xs zs (sets g) (inside x part (sets g) ∷ outside x part (sets g) ∷ [])
+split_works m p tells k l old new xs ys zs g x part sized clear free split now text r q budget room = record {
+  more = Decide x part ∷ [];
+  text = text;
+  given = rise_less m (0 + 0) 0 xs zs (omega arith) (Rise-trans m 0 0 xs ys zs r.count q.count (rise_rule m xs ys r) (rise_rule m ys zs q));
+  runs = λ e rest u. step_decide p budget k e (sets g) rest u l x part split (undecided_of p budget k g e rest sized clear free u) room (ap (λ (c : Counts). c.spent) now) (ap (λ (c : Counts). c.best) now) (ap (λ (c : Counts). c.least) now);
+}

@@ -1,0 +1,99 @@
+-- What one look at a region comes to: one lemma for each way that it ends.
+use Rattle.std.proofs.Common.{◌≡◌, ◌≢◌, ℕ, ◌+◌, ◌<◌, ◌≤◌, Bool, true, false, List, [], ◌∷◌, ◌++◌, length, All, refl, sym, ap, subst, ◌∙◌, append_assoc, arith, Option, Some, None, IsTrue}
+use Rattle.std.specs.Prelude.{IfSome}
+use Rattle.std.specs.Option.{IsSomeAnd}
+use Rattle.cluster.specs.declared.ids.Element.{Element}
+use Rattle.catalogue.specs.Instance.{Instance, IsElement}
+use Rattle.sums.specs.Least.{lowest}
+use Rattle.domains.specs.declared.parts.Part.{Part}
+use Rattle.domains.specs.Sets.{Sets}
+use Rattle.reasons.specs.declared.reason.Reason.{Reason}
+use Rattle.reasons.specs.declared.reason.Reason.TheVariants.{Empty, Bound}
+use Rattle.reasons.specs.Closed.{HaveChoices}
+use Rattle.reasons.specs.Reasons.{Refutes}
+use Rattle.reasons.specs.Sure.{least_cost}
+use Rattle.trees.specs.declared.steps.Step.{Step}
+use Rattle.trees.specs.declared.steps.Step.TheVariants.{Cut, Fail}
+use Rattle.trees.specs.Trees.{outside}
+use Rattle.trees.specs.Searching.{SomeUpto, plan_costs}
+use Rattle.trees.proofs.Public.{same_sets, upto_cheapest}
+use Rattle.prop_core.specs.Lists.{Covered, Pairs, Rise, SameCover}
+use Rattle.prop_core.specs.Propagators.{AllQuiet, CutHolds, FailHolds, IsAsked, Meaning, SameRule}
+use Rattle.prop_core.proofs.Public.{closed_when_quiet, covered_after, Rise-trans}
+use Rattle.search.specs.declared.counts.Best.{Best}
+use Rattle.search.specs.declared.counts.Counts.{Counts}
+use Rattle.search.specs.Underway.{Underway, cost_kept}
+use Rattle.search.specs.Works.{IsClear, Works}
+use Rattle.search.specs.Written.{answered, by_rule, cut_steps, lines}
+use Rattle.search.proofs.StepLemmas.{step_cut, step_fail}
+use Rattle.search.proofs.WorkLemmas.{by_rule_once, cover_asked, rise_less, rise_none, rise_rule}
+
+-- without a plan the bound refutes nothing
+not_bound : (p : Instance) (s : Sets) (reason : Reason) → Refutes p None s reason → reason ≢ Bound
+not_bound p s reason r same = let b = subst (Refutes p None s) same r in absurd b.says
+
+-- a plan was met that costs no more than the sum
+met_upto : (best : Option Best) (sum n : ℕ) (costs : List ℕ) → cost_kept best ≡ lowest (λ cost. cost) costs → sum ≡ n → IsSomeAnd (cost_kept best) (λ known. known ≤ sum) → SomeUpto n costs
+met_upto best sum n costs cheapest is reached =
+    (upto_cheapest n costs).1 (subst (λ o. IsSomeAnd o (λ known. known ≤ n)) cheapest (subst (λ k. IsSomeAnd (cost_kept best) (λ known. known ≤ k)) is reached))
+
+module _ {B : Type 0} (m : B → Meaning) (p : Instance) (tells : Bool) (k : Counts) (old new : List ℕ) (xs ys : List B) (s : Sets) where
+  -- the bound
+  pub look_bound : (sum : ℕ) → sum ≡ least_cost p s → IsSomeAnd (cost_kept k.best) (λ known. known ≤ sum) → (IsTrue tells → new ≡ old ++ lines p (Fail Bound ∷ [])) → Rise m 0 xs ys → (budget : ℕ) → Works m p budget tells k k old new xs ys s []
+  look_bound sum is reached text rise budget = record {
+    more = Fail Bound ∷ [];
+    text = text;
+    given = rise;
+    runs = λ e rest u. step_fail p budget k e s rest u Bound (record {
+      met = λ _. met_upto k.best sum (least_cost p s) (plan_costs e) u.best.cheapest is reached;
+      refuted = λ other. absurd (other refl);
+    });
+  }
+
+  -- a propagator's fail
+  pub look_fail : (reason : Reason) → FailHolds p s reason → (IsTrue tells → new ≡ old ++ lines p (Fail reason ∷ [])) → Rise m 1 xs ys → (budget : ℕ) → Works m p budget tells k k old new xs ys s []
+  look_fail reason holds text rise budget = record {
+    more = Fail reason ∷ [];
+    text = text;
+    given = rise_less m 1 (by_rule reason + 0) xs ys (let l = by_rule_once reason in omega arith) rise;
+    runs = λ e rest u. step_fail p budget k e s rest u reason (record {
+      met = λ same. absurd (not_bound p s reason holds.refuted same);
+      refuted = λ _. holds.refuted;
+    });
+  }
+
+  -- a propagator's cut
+  pub look_cut : (x : Element) (part : Part) (reason : Reason) (t : Sets) → CutHolds p s x part reason → t ≡ outside x part s → (IsTrue tells → new ≡ old ++ lines p (cut_steps true x part reason)) → Rise m 1 xs ys → (budget : ℕ) → Works m p budget tells k k old new xs ys s (t ∷ [])
+  look_cut x part reason t holds is text rise budget = record {
+    more = Cut x part reason ∷ [];
+    text = text;
+    given = rise;
+    runs = λ e rest u. subst (λ (r : Sets). Underway p budget k (e ++ Cut x part reason ∷ []) (r ∷ rest)) (sym is) (step_cut p budget k e s rest u x part reason (record { element = holds.exists; refuted = holds.refuted }));
+  }
+
+  -- and one that leaves no choice
+  pub look_empty : (x : Element) (part : Part) (reason : Reason) (t : Sets) → CutHolds p s x part reason → t ≡ outside x part s → t x ≡ [] → (IsTrue tells → new ≡ old ++ lines p (cut_steps false x part reason)) → Rise m 1 xs ys → (budget : ℕ) → Works m p budget tells k k old new xs ys s []
+  look_empty x part reason t holds is none text rise budget = record {
+    more = Cut x part reason ∷ Fail (Empty x) ∷ [];
+    text = text;
+    given = rise;
+    runs = λ e rest u.
+        let cut = step_cut p budget k e s rest u x part reason (record { element = holds.exists; refuted = holds.refuted }) in
+        let gone : outside x part s x ≡ [] = ap (λ (r : Sets). r x) (sym is) ∙ none in
+        subst (λ a. Underway p budget k a rest) (append_assoc e (Cut x part reason ∷ []) (Fail (Empty x) ∷ []))
+        (step_fail p budget k (e ++ Cut x part reason ∷ []) (outside x part s) rest cut (Empty x) (record {
+          met = λ same. absurd (cc);
+          refuted = λ _. record { named = holds.exists; says = gone };
+        }));
+  }
+
+-- all are quiet
+pub look_clear : {B : Type 0} (m : B → Meaning) (p : Instance) (best : Option Best) (s : Sets) (sum : ℕ) (xs ys : List B) → Covered m xs → Pairs m (IsAsked p s) xs ys → All (λ b. AllQuiet p s (m b)) ys → HaveChoices p s → sum ≡ least_cost p s → IfSome (cost_kept best) (λ known. sum < known) → IsClear p best s
+look_clear m p best s sum xs ys covered asked quiet some is below = record {
+  closed = closed_when_quiet m p s ys (covered_after m xs ys (cover_asked m p s xs ys asked) covered) quiet some;
+  below = subst (λ n. IfSome (cost_kept best) (λ known. n < known)) is below;
+}
+
+-- the counts after a question, and after the propagators were told of what came of it
+pub asked_told : {B : Type 0} (m : B → Meaning) (p : Instance) (s : Sets) (xs ys zs : List B) → Pairs m (IsAsked p s) xs ys → Rise m 1 xs ys → Pairs m SameRule ys zs → Rise m 1 xs zs
+asked_told m p s xs ys zs asked rise same = rise_less m (1 + 0) 1 xs zs (omega arith) (Rise-trans m 1 0 xs ys zs asked.count same.count rise (rise_rule m ys zs same))

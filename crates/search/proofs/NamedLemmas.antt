@@ -1,0 +1,102 @@
+-- What a step names is the problem's.
+use Rattle.std.proofs.Common.{◌≡◌, ◌≢◌, ℕ, ◌+◌, ◌<◌, Bool, true, false, ◌&&◌, nat_lt, nat_le, List, [], ◌∷◌, Option, Some, None, is_some, refl, subst, arith, if◌then◌else◌}
+use Rattle.std.specs.List.{Contains, filter}
+use Rattle.std.proofs.lemmas.Bool.Decides.{nat_tests, Decides-eqb}
+use Rattle.cluster.specs.declared.choices.Choice.{Choice}
+use Rattle.cluster.specs.declared.choices.Choice.TheVariants.{Idle, Act}
+use Rattle.cluster.specs.declared.choices.Place.{Place}
+use Rattle.cluster.specs.declared.choices.Place.TheVariants.{Nowhere, At}
+use Rattle.cluster.specs.declared.ids.Element.{Element}
+use Rattle.cluster.specs.declared.ids.Element.TheVariants.{Vm, Node as TheNode}
+use Rattle.cluster.specs.declared.ids.NodeId.{NodeId}
+use Rattle.cluster.specs.declared.kinds.Kind.{Kind}
+use Rattle.cluster.specs.Inventory.{is_online}
+use Rattle.catalogue.specs.declared.targets.Wish.{Wish}
+use Rattle.catalogue.specs.declared.targets.Wish.TheVariants.{Keep, To, Clash}
+use Rattle.catalogue.specs.Instance.{Instance, IsElement}
+use Rattle.catalogue.specs.Values.{wanted_of}
+use Rattle.slices.specs.Actions.{end_of, is_legal, is_raised, kind_of, machine_kind, node_kind, wanted_state}
+use Rattle.slices.specs.Elements.{is_place, node_count, state_of}
+use Rattle.domains.specs.declared.parts.Part.{Part}
+use Rattle.domains.specs.declared.parts.Part.TheVariants as part
+use Rattle.domains.specs.Choices.{same_place}
+use Rattle.domains.specs.Parts.{in_part}
+use Rattle.domains.specs.Sets.{Sets, keeping}
+use Rattle.domains.proofs.Public.{contains_here, filter_contains}
+use Rattle.reasons.specs.declared.reason.Reason.{Reason}
+use Rattle.reasons.specs.declared.reason.Reason.TheVariants.{Empty, Bound, Load, Pair, Place as AtPlace, Group, SetLoad, Power, Usable, Hall}
+use Rattle.reasons.specs.Reasons.{Refutes}
+use Rattle.relax.specs.Areas.{AreLegal}
+use Rattle.trees.specs.declared.steps.Step.TheVariants.{Cut, Decide}
+use Rattle.trees.specs.Proving.{IsSplit}
+use Rattle.cert_text.specs.Spelling.{HasPart, HasPlace, HasReason, HasStep}
+use Rattle.prop_core.specs.Propagators.{CutHolds}
+
+-- all that a reason names is there where it refutes
+pub has_reason : (p : Instance) (bound : Option ℕ) (s : Sets) (reason : Reason) → Refutes p bound s reason → HasReason p reason
+has_reason p bound s (Empty e) r = r.named
+has_reason p bound s Bound r = tt
+has_reason p bound s (Load t n set) r = (r.named.1, r.named.2)
+has_reason p bound s (Pair c t v w n) r = (r.named.2, r.named.3, r.named.4)
+has_reason p bound s (AtPlace c t v n) r = (r.named.2, r.named.3)
+has_reason p bound s (Group c t) r = tt
+has_reason p bound s (SetLoad c t) r = tt
+has_reason p bound s (Power c t) r = tt
+has_reason p bound s (Usable t v n) r = (r.named.1, r.named.2)
+has_reason p bound s (Hall c t set) r = r.named.2
+
+-- ---- the place of a legal choice
+
+both_true : (a b : Bool) → (a && b) ≡ true → (a ≡ true) × (b ≡ true)
+both_true true b h = (refl, h)
+both_true false b h = absurd (cc)
+
+has_kind : (b : Bool) (o : Option Kind) → is_some (if b then o else None) ≡ true → b ≡ true
+has_kind true o h = refl
+has_kind false o h = absurd (cc)
+
+no_kind : (online : Bool) (wish : Wish) (n : NodeId) → node_kind online wish (At n) ≡ None
+no_kind online Keep n = refl
+no_kind online (To target) n = refl
+no_kind online Clash n = refl
+
+legal_place : (p : Instance) (e : Element) (place : Place) (start : ℕ) → is_legal p e (Act place start) ≡ true → HasPlace p place
+unfolding is_legal kind_of
+legal_place p e Nowhere start legal = tt
+legal_place p (Vm v) (At n) start legal =
+    let both = both_true (is_some (if nat_lt n.0 (node_count p) then machine_kind (state_of p v.0) (wanted_state p v.0) (is_raised p v.0) (At n) else None)) _ legal in
+    let there : nat_lt n.0 (node_count p) ≡ true = has_kind (nat_lt n.0 (node_count p)) (machine_kind (state_of p v.0) (wanted_state p v.0) (is_raised p v.0) (At n)) both.0 in
+    grind (arith, nat_tests)
+legal_place p (TheNode m) (At n) start legal =
+    let both = both_true (is_some (node_kind (is_online p.nodes m.0) (wanted_of p (TheNode m)) (At n))) _ legal in
+    let none : node_kind (is_online p.nodes m.0) (wanted_of p (TheNode m)) (At n) ≡ None = no_kind (is_online p.nodes m.0) (wanted_of p (TheNode m)) n in
+    let some : is_some (node_kind (is_online p.nodes m.0) (wanted_of p (TheNode m)) (At n)) ≡ true = both.0 in
+    let wrong : false ≡ true = subst (λ o. is_some o ≡ true) none some in
+    absurd (cc)
+
+same_has : (p : Instance) (q place : Place) → same_place q place ≡ true → HasPlace p q → HasPlace p place
+same_has p q Nowhere same has = tt
+same_has p Nowhere (At n) same has = let e : 0 ≡ n.0 + 1 = (Decides-eqb 0 (n.0 + 1)).0 same in absurd (omega arith)
+same_has p (At m) (At n) same has = let e : m.0 + 1 ≡ n.0 + 1 = (Decides-eqb (m.0 + 1) (n.0 + 1)).0 same in omega (arith, has, e)
+
+-- a part that holds a legal choice names a place of the problem
+pub has_part : (p : Instance) (e : Element) (part : Part) (c : Choice) → is_legal p e c ≡ true → in_part part c ≡ true → HasPart p part
+has_part p e part.Idle c legal held = tt
+has_part p e (part.Upto place start) Idle legal held = absurd (cc)
+has_part p e (part.Upto place start) (Act q s) legal held = same_has p q place (both_true (same_place q place) (nat_le s start) held).0 (legal_place p e q s legal)
+has_part p e (part.From place start) Idle legal held = absurd (cc)
+has_part p e (part.From place start) (Act q s) legal held = same_has p q place (both_true (same_place q place) (nat_le start s) held).0 (legal_place p e q s legal)
+
+pub some_choice : (cs : List Choice) → cs ≢ [] → (c : Choice) × Contains cs c
+some_choice [] some = absurd (some refl)
+some_choice (c ∷ cs) some = (c, contains_here c cs)
+
+pub split_named : (p : Instance) (s : Sets) (x : Element) (part : Part) → AreLegal p s → IsSplit p s x part → HasStep p (Decide x part)
+split_named p s x part legal split =
+    let one = some_choice (filter (in_part part) (s x)) split.some_inside in
+    let held = filter_contains (in_part part) (s x) one.0 one.1 in
+    (split.element, has_part p x part one.0 (legal x split.element one.0 held.0) held.1)
+
+pub cut_named : (p : Instance) (s : Sets) (x : Element) (part : Part) (reason : Reason) → AreLegal p s → CutHolds p s x part reason → HasStep p (Cut x part reason)
+cut_named p s x part reason legal holds =
+    (holds.exists, has_part p x part holds.held.0 (legal x holds.exists holds.held.0 holds.held.1) holds.held.2, has_reason p None (keeping x (in_part part) s) reason holds.refuted)

@@ -1,0 +1,83 @@
+-- The whole search: what it shows.
+use Rattle.std.proofs.Common.{◌≡◌, ℕ, ◌+◌, ◌≤◌, Bool, List, [], ◌∷◌, ◌++◌, length, All, refl, sym, ap, subst, ◌∙◌, arith, Option, Some, None, IsTrue}
+use Rattle.std.specs.Prelude.{IfSome}
+use Rattle.std.specs.Io.{StartsWith}
+use Rattle.cluster.specs.declared.ids.Element.{Element}
+use Rattle.catalogue.specs.Instance.{Instance, IsElement, IsInstance}
+use Rattle.slices.specs.Plans.{IsPlanOf}
+use Rattle.domains.specs.Sets.{Sets}
+use Rattle.reasons.specs.declared.reason.Reason.TheVariants.{Empty, Bound}
+use Rattle.reasons.specs.Start.{start_sets}
+use Rattle.trees.specs.declared.steps.Goal.{Goal}
+use Rattle.trees.specs.declared.steps.Step.{Step}
+use Rattle.trees.specs.declared.steps.Step.TheVariants.{Fail}
+use Rattle.trees.specs.Trees.{steps_of}
+use Rattle.cert_text.specs.Spelling.{end_line}
+use Rattle.prop_core.specs.Lists.{Pairs, Rise, given_sum}
+use Rattle.prop_core.specs.Propagators.{Meaning, SameRule, most}
+use Rattle.prop_core.proofs.Public.{Rise-trans}
+use Rattle.search.specs.declared.counts.Counts.{Counts}
+use Rattle.search.specs.declared.found.Found.{Found}
+use Rattle.search.specs.Answers.{IsTreeOf, IsTrueOf, goal_in, plan_in}
+use Rattle.search.specs.Underway.{Underway, found_of, none_yet}
+use Rattle.search.specs.Works.{Goes, IsShown}
+use Rattle.search.specs.Written.{LeavesText, answered, lines}
+use Rattle.search.proofs.EndLemmas.{plan_whole, tree_found, tree_is_true}
+use Rattle.search.proofs.StepLemmas.{step_fail}
+use Rattle.search.proofs.TextLemmas.{text_end}
+use Rattle.search.proofs.WorkLemmas.{rise_less, rise_rule}
+
+-- nothing was done yet
+pub underway_start : (p : Instance) (budget : ℕ) → Underway p budget none_yet [] (start_sets p ∷ [])
+underway_start p budget = record {
+  leads = refl;
+  spent = refl;
+  within = omega arith;
+  used_up = λ some. absurd (cc);
+  best = record { cheapest = refl; met = refl; plan = tt };
+  least = refl;
+}
+
+module _ {B : Type 0} (m : B → Meaning) (p : Instance) (budget : ℕ) (tells : Bool) where
+  -- an element has no legal choice
+  pub start_empty : (k : Counts) (old new : List ℕ) (xs ys : List B) (s : Sets) (x : Element) → IsElement p x → s x ≡ [] → (IsTrue tells → new ≡ old ++ lines p (Fail (Empty x) ∷ [])) → Pairs m SameRule xs ys → Goes m p budget tells k k old new xs ys (s ∷ []) []
+  start_empty k old new xs ys s x there none text same = record {
+    more = Fail (Empty x) ∷ [];
+    text = text;
+    given = rise_rule m xs ys same;
+    runs = λ e u. step_fail p budget k e s [] u (Empty x) (record { met = λ is. absurd (cc); refuted = λ _. record { named = there; says = none } });
+  }
+
+  -- from all legal choices, after the propagators were posted
+  pub goes_start : (k l : Counts) (old new : List ℕ) (xs ys zs : List B) (s : Sets) → k ≡ none_yet → s ≡ start_sets p → Pairs m SameRule xs ys → length zs ≡ length ys → Goes m p budget tells k l old new ys zs (s ∷ []) [] → Goes m p budget tells none_yet l old new xs zs (start_sets p ∷ []) []
+  goes_start k l old new xs ys zs s none is same count g = record {
+    more = g.more;
+    text = g.text;
+    given = rise_less m (0 + answered g.more) (answered g.more) xs zs (omega arith) (Rise-trans m 0 (answered g.more) xs ys zs same.count count (rise_rule m xs ys same) g.given);
+    runs = subst (λ (r : Sets). (steps : List Step) → Underway p budget none_yet steps (r ∷ []) → Underway p budget l (steps ++ g.more) []) is
+        (subst (λ (c : Counts). (steps : List Step) → Underway p budget c steps (s ∷ []) → Underway p budget l (steps ++ g.more) []) none g.runs);
+  }
+
+  -- the plan that is answered is whole
+  pub found_whole : (l : Counts) (old new : List ℕ) (xs ys : List B) (found : Found) → Goes m p budget tells none_yet l old new xs ys (start_sets p ∷ []) [] → found ≡ found_of l.best l.least → IfSome (plan_in found) (IsPlanOf p)
+  found_whole l old new xs ys found g is = subst (λ (f : Found). IfSome (plan_in f) (IsPlanOf p)) (sym is) (plan_whole p budget l g.more (g.runs [] (underway_start p budget)))
+
+  pub whole_shown : (l : Counts) (old mid : List ℕ) (new : Option (List ℕ)) (xs ys : List B) (found : Found) (claimed : Goal) → Goes m p budget tells none_yet l old mid xs ys (start_sets p ∷ []) [] → found ≡ found_of l.best l.least → claimed ≡ goal_in p budget found → (IsTrue tells → new ≡ Some (mid ++ end_line claimed)) →
+      IsShown m p budget tells old new xs ys found
+  whole_shown l old mid new xs ys found claimed g is goal_is text =
+      let by = tree_found p budget l g.more (g.runs [] (underway_start p budget)) in
+      record {
+        tree = by.tree;
+        tree_is = subst (λ (f : Found). IsTreeOf p budget f by.tree) (sym is) by.tree_is;
+        text = λ t. text t ∙ ap (λ a. Some (mid ++ end_line a)) goal_is ∙ ap (λ a. Some (a ++ end_line (goal_in p budget found))) (g.text t) ∙ ap (λ ss. Some (old ++ lines p ss ++ end_line (goal_in p budget found))) by.same;
+        given = λ full. subst (λ ss. given_sum m xs + answered ss ≤ given_sum m ys) by.same (g.given.risen full);
+      }
+
+  pub whole_true : IsInstance p → (l : Counts) (old mid : List ℕ) (xs ys : List B) (found : Found) → Goes m p budget tells none_yet l old mid xs ys (start_sets p ∷ []) [] → found ≡ found_of l.best l.least → IsTrueOf p budget found
+  whole_true sound l old mid xs ys found g is =
+      let by = tree_found p budget l g.more (g.runs [] (underway_start p budget)) in
+      tree_is_true p sound budget found by.tree (found_whole l old mid xs ys found g is) (subst (λ (f : Found). IsTreeOf p budget f by.tree) (sym is) by.tree_is)
+
+  -- an end line that was refused, or not
+  pub whole_text : (k l : Counts) (old mid new : List ℕ) (xs ys : List B) (from now : List Sets) (claimed : Goal) → Goes m p budget tells k l old mid xs ys from now → (IsTrue tells → StartsWith (mid ++ end_line claimed) new) → (IsTrue tells → StartsWith new mid) → LeavesText p tells old new
+  whole_text k l old mid new xs ys from now claimed g front stays = text_end p tells old mid new g.more claimed g.text front stays

@@ -1,0 +1,10 @@
+use Rattle.std.proofs.Common.{◌≢◌, ℕ, ◌<◌, []}
+use Rattle.slices.specs.Elements.{machine_count, node, vm}
+use Rattle.domains.specs.Sets.{sets}
+use Rattle.search.proofs.solving.first_empty.Given as goal
+
+abbrev pub invariant-loop-v : goal.invariant-loop-v
+invariant-loop-v l = (v : ℕ) → v < l.v → sets l.g (vm v) ≢ []
+
+abbrev pub invariant-loop-n : goal.invariant-loop-n
+invariant-loop-n l = record { machines : (v : ℕ) → v < machine_count l.p.given → sets l.g (vm v) ≢ []; nodes : (n : ℕ) → n < l.n → sets l.g (node n) ≢ [] }

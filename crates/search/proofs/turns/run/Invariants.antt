@@ -1,0 +1,25 @@
+use Rattle.std.proofs.Common.{◌≡◌, ℕ, List, [], ◌∷◌, reverse, ◌+◌, ◌-◌, ◌*◌, vec_len}
+use Rattle.domains.specs.Sets.{sets}
+use Rattle.reasons.specs.Closed.{HaveChoices}
+use Rattle.plan_io.specs.Files.{bytes_of}
+use Rattle.prop_core.specs.Levels.{AllFollow}
+use Rattle.prop_core.specs.Lists.{Pairs, SameCover}
+use Rattle.search.specs.Works.{ArePaired, Goes, IsGround, open_sets}
+use Rattle.search.specs.Written.{IsKept}
+use Rattle.search.proofs.turns.run.Given as goal
+
+abbrev pub invariant-turns : goal.invariant-turns
+invariant-turns g l = record {
+  paired : ArePaired l.p.given l.ground.trail.marks (reverse l.splits.items);
+  name : l.out ≡ l.fn.out;
+  kept : IsKept g.D.Desk.tells l.fn.out (g.D.Desk.files l.fn.desk) (g.D.Desk.files l.desk) (g.D.Desk.current l.fn.desk) (g.D.Desk.current l.desk) (g.D.Desk.read_faults l.fn.desk) (g.D.Desk.read_faults l.desk);
+  faults : g.D.Desk.write_faults l.desk ≡ g.D.Desk.write_faults l.fn.desk;
+  covers : Pairs (λ b. (goal.Propagator-dyn g (b.vtable, b.value)).meaning b.value) SameCover l.fn.rules.items l.rules.items;
+  follow : AllFollow (λ b. (goal.Propagator-dyn g (b.vtable, b.value)).meaning b.value) l.p.given l.ground.trail l.rules.items;
+  ground : IsGround l.p.given l.ground;
+  some : HaveChoices l.p.given (sets l.ground.trail.region);
+  goes : Goes (λ b. (goal.Propagator-dyn g (b.vtable, b.value)).meaning b.value) l.p.given l.budget g.D.Desk.tells l.fn.counts l.counts (bytes_of (g.D.Desk.files l.fn.desk l.fn.out)) (bytes_of (g.D.Desk.files l.desk l.fn.out)) l.fn.rules.items l.rules.items (sets l.fn.ground.trail.region ∷ []) (open_sets l.ground.trail l.splits.items);
+}
+
+abbrev pub decreases-turns : goal.decreases-turns
+decreases-turns g l = 2 * (l.budget - l.counts.spent) + vec_len l.splits

@@ -1,0 +1,67 @@
+-- A search that is under way: the steps so far, what is open, and what is kept beside them.
+use Rattle.std.specs.Prelude.{◌≡◌, ℕ, ◌≤◌, true, List, [], ◌∷◌, Option, Some, None, IfSome}
+use Rattle.catalogue.specs.Instance.{Instance}
+use Rattle.sums.specs.Least.{lower, lowest}
+use Rattle.slices.specs.Costs.{cost_of}
+use Rattle.slices.specs.Plans.{IsPlanOf, PlanChoices, choices_of}
+use Rattle.domains.specs.Sets.{Sets}
+use Rattle.reasons.specs.Start.{start_sets}
+use Rattle.reasons.specs.Sure.{least_cost}
+use Rattle.trees.specs.declared.steps.Step.{Step}
+use Rattle.trees.specs.Trees.{Leads, gathered_along}
+use Rattle.trees.specs.Finding.{FoundAt}
+use Rattle.trees.specs.Goals.{decisions, has_left, left_set}
+use Rattle.trees.specs.Searching.{IsPlanFound, plan_costs, plan_set}
+use Rattle.search.specs.declared.counts.Best.{Best}
+use Rattle.search.specs.declared.counts.Counts.{Counts}
+use Rattle.search.specs.declared.found.Found.{Found}
+use Rattle.search.specs.declared.found.Found.TheVariants.{Optimal, Infeasible, Undecided}
+use Rattle.search.specs.Answers.{choices_in}
+
+-- ---- the plan that is kept
+
+abbrev pub plan_kept : Option Best → Option PlanChoices
+plan_kept None = None
+plan_kept (Some best) = Some best.plan
+
+abbrev pub cost_kept : Option Best → Option ℕ
+cost_kept None = None
+cost_kept (Some best) = Some best.cost
+
+-- it is whole, with its cost
+pub record IsPlanOfCost (p : Instance) (best : Best) : Type 0 where
+  pub whole : IsPlanOf p best.plan
+  pub costs : best.cost ≡ cost_of p (choices_of best.plan)
+
+-- it is the cheapest of those with these costs, and is that of one of the sets at plan leaves
+pub record IsCheapest (p : Instance) (best : Option Best) (costs : List ℕ) (leaves : List Sets) : Type 0 where
+  pub cheapest : cost_kept best ≡ lowest (λ cost. cost) costs
+  pub met : IsPlanFound (choices_in (plan_kept best)) leaves
+  pub plan : IfSome best (IsPlanOfCost p)
+
+-- ---- all that is kept
+
+abbrev pub leaves_along : Instance → List Step → List Sets
+leaves_along p steps = gathered_along plan_set (start_sets p ∷ []) steps
+
+abbrev pub left_along : Instance → List Step → List Sets
+left_along p steps = gathered_along left_set (start_sets p ∷ []) steps
+
+-- the steps lead from all legal choices to the sets that are open, and what is kept is as they say
+pub record Underway (p : Instance) (budget : ℕ) (k : Counts) (steps : List Step) (now : List Sets) : Type 0 where
+  pub leads : Leads (FoundAt p) [] (start_sets p ∷ []) steps now
+  pub spent : k.spent ≡ decisions steps
+  pub within : k.spent ≤ budget
+  pub used_up : has_left steps ≡ true → k.spent ≡ budget
+  pub best : IsCheapest p k.best (plan_costs steps) (leaves_along p steps)
+  pub least : k.least ≡ lowest (least_cost p) (left_along p steps)
+
+-- the answer once nothing is open
+abbrev pub found_of : Option Best → Option ℕ → Found
+found_of None None = Infeasible
+found_of (Some best) None = Optimal best.plan
+found_of best (Some sum) = Undecided (plan_kept best) (lower sum (cost_kept best))
+
+-- nothing is kept yet
+abbrev pub none_yet : Counts
+none_yet = record { spent = 0; best = None; least = None }

@@ -1,0 +1,67 @@
+-- What a search leaves in the file of its certificate.
+use Rattle.std.specs.Prelude.{◌≡◌, ℕ, ◌+◌, List, [], ◌∷◌, ◌++◌, Option, Bool, true, false, IsTrue}
+use Rattle.std.specs.Io.{StartsWith}
+use Rattle.std.specs.List.{flat_map}
+use Rattle.cluster.specs.declared.ids.Element.{Element}
+use Rattle.catalogue.specs.Instance.{Instance}
+use Rattle.plan_io.specs.Files.{Files, OthersStay}
+use Rattle.domains.specs.declared.parts.Part.{Part}
+use Rattle.reasons.specs.declared.reason.Reason.{Reason}
+use Rattle.reasons.specs.declared.reason.Reason.TheVariants.{Empty, Bound, Load, Pair, Place, Group, SetLoad, Power, Usable, Hall}
+use Rattle.trees.specs.declared.steps.Goal.{Goal}
+use Rattle.trees.specs.declared.steps.Step.{Step}
+use Rattle.trees.specs.declared.steps.Step.TheVariants.{Decide, Cut, Fail, Plan, Left}
+use Rattle.cert_text.specs.Spelling.{end_line, step_line}
+
+-- the lines of steps
+abbrev pub lines : Instance → List Step → List ℕ
+lines p steps = flat_map (step_line p) steps
+
+-- of a desk that tells: the other files stay; of each: the file that was created last, and how many reads failed
+pub record IsKept (tells : Bool) (name : List ℕ) (old new : Files) (current_old current_new : Option (List ℕ)) (reads_old reads_new : ℕ) : Type 0 where
+  pub others : IsTrue tells → OthersStay name old new
+  pub current : current_new ≡ current_old
+  pub reads : reads_new ≡ reads_old
+
+-- the file has its old bytes, and then a front of the lines of some steps
+pub record LeavesLines (p : Instance) (tells : Bool) (old new : List ℕ) : Type 0 where
+  pub some : List Step
+  pub front : IsTrue tells → StartsWith (old ++ lines p some) new
+  pub stays : IsTrue tells → StartsWith new old
+
+-- and of an end line after them
+pub record LeavesText (p : Instance) (tells : Bool) (old new : List ℕ) : Type 0 where
+  pub some : List Step
+  pub goal : Goal
+  pub front : IsTrue tells → StartsWith (old ++ lines p some ++ end_line goal) new
+  pub stays : IsTrue tells → StartsWith new old
+
+-- ---- steps that propagators answer
+
+-- all reasons but that an element is empty, and the bound
+abbrev pub by_rule : Reason → ℕ
+by_rule (Empty e) = 0
+by_rule Bound = 0
+by_rule (Load t r set) = 1
+by_rule (Pair c t v w n) = 1
+by_rule (Place c t v n) = 1
+by_rule (Group c t) = 1
+by_rule (SetLoad c t) = 1
+by_rule (Power c t) = 1
+by_rule (Usable t v n) = 1
+by_rule (Hall c t set) = 1
+
+-- how many steps are cuts, or fails by another reason than empty and bound
+abbrev pub answered : List Step → ℕ
+answered [] = 0
+answered (Decide x part ∷ steps) = answered steps
+answered (Cut x part reason ∷ steps) = 1 + answered steps
+answered (Fail reason ∷ steps) = by_rule reason + answered steps
+answered (Plan cost ∷ steps) = answered steps
+answered (Left ∷ steps) = answered steps
+
+-- ---- a cut, with the failure after it where it leaves no choice
+
+abbrev pub cut_steps : Bool → Element → Part → Reason → List Step
+cut_steps true x part reason = Cut x part reason ∷ []
+cut_steps false x part reason = Cut x part reason ∷ Fail (Empty x) ∷ []

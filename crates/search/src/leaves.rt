@@ -1,0 +1,112 @@
+//! What is written at a closed region: a leaf, or a split.
+ghost use Rattle.std.specs.Prelude.{◌≡◌, ℕ, ◌+◌, ◌<◌, ◌^◌, IfOk, OnOk, IsTrue, Some};
+ghost use Rattle.plan_io.specs.Causes.{CountsWrites};
+ghost use Rattle.plan_io.specs.Files.{bytes_of};
+ghost use Rattle.sums.specs.Least.{lower as the_lower};
+ghost use Rattle.domains.specs.Sets.{IsFixed, sets};
+ghost use Rattle.prop_core.specs.Levels.{AllFollow};
+ghost use Rattle.prop_core.specs.Lists.{Pairs};
+ghost use Rattle.prop_core.specs.Propagators.{SameRule};
+ghost use Rattle.search.specs.Works.{IsClear, IsGround, IsSettled, Splits};
+ghost use Rattle.search.specs.Written.{IsKept, LeavesLines};
+
+use crate::counts::{Best, Counts};
+use crate::ground::Ground;
+use crate::levels::{mark_levels, narrow_all};
+use branching::brancher::Brancher;
+use catalogue::problem::Problem;
+use cert_write::CertWriter;
+use cluster::ids::Element;
+use domains::parts::{Change, Part, Side};
+use plan_io::{Desk, OutFault};
+use prop_core::propagator::Propagator;
+use relax::plan::plan_of;
+use std::alloc::Global;
+use trees::steps::Step;
+
+/// The lower of a number and another, if there is another.
+pub fn lower(n: u64, known: Option<u64>) -> u64
+    ensures { result ≡ the_lower n known }
+{
+    match known {
+        None => n,
+        Some(m) => n.min(m),
+    }
+}
+
+/// Writes a leaf where one is due at a closed region. False where it is to be split.
+pub fn settle<D: Desk>(
+    alloc: Global,
+    p: &Problem,
+    budget: u64,
+    ground: &Ground,
+    counts: &mut Counts,
+    brancher: &mut Box<dyn Brancher>,
+    desk: &mut D,
+    out: &mut CertWriter,
+) -> Result<bool, OutFault>
+    requires ground { IsGround p.now.given ground.now }
+    requires clear { IsClear p.now.given counts.old.best (sets ground.now.trail.region) }
+    requires writes { IsTrue (D.writes out.old) }
+    requires current { D.current desk.old ≡ Some out.old }
+    ensures name { out.new ≡ out.old }
+    ensures kept { IsKept D.tells out.old (D.files desk.old) (D.files desk.new) (D.current desk.old) (D.current desk.new) (D.read_faults desk.old) (D.read_faults desk.new) }
+    ensures cause { CountsWrites (D.write_faults desk.old) (D.write_faults desk.new) result }
+    ensures front { LeavesLines p.now.given D.tells (bytes_of (D.files desk.old out.old)) (bytes_of (D.files desk.new out.old)) }
+    ensures spent { counts.new.spent ≡ counts.old.spent }
+    ensures settled { IfOk result (λ yes. IsSettled p.now.given budget D.tells counts.old counts.new (bytes_of (D.files desk.old out.old)) (bytes_of (D.files desk.new out.old)) ground.now.trail.region yes) }
+{
+    let sum = ground.bound.sum();
+    if ground.trail.region().is_fixed() {
+        let plan = plan_of(alloc, p, ground.trail.region())?;
+        out.step(desk, p, &Step::Plan(sum))?;
+        brancher.met_plan(p, &plan);
+        counts.best = Some(Best { plan, cost: sum });
+        return Ok(true);
+    }
+    if counts.spent >= budget {
+        out.step(desk, p, &Step::Left)?;
+        counts.least = Some(lower(sum, counts.least));
+        return Ok(true);
+    }
+    Ok(false)
+}
+
+/// Splits the region as the brancher says, and goes inside the part, behind a mark.
+pub fn split<D: Desk>(
+    p: &Problem,
+    ground: &mut Ground,
+    counts: &mut Counts,
+    rules: &mut Vec<Box<dyn Propagator>>,
+    brancher: &mut Box<dyn Brancher>,
+    desk: &mut D,
+    out: &mut CertWriter,
+) -> Result<(Element, Part), OutFault>
+    requires ground { IsGround p.now.given ground.old }
+    requires clear { IsClear p.now.given counts.old.best (sets ground.old.trail.region) }
+    requires free { ¬ IsFixed ground.old.trail.region }
+    requires room { counts.old.spent + 1 < 2 ^ 64 }
+    requires follow { AllFollow (λ b. meaning b) p.now.given ground.old.trail rules.old.items }
+    requires writes { IsTrue (D.writes out.old) }
+    requires current { D.current desk.old ≡ Some out.old }
+    ensures name { out.new ≡ out.old }
+    ensures kept { IsKept D.tells out.old (D.files desk.old) (D.files desk.new) (D.current desk.old) (D.current desk.new) (D.read_faults desk.old) (D.read_faults desk.new) }
+    ensures cause { CountsWrites (D.write_faults desk.old) (D.write_faults desk.new) result }
+    ensures front { LeavesLines p.now.given D.tells (bytes_of (D.files desk.old out.old)) (bytes_of (D.files desk.new out.old)) }
+    ensures same { Pairs (λ b. meaning b) SameRule rules.old.items rules.new.items }
+    ensures follow { OnOk result (AllFollow (λ b. meaning b) p.now.given ground.new.trail rules.new.items) }
+    ensures ground { OnOk result (IsGround p.now.given ground.new) }
+    ensures split { IfOk result (λ s. Splits (λ b. meaning b) p.now.given D.tells counts.old counts.new (bytes_of (D.files desk.old out.old)) (bytes_of (D.files desk.new out.old)) rules.old.items rules.new.items ground.old.trail ground.new.trail s) }
+{
+    let (element, part) = brancher.choose(p, ground.trail.region());
+    out.step(desk, p, &Step::Decide(element, part))?;
+    counts.spent += 1;
+    mark_levels(p, ground, rules)?;
+    let change = Change {
+        element,
+        part,
+        side: Side::Inside,
+    };
+    narrow_all(p, ground, rules, change)?;
+    Ok((element, part))
+}

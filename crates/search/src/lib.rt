@@ -1,0 +1,19 @@
+//! The search: one region on a trail, a stack of outer sides that wait, and each line of the certificate
+//! written when it is found.
+#![tactic(auto)]
+
+mod counts;
+mod found;
+mod ground;
+pub mod laws;
+mod leaves;
+mod levels;
+mod looks;
+mod solving;
+mod staying;
+#[cfg(test)]
+mod tests;
+mod turns;
+
+pub use found::Found;
+pub use solving::solve;

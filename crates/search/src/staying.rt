@@ -1,0 +1,65 @@
+//! Staying as all is, where that is a valid plan.
+ghost use Rattle.std.specs.Prelude.{◌≡◌, ◌↔◌, None, Some, IfOk, IfSome, IsTrue};
+ghost use Rattle.plan_io.specs.Causes.{CountsWrites};
+ghost use Rattle.plan_io.specs.Files.{bytes_of};
+ghost use Rattle.slices.specs.Plans.{IsPlanOf, choices_of};
+ghost use Rattle.slices.specs.Rules.{IsValid};
+ghost use Rattle.search.specs.Staying.{IsStayed, IsStayingPlan, MayStay};
+ghost use Rattle.search.specs.Written.{IsKept, LeavesText};
+
+use crate::found::Found;
+use catalogue::problem::Problem;
+use cert_write::CertWriter;
+use cluster::choices::Choice;
+use judge::judge;
+use memory::Memory;
+use plan_io::{Desk, OutFault};
+use reasons::reason::Reason;
+use slices::plan::{Plan, is_plan};
+use std::alloc::Global;
+use trees::steps::{Goal, Step};
+
+// whether the judge finds no broken rule in a plan
+fn is_valid(p: &Problem, plan: &Plan) -> bool
+    requires { IsPlanOf p.now.given plan.now }
+    ensures { IsTrue result ↔ IsValid p.now.given (choices_of plan.now) }
+{
+    judge(p, plan).is_none()
+}
+
+/// The plan in which nothing is done, where it is one and valid. The only error is want of memory.
+pub fn staying_plan(alloc: Global, p: &Problem) -> Result<Option<Plan>, Memory>
+    ensures some { IfOk result (λ found. IfSome found (IsStayingPlan p.now.given)) }
+    ensures none { IfOk result (λ found. found ≡ None → ¬ MayStay p.now.given) }
+{
+    let choices = vec![in alloc; Choice::Idle; p.cluster().element_count()]?;
+    if !is_plan(p, &choices) {
+        return Ok(None);
+    }
+    let plan = Plan::idle_or(p, choices);
+    if !is_valid(p, &plan) {
+        return Ok(None);
+    }
+    Ok(Some(plan))
+}
+
+/// Writes that nothing costs less than the plan in which nothing is done, and answers it.
+pub fn stay<D: Desk>(
+    p: &Problem,
+    plan: Plan,
+    desk: &mut D,
+    out: &mut CertWriter,
+) -> Result<Found, OutFault>
+    requires plan { IsStayingPlan p.now.given plan }
+    requires writes { IsTrue (D.writes out.old) }
+    requires current { D.current desk.old ≡ Some out.old }
+    ensures name { out.new ≡ out.old }
+    ensures kept { IsKept D.tells out.old (D.files desk.old) (D.files desk.new) (D.current desk.old) (D.current desk.new) (D.read_faults desk.old) (D.read_faults desk.new) }
+    ensures cause { CountsWrites (D.write_faults desk.old) (D.write_faults desk.new) result }
+    ensures front { LeavesText p.now.given D.tells (bytes_of (D.files desk.old out.old)) (bytes_of (D.files desk.new out.old)) }
+    ensures stayed { IfOk result (IsStayed p.now.given D.tells (bytes_of (D.files desk.old out.old)) (D.files desk.new out.old)) }
+{
+    out.step(desk, p, &Step::Fail(Reason::Bound))?;
+    out.end(desk, Goal::Optimal(0))?;
+    Ok(Found::Optimal(plan))
+}

@@ -1,0 +1,161 @@
+//! The loop over the regions: the one at hand, and the outer sides that wait.
+ghost use Rattle.std.specs.Prelude.{◌≡◌, ℕ, ◌+◌, ◌*◌, ◌-◌, ◌<◌, ◌∷◌, [], true, IfOk, MatchOption, OnOk, IsTrue, Some, reverse, vec_len};
+ghost use Rattle.plan_io.specs.Causes.{CountsWrites};
+ghost use Rattle.plan_io.specs.Files.{bytes_of};
+ghost use Rattle.catalogue.specs.Instance.{IsElement};
+ghost use Rattle.domains.specs.Sets.{sets};
+ghost use Rattle.reasons.specs.Closed.{HaveChoices};
+ghost use Rattle.relax.specs.Areas.{IsSized};
+ghost use Rattle.prop_core.specs.Levels.{AllFollow};
+ghost use Rattle.prop_core.specs.Lists.{Covered, Pairs, SameCover};
+ghost use Rattle.search.specs.Works.{ArePaired, Goes, IsGround, IsTurned, IsVisited};
+ghost use Rattle.search.specs.Written.{IsKept, LeavesLines};
+
+use crate::looks::{close, fail};
+use crate::counts::Counts;
+use crate::ground::Ground;
+use crate::leaves::{settle, split};
+use crate::levels::{back_levels, narrow_all};
+use branching::brancher::Brancher;
+use catalogue::problem::Problem;
+use cert_write::CertWriter;
+use cluster::ids::Element;
+use domains::parts::{Change, Part, Side};
+use domains::region::Region;
+use plan_io::{Desk, OutFault};
+use prop_core::propagator::Propagator;
+use reasons::reason::Reason;
+use std::alloc::Global;
+
+/// Closes the region and writes a leaf, or splits it and goes inside the part, which is answered.
+fn at_region<D: Desk>(
+    alloc: Global,
+    p: &Problem,
+    budget: u64,
+    ground: &mut Ground,
+    counts: &mut Counts,
+    rules: &mut Vec<Box<dyn Propagator>>,
+    brancher: &mut Box<dyn Brancher>,
+    desk: &mut D,
+    out: &mut CertWriter,
+) -> Result<Option<(Element, Part)>, OutFault>
+    requires covered { Covered (λ b. meaning b) rules.old.items }
+    requires ground { IsGround p.now.given ground.old }
+    requires some { HaveChoices p.now.given (sets ground.old.trail.region) }
+    requires follow { AllFollow (λ b. meaning b) p.now.given ground.old.trail rules.old.items }
+    requires writes { IsTrue (D.writes out.old) }
+    requires current { D.current desk.old ≡ Some out.old }
+    ensures name { out.new ≡ out.old }
+    ensures kept { IsKept D.tells out.old (D.files desk.old) (D.files desk.new) (D.current desk.old) (D.current desk.new) (D.read_faults desk.old) (D.read_faults desk.new) }
+    ensures cause { CountsWrites (D.write_faults desk.old) (D.write_faults desk.new) result }
+    ensures front { LeavesLines p.now.given D.tells (bytes_of (D.files desk.old out.old)) (bytes_of (D.files desk.new out.old)) }
+    ensures covers { Pairs (λ b. meaning b) SameCover rules.old.items rules.new.items }
+    ensures follow { OnOk result (AllFollow (λ b. meaning b) p.now.given ground.new.trail rules.new.items) }
+    ensures ground { OnOk result (IsGround p.now.given ground.new) }
+    ensures visited { IfOk result (λ s. IsVisited (λ b. meaning b) p.now.given budget D.tells counts.old counts.new (bytes_of (D.files desk.old out.old)) (bytes_of (D.files desk.new out.old)) rules.old.items rules.new.items ground.old.trail ground.new.trail s) }
+{
+    let is_clear = close(p, counts, ground, rules, brancher, desk, out)?;
+    if !is_clear {
+        return Ok(None);
+    }
+    let is_leaf = settle(alloc, p, budget, ground, counts, brancher, desk, out)?;
+    if is_leaf {
+        return Ok(None);
+    }
+    let side = split(p, ground, counts, rules, brancher, desk, out)?;
+    Ok(Some(side))
+}
+
+/// One turn: the region is worked on, and where nothing is left open in it the next outer side is taken.
+/// False where none is left.
+fn turn<D: Desk>(
+    alloc: Global,
+    p: &Problem,
+    budget: u64,
+    ground: &mut Ground,
+    splits: &mut Vec<(Element, Part)>,
+    counts: &mut Counts,
+    rules: &mut Vec<Box<dyn Propagator>>,
+    brancher: &mut Box<dyn Brancher>,
+    desk: &mut D,
+    out: &mut CertWriter,
+) -> Result<bool, OutFault>
+    requires paired { ArePaired p.now.given ground.old.trail.marks (reverse splits.old.items) }
+    requires covered { Covered (λ b. meaning b) rules.old.items }
+    requires ground { IsGround p.now.given ground.old }
+    requires some { HaveChoices p.now.given (sets ground.old.trail.region) }
+    requires follow { AllFollow (λ b. meaning b) p.now.given ground.old.trail rules.old.items }
+    requires writes { IsTrue (D.writes out.old) }
+    requires current { D.current desk.old ≡ Some out.old }
+    ensures name { out.new ≡ out.old }
+    ensures kept { IsKept D.tells out.old (D.files desk.old) (D.files desk.new) (D.current desk.old) (D.current desk.new) (D.read_faults desk.old) (D.read_faults desk.new) }
+    ensures cause { CountsWrites (D.write_faults desk.old) (D.write_faults desk.new) result }
+    ensures front { LeavesLines p.now.given D.tells (bytes_of (D.files desk.old out.old)) (bytes_of (D.files desk.new out.old)) }
+    ensures covers { Pairs (λ b. meaning b) SameCover rules.old.items rules.new.items }
+    ensures follow { OnOk result (AllFollow (λ b. meaning b) p.now.given ground.new.trail rules.new.items) }
+    ensures ground { OnOk result (IsGround p.now.given ground.new) }
+    ensures turned { IfOk result (λ yes. IsTurned (λ b. meaning b) p.now.given budget D.tells counts.old counts.new (bytes_of (D.files desk.old out.old)) (bytes_of (D.files desk.new out.old)) rules.old.items rules.new.items ground.old.trail ground.new.trail splits.old.items splits.new.items yes) }
+    ensures smaller { IfOk result (λ yes. yes ≡ true → 2 * (budget - counts.new.spent) + vec_len splits.new < 2 * (budget - counts.old.spent) + vec_len splits.old) }
+{
+    if let Some(side) = at_region(alloc, p, budget, ground, counts, rules, brancher, desk, out)? {
+        splits.push(side)?;
+        return Ok(true);
+    }
+    let Some((element, part)) = splits.pop() else {
+        return Ok(false);
+    };
+    back_levels(p, ground, rules);
+    let change = Change {
+        element,
+        part,
+        side: Side::Outside,
+    };
+    narrow_all(p, ground, rules, change)?;
+    Ok(true)
+}
+
+/// All turns, until nothing is open.
+pub fn run<D: Desk>(
+    alloc: Global,
+    p: &Problem,
+    budget: u64,
+    ground: &mut Ground,
+    counts: &mut Counts,
+    rules: &mut Vec<Box<dyn Propagator>>,
+    brancher: &mut Box<dyn Brancher>,
+    desk: &mut D,
+    out: &mut CertWriter,
+) -> Result<(), OutFault>
+    requires unmarked { ground.old.trail.marks ≡ [] }
+    requires covered { Covered (λ b. meaning b) rules.old.items }
+    requires ground { IsGround p.now.given ground.old }
+    requires some { HaveChoices p.now.given (sets ground.old.trail.region) }
+    requires follow { AllFollow (λ b. meaning b) p.now.given ground.old.trail rules.old.items }
+    requires writes { IsTrue (D.writes out.old) }
+    requires current { D.current desk.old ≡ Some out.old }
+    ensures name { out.new ≡ out.old }
+    ensures kept { IsKept D.tells out.old (D.files desk.old) (D.files desk.new) (D.current desk.old) (D.current desk.new) (D.read_faults desk.old) (D.read_faults desk.new) }
+    ensures cause { CountsWrites (D.write_faults desk.old) (D.write_faults desk.new) result }
+    ensures front { LeavesLines p.now.given D.tells (bytes_of (D.files desk.old out.old)) (bytes_of (D.files desk.new out.old)) }
+    ensures covers { Pairs (λ b. meaning b) SameCover rules.old.items rules.new.items }
+    ensures goes { OnOk result (Goes (λ b. meaning b) p.now.given budget D.tells counts.old counts.new (bytes_of (D.files desk.old out.old)) (bytes_of (D.files desk.new out.old)) rules.old.items rules.new.items (sets ground.old.trail.region ∷ []) []) }
+{
+    let mut splits = Vec::new(alloc);
+    'turns: loop {
+        let more = turn(
+            alloc,
+            p,
+            budget,
+            ground,
+            &mut splits,
+            counts,
+            rules,
+            brancher,
+            desk,
+            out,
+        )?;
+        if !more {
+            return Ok(());
+        }
+    }
+}
