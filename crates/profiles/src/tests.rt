@@ -57,7 +57,7 @@ fn problem(alloc: Global) -> Result<Problem, Fail> {
 }
 
 /// Takes choices from the region, and tells the profile.
-#[tactic(auto, using(standing::proofs::Public::before_law, standing::proofs::Public::fewer_law))]
+#[tactic(auto, using(standing::proofs::Public::before_law))]
 fn cut(
     p: &Problem,
     g: &mut Region,
