@@ -1,31 +1,29 @@
 -- From the steps of a search that is done to its tree, and from the tree to what is so of all plans.
-use Rattle.std.proofs.Common.{◌≡◌, ◌⊎◌, inl, inr, ℕ, ◌+◌, ◌<◌, ◌≤◌, Bool, true, false, List, [], ◌∷◌, ◌++◌, refl, sym, ap, subst, ◌∙◌, arith, Option, Some, None, is_some}
+use Rattle.std.proofs.Common.{◌≡◌, inl, inr, ℕ, ◌≤◌, Bool, true, false, List, [], refl, sym, ap, subst, ◌∙◌, arith, Option, Some, None, is_some}
 use Rattle.std.specs.Prelude.{IfSome}
 use Rattle.std.specs.Option.{IsSomeAnd}
-use Rattle.sums.specs.Least.{lower, lowest}
+use Rattle.sums.specs.Least.{lowest}
 use Rattle.catalogue.specs.Instance.{Instance, IsInstance}
 use Rattle.slices.specs.Costs.{cost_of}
-use Rattle.slices.specs.Plans.{IsPlan, IsPlanOf, PlanChoices, choices_of}
+use Rattle.slices.specs.Plans.{IsPlanOf, PlanChoices, choices_of}
 use Rattle.slices.specs.Rules.{IsValid}
-use Rattle.domains.specs.Sets.{Sets}
 use Rattle.reasons.specs.Start.{start_sets}
 use Rattle.reasons.specs.Sure.{least_cost}
-use Rattle.trees.specs.declared.steps.Goal.{Goal}
 use Rattle.trees.specs.declared.steps.Goal.TheVariants as goal
 use Rattle.trees.specs.declared.steps.Step.{Step}
-use Rattle.trees.specs.Trees.{AtEach, Tree, gathered, steps_of}
+use Rattle.trees.specs.Trees.{Tree, steps_of}
 use Rattle.trees.specs.Finding.{FoundAt, IsLow}
 use Rattle.trees.specs.Goals.{decisions, goal_of, has_left, least_shown, left_set, left_sets, lower_of, shown}
 use Rattle.trees.specs.Proving.{Proves}
-use Rattle.trees.specs.Searching.{IsPlanFound, IsSearched, IsStaying, WasSearched, plan_costs, plan_set, plan_sets}
-use Rattle.trees.specs.Certificates.{GoalHolds, IsCertificate, IsHandedIn, bound_of, least_of}
+use Rattle.trees.specs.Searching.{IsPlanFound, WasSearched, plan_costs, plan_set, plan_sets}
+use Rattle.trees.specs.Certificates.{IsHandedIn, bound_of, least_of}
 use Rattle.trees.proofs.Public.{IsOneTree, certificates_hold, cheapest_is_low, found_is_lean, found_is_searched, found_proves, gathered_whole, lean_trees_fit, least_is_shown, plans_found_hold, tree_of}
 use Rattle.search.specs.declared.counts.Best.{Best}
 use Rattle.search.specs.declared.counts.Counts.{Counts}
 use Rattle.search.specs.declared.found.Found.{Found}
 use Rattle.search.specs.declared.found.Found.TheVariants.{Optimal, Infeasible, Undecided}
-use Rattle.search.specs.Answers.{IsStillOpen, IsTreeOf, IsTrueOf, IsValidPlan, choices_in, goal_in, least_in, plan_in}
-use Rattle.search.specs.Underway.{IsCheapest, IsPlanOfCost, Underway, cost_kept, found_of, leaves_along, left_along, plan_kept}
+use Rattle.search.specs.Answers.{IsTreeOf, IsTrueOf, IsValidPlan, choices_in, goal_in, least_in, plan_in}
+use Rattle.search.specs.Underway.{IsPlanOfCost, Underway, cost_kept, found_of, leaves_along, left_along, plan_kept}
 
 -- ---- the answer, by what is kept
 

@@ -1,30 +1,28 @@
 -- What is written at a closed region.
-use Rattle.std.proofs.Common.{◌≡◌, ℕ, ◌+◌, ◌<◌, ◌≤◌, Bool, List, [], ◌∷◌, ◌++◌, length, refl, sym, ap, subst, ◌∙◌, arith, Option, Some, None, IsTrue}
+use Rattle.std.proofs.Common.{◌≡◌, ℕ, ◌+◌, ◌<◌, ◌≤◌, Bool, List, [], ◌∷◌, ◌++◌, refl, sym, ap, subst, ◌∙◌, arith, Option, Some, None, IsTrue}
 use Rattle.std.specs.Prelude.{IfSome}
-use Rattle.sums.specs.Least.{lower, lowest}
+use Rattle.sums.specs.Least.{lower}
 use Rattle.cluster.specs.declared.ids.Element.{Element}
 use Rattle.catalogue.specs.Instance.{Instance, IsInstance}
 use Rattle.slices.specs.Plans.{IsPlanOf, PlanChoices, choices_of}
 use Rattle.domains.specs.declared.parts.Part.{Part}
 use Rattle.domains.specs.Sets.{IsFixed, IsOnly, RegionView, Sets, sets}
-use Rattle.reasons.specs.Closed.{IsClosed}
 use Rattle.reasons.specs.Sure.{least_cost}
 use Rattle.reasons.proofs.Public.{only_closed, only_costs}
 use Rattle.relax.specs.Areas.{IsSized}
-use Rattle.trail.specs.Logs.{Marked}
 use Rattle.trees.specs.declared.steps.Step.{Step}
 use Rattle.trees.specs.declared.steps.Step.TheVariants.{Decide, Left, Plan}
 use Rattle.trees.specs.Trees.{inside, outside}
-use Rattle.trees.specs.Proving.{IsOnePlan, IsSplit}
-use Rattle.trees.specs.Searching.{AllAbove, IsUndecided, plan_costs}
+use Rattle.trees.specs.Proving.{IsSplit}
+use Rattle.trees.specs.Searching.{IsUndecided, plan_costs}
 use Rattle.trees.proofs.Public.{IsAbove, above_cheapest}
-use Rattle.prop_core.specs.Lists.{Pairs, Rise}
+use Rattle.prop_core.specs.Lists.{Pairs}
 use Rattle.prop_core.specs.Propagators.{Meaning, SameRule}
 use Rattle.prop_core.proofs.Public.{Rise-trans}
 use Rattle.search.specs.declared.counts.Best.{Best}
 use Rattle.search.specs.declared.counts.Counts.{Counts}
-use Rattle.search.specs.Underway.{IsPlanOfCost, Underway, cost_kept}
-use Rattle.search.specs.Works.{IsClear, IsDue, IsLeaf, Works}
+use Rattle.search.specs.Underway.{Underway, cost_kept}
+use Rattle.search.specs.Works.{IsClear, IsLeaf, Works}
 use Rattle.search.specs.Written.{lines}
 use Rattle.search.proofs.RegionLemmas.{sets_fixed}
 use Rattle.search.proofs.StepLemmas.{step_decide, step_left, step_plan}

@@ -13,5 +13,3 @@ pub mod LeafLemmas
 pub mod TurnLemmas
 pub mod WholeLemmas
 pub mod StayLemmas
--- of the tests
-pub mod TestLemmas

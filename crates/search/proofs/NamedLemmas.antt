@@ -1,5 +1,5 @@
 -- What a step names is the problem's.
-use Rattle.std.proofs.Common.{◌≡◌, ◌≢◌, ℕ, ◌+◌, ◌<◌, Bool, true, false, ◌&&◌, nat_lt, nat_le, List, [], ◌∷◌, Option, Some, None, is_some, refl, subst, arith, if◌then◌else◌}
+use Rattle.std.proofs.Common.{◌≡◌, ◌≢◌, ℕ, ◌+◌, Bool, true, false, ◌&&◌, nat_lt, nat_le, List, [], ◌∷◌, Option, None, is_some, refl, subst, arith, if◌then◌else◌}
 use Rattle.std.specs.List.{Contains, filter}
 use Rattle.std.proofs.lemmas.Bool.Decides.{nat_tests, Decides-eqb}
 use Rattle.cluster.specs.declared.choices.Choice.{Choice}
@@ -13,10 +13,10 @@ use Rattle.cluster.specs.declared.kinds.Kind.{Kind}
 use Rattle.cluster.specs.Inventory.{is_online}
 use Rattle.catalogue.specs.declared.targets.Wish.{Wish}
 use Rattle.catalogue.specs.declared.targets.Wish.TheVariants.{Keep, To, Clash}
-use Rattle.catalogue.specs.Instance.{Instance, IsElement}
+use Rattle.catalogue.specs.Instance.{Instance}
 use Rattle.catalogue.specs.Values.{wanted_of}
-use Rattle.slices.specs.Actions.{end_of, is_legal, is_raised, kind_of, machine_kind, node_kind, wanted_state}
-use Rattle.slices.specs.Elements.{is_place, node_count, state_of}
+use Rattle.slices.specs.Actions.{is_legal, is_raised, kind_of, machine_kind, node_kind, wanted_state}
+use Rattle.slices.specs.Elements.{node_count, state_of}
 use Rattle.domains.specs.declared.parts.Part.{Part}
 use Rattle.domains.specs.declared.parts.Part.TheVariants as part
 use Rattle.domains.specs.Choices.{same_place}
@@ -87,7 +87,7 @@ has_part p e (part.Upto place start) (Act q s) legal held = same_has p q place (
 has_part p e (part.From place start) Idle legal held = absurd (cc)
 has_part p e (part.From place start) (Act q s) legal held = same_has p q place (both_true (same_place q place) (nat_le start s) held).0 (legal_place p e q s legal)
 
-pub some_choice : (cs : List Choice) → cs ≢ [] → (c : Choice) × Contains cs c
+some_choice : (cs : List Choice) → cs ≢ [] → (c : Choice) × Contains cs c
 some_choice [] some = absurd (some refl)
 some_choice (c ∷ cs) some = (c, contains_here c cs)
 

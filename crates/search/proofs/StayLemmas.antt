@@ -1,6 +1,6 @@
 -- The plan in which nothing is done.
 use mathlib.Core.Path.{fun_ext}
-use Rattle.std.proofs.Common.{◌≡◌, ℕ, ◌+◌, ◌-◌, ◌≤◌, Bool, List, [], ◌∷◌, ◌++◌, take, drop, length, refl, sym, ap, subst, ◌∙◌, arith, inr, Option, Some, All, IsTrue}
+use Rattle.std.proofs.Common.{◌≡◌, ℕ, ◌+◌, ◌-◌, Bool, List, [], ◌∷◌, ◌++◌, take, drop, length, refl, sym, ap, subst, ◌∙◌, arith, inr, Option, Some}
 use Rattle.std.specs.Prelude.{replicate}
 use Rattle.std.proofs.lemmas.List.{drop-replicate, length-replicate, take-replicate}
 use Rattle.sums.specs.Sums.{sum_to}
@@ -15,7 +15,7 @@ use Rattle.catalogue.specs.Instance.{Instance, IsInstance, inventory_of}
 use Rattle.slices.specs.Actions.{end_of}
 use Rattle.slices.specs.Costs.{cost_of}
 use Rattle.slices.specs.Elements.{machine_count, node, node_count, vm}
-use Rattle.slices.specs.Plans.{Choices, IsPlan, IsPlanOf, PlanChoices, choices_of, parted}
+use Rattle.slices.specs.Plans.{IsPlan, IsPlanOf, PlanChoices, choices_of, parted}
 use Rattle.slices.specs.Rules.{IsValid}
 use Rattle.reasons.specs.declared.reason.Reason.TheVariants.{Bound}
 use Rattle.reasons.specs.Start.{start_sets}
@@ -25,11 +25,10 @@ use Rattle.trees.specs.Trees.{fail_leaf}
 use Rattle.trees.specs.Proving.{Proves}
 use Rattle.trees.proofs.Public.{staying_proves}
 use Rattle.cert_text.specs.Spelling.{end_line, step_line}
-use Rattle.prop_core.specs.Lists.{given_sum}
-use Rattle.prop_core.specs.Propagators.{Meaning, most}
+use Rattle.prop_core.specs.Propagators.{Meaning}
 use Rattle.search.specs.declared.found.Found.{Found}
 use Rattle.search.specs.declared.found.Found.TheVariants.{Optimal}
-use Rattle.search.specs.Answers.{IsTreeOf, IsTrueOf, IsValidPlan}
+use Rattle.search.specs.Answers.{IsTreeOf, IsTrueOf}
 use Rattle.search.specs.Staying.{IsStayed, IsStayingPlan, MayStay, all_idle}
 use Rattle.search.specs.Works.{IsShown}
 use Rattle.search.specs.Written.{lines}

@@ -1,5 +1,5 @@
 -- One more step of a search.
-use Rattle.std.proofs.Common.{◌≡◌, ◌≢◌, ℕ, ◌+◌, ◌<◌, ◌≤◌, Bool, true, false, ◌||◌, List, [], ◌∷◌, ◌++◌, refl, sym, ap, subst, ◌∙◌, append-nil, arith, Option, Some, None}
+use Rattle.std.proofs.Common.{◌≡◌, ℕ, ◌+◌, ◌<◌, ◌≤◌, Bool, true, false, ◌||◌, List, [], ◌∷◌, ◌++◌, refl, sym, ap, subst, ◌∙◌, append-nil, arith, Option, Some, None}
 use Rattle.std.specs.Prelude.{IfSome}
 use Rattle.sums.specs.Least.{lower, lowest}
 use Rattle.catalogue.specs.Instance.{Instance}
@@ -12,15 +12,15 @@ use Rattle.reasons.specs.Start.{start_sets}
 use Rattle.reasons.specs.Sure.{least_cost}
 use Rattle.trees.specs.declared.steps.Step.{Step}
 use Rattle.trees.specs.declared.steps.Step.TheVariants.{Decide, Cut, Fail, Plan, Left}
-use Rattle.trees.specs.Trees.{children, gathered_along, inside, outside}
+use Rattle.trees.specs.Trees.{children, inside, outside}
 use Rattle.trees.specs.Finding.{FoundAt, IsFailed}
 use Rattle.trees.specs.Goals.{decisions, has_left, left_set}
 use Rattle.trees.specs.Proving.{IsCut, IsOnePlan, IsSplit}
-use Rattle.trees.specs.Searching.{IsPlanFound, IsPlanOfSome, IsUndecided, plan_costs, plan_set}
+use Rattle.trees.specs.Searching.{IsUndecided, plan_costs, plan_set}
 use Rattle.trees.proofs.Public.{decisions_append, gathered_push, has_left_append, leads_push, lowest_push, plan_at_last, plan_costs_append}
 use Rattle.search.specs.declared.counts.Best.{Best}
 use Rattle.search.specs.declared.counts.Counts.{Counts}
-use Rattle.search.specs.Underway.{IsCheapest, IsPlanOfCost, Underway, cost_kept, leaves_along, left_along, plan_kept}
+use Rattle.search.specs.Underway.{IsCheapest, IsPlanOfCost, Underway, cost_kept, leaves_along, left_along}
 
 -- ---- any step
 

@@ -1,22 +1,19 @@
 -- From region to region.
-use Rattle.std.proofs.Common.{◌≡◌, ℕ, ◌+◌, ◌<◌, ◌≤◌, Bool, true, false, List, [], ◌∷◌, ◌++◌, length, reverse, refl, sym, ap, subst, ◌∙◌, arith, IsTrue}
+use Rattle.std.proofs.Common.{◌≡◌, ℕ, ◌+◌, ◌<◌, Bool, List, [], ◌∷◌, ◌++◌, length, reverse, refl, sym, ap, subst, ◌∙◌, arith}
 use Rattle.std.proofs.lemmas.List.{reverse-append}
 use Rattle.cluster.specs.declared.ids.Element.{Element}
-use Rattle.catalogue.specs.Instance.{Instance, IsElement}
+use Rattle.catalogue.specs.Instance.{Instance}
 use Rattle.domains.specs.declared.parts.Part.{Part}
 use Rattle.domains.specs.Sets.{RegionView, Sets, sets}
-use Rattle.reasons.specs.Closed.{HaveChoices}
 use Rattle.trail.specs.Logs.{Marked}
-use Rattle.trees.specs.declared.steps.Step.{Step}
 use Rattle.trees.specs.Trees.{inside, outside}
 use Rattle.trees.proofs.Public.{same_sets}
 use Rattle.prop_core.specs.Lists.{Pairs, Rise}
 use Rattle.prop_core.specs.Propagators.{Meaning, SameRule}
 use Rattle.prop_core.proofs.Public.{Rise-trans}
 use Rattle.search.specs.declared.counts.Counts.{Counts}
-use Rattle.search.specs.Underway.{Underway}
 use Rattle.search.specs.Works.{ArePaired, Ends, Enters, Goes, GoesOn, IsDue, IsLeaf, IsParted, Splits, Works, open_sets, outer_sides}
-use Rattle.search.specs.Written.{answered, lines}
+use Rattle.search.specs.Written.{lines}
 use Rattle.search.proofs.RegionLemmas.{some_inside, some_outside}
 use Rattle.search.proofs.WorkLemmas.{goes_none, rise_less, rise_none, rise_rule, works_goes, works_same, works_then}
 

@@ -1,20 +1,19 @@
 -- The whole search: what it shows.
-use Rattle.std.proofs.Common.{◌≡◌, ℕ, ◌+◌, ◌≤◌, Bool, List, [], ◌∷◌, ◌++◌, length, All, refl, sym, ap, subst, ◌∙◌, arith, Option, Some, None, IsTrue}
+use Rattle.std.proofs.Common.{◌≡◌, ℕ, ◌+◌, ◌≤◌, Bool, List, [], ◌∷◌, ◌++◌, length, refl, sym, ap, subst, ◌∙◌, arith, Option, Some, IsTrue}
 use Rattle.std.specs.Prelude.{IfSome}
 use Rattle.std.specs.Io.{StartsWith}
 use Rattle.cluster.specs.declared.ids.Element.{Element}
 use Rattle.catalogue.specs.Instance.{Instance, IsElement, IsInstance}
 use Rattle.slices.specs.Plans.{IsPlanOf}
 use Rattle.domains.specs.Sets.{Sets}
-use Rattle.reasons.specs.declared.reason.Reason.TheVariants.{Empty, Bound}
+use Rattle.reasons.specs.declared.reason.Reason.TheVariants.{Empty}
 use Rattle.reasons.specs.Start.{start_sets}
 use Rattle.trees.specs.declared.steps.Goal.{Goal}
 use Rattle.trees.specs.declared.steps.Step.{Step}
 use Rattle.trees.specs.declared.steps.Step.TheVariants.{Fail}
-use Rattle.trees.specs.Trees.{steps_of}
 use Rattle.cert_text.specs.Spelling.{end_line}
-use Rattle.prop_core.specs.Lists.{Pairs, Rise, given_sum}
-use Rattle.prop_core.specs.Propagators.{Meaning, SameRule, most}
+use Rattle.prop_core.specs.Lists.{Pairs, given_sum}
+use Rattle.prop_core.specs.Propagators.{Meaning, SameRule}
 use Rattle.prop_core.proofs.Public.{Rise-trans}
 use Rattle.search.specs.declared.counts.Counts.{Counts}
 use Rattle.search.specs.declared.found.Found.{Found}

@@ -10,5 +10,3 @@ pub mod Laws
 pub mod Underway
 -- and of the parts of the search
 pub mod Works
--- and a propagator of the tests
-pub mod Tests

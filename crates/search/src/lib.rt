@@ -11,8 +11,6 @@ mod levels;
 mod looks;
 mod solving;
 mod staying;
-#[cfg(test)]
-mod tests;
 mod turns;
 
 pub use found::Found;

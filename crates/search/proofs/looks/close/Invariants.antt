@@ -1,4 +1,4 @@
-use Rattle.std.proofs.Common.{◌≡◌, ℕ, List, [], ◌∷◌}
+use Rattle.std.proofs.Common.{◌≡◌, ℕ, [], ◌∷◌}
 use Rattle.slices.specs.Elements.{machine_count, node_count}
 use Rattle.domains.specs.Sets.{sets}
 use Rattle.domains.specs.Sizes.{choice_count}

@@ -1,4 +1,3 @@
-use Rattle.std.proofs.Common.{refl}
 use Rattle.search.proofs.TextLemmas.{text_some}
 use Rattle.search.proofs.WholeLemmas.{found_whole, whole_shown, whole_text, whole_true}
 use Rattle.search.proofs.solving.search.Goals as goal

@@ -1,5 +1,3 @@
-use Rattle.std.proofs.Common.{◌∙◌, ap, refl}
-use Rattle.prop_core.proofs.Public.{covered_after}
 use Rattle.search.proofs.TextLemmas.{leaves_same}
 use Rattle.search.proofs.TurnLemmas.{ends_leaf, ends_refuted, enters_split}
 use Rattle.search.proofs.WorkLemmas.{cover_rule, cover_trans, works_front}

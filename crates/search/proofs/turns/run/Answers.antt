@@ -1,7 +1,5 @@
-use Rattle.std.proofs.Common.{◌≡◌, ◌∙◌, List, [], ◌∷◌, refl, rules, subst, sym}
-use Rattle.domains.specs.Sets.{Sets, sets}
+use Rattle.std.proofs.Common.{refl, rules}
 use Rattle.prop_core.proofs.Public.{covered_after}
-use Rattle.search.specs.Works.{Goes, open_sets}
 use Rattle.search.proofs.TurnLemmas.{goes_start_open, paired_start}
 use Rattle.search.proofs.WorkLemmas.{cover_same, cover_trans, goes_front, goes_then}
 use Rattle.search.proofs.turns.run.Goals as goal

@@ -1,4 +1,4 @@
-use Rattle.std.proofs.Common.{◌≡◌, ℕ, List, [], ◌∷◌, reverse, ◌+◌, ◌-◌, ◌*◌, vec_len}
+use Rattle.std.proofs.Common.{◌≡◌, [], ◌∷◌, reverse, ◌+◌, ◌-◌, ◌*◌, vec_len}
 use Rattle.domains.specs.Sets.{sets}
 use Rattle.reasons.specs.Closed.{HaveChoices}
 use Rattle.plan_io.specs.Files.{bytes_of}

@@ -1,4 +1,4 @@
-use Rattle.std.proofs.Common.{◌≡◌, ◌∙◌, [], ap, append-nil, arith, refl}
+use Rattle.std.proofs.Common.{◌≡◌, ◌∙◌, [], append-nil}
 use Rattle.search.proofs.TurnLemmas.{marked_still, next_inside, next_outside, nothing_waits, taken_off}
 use Rattle.search.proofs.WorkLemmas.{cover_rule, cover_trans}
 use Rattle.search.proofs.turns.turn.Goals as goal
