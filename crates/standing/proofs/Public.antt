@@ -1,8 +1,9 @@
 -- What crates above may cite: the laws, by the names of their statements in specs/; and `each_push`, for lists that are filled in order.
 pub use Rattle.standing.proofs.TableLemmas.{each_push}
 use Rattle.std.specs.Prelude.{slice_index_or}
-use Rattle.std.proofs.Common.{◌≡◌, ℕ, ◌+◌, ◌<◌, Bool, true, false, ◌&&◌, nat_lt, cond, List, [], ◌∷◌, refl, sym, ap, subst, ◌∙◌, arith}
+use Rattle.std.proofs.Common.{◌≡◌, ◌≢◌, ℕ, ◌+◌, ◌<◌, Bool, true, false, ◌&&◌, nat_lt, cond, List, [], ◌∷◌, refl, sym, ap, subst, ◌∙◌, arith}
 use Rattle.std.specs.List.{Contains}
+use Rattle.std.proofs.lemmas.Bool.{false≢true}
 use Rattle.std.proofs.lemmas.Bool.Decides.{Decides-eqb, nat_tests}
 use Rattle.sums.specs.Least.{least}
 use Rattle.sums.proofs.Sums.{sum_to-same}
@@ -17,10 +18,11 @@ use Rattle.cluster.specs.declared.ids.Element.{Element}
 use Rattle.cluster.specs.declared.ids.Element.TheVariants.{Vm, Node}
 use Rattle.domains.specs.Choices.{choices}
 use Rattle.domains.specs.Sets.{same_element, sets}
-use Rattle.domains.proofs.Public.{filter_is_fewer, same_is}
+use Rattle.domains.specs.Laws.{AreFewer}
+use Rattle.domains.proofs.Public.{filter_is_fewer, least_grows, same_is, surely_stays}
 use Rattle.relax.specs.Areas.{hosted_in}
 use Rattle.reasons.specs.Sure.{sure}
-use Rattle.standing.specs.Laws.{BeforeLaw, FewerLaw, KeptLaw, LoadLaw, PresencesLaw, PresentLaw}
+use Rattle.standing.specs.Laws.{BeforeLaw, FewerLaw, GrowLaw, KeptLaw, LoadLaw, PresencesLaw, PresentLaw}
 use Rattle.standing.specs.Standings.{base, gain, has_come, have_come, kept_use, leave_of, never}
 use Rattle.standing.specs.Tables.{no_standing, sets_before}
 use Rattle.standing.proofs.ChoiceLemmas.{apart, held_one}
@@ -57,6 +59,20 @@ unfolding sure
 presences_law p s ks n t h are =
     sum_to-same (machine_count p) (λ v. least (held_at p v Presence (one n) t) (s (vm v))) (λ v. kept_use p v Presence n t (slice_index_or ks v no_standing))
     (λ v l. kept_law p v Presence n t (s (vm v)) (slice_index_or ks v no_standing) h (are.each v l))
+
+-- ---- fewer choices
+
+-- there are no more, and some, so all have come that had
+come-stays : (n t : ℕ) (fewer cs : List Choice) → AreFewer fewer cs → fewer ≢ [] → have_come n t cs ≡ true → have_come n t fewer ≡ true
+come-stays n t [] cs few some e = absurd (some refl)
+come-stays n t (x ∷ xs) [] few some e = absurd (false≢true e)
+come-stays n t (x ∷ xs) (c ∷ cs) few some e = surely_stays (has_come n t) (x ∷ xs) (c ∷ cs) few e
+
+pub grow_law : GrowLaw
+grow_law p v fewer cs k now few some was is = record {
+  leave = rw (was.leave, is.leave) (least_grows (leave_of p v) fewer cs few some);
+  come = λ n t e. is.come n t ∙ come-stays n t fewer cs few some (sym (was.come n t) ∙ e);
+}
 
 -- ---- what was told of a change
 

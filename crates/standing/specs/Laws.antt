@@ -1,5 +1,5 @@
 -- The laws of the two numbers: what a machine surely has on one node at each instant is a function of them.
-use Rattle.std.specs.Prelude.{◌≡◌, ◌≢◌, ℕ, ◌<◌, Bool, List, [], nat_lt, slice_index_or}
+use Rattle.std.specs.Prelude.{◌≡◌, ◌≢◌, ℕ, ◌<◌, ◌≤◌, Bool, List, [], nat_lt, slice_index_or, IsTrue}
 use Rattle.cluster.specs.declared.choices.Choice.{Choice}
 use Rattle.cluster.specs.declared.ids.Element.{Element}
 use Rattle.catalogue.specs.Instance.{Instance}
@@ -17,7 +17,7 @@ use Rattle.domains.specs.Sets.{RegionView, Sets, domain_at, keeping, sets, surel
 use Rattle.domains.specs.Undo.{domain_before}
 use Rattle.reasons.specs.Sure.{sure}
 use Rattle.standing.specs.declared.numbers.Standing.{Standing}
-use Rattle.standing.specs.Standings.{IsStanding, kept_use, never}
+use Rattle.standing.specs.Standings.{IsStanding, comes_by, kept_use, never}
 use Rattle.standing.specs.Tables.{AreStanding, no_standing, sets_before}
 
 -- the least that is held over the choices: amounts, presences and images, whatever the machine's state
@@ -42,6 +42,18 @@ abbrev pub PresencesLaw : Type 0
 PresencesLaw =
     (p : Instance) (s : Sets) (ks : List Standing) (n t : ℕ) → t < never → AreStanding p s ks →
     presences p (sure p s t) (one n) ≡ sum_to (machine_count p) (λ v. kept_use p v Presence n t (slice_index_or ks v no_standing))
+
+-- ---- fewer choices, of which there are some
+
+-- what the numbers of fewer choices say is no less: the host is kept no shorter, and what had come has come
+pub record IsNoLess (k now : Standing) : Type 0 where
+  pub leave : k.leave ≤ now.leave
+  pub come : (n t : ℕ) → IsTrue (comes_by n t k.come) → IsTrue (comes_by n t now.come)
+
+abbrev pub GrowLaw : Type 0
+GrowLaw =
+    (p : Instance) (v : ℕ) (fewer cs : List Choice) (k now : Standing) → AreFewer fewer cs → fewer ≢ [] →
+    IsStanding p v cs k → IsStanding p v fewer now → IsNoLess k now
 
 -- ---- what is told of a change, so that one element keeps what passes a test
 

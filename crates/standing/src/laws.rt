@@ -1,6 +1,6 @@
 //! Laws of the definitions: each is the contract of a function that does nothing, and a lemma of the
 //! same name in proofs/Public proves it.
-ghost use Rattle.standing.specs.Laws.{BeforeLaw, FewerLaw, KeptLaw, LoadLaw, PresencesLaw, PresentLaw};
+ghost use Rattle.standing.specs.Laws.{BeforeLaw, FewerLaw, GrowLaw, KeptLaw, LoadLaw, PresencesLaw, PresentLaw};
 
 /// What a machine surely has on a node is a function of its two numbers.
 #[tactic(auto, using(crate::proofs::Public::kept_law))]
@@ -35,4 +35,9 @@ pub fn before_law()
 /// By the change its element has fewer choices.
 pub fn fewer_law()
     ensures { FewerLaw }
+{}
+
+/// The numbers of fewer choices say no less, where there are some.
+pub fn grow_law()
+    ensures { GrowLaw }
 {}
