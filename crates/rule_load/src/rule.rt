@@ -13,5 +13,5 @@ pub type LoadRule = Rule<Loads, Standings>;
 pub fn load_rule(alloc: Global) -> LoadRule
     ensures { result.given ≡ 0 }
 {
-    Rule::new(alloc, Loads, Standings::new(alloc))
+    Rule::of(alloc, Loads, Standings::new(alloc))
 }
