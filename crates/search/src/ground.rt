@@ -56,7 +56,8 @@ impl Ground {
     {
         let before = self.trail.apply_told(change, &mut self.kept)?;
         let region = self.trail.region();
-        self.bound.told(p, region, change.element, before, &self.kept);
+        self.bound
+            .told(p, region, change.element, before, &self.kept);
         Ok(before)
     }
 

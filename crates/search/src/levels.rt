@@ -34,7 +34,14 @@ pub fn narrow_all(
     ensures follow { OnOk result (AllFollow (λ b. meaning b) p.now.given ground.new.trail rules.new.items) }
 {
     let before = ground.narrow(p, change)?;
-    tell_all(p, ground.trail.region(), rules, change, before, &ground.kept)?;
+    tell_all(
+        p,
+        ground.trail.region(),
+        rules,
+        change,
+        before,
+        &ground.kept,
+    )?;
     Ok(())
 }
 

@@ -119,7 +119,14 @@ fn cut<D: Desk>(
     };
     narrow_all(p, ground, rules, change)?;
     if ground.trail.region().domain(element).is_empty() {
-        fail(p, Some(element), Reason::Empty(element), brancher, desk, out)?;
+        fail(
+            p,
+            Some(element),
+            Reason::Empty(element),
+            brancher,
+            desk,
+            out,
+        )?;
         return Ok(false);
     }
     Ok(true)
@@ -165,9 +172,7 @@ fn look_once<D: Desk>(
             Ok(Look::Refuted)
         }
         Answer::Cut(element, part, reason) => {
-            let is_left = cut(
-                p, element, part, reason, ground, rules, brancher, desk, out,
-            )?;
+            let is_left = cut(p, element, part, reason, ground, rules, brancher, desk, out)?;
             if !is_left {
                 return Ok(Look::Refuted);
             }

@@ -15,10 +15,10 @@ ghost use Rattle.search.specs.Underway.{found_of, none_yet};
 ghost use Rattle.search.specs.Works.{Goes, IsShown};
 ghost use Rattle.search.specs.Written.{IsKept, LeavesLines, LeavesText};
 
-use crate::looks::fail;
 use crate::counts::Counts;
 use crate::found::Found;
 use crate::ground::Ground;
+use crate::looks::fail;
 use crate::staying::{stay, staying_plan};
 use crate::turns::run;
 use branching::brancher::Brancher;

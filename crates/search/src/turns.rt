@@ -11,11 +11,11 @@ ghost use Rattle.prop_core.specs.Lists.{Covered, Pairs, SameCover};
 ghost use Rattle.search.specs.Works.{ArePaired, Goes, IsGround, IsTurned, IsVisited};
 ghost use Rattle.search.specs.Written.{IsKept, LeavesLines};
 
-use crate::looks::{close, fail};
 use crate::counts::Counts;
 use crate::ground::Ground;
 use crate::leaves::{settle, split};
 use crate::levels::{back_levels, narrow_all};
+use crate::looks::{close, fail};
 use branching::brancher::Brancher;
 use catalogue::problem::Problem;
 use cert_write::CertWriter;
