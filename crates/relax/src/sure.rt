@@ -22,6 +22,7 @@ use crate::floors::floor;
 use crate::measures::{
     EndOf, HeldFrom, HeldIn, IsPowered, IsSoFar, IsUnusable, goes_in, is_hosted_in, state,
 };
+use crate::moves::may_have_left;
 use catalogue::problem::Problem;
 use cluster::choices::{Choice, Instant};
 use cluster::ids::{Element, NodeId, VmId};
@@ -116,7 +117,7 @@ pub fn least_held(p: &Problem, view: &View, v: VmId, weight: Weight, area: &Area
     ensures held { result ≡ (sure p.now.given (seen view.now.region.now view.now.lens) t).held v.0 weight (nodes_of p.now.given area.now) }
     ensures small { result ≤ max_held }
 {
-    if is_away(p, view, v, area) {
+    if is_away(p, view, v, area) || may_have_left(p, view, v, area, t) {
         return 0;
     }
     let measure = HeldIn {
@@ -126,7 +127,7 @@ pub fn least_held(p: &Problem, view: &View, v: VmId, weight: Weight, area: &Area
         area,
         at: t,
     };
-    least_from(view, v, measure, floor(p, view, v, weight, area))
+    least_from(view, v, measure, floor(p, view, v, weight, area, t))
 }
 
 // the least of what a machine holds, where no choice that is seen is below a number
