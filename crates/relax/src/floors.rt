@@ -191,8 +191,9 @@ fn keeps_use(p: &Problem, view: &View, v: VmId, host: NodeId, area: &Area, t: In
 {
     match area {
         Area::All => runs_on(p, view, v, host),
-        Area::One(_) | Area::In(_) | Area::OutsideOne(_) | Area::Outside(_) =>
-            keeps_on(p, view, v, host, area, t),
+        Area::One(_) | Area::In(_) | Area::OutsideOne(_) | Area::Outside(_) => keeps_on(
+            p, view, v, host, area, t,
+        ),
     }
 }
 
