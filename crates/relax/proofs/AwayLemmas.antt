@@ -1,5 +1,5 @@
 -- A machine holds nothing on nodes of which none is its host and none is where it goes.
-use Rattle.std.proofs.Common.{◌≡◌, ℕ, zero, suc, ◌+◌, ◌-◌, ◌<◌, ◌≤◌, Bool, true, false, cond, Option, Some, None, List, [], ◌∷◌, length, get_or, refl, arith}
+use Rattle.std.proofs.Common.{◌≡◌, ℕ, zero, suc, ◌+◌, ◌-◌, ◌<◌, true, false, cond, Option, Some, None, List, [], ◌∷◌, length, get_or, refl, arith}
 use Rattle.std.specs.List.{Contains, flat_map}
 use Rattle.std.proofs.lemmas.List.Elements.{Contains-append_right}
 use Rattle.sums.specs.Least.{least}

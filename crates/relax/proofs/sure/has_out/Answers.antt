@@ -1,4 +1,3 @@
-use Rattle.std.proofs.Common.{◌∙◌}
 use Rattle.domains.specs.Choices.{no_row}
 use Rattle.relax.proofs.AwayLemmas.{start_in}
 use Rattle.relax.proofs.sure.has_out.Goals as goal
