@@ -1,6 +1,7 @@
 -- A machine holds nothing on nodes of which none is its host and none is where it goes.
-use Rattle.std.proofs.Common.{◌≡◌, ℕ, suc, ◌+◌, ◌-◌, ◌≤◌, Bool, true, false, cond, Option, Some, None, List, [], ◌∷◌, ◌++◌, length, get_or, refl, arith}
+use Rattle.std.proofs.Common.{◌≡◌, ℕ, zero, suc, ◌+◌, ◌-◌, ◌<◌, true, false, cond, Option, Some, None, List, [], ◌∷◌, length, get_or, refl, arith}
 use Rattle.std.specs.List.{Contains, flat_map}
+use Rattle.std.proofs.lemmas.List.Elements.{Contains-append_right}
 use Rattle.sums.specs.Least.{least}
 use Rattle.cluster.specs.declared.choices.Choice.{Choice}
 use Rattle.cluster.specs.declared.choices.Choice.TheVariants.{Idle, Act}
@@ -19,7 +20,7 @@ use Rattle.slices.specs.Actions.{kind_of}
 use Rattle.slices.specs.Elements.{state_of, vm}
 use Rattle.slices.specs.Snapshots.{held_at, held_by, stage_at}
 use Rattle.slices.specs.Stages.{Nodes, acting_slices, idle_slices, slices_by, slices_of, weigh}
-use Rattle.domains.specs.Choices.{Climbs, DomainView, choices, row_choices, starts_from}
+use Rattle.domains.specs.Choices.{Climbs, DomainView, choices, place_index, row_choices}
 use Rattle.domains.specs.declared.parts.Row.{Row}
 use Rattle.domains.proofs.Public.{least_of_each}
 use Rattle.relax.specs.Areas.{goes_in, hosted_in}
@@ -88,14 +89,14 @@ away_least p v w set t cs c e h g = omega (arith, least_of_each (held_at p v w s
 pub idle_in : (d : DomainView) → d.idle ≡ true → Contains (choices d) Idle
 idle_in d e = rw e (0, omega arith, refl)
 
--- the first start is a choice
-first-in : (idle : Bool) (rows : List Row) (x : Row) → Climbs 0 rows → 1 ≤ length rows → Contains (cond idle (Idle ∷ []) [] ++ flat_map row_choices rows) (Act (get_or rows 0 x).place (get_or rows 0 x).lo)
-first-in idle [] x climbs l = absurd (omega arith)
-first-in idle (r ∷ rs) x climbs l = let more : r.hi + 1 - r.lo ≡ suc (r.hi - r.lo) = omega (arith, climbs.1) in rw more (by idle)
+-- the first start of each row is a choice
+start-in : (rows : List Row) (k : ℕ) (x : Row) → Climbs 0 rows → k < length rows → Contains (flat_map row_choices rows) (Act (get_or rows k x).place (get_or rows k x).lo)
+start-in rows k x climbs l = by 0 rows k climbs l
   where
-    by : (b : Bool) → Contains (cond b (Idle ∷ []) [] ++ (Act r.place r.lo ∷ (starts_from r.place (r.lo + 1) (r.hi - r.lo) ++ flat_map row_choices rs))) (Act r.place r.lo)
-    by true = (1, omega arith, refl)
-    by false = (0, omega arith, refl)
+    by : (from : ℕ) (rows : List Row) (k : ℕ) → Climbs from rows → k < length rows → Contains (flat_map row_choices rows) (Act (get_or rows k x).place (get_or rows k x).lo)
+    by from [] k climbs l = absurd (omega arith)
+    by from (r ∷ rs) zero climbs l = let more : r.hi + 1 - r.lo ≡ suc (r.hi - r.lo) = omega (arith, climbs.1) in rw more (0, omega arith, refl)
+    by from (r ∷ rs) (suc k) climbs l = Contains-append_right (row_choices r) (flat_map row_choices rs) (Act (get_or rs k x).place (get_or rs k x).lo) (by (place_index r.place + 1) rs k climbs.2 (omega arith))
 
-pub first_in : (d : DomainView) (x : Row) → Climbs 0 d.rows → 1 ≤ length d.rows → Contains (choices d) (Act (get_or d.rows 0 x).place (get_or d.rows 0 x).lo)
-first_in d x climbs l = first-in d.idle d.rows x climbs l
+pub start_in : (d : DomainView) (k : ℕ) (x : Row) → Climbs 0 d.rows → k < length d.rows → Contains (choices d) (Act (get_or d.rows k x).place (get_or d.rows k x).lo)
+start_in d k x climbs l = Contains-append_right (cond d.idle (Idle ∷ []) []) (flat_map row_choices d.rows) (Act (get_or d.rows k x).place (get_or d.rows k x).lo) (start-in d.rows k x climbs l)

@@ -35,10 +35,10 @@ use Rattle.reasons.specs.Closed.{all_nodes}
 -- ---- one choice
 
 -- a machine that runs and is to run acts by moving to another node, or by an allocation
-abbrev IsRunKind : ℕ → Place → Option Kind → Type 0
+abbrev pub IsRunKind : ℕ → Place → Option Kind → Type 0
 IsRunKind count place o = (o ≡ Some Allocate) ⊎ ((n : NodeId) × (place ≡ At n) × (n.0 < count) × (o ≡ Some Migrate))
 
-run-kind : (p : Instance) (v : ℕ) (h : NodeId) (place : Place) → state_of p v ≡ Running h → wanted_state p v ≡ To ToRunning → is_some (kind_of p (vm v) place) ≡ true → IsRunKind (node_count p) place (kind_of p (vm v) place)
+pub run-kind : (p : Instance) (v : ℕ) (h : NodeId) (place : Place) → state_of p v ≡ Running h → wanted_state p v ≡ To ToRunning → is_some (kind_of p (vm v) place) ≡ true → IsRunKind (node_count p) place (kind_of p (vm v) place)
 unfolding kind_of
 run-kind p v h Nowhere s w k = absurd (false≢true (rw (w, s) at k))
 run-kind p v h (At n) s w k = rw (w, s) (at (nat_lt n.0 (node_count p)) (n.0 == h.0) (is_raised p v) refl (rw (w, s) at k))
@@ -50,13 +50,13 @@ run-kind p v h (At n) s w k = rw (w, s) (at (nat_lt n.0 (node_count p)) (n.0 == 
     at false same raised e k = absurd (false≢true k)
 
 -- a use is no more than a demand
-use-le : (p : Instance) (v : ℕ) (w : Weight) → weight_of p v w Use ≤ weight_of p v w Demand
+pub use-le : (p : Instance) (v : ℕ) (w : Weight) → weight_of p v w Use ≤ weight_of p v w Demand
 use-le p v (Amount r) = use_of_le p v r
 use-le p v Presence = omega arith
 use-le p v Image = omega arith
 
 -- and is held somewhere, until an action ends and from its start on
-moved : (u d s e t : ℕ) → u ≤ d → s ≤ e → u ≤ cond (not (nat_le e t)) u 0 + cond (nat_le s t) d 0 + 0
+pub moved : (u d s e t : ℕ) → u ≤ d → s ≤ e → u ≤ cond (not (nat_le e t)) u 0 + cond (nat_le s t) d 0 + 0
 moved u d s e t l k = grind (arith, nat_tests)
 
 pub acts_up : (p : Instance) (v : ℕ) (w : Weight) (h : NodeId) (t : ℕ) (place : Place) (s : ℕ) → state_of p v ≡ Running h → h.0 < node_count p → wanted_state p v ≡ To ToRunning → is_some (kind_of p (vm v) place) ≡ true → weight_of p v w Use ≤ held_at p v w (all_nodes p) t (Act place s)
@@ -105,25 +105,28 @@ not_there rows count n k a b d c low high l out =
 
 -- ---- all choices of the rows
 
-starts-all : (P : Choice → Type 0) (place : Place) (from count : ℕ) → ((s : ℕ) → P (Act place s)) → All P (starts_from place from count)
+starts-all : (P : Choice → Type 0) (place : Place) (from count : ℕ) → ((s : ℕ) → from ≤ s → P (Act place s)) → All P (starts_from place from count)
 starts-all P place from zero h k d l = absurd (omega arith)
-starts-all P place from (suc count) h zero d l = h from
-starts-all P place from (suc count) h (suc k) d l = starts-all P place (from + 1) count h k d (omega arith)
+starts-all P place from (suc count) h zero d l = h from (omega arith)
+starts-all P place from (suc count) h (suc k) d l = starts-all P place (from + 1) count (λ s u. h s (omega (arith, u))) k d (omega arith)
 
-rows-all : (P : Choice → Type 0) (rows : List Row) → ((k : ℕ) (d : Row) → k < length rows → (s : ℕ) → P (Act (get_or rows k d).place s)) → All P (flat_map row_choices rows)
+rows-all : (P : Choice → Type 0) (rows : List Row) → ((k : ℕ) (d : Row) → k < length rows → (s : ℕ) → (get_or rows k d).lo ≤ s → P (Act (get_or rows k d).place s)) → All P (flat_map row_choices rows)
 rows-all P [] h = All-nil P
 rows-all P (r ∷ rs) h =
     All-append P (row_choices r) (flat_map row_choices rs) (starts-all P r.place r.lo (r.hi + 1 - r.lo) (h 0 r (omega arith))) (rows-all P rs (λ k d l. h (suc k) d (omega arith)))
 
--- a choice that acts is at the place of a row
-abbrev IsAtRow : List Row → Choice → Type 0
+-- a choice that acts is at the place of a row, no earlier than its first start
+abbrev pub IsAtRow : List Row → Choice → Type 0
 IsAtRow rows Idle = Unit {0}
-IsAtRow rows (Act place s) = (k : ℕ) × (k < length rows) × ((get_or rows k no_row).place ≡ place)
+IsAtRow rows (Act place s) = (k : ℕ) × (k < length rows) × ((get_or rows k no_row).place ≡ place) × ((get_or rows k no_row).lo ≤ s)
 
-at-row : (g : DomainView) (c : Choice) → Contains (choices g) c → IsAtRow g.rows c
+pub at-row : (g : DomainView) (c : Choice) → Contains (choices g) c → IsAtRow g.rows c
 at-row g c i =
-    All-contains (IsAtRow g.rows) (choices g) c (All-append (IsAtRow g.rows) (cond g.idle (Idle ∷ []) []) (flat_map row_choices g.rows) (idle g.idle) (rows-all (IsAtRow g.rows) g.rows (λ k d l s. (k, l, ap (λ (r : Row). r.place) (get_or_default g.rows k no_row d l))))) i
+    All-contains (IsAtRow g.rows) (choices g) c (All-append (IsAtRow g.rows) (cond g.idle (Idle ∷ []) []) (flat_map row_choices g.rows) (idle g.idle) (rows-all (IsAtRow g.rows) g.rows (λ k d l s u. (k, l, ap (λ (r : Row). r.place) (get_or_default g.rows k no_row d l), low k d l s u)))) i
   where
+    low : (k : ℕ) (d : Row) → k < length g.rows → (s : ℕ) → (get_or g.rows k d).lo ≤ s → (get_or g.rows k no_row).lo ≤ s
+    low k d l s u = let same : (get_or g.rows k no_row).lo ≡ (get_or g.rows k d).lo = ap (λ (r : Row). r.lo) (get_or_default g.rows k no_row d l) in omega (arith, u)
+
     idle : (b : Bool) → All (IsAtRow g.rows) (cond b (Idle ∷ []) [])
     idle true zero d l = tt
     idle true (suc k) d l = absurd (omega arith)

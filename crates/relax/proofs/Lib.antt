@@ -4,5 +4,6 @@ mod AwayLemmas
 mod FloorLemmas
 mod LeastLemmas
 mod MemberLemmas
+mod MoveLemmas
 mod PlanLemmas
 mod StartLemmas

@@ -1,4 +1,4 @@
-//! How little a machine may hold on all nodes, as far as its state and its wish tell.
+//! How little a machine may hold in an area, as far as its state, its wish and its rows tell.
 ghost use Rattle.std.specs.Prelude.{◌≡◌, ◌≢◌, ℕ, ◌+◌, ◌-◌, ◌<◌, ◌≤◌, true, List, length, slice_index_or, is_some, IsTrue};
 ghost use Rattle.std.specs.List.{Contains};
 ghost use Rattle.cluster.specs.declared.choices.Choice.{Choice as AnyChoice};
@@ -19,11 +19,12 @@ ghost use Rattle.slices.specs.declared.slice.What.TheVariants.{Use};
 ghost use Rattle.reasons.specs.Closed.{all_nodes};
 ghost use Rattle.relax.specs.Areas.{IsSized, IsWeight, nodes_of};
 
-use crate::area::{Area, node_total};
+use crate::area::{Area, has, node_total};
 use crate::measures::state;
+use crate::moves::{is_out_by, is_to_run, move_time};
 use catalogue::problem::Problem;
 use catalogue::targets::{Target, Wish};
-use cluster::choices::Place;
+use cluster::choices::{Instant, Place};
 use cluster::ids::{Element, NodeId, VmId};
 use cluster::states::State;
 use domains::domain::Domain;
@@ -32,20 +33,6 @@ use domains::view::{Sight, View, shown};
 use slices::actions::kind_of;
 use slices::holding::amount;
 use slices::slice::{Weight, What};
-
-// whether a machine that runs is to run on
-fn is_to_run(p: &Problem, v: VmId) -> bool
-    requires { IsElement p.now.given (Element.Vm v) }
-    ensures { IsTrue result → (h : AnyNode) → state_of p.now.given v.0 ≡ State.Running h → wanted_state p.now.given v.0 ≡ Wish.To Target.Running }
-{
-    match p.wanted(Element::Vm(v)) {
-        Wish::Keep | Wish::To(Target::Running) => true,
-        Wish::To(
-            Target::Online | Target::Offline | Target::Sleeping | Target::Ready | Target::Killed,
-        )
-        | Wish::Clash => false,
-    }
-}
 
 // a place's number in the order of places
 fn place_number(place: Place) -> u64
@@ -171,23 +158,67 @@ fn use_weight(p: &Problem, v: VmId, weight: Weight) -> u64
     }
 }
 
+// whether a machine that runs on a host in an area is to run, and can only stay or act, and cannot have moved
+// out of the area by an instant
+fn keeps_on(p: &Problem, view: &View, v: VmId, host: NodeId, area: &Area, t: Instant) -> bool
+    requires region { IsSized p.now.given view.now.region.now }
+    requires machine { IsElement p.now.given (Element.Vm v) }
+    requires runs { state_of p.now.given v.0 ≡ State.Running host }
+    ensures { IsTrue result → (w : AnyWeight) (c : AnyChoice) → Contains (seen view.now.region.now view.now.lens (vm v.0)) c → weight_of p.now.given v.0 w Use ≤ held_at p.now.given v.0 w (nodes_of p.now.given area.now) t c }
+{
+    if !has(p, area, host) {
+        return false;
+    }
+    if !is_part(shown(view.lens, Element::Vm(v))) {
+        return false;
+    }
+    if !is_to_run(p, v) {
+        return false;
+    }
+    let domain = view.region.domain(Element::Vm(v));
+    if !always_acts(p, v, host, domain) {
+        return false;
+    }
+    !is_out_by(p, domain.rows(), area, move_time(p, v), t)
+}
+
+// whether a machine that runs on a host holds at least what it uses at present, as far as this tells
+fn keeps_use(p: &Problem, view: &View, v: VmId, host: NodeId, area: &Area, t: Instant) -> bool
+    requires region { IsSized p.now.given view.now.region.now }
+    requires machine { IsElement p.now.given (Element.Vm v) }
+    requires runs { state_of p.now.given v.0 ≡ State.Running host }
+    ensures { IsTrue result → (w : AnyWeight) (c : AnyChoice) → Contains (seen view.now.region.now view.now.lens (vm v.0)) c → weight_of p.now.given v.0 w Use ≤ held_at p.now.given v.0 w (nodes_of p.now.given area.now) t c }
+{
+    match area {
+        Area::All => runs_on(p, view, v, host),
+        Area::One(_) | Area::In(_) | Area::OutsideOne(_) | Area::Outside(_) => keeps_on(
+            p, view, v, host, area, t,
+        ),
+    }
+}
+
 /// A number that no choice that is seen of a machine is below in what it holds in an area: on all
-/// nodes, one that runs and is to run holds at least what it uses at present.
-pub(crate) fn floor(p: &Problem, view: &View, v: VmId, weight: Weight, area: &Area) -> u64
+/// nodes, one that runs and is to run holds at least what it uses at present; in an area that it runs in, it
+/// does as long as it cannot have moved out.
+pub(crate) fn floor(
+    p: &Problem,
+    view: &View,
+    v: VmId,
+    weight: Weight,
+    area: &Area,
+    t: Instant,
+) -> u64
     requires region { IsSized p.now.given view.now.region.now }
     requires machine { IsElement p.now.given (Element.Vm v) }
     requires weight { IsWeight p.now.given weight }
-    ensures { (t : ℕ) (c : AnyChoice) → Contains (seen view.now.region.now view.now.lens (vm v.0)) c → result ≤ held_at p.now.given v.0 weight (nodes_of p.now.given area.now) t c }
+    ensures { (c : AnyChoice) → Contains (seen view.now.region.now view.now.lens (vm v.0)) c → result ≤ held_at p.now.given v.0 weight (nodes_of p.now.given area.now) t c }
 {
-    match area {
-        Area::All => match state(p, v) {
-            State::Running(host) => if runs_on(p, view, v, host) {
-                use_weight(p, v, weight)
-            } else {
-                0
-            },
-            State::Init | State::Ready | State::Sleeping(_) | State::Gone => 0,
+    match state(p, v) {
+        State::Running(host) => if keeps_use(p, view, v, host, area, t) {
+            use_weight(p, v, weight)
+        } else {
+            0
         },
-        Area::One(_) | Area::In(_) | Area::OutsideOne(_) | Area::Outside(_) => 0,
+        State::Init | State::Ready | State::Sleeping(_) | State::Gone => 0,
     }
 }

@@ -9,6 +9,7 @@ pub mod forbidden;
 pub mod groups;
 pub mod laws;
 pub mod measures;
+pub mod moves;
 pub mod named;
 pub mod plan;
 pub mod refutes;

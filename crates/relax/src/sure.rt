@@ -1,5 +1,5 @@
 //! What is sure in what is seen of a region.
-ghost use Rattle.std.specs.Prelude.{◌≡◌, ℕ, ◌≤◌, ◌↔◌, ◌<◌, false, [], nat_lt, length, IsTrue, Option as AnyOption};
+ghost use Rattle.std.specs.Prelude.{◌≡◌, ℕ, ◌≤◌, ◌↔◌, ◌<◌, false, [], nat_lt, length, slice_index_or, IsTrue, Option as AnyOption};
 ghost use Rattle.std.specs.List.{Contains};
 ghost use Rattle.cluster.specs.declared.choices.Choice.{Choice as AnyChoice};
 ghost use Rattle.sums.specs.Least.{lowest as lowest_of, least};
@@ -10,7 +10,7 @@ ghost use Rattle.slices.specs.Limits.{max_held};
 ghost use Rattle.slices.specs.Snapshots.{held_at};
 ghost use Rattle.slices.specs.declared.slice.Weight.{Weight as AnyWeight};
 ghost use Rattle.slices.specs.declared.slice.Weight.TheVariants.{Image as ImageOf};
-ghost use Rattle.domains.specs.Choices.{Climbs, choices};
+ghost use Rattle.domains.specs.Choices.{Climbs, choices, no_row};
 ghost use Rattle.domains.specs.Laws.{is_above_none, is_nought};
 ghost use Rattle.domains.specs.Sets.{HasElement};
 ghost use Rattle.domains.specs.Views.{seen};
@@ -22,11 +22,13 @@ use crate::floors::floor;
 use crate::measures::{
     EndOf, HeldFrom, HeldIn, IsPowered, IsSoFar, IsUnusable, goes_in, is_hosted_in, state,
 };
+use crate::moves::may_have_left;
 use catalogue::problem::Problem;
 use cluster::choices::{Choice, Instant};
 use cluster::ids::{Element, NodeId, VmId};
 use domains::domain::Domain;
 use domains::measure::Nought;
+use domains::parts::Row;
 use domains::view::{Sight, View, lowest_seen, shown};
 use slices::slice::Weight;
 use slices::stage::Progress;
@@ -51,35 +53,44 @@ fn is_zero(lowest: Option<u64>) -> bool
     }
 }
 
-// whether Idle, or else the first start, is a choice that does not go to an area
-fn is_first_out(p: &Problem, domain: &Domain, area: &Area) -> bool
-    requires { Climbs 0 domain.now.rows }
-    ensures { IsTrue result → (c : AnyChoice) × Contains (choices domain.now) c × (the_goes_in c (nodes_of p.now.given area.now) ≡ false) }
+// whether a row is at a place that is not in an area
+fn has_row_out(p: &Problem, rows: &[Row], area: &Area) -> bool
+    ensures { IsTrue result → (k : ℕ) × (k < length rows.now) × (the_goes_in (AnyChoice.Act (slice_index_or rows.now k no_row).place (slice_index_or rows.now k no_row).lo) (nodes_of p.now.given area.now) ≡ false) }
 {
-    if domain.idle() {
-        return true;
+    for row in rows {
+        if !goes_in(p, first_of(*row), area) {
+            return true;
+        }
     }
-    match domain.rows() {
-        [] => false,
-        [row, ..] => !goes_in(
-            p,
-            Choice::Act {
-                place: row.place,
-                start: row.lo,
-            },
-            area,
-        ),
+    false
+}
+
+// the first choice of a row
+fn first_of(row: Row) -> Choice
+    ensures { result ≡ AnyChoice.Act row.place row.lo }
+{
+    Choice::Act {
+        place: row.place,
+        start: row.lo,
     }
 }
 
-// whether some choice that is seen of a machine does not go to an area, as far as the first one tells
+// whether Idle, or the first start at some place, is a choice that does not go to an area
+fn has_out(p: &Problem, domain: &Domain, area: &Area) -> bool
+    requires { Climbs 0 domain.now.rows }
+    ensures { IsTrue result → (c : AnyChoice) × Contains (choices domain.now) c × (the_goes_in c (nodes_of p.now.given area.now) ≡ false) }
+{
+    domain.idle() || has_row_out(p, domain.rows(), area)
+}
+
+// whether some choice that is seen of a machine does not go to an area, where all of them are seen
 fn may_stay_out(p: &Problem, view: &View, v: VmId, area: &Area) -> bool
     requires region { IsSized p.now.given view.now.region.now }
     requires machine { IsElement p.now.given (Element.Vm v) }
     ensures { IsTrue result → (c : AnyChoice) × Contains (seen view.now.region.now view.now.lens (vm v.0)) c × (the_goes_in c (nodes_of p.now.given area.now) ≡ false) }
 {
     match shown(view.lens, Element::Vm(v)) {
-        Sight::All => is_first_out(p, view.region.domain(Element::Vm(v)), area),
+        Sight::All => has_out(p, view.region.domain(Element::Vm(v)), area),
         Sight::In(_) | Sight::Out(_) | Sight::Only(_) => false,
     }
 }
@@ -106,7 +117,7 @@ pub fn least_held(p: &Problem, view: &View, v: VmId, weight: Weight, area: &Area
     ensures held { result ≡ (sure p.now.given (seen view.now.region.now view.now.lens) t).held v.0 weight (nodes_of p.now.given area.now) }
     ensures small { result ≤ max_held }
 {
-    if is_away(p, view, v, area) {
+    if is_away(p, view, v, area) || may_have_left(p, view, v, area, t) {
         return 0;
     }
     let measure = HeldIn {
@@ -116,7 +127,7 @@ pub fn least_held(p: &Problem, view: &View, v: VmId, weight: Weight, area: &Area
         area,
         at: t,
     };
-    least_from(view, v, measure, floor(p, view, v, weight, area))
+    least_from(view, v, measure, floor(p, view, v, weight, area, t))
 }
 
 // the least of what a machine holds, where no choice that is seen is below a number
