@@ -5,7 +5,7 @@ use Rattle.slices.specs.Actions.{is_legal}
 use Rattle.domains.specs.Sets.{same_element}
 use Rattle.domains.proofs.Public.{filter_is_fewer}
 use Rattle.relax.specs.Laws.{LegalStays}
-pub use Rattle.relax.proofs.AwayLemmas.{away, away_least, first_in, idle_in}
+pub use Rattle.relax.proofs.AwayLemmas.{away, away_least, idle_in, start_in}
 
 pub legal_stays : LegalStays
 legal_stays p s x test legal e there c h = at (same_element e x) h
