@@ -13,7 +13,7 @@ use Rattle.trees.specs.Trees.{Tree, AtEach, Leads, steps_of}
 use Rattle.trees.specs.Goals.{decisions, has_left, left_set, lower_of, shown}
 use Rattle.trees.specs.Proving.{Proves, StepHolds}
 use Rattle.trees.specs.Searching.{IsLean, LeanAt}
-use Rattle.trees.specs.Certificates.{IsCertificate, IsHandedIn, bound_of, least_of}
+use Rattle.trees.specs.Certificates.{IsHandedIn, bound_of, least_of}
 use Rattle.trees.proofs.Public.{at_each_both, at_each_map, gathered_whole, leads_same, leads_split, leads_tree}
 use Rattle.cert_model.specs.declared.why.Why.{Why}
 use Rattle.cert_model.specs.declared.why.Why.TheVariants.{Structure, Name, Part, Reason, Plan, Goal as GoalWhy, Lean}
@@ -21,20 +21,18 @@ use Rattle.cert_model.specs.Walks.{IsEndWhy, IsFault, IsProof, IsRefused, IsWron
 use Rattle.cert_text.specs.declared.text.StepText.{StepText}
 use Rattle.cert_text.specs.Spelling.{certificate_text, step_text}
 use Rattle.cert_text.specs.Texts.{IsGoal}
-use Rattle.cert_read.specs.declared.line.LineFault.{LineFault}
 use Rattle.cert_read.specs.declared.line.Line.TheVariants.{End, Over}
 use Rattle.cert_read.specs.declared.position.Position.{Position}
 use Rattle.cert_read.specs.Laws.{ReadsOn, lines_of}
 use Rattle.cert_read.specs.Lines.{start, turn}
-use Rattle.cert_read.specs.Reader.{IsOutside}
 use Rattle.cert_read.proofs.Public.{certificates_read_back}
 use Rattle.cert_check.specs.declared.verdict.CheckFault.{CheckFault}
 use Rattle.cert_check.specs.declared.verdict.CheckFault.TheVariants.{Line, Memory}
 use Rattle.cert_check.specs.declared.verdict.Verdict.{Verdict}
 use Rattle.cert_check.specs.declared.verdict.Verdict.TheVariants.{Yes, No}
-use Rattle.cert_check.specs.Laws.{CertificateIsAccepted, IsWritable, IsYesUnlessOutside}
+use Rattle.cert_check.specs.Laws.{CertificateIsAccepted, IsYesUnlessOutside}
 use Rattle.cert_check.specs.Names.{named_step}
-use Rattle.cert_check.specs.Verdicts.{AreTaken, CheckGives, IsFit, IsFollowed, IsGoalRefused, IsShown, IsStepRefused, IsTextWhy, IsUnread, IsYes, LinesGive}
+use Rattle.cert_check.specs.Verdicts.{AreTaken, IsFit, IsGoalRefused, IsStepRefused, IsTextWhy, IsYes, LinesGive}
 use Rattle.cert_check.proofs.LineLemmas.{front_named, front_read, goal_next, no_fault, no_fault_here, read_up, step_next}
 use Rattle.cert_check.proofs.NamedLemmas.{step_here}
 use Rattle.cert_check.proofs.WrittenLemmas.{AreNamedSteps, all_here, all_named, all_written, goal_fits, one_named}
