@@ -1,4 +1,4 @@
--- Which words are a seed.
+-- Which words are a number.
 use Rattle.std.proofs.Common.{◌≡◌, ◌≢◌, ℕ, zero, suc, ◌<◌, ◌==◌, ◌&&◌, ◌^◌, Bool, true, false, not, List, [], ◌∷◌, length, get_or, nat_lt, Some, None, Result, Ok, Err, refl, sym, ap, ◌∙◌, arith, if◌then◌else◌}
 use Rattle.std.proofs.lemmas.Grind.{common_steps}
 use Rattle.std.proofs.lemmas.Bool.{lt-ltb, ltb-true, and_parts}
@@ -9,7 +9,7 @@ use Rattle.std.proofs.lemmas.Str.Parse.{IsNumeralModel, numerals_by_value, tells
 use Rattle.std.specs.Fmt.{decimal}
 use Rattle.std.specs.Str.{bytes_eq}
 use Rattle.std.specs.Str.Parse.{AllDigits, ParsesUnsigned, digits_value}
-use Rattle.btrplan.specs.Words.{is_plain, seed_of}
+use Rattle.btrplan.specs.Words.{is_plain, number_of}
 
 own : IsNumeralModel (AllDigits 10) (digits_value 10)
 own = numerals_by_value (AllDigits 10) tells_digits
@@ -34,9 +34,9 @@ plain_decimal : (n : ℕ) → n < 2 ^ 64 → is_plain (decimal n) ≡ true
 plain_decimal zero small = rw (decimal_digit 0 (omega arith)) refl
 plain_decimal (suc n) small = plain_from (decimal (suc n)) (decimal_nonempty (suc n) small) (first_decimal (suc n) (omega arith) small)
 
-pub seed_read : {E : Type 0} (bs : List ℕ) (n : ℕ) (r : Result ℕ E) → ParsesUnsigned 64 10 bs r → r ≡ Ok n → is_plain bs ≡ true → seed_of bs ≡ Some n
-unfolding seed_of
-seed_read bs n r parses is plain =
+pub number_read : {E : Type 0} (bs : List ℕ) (n : ℕ) (r : Result ℕ E) → ParsesUnsigned 64 10 bs r → r ≡ Ok n → is_plain bs ≡ true → number_of bs ≡ Some n
+unfolding number_of
+number_read bs n r parses is plain =
     let start = plain_start bs plain in
     let at = OkIff-at_ok r (AllDigits 10 bs × (0 < length bs) × (digits_value 10 bs < 2 ^ 64)) (digits_value 10 bs) n (parse_plain own 64 bs r parses start.0) is in
     let text : decimal (digits_value 10 bs) ≡ bs = decimal-digits_value own bs at.0.0 at.0.1 start.1 at.0.2 in
@@ -44,19 +44,19 @@ seed_read bs n r parses is plain =
     let same : bytes_eq bs (decimal (digits_value 10 bs)) ≡ true = (bytes_eq-Decides bs (decimal (digits_value 10 bs))).1 (sym text) in
     rw (small, same) (ap Some (sym at.1))
 
-no_seed : (bs : List ℕ) → (digits_value 10 bs < 2 ^ 64 → bs ≡ decimal (digits_value 10 bs) → ⊥) → seed_of bs ≡ None
-unfolding seed_of
-no_seed bs never = by (nat_lt (digits_value 10 bs) (2 ^ 64)) (bytes_eq bs (decimal (digits_value 10 bs))) refl refl
+no_number : (bs : List ℕ) → (digits_value 10 bs < 2 ^ 64 → bs ≡ decimal (digits_value 10 bs) → ⊥) → number_of bs ≡ None
+unfolding number_of
+no_number bs never = by (nat_lt (digits_value 10 bs) (2 ^ 64)) (bytes_eq bs (decimal (digits_value 10 bs))) refl refl
   where
     by : (a b : Bool) → nat_lt (digits_value 10 bs) (2 ^ 64) ≡ a → bytes_eq bs (decimal (digits_value 10 bs)) ≡ b → (if a && b then Some (digits_value 10 bs) else None) ≡ None
     by true true small same = absurd (never (ltb-true (digits_value 10 bs) (2 ^ 64) small) ((bytes_eq-Decides bs (decimal (digits_value 10 bs))).0 same))
     by true false small same = refl
     by false b small same = refl
 
-pub seed_unread : {E : Type 0} (bs : List ℕ) (e : E) (r : Result ℕ E) → ParsesUnsigned 64 10 bs r → r ≡ Err e → seed_of bs ≡ None
-seed_unread bs e r parses is = no_seed bs (λ small same. let read : r ≡ Ok (digits_value 10 bs) = parse-decimal 64 (digits_value 10 bs) bs r small small same parses in cc)
+pub number_unread : {E : Type 0} (bs : List ℕ) (e : E) (r : Result ℕ E) → ParsesUnsigned 64 10 bs r → r ≡ Err e → number_of bs ≡ None
+number_unread bs e r parses is = no_number bs (λ small same. let read : r ≡ Ok (digits_value 10 bs) = parse-decimal 64 (digits_value 10 bs) bs r small small same parses in cc)
 
-pub seed_signed : (bs : List ℕ) → is_plain bs ≡ false → seed_of bs ≡ None
-seed_signed bs other = no_seed bs (λ small same. let plain : is_plain bs ≡ true = ap is_plain same ∙ plain_decimal (digits_value 10 bs) small in cc)
+pub number_signed : (bs : List ℕ) → is_plain bs ≡ false → number_of bs ≡ None
+number_signed bs other = no_number bs (λ small same. let plain : is_plain bs ≡ true = ap is_plain same ∙ plain_decimal (digits_value 10 bs) small in cc)
 
-pub ruleset seed_rules = (seed_read, seed_unread, seed_signed)
+pub ruleset number_rules = (number_read, number_unread, number_signed)
