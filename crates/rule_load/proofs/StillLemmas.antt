@@ -29,7 +29,7 @@ use Rattle.standing.proofs.Public.{kept_law}
 
 -- ---- one choice, away from the host
 
-abbrev arrival_of : Choice → Option Arrival
+abbrev pub arrival_of : Choice → Option Arrival
 arrival_of Idle = None
 arrival_of (Act Nowhere s) = None
 arrival_of (Act (At m) s) = Some (record { node = m; last = s })
@@ -38,7 +38,7 @@ and-true : (b : Bool) → b ≡ (b && true)
 and-true true = refl
 and-true false = refl
 
-choice_stands : (p : Instance) (v : ℕ) (c : Choice) → IsStanding p v (c ∷ []) (record { leave = leave_of p v c; come = arrival_of c })
+pub choice_stands : (p : Instance) (v : ℕ) (c : Choice) → IsStanding p v (c ∷ []) (record { leave = leave_of p v c; come = arrival_of c })
 choice_stands p v c = record { leave = refl; come = λ n t. come c n t }
   where
     come : (c : Choice) (n t : ℕ) → comes_by n t (arrival_of c) ≡ surely (has_come n t) (c ∷ [])
