@@ -1,5 +1,5 @@
 -- Where bounds of what is used fit, nothing is overloaded.
-use Rattle.std.proofs.Common.{◌≡◌, ◌⊎◌, inl, inr, ℕ, zero, suc, ◌+◌, ◌-◌, ◌<◌, ◌≤◌, cond, List, length, subst, sym, arith}
+use Rattle.std.proofs.Common.{◌≡◌, inl, inr, ℕ, zero, suc, ◌+◌, ◌-◌, ◌<◌, ◌≤◌, cond, List, length, subst, sym, arith}
 use Rattle.std.specs.Prelude.{slice_index_or}
 use Rattle.std.proofs.lemmas.Bool.{cases_eq, cases_lt}
 use Rattle.sums.specs.Sums.{sum_to}
@@ -11,7 +11,7 @@ use Rattle.catalogue.specs.Instance.{Instance, IsElement}
 use Rattle.catalogue.specs.Values.{capacity_of}
 use Rattle.slices.specs.declared.slice.Weight.TheVariants.{Amount}
 use Rattle.slices.specs.Elements.{machine_count, node_count, node, vm}
-use Rattle.slices.specs.Snapshots.{load, room}
+use Rattle.slices.specs.Snapshots.{load}
 use Rattle.slices.specs.Stages.{Nodes, one}
 use Rattle.domains.specs.Sets.{RegionView, Sets, domain_at, sets, setting}
 use Rattle.reasons.specs.Closed.{IsEnd, all_nodes}

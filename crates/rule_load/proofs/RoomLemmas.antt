@@ -1,5 +1,5 @@
 -- Which room a node has during a period.
-use Rattle.std.proofs.Common.{◌≡◌, ℕ, suc, ◌+◌, ◌<◌, ◌≤◌, ◌==◌, ◌&&◌, ◌||◌, Bool, true, false, not, nat_le, nat_lt, cond, List, [], ◌∷◌, IsTrue, refl, sym, subst, arith}
+use Rattle.std.proofs.Common.{◌≡◌, ℕ, suc, ◌+◌, ◌<◌, ◌≤◌, ◌==◌, ◌&&◌, ◌||◌, Bool, true, false, not, nat_le, nat_lt, cond, List, [], ◌∷◌, refl, sym, subst, arith}
 use Rattle.std.specs.List.{Contains}
 use Rattle.std.proofs.lemmas.Bool.{false≢true, lt-ltb}
 use Rattle.std.proofs.lemmas.Bool.Decides.{Decides-eqb, nat_tests}
@@ -13,7 +13,7 @@ use Rattle.catalogue.specs.Values.{capacity_of}
 use Rattle.slices.specs.Actions.{action_duration}
 use Rattle.slices.specs.Elements.{node, node_count}
 use Rattle.slices.specs.Snapshots.{Snapshot, room, stage_at, usable_at}
-use Rattle.slices.specs.Stages.{one, stage_of, usable_of}
+use Rattle.slices.specs.Stages.{one}
 use Rattle.domains.specs.Sets.{Sets, may, setting, surely}
 use Rattle.domains.proofs.Public.{contains_here, surely_each}
 use Rattle.reasons.specs.Closed.{all_nodes}

@@ -1,5 +1,5 @@
 -- Helping only: over the starts at one place what is measured is least at the first or the last.
-use Rattle.std.specs.Prelude.{ℕ, ◌≤◌, ◌-◌, min, Option, Some, None, if◌then◌else◌}
+use Rattle.std.specs.Prelude.{ℕ, ◌≤◌, ◌-◌, min, Option, Some, None}
 use Rattle.std.proofs.Common.{Bool, true, false, cond, arith}
 use Rattle.std.proofs.lemmas.Bool.Decides.{nat_tests}
 use Rattle.cluster.specs.declared.choices.Choice.TheVariants.{Act}
