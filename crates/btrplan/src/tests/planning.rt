@@ -51,10 +51,10 @@ fn plans<'a>(
 
 /// Plans an instance and checks the certificate strictly, on the same desk and sink, and sees the status
 /// of the plan and what is printed by both.
-fn plans_and_checks(
+fn plans_and_checks<'a>(
     rt: &impl Abort,
     alloc: Global,
-    (line, instance): (&str, &[u8]),
+    (line, instance): (&'a str, &'a [u8]),
     (status, printed): (Status, &str),
 ) -> Result<(), Fail> {
     let given = Given {
@@ -198,15 +198,15 @@ fn budgets(rt: HostRuntime) -> Result<(), Fail> {
 }
 
 /// Plans with each single call of the desk failing in turn, and with one of the sink.
-fn each_call_fails(
+fn each_call_fails<'a>(
     rt: &impl Abort,
     alloc: Global,
-    instance: &[u8],
-    (steps, whole): (&[u8], PlanLeft<'_>),
+    instance: &'a [u8],
+    (steps, whole): (&'a [u8], PlanLeft<'a>),
 ) -> Result<(), Fail> {
     let (status, printed, certificate, plan) = whole;
     // the call of the desk that fails, the status, and what is left in the certificate and in the plan
-    let table: [(u64, Status, &[u8], &[u8]); 8] = [
+    let table: [(u64, Status, &'a [u8], &'a [u8]); 8] = [
         (0, Status::ReadFault, OLD_CERTIFICATE, OLD_PLAN),
         (1, Status::ReadFault, OLD_CERTIFICATE, OLD_PLAN),
         (2, Status::WriteFault, OLD_CERTIFICATE, OLD_PLAN),
@@ -217,10 +217,10 @@ fn each_call_fails(
         (7, Status::WriteFault, certificate, b""),
     ];
     for (at, (call, status, certificate, plan)) in table.into_iter().enumerate() {
-        let left: PlanLeft<'_> = (status, b"", certificate, plan);
+        let left: PlanLeft<'a> = (status, b"", certificate, plan);
         plans(rt, alloc, (instance, (Some(call), None)), left, at)?;
     }
-    let unprinted: PlanLeft<'_> = (Status::WriteFault, b"", certificate, plan);
+    let unprinted: PlanLeft<'a> = (Status::WriteFault, b"", certificate, plan);
     plans(rt, alloc, (instance, (None, Some(0))), unprinted, 8)?;
     let past = (status, printed, certificate, plan);
     plans(rt, alloc, (instance, (Some(8), Some(1))), past, 9)
