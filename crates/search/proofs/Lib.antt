@@ -13,3 +13,4 @@ pub mod LeafLemmas
 pub mod TurnLemmas
 pub mod WholeLemmas
 pub mod StayLemmas
+mod TestLemmas

@@ -15,3 +15,6 @@ mod turns;
 
 pub use found::Found;
 pub use solving::solve;
+
+#[cfg(test)]
+mod tests;
