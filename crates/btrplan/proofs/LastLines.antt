@@ -76,10 +76,10 @@ always_anyhow takes after (Err f) always = last_always takes after (line_of f) (
 pub no_command_takes : (command : Option Command) (taking : Taking) (before after : Outside) (ended : Result Ending Fault) → command ≡ None → EndsAnyhow (Takes command taking before) after ended
 no_command_takes command taking before after ended is = rw is (always_anyhow (Takes None taking before) after ended (λ then result. tt))
 
-pub plan_takes : (command : Option Command) (instance plan_file certificate : List ℕ) (taking : Taking) (before after : Outside) (ended : Result Ending Fault) →
-    command ≡ Some (plan instance plan_file certificate) → EndsAnyhow (Takes command taking before) after ended
-plan_takes command instance plan_file certificate taking before after ended is =
-    rw is (always_anyhow (Takes (Some (plan instance plan_file certificate)) taking before) after ended (λ then result. tt))
+pub plan_takes : (command : Option Command) (instance plan_file certificate : List ℕ) (budget : ℕ) (taking : Taking) (before after : Outside) (ended : Result Ending Fault) →
+    command ≡ Some (plan instance plan_file certificate budget) → EndsAnyhow (Takes command taking before) after ended
+plan_takes command instance plan_file certificate budget taking before after ended is =
+    rw is (always_anyhow (Takes (Some (plan instance plan_file certificate budget)) taking before) after ended (λ then result. tt))
 
 pub check_takes : (command : Option Command) (instance plan_file certificate : List ℕ) (strict : Bool) (taking : Taking) (before after : Outside) (ended : Result Ending Fault) →
     command ≡ Some (check instance plan_file certificate strict) → EndsAnyhow (Takes command taking before) after ended

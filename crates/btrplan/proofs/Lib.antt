@@ -1,13 +1,12 @@
 pub mod Causing
 pub mod CheckAnswers
+pub mod Covering
 pub mod Ends
 pub mod ExecuteAnswers
 pub mod GenerateAnswers
 pub mod LastLines
-pub mod OneStep
+pub mod Numbers
 pub mod PlanAnswers
 pub mod Printing
 pub mod Readings
 pub mod ReplayAnswers
-pub mod Seeds
-pub mod StayingPlan

@@ -83,14 +83,6 @@ IsOfExecuting fault.ReadFault = Unit {0}
 IsOfExecuting fault.WriteFault = Unit {0}
 IsOfExecuting fault.Memory = Unit {0}
 
--- A part that decides and writes may fail by the input, by a failed write, or by want of memory.
-abbrev pub IsOfDeciding : Fault → Type 0
-IsOfDeciding fault.Words = ⊥
-IsOfDeciding (fault.Input line) = Unit {0}
-IsOfDeciding fault.ReadFault = ⊥
-IsOfDeciding fault.WriteFault = Unit {0}
-IsOfDeciding fault.Memory = Unit {0}
-
 -- The fault with this line, unless memory ran out.
 abbrev pub IsRefusal : Fault → List ℕ → Type 0
 IsRefusal fault.Words line = ⊥

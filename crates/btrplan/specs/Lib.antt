@@ -3,7 +3,6 @@ pub mod Words
 pub mod Meaning
 pub mod Answer
 pub mod Inputs
-pub mod Deciding
 pub mod Commands
 pub mod Printed
 pub mod Causes

@@ -3,15 +3,15 @@
 #![tactic(auto)]
 
 mod commands;
-mod deciding;
 mod fault;
 mod inputs;
+mod rules;
 mod run;
 mod status;
 mod words;
 
 use plan_io::{FileDesk, StdSink, StdSource};
-use run::run;
+use rules::run_by_rules;
 use status::Status;
 use std::process::ExitCode;
 use std::{env, io};
@@ -36,7 +36,7 @@ fn main(rt: HostRuntime) -> ExitCode {
     let mut desk = FileDesk::new(&rt, alloc);
     let mut input = StdSource::new(rt.stdin());
     let mut out = StdSink::new(io::writer(&rt));
-    let status = run(alloc, &words, &mut desk, &mut input, &mut out);
+    let status = run_by_rules(alloc, &words, &mut desk, &mut input, &mut out);
     ExitCode::from(status.code())
 }
 

@@ -3,6 +3,7 @@
 ghost use Rattle.std.specs.Prelude.{◌≡◌, ◌≢◌, ◌⊎◌, ◌++◌, ◌↔◌, ℕ, List, Option, None, Err, IsTrue};
 ghost use Rattle.plan_io.specs.Causes.{Rose};
 ghost use Rattle.plan_io.specs.Files.{Files};
+ghost use Rattle.prop_core.specs.Lists.{Covered};
 ghost use Rattle.btrplan.specs.Words.{asked, Command as Asked};
 ghost use Rattle.btrplan.specs.Answer.{Outside, outside, told};
 ghost use Rattle.btrplan.specs.Commands.{MayRun, IsAnswer, Leaves, LeavesAtFailedRead};
@@ -21,7 +22,9 @@ use crate::commands::replaying::replay;
 use crate::fault::{Ending, Fault};
 use crate::status::Status;
 use crate::words::{Command, read_words};
+use branching::brancher::Brancher;
 use plan_io::{Desk, OutFault, Sink, Source, write_text};
+use prop_core::propagator::Propagator;
 use std::alloc::Global;
 
 /// Does what the words ask for, but for the last line where one is still to be printed.
@@ -32,7 +35,10 @@ fn answer<D: Desk, I: Source, O: Sink>(
     desk: &mut D,
     input: &mut I,
     out: &mut O,
+    rules: &mut Vec<Box<dyn Propagator>>,
+    brancher: &mut Box<dyn Brancher>,
 ) -> Result<Ending, Fault>
+    requires covered { Covered (λ b. meaning b) rules.old.items }
     requires names { MayRun D.reads D.writes (asked words.now) }
     ensures ends { let source = told I.tells (I.rest input.old) in
         let before = outside (D.files desk.old) (O.written out.old) in
@@ -71,8 +77,18 @@ fn answer<D: Desk, I: Source, O: Sink>(
                 instance,
                 plan_file,
                 certificate,
+                budget,
             },
-        ) => plan(alloc, desk, instance, plan_file, certificate),
+        ) => plan(
+            alloc,
+            desk,
+            rules,
+            brancher,
+            instance,
+            plan_file,
+            certificate,
+            budget,
+        ),
         Some(
             Command::Check {
                 instance,
@@ -161,14 +177,18 @@ fn finish<O: Sink>(out: &mut O, ended: Result<Ending, Fault>) -> Status
 }
 
 /// Does what the words ask for: it reads the files, writes those that the command creates, prints the
-/// lines, and says how it ended. The words are those of the command line without the program's name.
+/// lines, and says how it ended. The words are those of the command line without the program's name. `plan`
+/// asks the rules that are handed in what to cut, and the brancher where to split; both end with the run.
 pub fn run<D: Desk, I: Source, O: Sink>(
     alloc: Global,
     words: &[String],
     desk: &mut D,
     input: &mut I,
     out: &mut O,
+    rules: Vec<Box<dyn Propagator>>,
+    brancher: Box<dyn Brancher>,
 ) -> Status
+    requires covered { Covered (λ b. meaning b) rules.items }
     requires names { MayRun D.reads D.writes (asked words.now) }
 
     // The answer, where the desk and the sink tell, nothing failed and memory was there.
@@ -221,6 +241,8 @@ pub fn run<D: Desk, I: Source, O: Sink>(
         KeepsDeskReads command (D.read_faults desk.old) (D.read_faults desk.new) }
     ensures reads { result ≡ Status.ReadFault → ReadsInput (asked words.now) }
 {
-    let ended = answer(alloc, words, desk, input, out);
+    let mut rules = rules;
+    let mut brancher = brancher;
+    let ended = answer(alloc, words, desk, input, out, &mut rules, &mut brancher);
     finish(out, ended)
 }

@@ -1,4 +1,4 @@
-use crate::run::run;
+use crate::rules::run_by_rules;
 use crate::status::Status;
 use plan_io::{DeskMem, SinkMem, SourceMem};
 use std::alloc::Global;
@@ -80,7 +80,7 @@ fn runs(
     let mut desk = desk(alloc, given)?;
     let mut input = SourceMem::new(Vec::new(alloc), Vec::new(alloc));
     let mut out = SinkMem::new(calls(alloc, given.failing.1)?);
-    let status = run(alloc, &words, &mut desk, &mut input, &mut out);
+    let status = run_by_rules(alloc, &words, &mut desk, &mut input, &mut out);
     assert_eq!(rt; status, left.status, "at {at}");
     assert_eq!(rt; out.written(), left.printed, "at {at}");
     assert_eq!(rt; desk.get("i"), Some(given.instance), "at {at}");
@@ -101,6 +101,13 @@ fn words_in_no_command(rt: HostRuntime) -> Result<(), Fail> {
         "plan i p p",
         "plan i p i",
         "plan i p c d",
+        "plan i p c budget",
+        "plan i p c budget x",
+        "plan i p c budget 01",
+        "plan i p c budget 18446744073709551616",
+        "plan i p c budgets 1",
+        "plan i p p budget 1",
+        "check i p c budget 1",
         "plan i  c",
         "plans i p c",
         "replay i",

@@ -1,17 +1,18 @@
 //! The words of the command line.
 
-ghost use Rattle.std.specs.Prelude.{◌≡◌, [], ◌∷◌, option_map, IfSome};
-ghost use Rattle.btrplan.specs.Words.{asked, command_of, are_names, is_name, is_plain, seed_of, generate};
+ghost use Rattle.std.specs.Prelude.{◌≡◌, ◌≢◌, [], ◌∷◌, option_map, IfSome};
+ghost use Rattle.btrplan.specs.Words.{asked, command_of, are_names, is_name, is_plain, number_of, generate, plan};
 ghost use Rattle.btrplan.specs.Meaning.{meaning, HasFilesApart};
 
-/// A command, with the names of its files, and its seed or whether the check is strict.
+/// A command, with the names of its files, and its seed, its budget of decisions, or whether the check is strict.
 #[derive(Clone, Copy, Debug, PartialEq, Eq)]
 pub enum Command<'a> {
-    /// Plans the instance, and writes the plan and its certificate.
+    /// Plans the instance with at most so many decisions, and writes the plan and its certificate.
     Plan {
         instance: &'a str,
         plan_file: &'a str,
         certificate: &'a str,
+        budget: u64,
     },
     /// Checks the certificate of a plan of the instance, or of none; strict: whether its tree has to be lean.
     Check {
@@ -36,6 +37,9 @@ pub enum Command<'a> {
         instance: &'a str,
     },
 }
+
+/// How many decisions a plan may take where the words do not say it.
+pub const BUDGET: u64 = 100_000;
 
 /// The most bytes of a file's name.
 pub const LONGEST_NAME: usize = 4096;
@@ -70,23 +74,23 @@ fn is_plain(word: &[u8]) -> bool
 }
 
 /// The number below 2^64 whose decimal text a word is.
-#[tactic(auto, using(crate::proofs::Seeds::seed_rules))]
-fn seed_of(word: &str) -> Option<u64>
-    ensures { result ≡ seed_of word.now }
+#[tactic(auto, using(crate::proofs::Numbers::number_rules))]
+fn number_of(word: &str) -> Option<u64>
+    ensures { result ≡ number_of word.now }
 {
     match word.parse::<u64>() {
-        Ok(seed) if is_plain(word.as_bytes()) => Some(seed),
+        Ok(number) if is_plain(word.as_bytes()) => Some(number),
         _ => None,
     }
 }
 
 /// The command `generate` with the seed that a word is.
 fn generating<'a>(seed: &str, instance: &'a str) -> Option<Command<'a>>
-    ensures meaning { let command = option_map (λ seed. generate seed instance.now) (seed_of seed.now) in
+    ensures meaning { let command = option_map (λ seed. generate seed instance.now) (number_of seed.now) in
         option_map meaning result ≡ command }
     ensures apart { IfSome result (λ command. HasFilesApart (meaning command)) }
 {
-    match seed_of(seed) {
+    match number_of(seed) {
         Some(seed) => Some(Command::Generate { seed, instance }),
         None => None,
     }
@@ -131,6 +135,7 @@ fn with_three<'a>(
             instance,
             plan_file,
             certificate,
+            budget: BUDGET,
         })
     } else if word == "check" && are_three_names(instance, plan_file, certificate) {
         Some(Command::Check {
@@ -168,6 +173,49 @@ fn with_last<'a>(
     }
 }
 
+/// The command `plan` with the budget that a word is.
+fn planning<'a>(
+    instance: &'a str,
+    plan_file: &'a str,
+    certificate: &'a str,
+    budget: &str,
+) -> Option<Command<'a>>
+    requires { plan_file.now ≢ certificate.now }
+    ensures meaning { let command = option_map (plan instance.now plan_file.now certificate.now) (number_of budget.now) in
+        option_map meaning result ≡ command }
+    ensures apart { IfSome result (λ command. HasFilesApart (meaning command)) }
+{
+    match number_of(budget) {
+        Some(budget) => Some(Command::Plan {
+            instance,
+            plan_file,
+            certificate,
+            budget,
+        }),
+        None => None,
+    }
+}
+
+/// The command that this word is before the names of three files, a word and a number.
+fn with_number<'a>(
+    word: &str,
+    instance: &'a str,
+    plan_file: &'a str,
+    certificate: &'a str,
+    between: &str,
+    number: &str,
+) -> Option<Command<'a>>
+    ensures meaning { let words = word.now ∷ instance.now ∷ plan_file.now ∷ certificate.now ∷ between.now ∷ number.now ∷ [] in
+        option_map meaning result ≡ command_of words }
+    ensures apart { IfSome result (λ command. HasFilesApart (meaning command)) }
+{
+    if word == "plan" && between == "budget" && are_three_names(instance, plan_file, certificate) {
+        planning(instance, plan_file, certificate, number)
+    } else {
+        None
+    }
+}
+
 /// The command that these words are; `None` where they are in no command.
 pub fn read_words(words: &[String]) -> Option<Command<'_>>
     ensures meaning { option_map meaning result ≡ asked words.now }
@@ -187,6 +235,14 @@ pub fn read_words(words: &[String]) -> Option<Command<'_>>
             plan_file.as_str(),
             certificate.as_str(),
             last.as_str(),
+        ),
+        [word, instance, plan_file, certificate, between, number] => with_number(
+            word.as_str(),
+            instance.as_str(),
+            plan_file.as_str(),
+            certificate.as_str(),
+            between.as_str(),
+            number.as_str(),
         ),
         _ => None,
     }

@@ -1,58 +1,96 @@
 -- What `plan` answers, and what it leaves in the files.
-use Rattle.std.specs.Prelude.{◌≡◌, ◌≢◌, ◌⊎◌, [], ◌∷◌, ◌++◌, ℕ, List, Some, codes}
+use Rattle.std.specs.Prelude.{◌≡◌, ◌≢◌, ◌⊎◌, ◌++◌, ℕ, List, Option, Some, None, option_map, codes}
 use Rattle.std.specs.Fmt.{decimal}
 use Rattle.std.specs.Io.{StartsWith}
-use Rattle.plan_io.specs.Files.{Files, bytes_of, IsCut}
+use Rattle.plan_io.specs.Files.{Files, IsCut, bytes_of}
 use Rattle.catalogue.specs.Instance.{Instance}
 use Rattle.slices.specs.Plans.{PlanChoices, choices_of}
-use Rattle.slices.specs.Costs.{cost_of, IsOptimal}
+use Rattle.slices.specs.Costs.{cost_of}
 use Rattle.plan_json.specs.Print.{plan_text}
-use Rattle.reasons.specs.declared.reason.Reason.TheVariants.{Bound}
-use Rattle.trees.specs.declared.steps.Goal.TheVariants.{Optimal}
-use Rattle.trees.specs.declared.steps.Step.TheVariants.{Fail}
+use Rattle.trees.specs.declared.steps.Goal.{Goal}
+use Rattle.trees.specs.declared.steps.Step.{Step}
+use Rattle.trees.specs.Trees.{Tree, steps_of}
 use Rattle.cert_text.specs.Spelling.{certificate_text}
-use Rattle.btrplan.specs.Answer.{Outside, Says}
-use Rattle.btrplan.specs.Deciding.{staying, MayStay, not_built_line}
+use Rattle.search.specs.declared.found.Found.{Found}
+use Rattle.search.specs.declared.found.Found.TheVariants.{Optimal, Infeasible, Undecided}
+use Rattle.search.specs.Answers.{IsTreeOf, IsTrueOf, goal_in, plan_in}
+use Rattle.search.specs.Staying.{IsStayingPlan, MayStay}
+use Rattle.btrplan.specs.Answer.{Outside}
 use Rattle.btrplan.specs.declared.status.Status.{Status}
 use Rattle.btrplan.specs.declared.status.Status.TheVariants as status
 
--- The line that a plan is optimal, with its cost.
-unfoldable pub optimal_line : Instance → PlanChoices → List ℕ
-optimal_line p plan = codes "optimal " ++ decimal (cost_of p (choices_of plan)) ++ codes "\n"
+-- ---- what is said
 
--- The certificate of a plan whose cost the bound alone shows to be least: one step, and the goal with that cost.
-abbrev pub plan_certificate : Instance → PlanChoices → List ℕ
-plan_certificate p plan = certificate_text p (Fail Bound ∷ []) (Optimal (cost_of p (choices_of plan)))
+abbrev pub plan_cost : Instance → PlanChoices → ℕ
+plan_cost p plan = cost_of p (choices_of plan)
 
--- A plan is written: the two files hold its certificate and its text, and no other file changes.
-pub record IsWritten (plan_file certificate : List ℕ) (p : Instance) (plan : PlanChoices) (before after : Files) : Type 0 where
-  pub certificate_whole : after certificate ≡ Some (plan_certificate p plan)
-  pub plan_whole : after plan_file ≡ Some (plan_text p (Some plan))
-  pub others : (other : List ℕ) → other ≢ plan_file → other ≢ certificate → after other ≡ before other
+-- The line of what stayed undecided: the cost of the best plan, if one was met, and the cost that no valid plan undercuts.
+abbrev pub undecided_line : (best : Option ℕ) (least : ℕ) → List ℕ
+undecided_line None least = codes "undecided least " ++ decimal least ++ codes "\n"
+undecided_line (Some cost) least = codes "undecided best " ++ decimal cost ++ codes " least " ++ decimal least ++ codes "\n"
 
--- What is left of the writing of a plan, however it ends.
-pub record IsWrittenInPart (plan_file certificate : List ℕ) (p : Instance) (plan : PlanChoices) (before after : Files) : Type 0 where
-  -- the certificate is as before, absent, empty or a prefix of its text
-  pub certificate_cut : IsCut (before certificate) (plan_certificate p plan) (after certificate)
-  -- the plan's file is as before until the certificate is whole, and then as before, absent, empty or a prefix of its text
-  pub plan_cut : (after plan_file ≡ before plan_file)
-      ⊎ ((after certificate ≡ Some (plan_certificate p plan)) × StartsWith (plan_text p (Some plan)) (bytes_of (after plan_file)))
-  pub others : (other : List ℕ) → other ≢ plan_file → other ≢ certificate → after other ≡ before other
+-- The line of an answer.
+unfoldable pub found_line : Instance → Found → List ℕ
+found_line p (Optimal plan) = codes "optimal " ++ decimal (plan_cost p plan) ++ codes "\n"
+found_line p Infeasible = codes "infeasible\n"
+found_line p (Undecided best least) = undecided_line (option_map (plan_cost p) best) least
 
--- A plan is the answer: it is written, and the line has its cost.
-pub record Plans (plan_file certificate : List ℕ) (p : Instance) (plan : PlanChoices) (before after : Outside) (result : Status) : Type 0 where
-  pub files : IsWritten plan_file certificate p plan before.files after.files
-  pub printed : after.printed ≡ before.printed ++ optimal_line p plan
-  pub status : result ≡ status.Good
+-- Its status.
+abbrev pub found_status : Found → Status
+found_status (Optimal plan) = status.Good
+found_status Infeasible = status.Negative
+found_status (Undecided best least) = status.Undecided
 
--- `plan` of a problem: where staying is a valid plan it is the answer, and then no plan costs less; no other answer is built yet.
-abbrev pub IsPlanned : (plan_file certificate : List ℕ) → Instance → Outside → Outside → Status → Type 0
-IsPlanned plan_file certificate p before after result =
-    (IsOptimal p (choices_of (staying p)) × Plans plan_file certificate p (staying p) before after result)
-    ⊎ ((¬ MayStay p) × Says not_built_line status.Input before after result)
+-- ---- what is written
 
--- What `plan` leaves in the files, by the problem that it read.
-pub record LeavesPlanned (plan_file certificate : List ℕ) (p : Instance) (before after : Files) : Type 0 where
-  -- where staying is no valid plan, all files are as before
-  pub refused : ¬ MayStay p → after ≡ before
-  pub files : IsWrittenInPart plan_file certificate p (staying p) before after
+-- The certificate is whole: the text of one tree that shows the answer, with its goal.
+pub record IsCertified (p : Instance) (budget : ℕ) (found : Found) (certificate : Option (List ℕ)) : Type 0 where
+  pub tree : Tree
+  pub tree_is : IsTreeOf p budget found tree
+  pub whole : certificate ≡ Some (certificate_text p (steps_of tree) (goal_in p budget found))
+
+-- The certificate is as before, absent, empty or a prefix of the text of some steps and a goal.
+pub record IsCertificateCut (p : Instance) (before after : Option (List ℕ)) : Type 0 where
+  pub steps : List Step
+  pub goal : Goal
+  pub cut : IsCut before (certificate_text p steps goal) after
+
+-- The certificate of an answer is whole, and the plan's file is absent, empty or a prefix of the text of the plan that is answered, or of none.
+pub record IsPlanCut (p : Instance) (budget : ℕ) (certificate plan : Option (List ℕ)) : Type 0 where
+  pub found : Found
+  pub certified : IsCertified p budget found certificate
+  pub cut : StartsWith (plan_text p (plan_in found)) (bytes_of plan)
+
+-- Each file but these two is as before.
+abbrev pub RestStays : (plan_file certificate : List ℕ) → Files → Files → Type 0
+RestStays plan_file certificate before after = (other : List ℕ) → other ≢ plan_file → other ≢ certificate → after other ≡ before other
+
+-- ---- the command
+
+-- The answer is a valid plan in which each element is idle, and it costs nothing.
+pub record IsToStay (p : Instance) (found : Found) : Type 0 where
+  pub plan : PlanChoices
+  pub found_is : found ≡ Optimal plan
+  pub stays : IsStayingPlan p plan
+  pub costs : plan_cost p plan ≡ 0
+
+-- An answer is written: one tree shows it, it is so of all plans, the two files are whole, and no other file changes. Where staying is a valid plan it is the answer, whatever the budget.
+pub record IsWritten (plan_file certificate : List ℕ) (budget : ℕ) (p : Instance) (before after : Files) (found : Found) : Type 0 where
+  pub certified : IsCertified p budget found (after certificate)
+  pub true_of : IsTrueOf p budget found
+  pub stays : MayStay p → IsToStay p found
+  pub plan_whole : after plan_file ≡ Some (plan_text p (plan_in found))
+  pub others : RestStays plan_file certificate before after
+
+-- `plan` of a problem: an answer is written, and its line is printed.
+pub record IsPlanned (plan_file certificate : List ℕ) (budget : ℕ) (p : Instance) (before after : Outside) (result : Status) : Type 0 where
+  pub found : Found
+  pub written : IsWritten plan_file certificate budget p before.files after.files found
+  pub printed : after.printed ≡ before.printed ++ found_line p found
+  pub status : result ≡ found_status found
+
+-- What `plan` leaves in the files, by the problem that it read, however it ends: the plan's file is as before until the certificate is whole.
+pub record LeavesPlanned (plan_file certificate : List ℕ) (budget : ℕ) (p : Instance) (before after : Files) : Type 0 where
+  pub certificate_cut : IsCertificateCut p (before certificate) (after certificate)
+  pub plan_cut : (after plan_file ≡ before plan_file) ⊎ IsPlanCut p budget (after certificate) (after plan_file)
+  pub others : RestStays plan_file certificate before after

@@ -1,113 +1,128 @@
 //! The command `plan`.
 
-ghost use Rattle.std.specs.Prelude.{◌≡◌, ◌≢◌, [], ◌∷◌, ℕ, List, Option, Some, Err};
-ghost use Rattle.std.specs.Prelude.{IsTrue, IfOk, IfErr, OnOk, string_bytes};
+ghost use Rattle.std.specs.Prelude.{◌≡◌, ◌≢◌, ℕ, List, Option, Some, Err};
+ghost use Rattle.std.specs.Prelude.{IsTrue, IfOk, IfErr, IfSome, OnOk, string_bytes};
+ghost use Rattle.std.specs.Option.{option_copied};
 ghost use Rattle.plan_io.specs.Causes.{CountsWrites};
 ghost use Rattle.plan_io.specs.Files.{OthersStay, IsCut};
 ghost use Rattle.slices.specs.Plans.{IsPlanOf};
 ghost use Rattle.plan_json.specs.Print.{plan_text};
-ghost use Rattle.cert_text.specs.Spelling.{HasStep, certificate_text};
+ghost use Rattle.prop_core.specs.Lists.{Covered};
+ghost use Rattle.search.specs.Answers.{IsTrueOf, plan_in};
+ghost use Rattle.search.specs.Staying.{MayStay};
 ghost use Rattle.btrplan.specs.Words.{plan};
 ghost use Rattle.btrplan.specs.Answer.{outside};
 ghost use Rattle.btrplan.specs.Causes.{PartCauses, WriteCauses};
 ghost use Rattle.btrplan.specs.Commands.{MayRun, IsAnswer, Leaves, LeavesAtFailedRead};
-ghost use Rattle.btrplan.specs.Commands.Planning.{optimal_line, plan_certificate, IsWritten};
-ghost use Rattle.btrplan.specs.Commands.Planning.{IsWrittenInPart, IsPlanned, LeavesPlanned};
-ghost use Rattle.btrplan.specs.Endings.{Ends, IsOfDeciding};
+ghost use Rattle.btrplan.specs.Commands.Planning.{found_line, found_status, undecided_line};
+ghost use Rattle.btrplan.specs.Commands.Planning.{IsCertificateCut, IsCertified, IsToStay};
+ghost use Rattle.btrplan.specs.Commands.Planning.{IsPlanned, IsWritten, LeavesPlanned};
+ghost use Rattle.btrplan.specs.Endings.{Ends, IsOfWriting, outcome_status};
 
-use crate::deciding::decided;
 use crate::fault::{Ending, Fault, Outcome};
 use crate::inputs::instance::problem_at;
+use branching::brancher::Brancher;
 use catalogue::problem::Problem;
 use cert_write::CertWriter;
 use memory::Memory;
 use plan_io::{Desk, OutFault, write_whole};
 use plan_json::print_plan;
-use reasons::reason::Reason;
+use prop_core::propagator::Propagator;
+use search::{Found, solve};
 use slices::plan::{Plan, cost};
 use std::alloc::Global;
-use trees::steps::{Goal, Step};
 
-/// The line that a plan is optimal, with its cost.
-#[tactic(auto, unfolding(crate::specs::Commands::Planning::optimal_line))]
-fn optimal_line(alloc: Global, p: &Problem, plan: &Plan) -> Result<String, Memory>
-    requires { IsPlanOf p.now.given plan.now }
-    ensures { IfOk result (λ line. string_bytes line ≡ optimal_line p.now.given plan.now) }
+/// The plan of an answer, if it has one.
+fn plan_of(found: &Found) -> Option<&Plan>
+    ensures { option_copied result ≡ plan_in found.now }
 {
-    Ok(format!(in alloc; "optimal {}\n", cost(p, plan))?)
+    match found {
+        Found::Optimal(plan) => Some(plan),
+        Found::Infeasible => None,
+        Found::Undecided { best, .. } => best.as_ref(),
+    }
 }
 
-/// Writes the certificate with one step and this goal, line by line.
-#[tactic(auto, using(crate::proofs::OneStep::text, crate::proofs::OneStep::cut_header, crate::proofs::OneStep::cut_step, crate::proofs::OneStep::cut_end))]
-fn write_one_step<D: Desk>(
+/// The line of what stayed undecided, with the cost of the best plan, if one was met.
+#[tactic(auto, using(crate::proofs::PlanAnswers::line_with_best))]
+fn undecided_line(alloc: Global, best: Option<u64>, least: u64) -> Result<String, Memory>
+    ensures { IfOk result (λ line. string_bytes line ≡ undecided_line best least) }
+{
+    match best {
+        None => Ok(format!(in alloc; "undecided least {least}\n")?),
+        Some(cost) => Ok(format!(in alloc; "undecided best {cost} least {least}\n")?),
+    }
+}
+
+/// The line of an answer.
+#[tactic(auto, unfolding(crate::specs::Commands::Planning::found_line))]
+fn found_line(alloc: Global, p: &Problem, found: &Found) -> Result<String, Memory>
+    requires { IfSome (plan_in found.now) (IsPlanOf p.now.given) }
+    ensures { IfOk result (λ line. string_bytes line ≡ found_line p.now.given found.now) }
+{
+    match found {
+        Found::Optimal(plan) => Ok(format!(in alloc; "optimal {}\n", cost(p, plan))?),
+        Found::Infeasible => Ok(format!(in alloc; "infeasible\n")?),
+        Found::Undecided { best: None, least } => undecided_line(alloc, None, *least),
+        Found::Undecided {
+            best: Some(plan),
+            least,
+        } => undecided_line(alloc, Some(cost(p, plan)), *least),
+    }
+}
+
+/// How the command ends with an answer.
+fn outcome_of(found: &Found) -> Outcome
+    ensures { outcome_status result ≡ found_status found.now }
+{
+    match found {
+        Found::Optimal(_) => Outcome::Good,
+        Found::Infeasible => Outcome::Negative,
+        Found::Undecided { .. } => Outcome::Undecided,
+    }
+}
+
+/// Searches for a cheapest valid plan, and writes the certificate of what is found, line by line.
+fn certify<D: Desk>(
     alloc: Global,
     desk: &mut D,
     p: &Problem,
-    step: &Step,
-    goal: Goal,
+    budget: u64,
+    rules: &mut Vec<Box<dyn Propagator>>,
+    brancher: &mut Box<dyn Brancher>,
     certificate: &str,
-) -> Result<(), OutFault>
+) -> Result<Found, OutFault>
+    requires covered { Covered (λ b. meaning b) rules.old.items }
     requires writes { IsTrue (D.writes certificate.now) }
-    requires step { HasStep p.now.given step.now }
-    ensures written { let text = certificate_text p.now.given (step.now ∷ []) goal in
-        IsTrue D.tells → OnOk result (D.files desk.new certificate.now ≡ Some text) }
-    ensures cut { let text = certificate_text p.now.given (step.now ∷ []) goal in
-        IsTrue D.tells
-        → IsCut (D.files desk.old certificate.now) text (D.files desk.new certificate.now) }
+    ensures whole { IsTrue D.tells
+        → IfOk result (λ found. IsCertified p.now.given budget found (D.files desk.new certificate.now)) }
+    ensures cut { IsTrue D.tells
+        → IsCertificateCut p.now.given (D.files desk.old certificate.now) (D.files desk.new certificate.now) }
     ensures others { IsTrue D.tells
         → OthersStay certificate.now (D.files desk.old) (D.files desk.new) }
+    ensures true_of { IfOk result (IsTrueOf p.now.given budget) }
+    ensures stays { MayStay p.now.given → IfOk result (IsToStay p.now.given) }
     ensures cause { CountsWrites (D.write_faults desk.old) (D.write_faults desk.new) result }
     ensures reads_kept { D.read_faults desk.new ≡ D.read_faults desk.old }
 {
     let mut writer = CertWriter::new(alloc, desk, certificate)?;
-    writer.step(desk, p, step)?;
-    writer.end(desk, goal)
+    let found = solve(alloc, p, budget, rules, brancher, desk, &mut writer)?;
+    Ok(found)
 }
 
-/// Writes the certificate of a plan whose cost the bound alone shows to be least.
-fn write_certificate<D: Desk>(
-    alloc: Global,
-    desk: &mut D,
-    p: &Problem,
-    plan: &Plan,
-    certificate: &str,
-) -> Result<(), OutFault>
-    requires writes { IsTrue (D.writes certificate.now) }
-    requires plan { IsPlanOf p.now.given plan.now }
-    ensures written { let text = plan_certificate p.now.given plan.now in
-        IsTrue D.tells → OnOk result (D.files desk.new certificate.now ≡ Some text) }
-    ensures cut { let text = plan_certificate p.now.given plan.now in
-        IsTrue D.tells
-        → IsCut (D.files desk.old certificate.now) text (D.files desk.new certificate.now) }
-    ensures others { IsTrue D.tells
-        → OthersStay certificate.now (D.files desk.old) (D.files desk.new) }
-    ensures cause { CountsWrites (D.write_faults desk.old) (D.write_faults desk.new) result }
-    ensures reads_kept { D.read_faults desk.new ≡ D.read_faults desk.old }
-{
-    let goal = Goal::Optimal(cost(p, plan));
-    write_one_step(
-        alloc,
-        desk,
-        p,
-        &Step::Fail(Reason::Bound),
-        goal,
-        certificate,
-    )
-}
-
-/// Writes a plan.
+/// Writes the plan of an answer, or that there is none.
 fn write_plan<D: Desk>(
     alloc: Global,
     desk: &mut D,
     p: &Problem,
-    plan: &Plan,
+    found: &Found,
     plan_file: &str,
 ) -> Result<(), OutFault>
     requires writes { IsTrue (D.writes plan_file.now) }
-    requires plan { IsPlanOf p.now.given plan.now }
-    ensures written { let text = plan_text p.now.given (Some plan.now) in
+    requires plan { IfSome (plan_in found.now) (IsPlanOf p.now.given) }
+    ensures written { let text = plan_text p.now.given (plan_in found.now) in
         IsTrue D.tells → OnOk result (D.files desk.new plan_file.now ≡ Some text) }
-    ensures cut { let text = plan_text p.now.given (Some plan.now) in
+    ensures cut { let text = plan_text p.now.given (plan_in found.now) in
         IsTrue D.tells
         → IsCut (D.files desk.old plan_file.now) text (D.files desk.new plan_file.now) }
     ensures others { IsTrue D.tells
@@ -115,85 +130,105 @@ fn write_plan<D: Desk>(
     ensures cause { CountsWrites (D.write_faults desk.old) (D.write_faults desk.new) result }
     ensures reads_kept { D.read_faults desk.new ≡ D.read_faults desk.old }
 {
-    let text = print_plan(alloc, p, Some(plan))?;
+    let text = print_plan(alloc, p, plan_of(found))?;
     write_whole(desk, plan_file, &text)
 }
 
-/// Writes the certificate, and then the plan.
-fn write_files<D: Desk>(
+/// Decides on a problem, and writes the certificate and then the plan.
+#[tactic(auto, using(crate::proofs::PlanAnswers::whole_plan, crate::proofs::PlanAnswers::leaves_certificate, crate::proofs::PlanAnswers::leaves_plan, crate::proofs::PlanAnswers::written))]
+fn write_found<D: Desk>(
     alloc: Global,
     desk: &mut D,
     p: &Problem,
-    plan: &Plan,
+    budget: u64,
+    rules: &mut Vec<Box<dyn Propagator>>,
+    brancher: &mut Box<dyn Brancher>,
     plan_file: &str,
     certificate: &str,
-) -> Result<(), OutFault>
+) -> Result<Found, OutFault>
+    requires covered { Covered (λ b. meaning b) rules.old.items }
     requires plan_file { IsTrue (D.writes plan_file.now) }
     requires certificate { IsTrue (D.writes certificate.now) }
     requires apart { plan_file.now ≢ certificate.now }
-    requires plan { IsPlanOf p.now.given plan.now }
-    ensures written { let written = IsWritten plan_file.now certificate.now p.now.given plan.now in
-        IsTrue D.tells → OnOk result (written (D.files desk.old) (D.files desk.new)) }
-    ensures cut { let written = IsWrittenInPart plan_file.now certificate.now p.now.given plan.now in
-        IsTrue D.tells → written (D.files desk.old) (D.files desk.new) }
+    ensures written { let written = IsWritten plan_file.now certificate.now budget p.now.given in
+        IsTrue D.tells → IfOk result (written (D.files desk.old) (D.files desk.new)) }
+    ensures left { let leaves = LeavesPlanned plan_file.now certificate.now budget p.now.given in
+        IsTrue D.tells → leaves (D.files desk.old) (D.files desk.new) }
+    ensures plan { IfOk result (λ found. IfSome (plan_in found) (IsPlanOf p.now.given)) }
     ensures cause { CountsWrites (D.write_faults desk.old) (D.write_faults desk.new) result }
     ensures reads_kept { D.read_faults desk.new ≡ D.read_faults desk.old }
 {
-    write_certificate(alloc, desk, p, plan, certificate)?;
-    write_plan(alloc, desk, p, plan, plan_file)
+    let found = certify(alloc, desk, p, budget, rules, brancher, certificate)?;
+    write_plan(alloc, desk, p, &found, plan_file)?;
+    Ok(found)
 }
 
 /// Decides on a problem, and writes the answer.
-#[tactic(auto, using(crate::proofs::PlanAnswers::not_built, crate::proofs::PlanAnswers::planned, crate::proofs::PlanAnswers::leaves_refused, crate::proofs::PlanAnswers::leaves_found, crate::proofs::Ends::refused_write), unfolding(crate::specs::Endings::Ends))]
+#[tactic(auto, using(crate::proofs::PlanAnswers::planned, crate::proofs::Ends::refused_write), unfolding(crate::specs::Endings::Ends))]
 fn write_answer<D: Desk>(
     alloc: Global,
     desk: &mut D,
     p: &Problem,
+    budget: u64,
+    rules: &mut Vec<Box<dyn Propagator>>,
+    brancher: &mut Box<dyn Brancher>,
     plan_file: &str,
     certificate: &str,
 ) -> Result<Ending, Fault>
+    requires covered { Covered (λ b. meaning b) rules.old.items }
     requires plan_file { IsTrue (D.writes plan_file.now) }
     requires certificate { IsTrue (D.writes certificate.now) }
     requires apart { plan_file.now ≢ certificate.now }
-    ensures ends { let planned = IsPlanned plan_file.now certificate.now p.now.given in
+    ensures ends { let planned = IsPlanned plan_file.now certificate.now budget p.now.given in
         IsTrue D.tells → (printed : List ℕ) → Ends (planned (outside (D.files desk.old) printed))
         (outside (D.files desk.new) printed) result }
-    ensures left { let leaves = LeavesPlanned plan_file.now certificate.now p.now.given in
+    ensures left { let leaves = LeavesPlanned plan_file.now certificate.now budget p.now.given in
         IsTrue D.tells → leaves (D.files desk.old) (D.files desk.new) }
     ensures causes { WriteCauses (D.write_faults desk.old) (D.write_faults desk.new) result }
     ensures reads_kept { D.read_faults desk.new ≡ D.read_faults desk.old }
-    ensures kind { IfErr result IsOfDeciding }
+    ensures kind { IfErr result IsOfWriting }
 {
-    let plan = decided(alloc, p)?;
-    write_files(alloc, desk, p, &plan, plan_file, certificate)?;
-    let line = optimal_line(alloc, p, &plan)?;
+    let found = write_found(
+        alloc,
+        desk,
+        p,
+        budget,
+        rules,
+        brancher,
+        plan_file,
+        certificate,
+    )?;
+    let line = found_line(alloc, p, &found)?;
     Ok(Ending {
         line: Some(line),
-        outcome: Outcome::Good,
+        outcome: outcome_of(&found),
     })
 }
 
-/// Plans the instance in a file: writes the certificate, and then the plan.
-///
-/// So far it plans instances in which staying is a valid plan.
+/// Plans the instance in a file with at most so many decisions: writes the certificate as it searches, and
+/// then the plan, or that there is none.
 #[tactic(auto, using(crate::proofs::PlanAnswers::refused_instance, crate::proofs::PlanAnswers::leaves_well), unfolding(crate::specs::Endings::Ends))]
 pub fn plan<D: Desk>(
     alloc: Global,
     desk: &mut D,
+    rules: &mut Vec<Box<dyn Propagator>>,
+    brancher: &mut Box<dyn Brancher>,
     instance: &str,
     plan_file: &str,
     certificate: &str,
+    budget: u64,
 ) -> Result<Ending, Fault>
-    requires names { let command = plan instance.now plan_file.now certificate.now in
+    requires covered { Covered (λ b. meaning b) rules.old.items }
+    requires names { let command = plan instance.now plan_file.now certificate.now budget in
         MayRun D.reads D.writes (Some command) }
     requires apart { plan_file.now ≢ certificate.now }
-    ensures ends { let command = plan instance.now plan_file.now certificate.now in
+    ensures ends { let command = plan instance.now plan_file.now certificate.now budget in
         IsTrue D.tells → (source : Option (List ℕ)) (printed : List ℕ)
         → Ends (IsAnswer (Some command) source (outside (D.files desk.old) printed))
         (outside (D.files desk.new) printed) result }
-    ensures left { let command = plan instance.now plan_file.now certificate.now in
+    ensures left { let command = plan instance.now plan_file.now certificate.now budget in
         IsTrue D.tells → Leaves (Some command) (D.files desk.old) (D.files desk.new) }
-    ensures failed_read { let command = plan instance.now plan_file.now certificate.now in
+    ensures failed_read { let command = plan instance.now plan_file.now certificate.now budget in
         IsTrue D.tells → result ≡ Err Fault.ReadFault
         → LeavesAtFailedRead (Some command) (D.files desk.old) (D.files desk.new) }
     ensures causes { PartCauses (D.read_faults desk.old) (D.read_faults desk.new)
@@ -201,5 +236,14 @@ pub fn plan<D: Desk>(
     ensures words { result ≢ Err Fault.Words }
 {
     let problem = problem_at(alloc, desk, instance)?;
-    write_answer(alloc, desk, &problem, plan_file, certificate)
+    write_answer(
+        alloc,
+        desk,
+        &problem,
+        budget,
+        rules,
+        brancher,
+        plan_file,
+        certificate,
+    )
 }

@@ -1,6 +1,6 @@
 //! The command `check`, on certificates as texts.
 
-use crate::run::run;
+use crate::rules::run_by_rules;
 use crate::status::Status;
 use crate::tests::acting::{FENCES, IN_TURN, PRECEDENCE, instance_of};
 use crate::tests::instances::{BANNED, CROSSED, CROWDED, NO_TIME, OVERLOADED, SWAP, UNLISTED};
@@ -77,7 +77,7 @@ fn checks(
     put(&mut desk, files)?;
     let mut input = SourceMem::new(Vec::new(alloc), Vec::new(alloc));
     let mut out = SinkMem::new(sink_fails);
-    let answer = run(alloc, &words, &mut desk, &mut input, &mut out);
+    let answer = run_by_rules(alloc, &words, &mut desk, &mut input, &mut out);
     assert_eq!(rt; (answer, out.written()), (status, printed.as_bytes()));
     assert_eq!(rt; desk.get("i"), Some(files.instance));
     assert_eq!(rt; desk.get("p"), files.plan);

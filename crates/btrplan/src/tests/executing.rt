@@ -1,4 +1,4 @@
-use crate::run::run;
+use crate::rules::run_by_rules;
 use crate::status::Status;
 use crate::tests::acting::{FENCES, IN_TURN, PRECEDENCE, instance_of};
 use crate::tests::instances::{ALONE, SWAP};
@@ -59,7 +59,7 @@ fn executes<'a>(
     let mut desk = desk(alloc, given)?;
     let mut input = SourceMem::new(Vec::from_slice(alloc, events)?, calls(alloc, failing.1)?);
     let mut out = SinkMem::new(calls(alloc, failing.2)?);
-    let ended = run(alloc, &words, &mut desk, &mut input, &mut out);
+    let ended = run_by_rules(alloc, &words, &mut desk, &mut input, &mut out);
     assert_eq!(rt; ended, status, "at {at}");
     assert_eq!(rt; out.written(), printed, "at {at}");
     assert_eq!(rt; (input.faults(), out.faults()), faults, "at {at}");

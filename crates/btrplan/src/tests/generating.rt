@@ -1,6 +1,6 @@
 //! The command `generate`, with each of its calls failing in turn.
 
-use crate::run::run;
+use crate::rules::run_by_rules;
 use crate::status::Status;
 use crate::tests::{calls, words};
 use plan_io::{DeskMem, SinkMem, SourceMem};
@@ -26,7 +26,7 @@ fn generates(rt: &impl Abort, alloc: Global, case: Case<'_>, at: usize) -> Resul
     desk.put("other", b"kept")?;
     let mut input = SourceMem::new(Vec::new(alloc), Vec::new(alloc));
     let mut out = SinkMem::new(calls(alloc, failing.1)?);
-    let answer = run(alloc, &words, &mut desk, &mut input, &mut out);
+    let answer = run_by_rules(alloc, &words, &mut desk, &mut input, &mut out);
     assert_eq!(rt; answer, status, "at {at}");
     assert_eq!(rt; out.written(), printed, "at {at}");
     assert_eq!(rt;

@@ -1,6 +1,6 @@
 //! The command `check` on a desk that gives one byte at each read.
 
-use crate::run::run;
+use crate::rules::run_by_rules;
 use crate::status::Status;
 use crate::tests::checking::forged;
 use crate::tests::instances::SWAP;
@@ -80,7 +80,7 @@ fn a_byte_at_each_read(rt: HostRuntime) -> Result<(), Fail> {
         let words = words(alloc, "check i p c")?;
         let mut input = SourceMem::new(Vec::new(alloc), Vec::new(alloc));
         let mut out = SinkMem::new(Vec::new(alloc));
-        let answer = run(alloc, &words, &mut desk, &mut input, &mut out);
+        let answer = run_by_rules(alloc, &words, &mut desk, &mut input, &mut out);
         assert_eq!(rt; (answer, out.written()), (status, printed.as_bytes()));
     }
     Ok(())

@@ -11,8 +11,8 @@ returns-in-Some-Execute-clause-source g c =
 
 pub returns-in-Some-Plan-clause-takes : goal.returns-in-Some-Plan-clause-takes
 returns-in-Some-Plan-clause-takes g c = λ desk_tells source_tells sink_tells.
-    let is : Some (plan c.in-Some-Plan.instance.now c.in-Some-Plan.plan_file.now c.in-Some-Plan.certificate.now) ≡ asked c.args.words.now = search rules in
-    plan_takes (asked c.args.words.now) c.in-Some-Plan.instance.now c.in-Some-Plan.plan_file.now c.in-Some-Plan.certificate.now _ _ _ _ (sym is)
+    let is : Some (plan c.in-Some-Plan.instance.now c.in-Some-Plan.plan_file.now c.in-Some-Plan.certificate.now c.in-Some-Plan.budget) ≡ asked c.args.words.now = search rules in
+    plan_takes (asked c.args.words.now) c.in-Some-Plan.instance.now c.in-Some-Plan.plan_file.now c.in-Some-Plan.certificate.now c.in-Some-Plan.budget _ _ _ _ (sym is)
 
 pub returns-in-Some-Check-clause-takes : goal.returns-in-Some-Check-clause-takes
 returns-in-Some-Check-clause-takes g c = λ desk_tells source_tells sink_tells.

@@ -1,0 +1,52 @@
+//! The rules and the brancher that the program hands in.
+
+ghost use Rattle.btrplan.specs.Commands.{MayRun};
+ghost use Rattle.btrplan.specs.Words.{asked};
+
+use crate::run::run;
+use crate::status::Status;
+use branching::brancher::Brancher;
+use branching::stay_first::StayFirst;
+use constraint_rules::rules::{GroupRule, PairRule, PlaceRule, SetRule};
+use memory::Memory;
+use plan_io::{Desk, Sink, Source};
+use prop_core::propagator::Propagator;
+use rule_load::rule::load_rule;
+use std::alloc::Global;
+
+/// Runs with the five rules and the brancher, where there is memory for them.
+fn run_boxed<D: Desk, I: Source, O: Sink>(
+    alloc: Global,
+    words: &[String],
+    desk: &mut D,
+    input: &mut I,
+    out: &mut O,
+) -> Result<Status, Memory>
+    requires names { MayRun D.reads D.writes (asked words.now) }
+{
+    let mut rules: Vec<Box<dyn Propagator>> = Vec::new(alloc);
+    // The first that answers ends a round, so those that look at least come first.
+    rules.push(Box::new(alloc, PlaceRule::new(alloc))?)?;
+    rules.push(Box::new(alloc, PairRule::new(alloc))?)?;
+    rules.push(Box::new(alloc, load_rule(alloc))?)?;
+    rules.push(Box::new(alloc, SetRule::new(alloc))?)?;
+    rules.push(Box::new(alloc, GroupRule::new(alloc))?)?;
+    let brancher: Box<dyn Brancher> = Box::new(alloc, StayFirst::new())?;
+    Ok(run(alloc, words, desk, input, out, rules, brancher))
+}
+
+/// Runs with the five rules and the brancher; `Memory` where there is no memory for them.
+pub fn run_by_rules<D: Desk, I: Source, O: Sink>(
+    alloc: Global,
+    words: &[String],
+    desk: &mut D,
+    input: &mut I,
+    out: &mut O,
+) -> Status
+    requires names { MayRun D.reads D.writes (asked words.now) }
+{
+    match run_boxed(alloc, words, desk, input, out) {
+        Ok(status) => status,
+        Err(Memory) => Status::Memory,
+    }
+}
