@@ -13,4 +13,3 @@ pub mod LeafLemmas
 pub mod TurnLemmas
 pub mod WholeLemmas
 pub mod StayLemmas
-mod TestLemmas

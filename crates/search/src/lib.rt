@@ -15,6 +15,3 @@ mod turns;
 
 pub use found::Found;
 pub use solving::solve;
-
-#[cfg(test)]
-mod tests;

@@ -1,13 +1,14 @@
 -- What the propagator of the tests answers, and what their searches answer.
-use Rattle.std.proofs.Common.{◌≡◌, ◌≢◌, ℕ, Bool, List, [], Option, Some, None, IfSome}
-use Rattle.std.specs.List.{filter}
+use Rattle.std.proofs.Common.{◌≡◌, ◌≢◌, ℕ, Bool, List, [], ◌∷◌, Option, Some, None, IfSome, refl}
+use Rattle.std.specs.List.{Contains, filter}
+use Rattle.cluster.specs.declared.choices.Choice.{Choice}
 use Rattle.cluster.specs.declared.ids.Element.{Element}
 use Rattle.catalogue.specs.Instance.{Instance, IsElement}
 use Rattle.slices.specs.Plans.{IsPlanOf}
 use Rattle.domains.specs.declared.parts.Part.{Part}
 use Rattle.domains.specs.Parts.{in_part}
 use Rattle.domains.specs.Sets.{Sets, keeping}
-use Rattle.domains.proofs.Public.{filter_contains}
+use Rattle.domains.proofs.Public.{contains_here, filter_contains}
 use Rattle.reasons.specs.declared.reason.Reason.{Reason}
 use Rattle.reasons.specs.Closed.{IsClosed}
 use Rattle.reasons.specs.Reasons.{Refutes}
@@ -17,10 +18,13 @@ use Rattle.prop_core.specs.Tests.{keeps_nothing}
 use Rattle.search.specs.declared.found.Found.{Found}
 use Rattle.search.specs.declared.found.Found.TheVariants.{Optimal, Infeasible, Undecided}
 use Rattle.search.specs.Answers.{IsTrueOf, plan_in}
-use Rattle.search.proofs.NamedLemmas.{some_choice}
 
 pub quiet_of : (p : Instance) (s : Sets) (all : Bool) → IsClosed p s → AllQuiet p s (keeps_nothing 0 0 all)
 quiet_of p s all closed = record { each = λ k _. ((closed_by_kinds p s).0 closed).1 k }
+
+some_choice : (cs : List Choice) → cs ≢ [] → (c : Choice) × Contains cs c
+some_choice [] some = absurd (some refl)
+some_choice (c ∷ cs) some = (c, contains_here c cs)
 
 pub cut_of : (p : Instance) (s : Sets) (x : Element) (part : Part) (reason : Reason) → IsElement p x → MayAnswer reason → filter (in_part part) (s x) ≢ [] → Refutes p None (keeping x (in_part part) s) reason → CutHolds p s x part reason
 cut_of p s x part reason there may some refuted =

@@ -8,8 +8,6 @@ mod ends;
 mod far_first;
 mod problems;
 
-use crate::found::Found;
-use crate::solve;
 use branching::brancher::Brancher;
 use branching::least_start::LeastStart;
 use catalogue::problem::Problem;
@@ -20,6 +18,7 @@ use plan_io::{DeskMem, OutFault};
 use problems::{banned, two_machines};
 use prop_core::cover::covered;
 use prop_core::propagator::Propagator;
+use search::{Found, solve};
 use slices::plan::cost;
 use std::alloc::Global;
 use std::process::Abort;
