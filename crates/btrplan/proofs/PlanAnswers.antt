@@ -1,5 +1,5 @@
 -- What `plan` answers and leaves, by what was found of its problem.
-use Rattle.std.proofs.Common.{◌≡◌, ◌≢◌, ◌⊎◌, ◌∙◌, ◌+◌, ℕ, List, [], ◌∷◌, ◌++◌, Option, Some, None, Bool, IsTrue, Result, Ok, Err, codes, refl, sym, ap, subst, inl, inr, append_assoc}
+use Rattle.std.proofs.Common.{◌≡◌, ◌≢◌, ◌⊎◌, ◌∙◌, ◌+◌, ℕ, List, [], ◌++◌, Option, Some, None, Bool, IsTrue, Result, Ok, Err, codes, sym, ap, subst, inl, inr, append_assoc}
 use Rattle.std.specs.Prelude.{IfSome}
 use Rattle.std.specs.Io.{StartsWith}
 use Rattle.std.specs.Fmt.{decimal}

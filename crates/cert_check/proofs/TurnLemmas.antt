@@ -1,5 +1,5 @@
 -- One more line.
-use Rattle.std.proofs.Common.{◌≡◌, ◌⊎◌, inl, inr, ℕ, ◌<◌, ◌≤◌, ◌==◌, Bool, true, false, List, [], ◌∷◌, ◌++◌, drop, length, map, Option, Some, None, Result, Ok, Err, IsErrAnd, MatchOption, refl, sym, ap, subst, ◌∙◌, arith, if◌then◌else◌}
+use Rattle.std.proofs.Common.{◌≡◌, inl, inr, ℕ, ◌<◌, ◌==◌, Bool, true, false, List, [], ◌∷◌, ◌++◌, drop, map, Option, Some, None, Result, Ok, Err, IsErrAnd, MatchOption, refl, sym, ap, subst, ◌∙◌, arith, if◌then◌else◌}
 use Rattle.std.proofs.lemmas.List.{length-append, map-append}
 use Rattle.catalogue.specs.Instance.{Instance}
 use Rattle.trees.specs.declared.steps.Goal.{Goal}
@@ -18,8 +18,8 @@ use Rattle.cert_read.specs.Reader.{Faults, IsMoved}
 use Rattle.cert_check.specs.declared.verdict.CheckFault.TheVariants.{Line}
 use Rattle.cert_check.specs.declared.verdict.Verdict.TheVariants.{Yes, No}
 use Rattle.cert_check.specs.Names.{named_step}
-use Rattle.cert_check.specs.Turns.{Concludes, HasProof, IsTaken, IsUnderway, TextAnswers}
-use Rattle.cert_check.specs.Verdicts.{AreSteps, AreTaken, IsShown, IsTextWhy, LinesGive, LinesSay}
+use Rattle.cert_check.specs.Turns.{Concludes, IsTaken, IsUnderway, TextAnswers}
+use Rattle.cert_check.specs.Verdicts.{AreSteps, IsShown, IsTextWhy}
 
 -- ---- one more step that was read
 

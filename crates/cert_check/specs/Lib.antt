@@ -2,5 +2,7 @@
 pub mod Names
 -- what the lines of a certificate say, and what a yes means
 pub mod Verdicts
+-- what follows for a certificate that is written from a tree
+pub mod Laws
 -- and what holds from line to line
 pub mod Turns

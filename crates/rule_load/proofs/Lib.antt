@@ -1,3 +1,8 @@
+pub mod FreeLemmas
 pub mod MarkLemmas
+pub mod RoomLemmas
 pub mod SetLemmas
+pub mod SettleLemmas
 pub mod StillLemmas
+pub mod TotalLemmas
+pub mod UseLemmas

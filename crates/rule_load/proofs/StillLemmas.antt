@@ -1,11 +1,10 @@
 -- A change of a machine does not weigh on the load of a node that is not its host and to which not all its choices go.
-use Rattle.std.proofs.Common.{◌≡◌, ◌≢◌, ◌⊎◌, inl, inr, ℕ, zero, suc, ◌+◌, ◌<◌, ◌≤◌, Bool, true, false, ◌&&◌, nat_le, cond, Option, Some, None, List, [], ◌∷◌, IsTrue, refl, sym, ap, subst, ◌∙◌, arith}
+use Rattle.std.proofs.Common.{◌≡◌, ◌≢◌, ◌⊎◌, inl, inr, ℕ, zero, suc, ◌<◌, ◌≤◌, Bool, true, false, ◌&&◌, nat_le, cond, Option, Some, None, List, [], ◌∷◌, refl, sym, ap, subst, ◌∙◌, arith}
 use Rattle.std.proofs.lemmas.Bool.{cases_eq, cases_lt, false≢true}
 use Rattle.std.proofs.lemmas.Bool.Decides.{nat_tests}
 use Rattle.std.specs.List.{Contains}
 use Rattle.cluster.specs.declared.choices.Choice.{Choice}
 use Rattle.cluster.specs.declared.choices.Choice.TheVariants.{Idle, Act}
-use Rattle.cluster.specs.declared.choices.Place.{Place}
 use Rattle.cluster.specs.declared.choices.Place.TheVariants.{Nowhere, At}
 use Rattle.cluster.specs.declared.ids.NodeId.{NodeId}
 use Rattle.catalogue.specs.Instance.{Instance}
@@ -24,12 +23,12 @@ use Rattle.rule_frame.specs.Changes.{IsLess, IsMachineLess, IsStill}
 use Rattle.rule_frame.proofs.Public.{unseen_still}
 use Rattle.standing.specs.declared.numbers.Arrival.{Arrival}
 use Rattle.standing.specs.declared.numbers.Standing.{Standing}
-use Rattle.standing.specs.Standings.{IsStanding, comes_by, gain, has_come, have_come, kept_use, leave_of, never}
+use Rattle.standing.specs.Standings.{IsStanding, comes_by, gain, has_come, kept_use, leave_of, never}
 use Rattle.standing.proofs.Public.{kept_law}
 
 -- ---- one choice, away from the host
 
-abbrev arrival_of : Choice → Option Arrival
+abbrev pub arrival_of : Choice → Option Arrival
 arrival_of Idle = None
 arrival_of (Act Nowhere s) = None
 arrival_of (Act (At m) s) = Some (record { node = m; last = s })
@@ -38,7 +37,7 @@ and-true : (b : Bool) → b ≡ (b && true)
 and-true true = refl
 and-true false = refl
 
-choice_stands : (p : Instance) (v : ℕ) (c : Choice) → IsStanding p v (c ∷ []) (record { leave = leave_of p v c; come = arrival_of c })
+pub choice_stands : (p : Instance) (v : ℕ) (c : Choice) → IsStanding p v (c ∷ []) (record { leave = leave_of p v c; come = arrival_of c })
 choice_stands p v c = record { leave = refl; come = λ n t. come c n t }
   where
     come : (c : Choice) (n t : ℕ) → comes_by n t (arrival_of c) ≡ surely (has_come n t) (c ∷ [])

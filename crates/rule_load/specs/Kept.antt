@@ -1,6 +1,5 @@
 -- What is kept beside the rule: where each machine surely stands, with levels.
 use Rattle.std.specs.Prelude.{ℕ, List, [], ◌∷◌, ◌++◌, length, slice_index_or}
-use Rattle.catalogue.specs.Instance.{Instance}
 use Rattle.rule_frame.specs.Caches.{Cache}
 use Rattle.standing.specs.declared.numbers.Standing.{Standing}
 use Rattle.standing.specs.Tables.{AreStanding, Tables}

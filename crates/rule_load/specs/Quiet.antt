@@ -1,5 +1,5 @@
 -- Helping only: where all loads are clean, no reason of the kind refutes.
-use Rattle.std.specs.Prelude.{◌≡◌, ℕ, ◌+◌, ◌<◌, ◌≤◌, ◌==◌, Bool, true, false, nat_lt, refl, length}
+use Rattle.std.specs.Prelude.{◌≡◌, ℕ, ◌+◌, ◌<◌, ◌≤◌, ◌==◌, true, false, nat_lt, refl, length}
 use Rattle.std.proofs.Common.{arith, subst, sym}
 use Rattle.std.proofs.lemmas.Bool.{lt-ltb}
 use Rattle.std.proofs.lemmas.Bool.Decides.{nat_tests}
@@ -10,11 +10,11 @@ use Rattle.slices.specs.Elements.{node_count}
 use Rattle.slices.specs.Snapshots.{Snapshot}
 use Rattle.slices.specs.Stages.{Nodes, one}
 use Rattle.domains.specs.Sets.{Sets, setting}
-use Rattle.reasons.specs.Closed.{AreLoadsFit, IsEnd, IsFree, IsQuietKind, all_nodes}
+use Rattle.reasons.specs.Closed.{IsEnd, IsFree, IsQuietKind, all_nodes}
 use Rattle.reasons.specs.Reasons.{IsOverload}
 use Rattle.reasons.specs.Sure.{sure}
 use Rattle.reasons.specs.declared.reason.ReasonKind.{ReasonKind}
-use Rattle.reasons.specs.declared.reason.ReasonKind.TheVariants.{Empty, Bound, Load, Pair, Place, Group, SetLoad, Power, Usable, Hall}
+use Rattle.reasons.specs.declared.reason.ReasonKind.TheVariants.{Load}
 use Rattle.closing.specs.Kinds.{IsOverloaded}
 use Rattle.rule_frame.specs.Asked.{AllClean}
 use Rattle.rule_load.specs.Watched.{is_load, nodes_at, watch_at}

@@ -1,9 +1,19 @@
 //! The rule of the loads of nodes.
 #![tactic(auto)]
 
+mod doubt;
 mod marking;
+mod measures;
+mod node_look;
 mod nodes;
+pub mod period;
 mod reason;
+mod room;
 pub mod rule;
+mod settle;
 pub mod standings;
+mod total_look;
+mod total_uses;
+mod turns;
+mod uses;
 pub mod watcher;

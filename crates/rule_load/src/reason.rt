@@ -18,8 +18,8 @@ use domains::view::View;
 use reasons::reason::Reason;
 use relax::amounts::is_overload;
 
-// the first resource of which the nodes of a set lack capacity
-fn overloaded(p: &Problem, view: &View, set: &NodeSet, t: Instant) -> Option<u8>
+/// The first resource of which the nodes of a set lack capacity.
+pub(crate) fn overloaded(p: &Problem, view: &View, set: &NodeSet, t: Instant) -> Option<u8>
     requires { IsSized p.now.given view.now.region.now }
     ensures none { IfNone result (¬ IsOverloaded p.now.given (has_node set.now) (sure p.now.given (seen view.now.region.now view.now.lens) t)) }
     ensures some { IfSome result (λ r. (r < length p.now.given.resources) × IsOverload p.now.given (sure p.now.given (seen view.now.region.now view.now.lens) t) r (has_node set.now)) }

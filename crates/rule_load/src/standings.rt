@@ -4,6 +4,7 @@ ghost use Rattle.catalogue.specs.Instance.{IsElement};
 ghost use Rattle.domains.specs.Sets.{sets};
 ghost use Rattle.rule_frame.specs.Caches.{IsCacheFor};
 ghost use Rattle.standing.specs.Standings.{IsStanding};
+ghost use Rattle.standing.specs.Tables.{AreStanding};
 
 use catalogue::problem::Problem;
 use cluster::ids::{Element, VmId};
@@ -40,6 +41,14 @@ impl Standings {
         ensures { IsStanding p.now.given v.0 (sets _g.now (Element.Vm v)) result }
     {
         self.table.get(v)
+    }
+
+    /// Where each machine surely stands in the region of which this was told last.
+    pub fn all(&self, p: &Problem, _g: &Region) -> &[Standing]
+        requires { IsCacheFor (cache_of self.now.table) p.now.given (sets _g.now) }
+        ensures { AreStanding p.now.given (sets _g.now) result.now }
+    {
+        self.table.standings()
     }
 }
 

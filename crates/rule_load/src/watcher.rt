@@ -6,12 +6,13 @@ ghost use Rattle.rule_load.specs.Quiet.{load_is_quiet};
 ghost use Rattle.rule_load.specs.Watched.{is_load, nodes_at, watch_at};
 
 use crate::marking::mark_disturbed;
+use crate::node_look::node_look;
 use crate::nodes::{node_at, node_total};
 use crate::reason::load_reason;
 use crate::standings::Standings;
+use crate::total_look::total_look;
 use catalogue::problem::Problem;
 use closing::look::Look;
-use closing::watch::{look_at_load, look_at_total_load};
 use cluster::choices::Instant;
 use domains::domain::Domain;
 use domains::parts::Change;
@@ -54,10 +55,10 @@ impl Watcher<Standings> for Loads {
         mark_disturbed(k, p, g, change.element, marks);
     }
 
-    fn look(&self, _k: &Standings, p: &Problem, g: &Region, i: usize) -> Look {
+    fn look(&self, k: &Standings, p: &Problem, g: &Region, i: usize) -> Look {
         match node_at(p, i) {
-            None => look_at_total_load(p, g),
-            Some(n) => look_at_load(p, g, n),
+            None => total_look(p, g, k.all(p, g)),
+            Some(n) => node_look(p, g, k.all(p, g), n),
         }
     }
 

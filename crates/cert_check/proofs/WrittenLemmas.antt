@@ -1,0 +1,165 @@
+-- The steps of a tree that proves all legal choices can be written, and name what they are.
+use Rattle.std.proofs.Common.{◌≡◌, ℕ, ◌+◌, ◌*◌, ◌<◌, ◌≤◌, Bool, true, false, List, [], ◌∷◌, ◌++◌, length, map, Option, Some, None, IsTrue, refl, sym, subst, arith}
+use Rattle.std.specs.List.{All}
+use Rattle.std.proofs.lemmas.List.Elements.{All-head, All-tail}
+use Rattle.sums.proofs.Sums.{sum_to-bound}
+use Rattle.sums.specs.Sums.{sum_to}
+use Rattle.cluster.specs.declared.choices.Choice.{Choice}
+use Rattle.cluster.specs.declared.choices.Choice.TheVariants.{Idle, Act}
+use Rattle.cluster.specs.declared.ids.Element.{Element}
+use Rattle.catalogue.specs.Instance.{Instance, IsInstance}
+use Rattle.slices.specs.Actions.{end_of, is_legal}
+use Rattle.slices.specs.Costs.{cost_of}
+use Rattle.slices.specs.Elements.{machine_count, node, node_count, vm}
+use Rattle.slices.specs.Limits.{max_cost}
+use Rattle.slices.specs.Plans.{Choices, IsPlan}
+use Rattle.slices.proofs.Public.{ends_by_duration, legal_acts_last}
+use Rattle.domains.specs.declared.parts.Part.{Part}
+use Rattle.domains.specs.declared.parts.Part.TheVariants as part
+use Rattle.domains.specs.Parts.{in_part, out_of_part}
+use Rattle.domains.specs.Sets.{IsIn, Sets}
+use Rattle.domains.proofs.Public.{plan_stays}
+use Rattle.reasons.specs.declared.reason.Reason.{Reason}
+use Rattle.reasons.specs.declared.reason.Reason.TheVariants as reason
+use Rattle.reasons.specs.Reasons.{IsNamed}
+use Rattle.reasons.specs.Start.{start_sets}
+use Rattle.trees.specs.declared.steps.Step.{Step}
+use Rattle.trees.specs.declared.steps.Step.TheVariants.{Decide, Cut, Fail, Plan, Left}
+use Rattle.trees.specs.Trees.{Leads, Tree, children, steps_of}
+use Rattle.trees.specs.Proving.{IsPlanLeaf, Proves, StepHolds}
+use Rattle.trees.specs.Goals.{goal_of}
+use Rattle.trees.specs.Certificates.{IsHandedIn, bound_of}
+use Rattle.trees.proofs.Public.{leads_tree, only_in, start_is_plan}
+use Rattle.cert_text.specs.Laws.{PartFits, ReasonFits, StepFits}
+use Rattle.cert_text.specs.Spelling.{HasPart, HasReason, HasStep, step_text}
+use Rattle.cert_text.specs.Texts.{IsGoal, IsNumber}
+use Rattle.cert_read.specs.Laws.{AreWritable}
+use Rattle.cert_check.specs.Laws.{HasWritablePart, IsWritablePart}
+use Rattle.cert_check.specs.Names.{named_step}
+use Rattle.cert_check.proofs.NamedLemmas.{IsNamedStep, step_here}
+
+-- ---- how great a cost is
+
+legal_end : (p : Instance) → IsInstance p → (e : Element) (c : Choice) → IsTrue (is_legal p e c) → end_of p e c ≤ p.horizon
+unfolding end_of
+legal_end p is e Idle legal = omega arith
+legal_end p is e (Act place start) legal = subst (λ n. n ≤ p.horizon) (sym (ends_by_duration p e place start)) (legal_acts_last p is e place start legal).1
+
+ends_in_all : (m n h a b : ℕ) → m ≤ 4096 → n ≤ 512 → h ≤ 1000000 → a ≤ m * h → b ≤ n * h → a + b ≤ max_cost
+ends_in_all m n h a b few_machines few_nodes early all_machines all_nodes = grind (arith, few_machines, few_nodes, early, all_machines, all_nodes)
+
+cost_is_small : (p : Instance) → IsInstance p → (plan : Choices) → IsPlan p plan → cost_of p plan ≤ max_cost
+cost_is_small p is plan legal =
+    ends_in_all (machine_count p) (node_count p) p.horizon
+    (sum_to (machine_count p) (λ v. end_of p (vm v) (plan (vm v)))) (sum_to (node_count p) (λ n. end_of p (node n) (plan (node n))))
+    is.inventory.few_machines is.inventory.few_nodes is.horizon
+    (sum_to-bound (machine_count p) p.horizon (λ v. end_of p (vm v) (plan (vm v))) (λ v l. legal_end p is (vm v) (plan (vm v)) (legal (vm v) l)))
+    (sum_to-bound (node_count p) p.horizon (λ n. end_of p (node n) (plan (node n))) (λ n l. legal_end p is (node n) (plan (node n)) (legal (node n) l)))
+
+cost_fits : (p : Instance) → IsInstance p → (plan : Choices) → IsPlan p plan → IsNumber (cost_of p plan)
+cost_fits p is plan legal = omega (arith, cost_is_small p is plan legal)
+
+-- ---- a goal that is shown can be written
+
+pub goal_fits : (p : Instance) → IsInstance p → (plan : Option Choices) → IsHandedIn p plan → (left : Bool) (count : ℕ) → IsNumber count → IsGoal (goal_of left count (bound_of p plan))
+goal_fits p is plan handed true count few = few
+goal_fits p is (Some plan) handed false count few = cost_fits p is plan handed.0
+goal_fits p is None handed false count few = tt
+
+-- ---- a step that holds can be written
+
+-- each plan of the sets is a plan of the instance
+abbrev HasPlansAlone : Instance → Sets → Type 0
+HasPlansAlone p s = (plan : Choices) → IsIn s plan → IsPlan p plan
+
+abbrev HavePlansAlone : Instance → List Sets → Type 0
+HavePlansAlone p [] = Unit {0}
+HavePlansAlone p (s ∷ rest) = HasPlansAlone p s × HavePlansAlone p rest
+
+children_have : (p : Instance) (s : Sets) (rest : List Sets) (step : Step) → HasPlansAlone p s → HavePlansAlone p rest → HavePlansAlone p (children s step ++ rest)
+children_have p s rest (Decide x side) here all = (λ plan h. here plan (plan_stays s plan x (in_part side) h), (λ plan h. here plan (plan_stays s plan x (out_of_part side) h), all))
+children_have p s rest (Cut x side why) here all = (λ plan h. here plan (plan_stays s plan x (out_of_part side) h), all)
+children_have p s rest (Fail why) here all = all
+children_have p s rest (Plan cost) here all = all
+children_have p s rest Left here all = all
+
+leaf_fits : (p : Instance) → IsInstance p → (bound : Option ℕ) (s : Sets) (cost : ℕ) → HasPlansAlone p s → IsPlanLeaf p bound s cost → IsNumber cost
+leaf_fits p is bound s cost here leaf = subst IsNumber leaf.one.costs (cost_fits p is leaf.one.plan (here leaf.one.plan (only_in s leaf.one.plan leaf.one.only)))
+
+named_where : (p : Instance) → IsInstance p → (bound : Option ℕ) (s : Sets) (step : Step) → HasPlansAlone p s → StepHolds p bound s step → HasWritablePart p step → IsNamedStep p step
+named_where p is bound s (Decide x side) here holds written = (holds.element, written)
+named_where p is bound s (Cut x side why) here holds written = (holds.element, written, holds.refuted.named)
+named_where p is bound s (Fail why) here holds written = holds.named
+named_where p is bound s (Plan cost) here holds written = leaf_fits p is bound s cost here holds
+named_where p is bound s Left here holds written = tt
+
+abbrev pub AreNamedSteps : Instance → List Step → Type 0
+AreNamedSteps p [] = Unit {0}
+AreNamedSteps p (step ∷ steps) = IsNamedStep p step × AreNamedSteps p steps
+
+module _ (p : Instance) (is : IsInstance p) (bound : Option ℕ) where
+  named_along : (steps e : List Step) (from now : List Sets) → HavePlansAlone p from → Leads (λ before. StepHolds p bound) e from steps now → All (HasWritablePart p) steps → AreNamedSteps p steps
+  named_along [] e from now have leads written = tt
+  named_along (step ∷ steps) e [] now have leads written = absurd leads
+  named_along (step ∷ steps) e (s ∷ rest) now have leads written = (
+    named_where p is bound s step have.0 leads.0 (All-head (HasWritablePart p) step steps written),
+    named_along steps (e ++ step ∷ []) (children s step ++ rest) now (children_have p s rest step have.0 have.1) leads.1 (All-tail (HasWritablePart p) step steps written),
+  )
+
+  pub all_named : (t : Tree) → Proves p bound (start_sets p) t → All (HasWritablePart p) (steps_of t) → AreNamedSteps p (steps_of t)
+  all_named t proves written =
+      named_along (steps_of t) [] (start_sets p ∷ []) [] (λ plan h. start_is_plan p plan h, tt) (leads_tree (λ before. StepHolds p bound) t [] (start_sets p) [] proves) written
+
+-- ---- so it is a line, which names it
+
+part_written : (p : Instance) (side : Part) → IsWritablePart p side → HasPart p side × PartFits side
+part_written p part.Idle written = (tt, tt)
+part_written p (part.Upto place start) written = (written.0, omega (arith, written.1))
+part_written p (part.From place start) written = (written.0, omega (arith, written.1))
+
+module _ (p : Instance) (is : IsInstance p) where
+  number_fits : (c : ℕ) → c < length p.constraints → IsNumber c
+  number_fits c there = omega (arith, there, is.few)
+
+  instant_fits : (t : ℕ) → t ≤ p.horizon → IsNumber t
+  instant_fits t upto = omega (arith, upto, is.horizon)
+
+  reason_written : (why : Reason) → IsNamed p why → HasReason p why × ReasonFits why
+  reason_written (reason.Empty e) named = (named, tt)
+  reason_written reason.Bound named = (tt, tt)
+  reason_written (reason.Load t r set) named = ((named.1, named.2), instant_fits t named.0)
+  reason_written (reason.Pair c t v w n) named = ((named.2, named.3, named.4), (number_fits c named.0, instant_fits t named.1))
+  reason_written (reason.Place c t v n) named = ((named.2, named.3), (number_fits c named.0, instant_fits t named.1))
+  reason_written (reason.Group c t) named = (tt, (number_fits c named.0, instant_fits t named.1))
+  reason_written (reason.SetLoad c t) named = (tt, (number_fits c named.0, instant_fits t named.1))
+  reason_written (reason.Power c t) named = (tt, (number_fits c named.0, instant_fits t named.1))
+  reason_written (reason.Usable t v n) named = ((named.1, named.2), instant_fits t named.0)
+  reason_written (reason.Hall c t set) named = (named.2, (number_fits c named.0, instant_fits t named.1))
+
+  step_written : (step : Step) → IsNamedStep p step → HasStep p step × StepFits step
+  step_written (Decide x side) named = let w = part_written p side named.1 in ((named.0, w.0), w.1)
+  step_written (Cut x side why) named =
+      let w = part_written p side named.1 in
+      let r = reason_written why named.2 in
+      ((named.0, w.0, r.0), (w.1, r.1))
+  step_written (Fail why) named = reason_written why named
+  step_written (Plan cost) named = (tt, named)
+  step_written Left named = (tt, tt)
+
+  pub all_written : (steps : List Step) → AreNamedSteps p steps → AreWritable p steps
+  all_written [] named = tt
+  all_written (step ∷ steps) named = let w = step_written step named.0 in (w.0, w.1, all_written steps named.1)
+
+  pub all_here : (steps : List Step) → AreNamedSteps p steps → map (named_step p) (map (step_text p) steps) ≡ map (λ step. Some step) steps
+  all_here [] named = refl
+  all_here (step ∷ steps) named = rw (step_here p is step named.0, all_here steps named.1) refl
+
+-- of the first steps of some
+pub first_named : (p : Instance) (front rest : List Step) → AreNamedSteps p (front ++ rest) → AreNamedSteps p front
+first_named p [] rest named = tt
+first_named p (step ∷ front) rest named = (named.0, first_named p front rest named.1)
+
+-- and the one after them
+pub one_named : (p : Instance) (front more : List Step) (step : Step) → AreNamedSteps p (front ++ step ∷ more) → IsNamedStep p step
+one_named p [] more step named = named.0
+one_named p (first ∷ front) more step named = one_named p front more step named.1

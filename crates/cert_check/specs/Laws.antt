@@ -1,0 +1,63 @@
+-- What is proved of a certificate that is written from a tree: the check accepts it.
+use Rattle.std.specs.Prelude.{◌≡◌, ℕ, ◌<◌, ◌^◌, Bool, true, List, Option, Result, Ok, Err}
+use Rattle.std.specs.List.{All}
+use Rattle.catalogue.specs.Instance.{Instance, IsInstance}
+use Rattle.slices.specs.Plans.{Choices}
+use Rattle.domains.specs.declared.parts.Part.{Part}
+use Rattle.domains.specs.declared.parts.Part.TheVariants.{Idle, Upto, From}
+use Rattle.reasons.specs.Start.{start_sets}
+use Rattle.trees.specs.declared.steps.Goal.{Goal}
+use Rattle.trees.specs.declared.steps.Step.{Step}
+use Rattle.trees.specs.declared.steps.Step.TheVariants.{Decide, Cut, Fail, Plan, Left}
+use Rattle.trees.specs.Trees.{Tree, steps_of}
+use Rattle.trees.specs.Goals.{decisions}
+use Rattle.trees.specs.Searching.{IsLean}
+use Rattle.trees.specs.Certificates.{IsCertificate, IsHandedIn, least_of}
+use Rattle.cert_text.specs.Spelling.{HasPlace, certificate_text}
+use Rattle.cert_read.specs.Reader.{IsOutside}
+use Rattle.cert_check.specs.declared.verdict.CheckFault.{CheckFault}
+use Rattle.cert_check.specs.declared.verdict.CheckFault.TheVariants.{Line, Memory}
+use Rattle.cert_check.specs.declared.verdict.Verdict.{Verdict}
+use Rattle.cert_check.specs.declared.verdict.Verdict.TheVariants.{Yes, No}
+use Rattle.cert_check.specs.Verdicts.{CheckGives}
+
+-- ---- which trees can be written
+
+-- the place of a part is the problem's, and its start fits 32 bits, as each instant of the code does
+abbrev pub IsWritablePart : Instance → Part → Type 0
+IsWritablePart p Idle = Unit {0}
+IsWritablePart p (Upto place start) = HasPlace p place × (start < 2 ^ 32)
+IsWritablePart p (From place start) = HasPlace p place × (start < 2 ^ 32)
+
+-- so it is of the part of a step, if the step has one; all else that a step names is the problem's where the step holds
+abbrev pub HasWritablePart : Instance → Step → Type 0
+HasWritablePart p (Decide x part) = IsWritablePart p part
+HasWritablePart p (Cut x part reason) = IsWritablePart p part
+HasWritablePart p (Fail reason) = Unit {0}
+HasWritablePart p (Plan cost) = Unit {0}
+HasWritablePart p Left = Unit {0}
+
+-- so it is at each step of a tree, and its decisions can be counted in 64 bits
+pub record IsWritable (p : Instance) (t : Tree) : Type 0 where
+  pub parts : All (HasWritablePart p) (steps_of t)
+  pub counted : decisions (steps_of t) < 2 ^ 64
+
+-- ---- accepted
+
+-- the answer is yes with this goal and this least, or says nothing of the file: a failed read, or want of memory
+abbrev pub IsYesUnlessOutside : Goal → Option ℕ → Result Verdict CheckFault → Type 0
+IsYesUnlessOutside goal least (Ok (Yes shown low)) = (shown ≡ goal) × (low ≡ least)
+IsYesUnlessOutside goal least (Ok (No line why)) = ⊥
+IsYesUnlessOutside goal least (Err (Line fault)) = IsOutside fault
+IsYesUnlessOutside goal least (Err Memory) = Unit {0}
+
+-- the verdict on a file is yes with this goal and this least, and there is no other
+pub record IsAccepted (p : Instance) (plan : Option Choices) (strict : Bool) (file : List ℕ) (goal : Goal) (least : Option ℕ) : Type 0 where
+  pub yes : CheckGives p plan strict file (Ok (Yes goal least))
+  pub alone : (answer : Result Verdict CheckFault) → CheckGives p plan strict file answer → IsYesUnlessOutside goal least answer
+
+-- the text of a tree that is a certificate for the plan, which is valid, or for none, is accepted; also strictly, where the tree is lean
+abbrev pub CertificateIsAccepted : Type 0
+CertificateIsAccepted =
+    (p : Instance) → IsInstance p → (plan : Option Choices) → IsHandedIn p plan → (goal : Goal) (t : Tree) → IsCertificate p plan goal t → IsWritable p t →
+    (strict : Bool) → (strict ≡ true → IsLean p (start_sets p) t) → IsAccepted p plan strict (certificate_text p (steps_of t) goal) goal (least_of p plan t)

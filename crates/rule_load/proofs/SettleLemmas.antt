@@ -1,0 +1,29 @@
+-- Ends of choices by rows, and a case that is one.
+use Rattle.std.proofs.Common.{◌≡◌, ◌⊎◌, ℕ, ◌<◌, ◌≤◌, true, List, length, slice_index_or}
+use Rattle.cluster.specs.declared.choices.Choice.{Choice}
+use Rattle.cluster.specs.declared.choices.Choice.TheVariants.{Idle, Act}
+use Rattle.cluster.specs.declared.choices.Place.{Place}
+use Rattle.cluster.specs.declared.ids.Element.{Element}
+use Rattle.catalogue.specs.Instance.{Instance, IsElement}
+use Rattle.slices.specs.Stages.{one}
+use Rattle.domains.specs.Choices.{Climbs, DomainView, choices, no_row}
+use Rattle.domains.specs.declared.parts.Row.{Row}
+use Rattle.domains.specs.Sets.{RegionView, domain_at, setting, sets}
+use Rattle.reasons.specs.Closed.{IsEnd}
+use Rattle.reasons.specs.Sure.{sure}
+use Rattle.reasons.proofs.Public.{ends_of_rows}
+use Rattle.closing.specs.Kinds.{IsOverloaded, load_watch}
+use Rattle.closing.specs.Looks.{IsLook}
+use Rattle.closing.specs.declared.look.Look.TheVariants.{Cut}
+
+pub idle_is_end : (d : DomainView) (rows : List Row) → rows ≡ d.rows → Climbs 0 rows → d.idle ≡ true → IsEnd (choices d) Idle
+idle_is_end d rows same climbs idle = (ends_of_rows d (rw same at climbs) Idle).1 idle
+
+pub row_is_end : (d : DomainView) (rows : List Row) (place : Place) (start : ℕ) → rows ≡ d.rows → Climbs 0 rows →
+    (i : ℕ) × (i < length rows) × ((slice_index_or rows i no_row).place ≡ place) × (((slice_index_or rows i no_row).lo ≡ start) ⊎ ((slice_index_or rows i no_row).hi ≡ start)) →
+    IsEnd (choices d) (Act place start)
+row_is_end d rows place start same climbs found = (ends_of_rows d (rw same at climbs) (Act place start)).1 (rw same at found)
+
+pub cut_is_look : (p : Instance) (g : RegionView) (n : ℕ) (e : Element) (c : Choice) (t : ℕ) (d : DomainView) → t ≤ p.horizon → IsElement p e → d ≡ domain_at g e → IsEnd (choices d) c →
+    IsOverloaded p (one n) (sure p (setting e c (sets g)) t) → IsLook (load_watch p n) p (sets g) (Cut e c t)
+cut_is_look p g n e c t d within element same end met = (within, record { element = element; is_end = rw same at end; is_met = met })

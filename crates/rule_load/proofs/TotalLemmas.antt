@@ -1,0 +1,255 @@
+-- What one machine uses at the most on the nodes of any set.
+use Rattle.std.specs.Prelude.{slice_index_or}
+use Rattle.std.specs.List.{Contains, flat_map}
+use Rattle.std.proofs.Common.{◌≡◌, inl, inr, ℕ, suc, ◌+◌, ◌-◌, ◌<◌, ◌≤◌, Bool, true, false, not, ◌&&◌, nat_lt, nat_le, cond, Option, Some, None, List, [], ◌∷◌, refl, sym, ◌∙◌, arith}
+use Rattle.std.proofs.lemmas.Bool.{cases_lt, false≢true}
+use Rattle.std.proofs.lemmas.Bool.Decides.{Decides-eqb, nat_tests}
+use Rattle.sums.specs.Least.{least}
+use Rattle.cluster.specs.declared.choices.Choice.{Choice}
+use Rattle.cluster.specs.declared.choices.Choice.TheVariants.{Idle, Act}
+use Rattle.cluster.specs.declared.choices.Place.{Place}
+use Rattle.cluster.specs.declared.choices.Place.TheVariants.{Nowhere, At}
+use Rattle.cluster.specs.declared.kinds.Kind.{Kind}
+use Rattle.cluster.specs.declared.kinds.Kind.TheVariants.{Boot, Shutdown, Suspend, Resume, Migrate, Allocate, Kill}
+use Rattle.cluster.specs.declared.states.State.{State}
+use Rattle.cluster.specs.declared.states.State.TheVariants.{Init, Ready, Running, Sleeping, Gone}
+use Rattle.catalogue.specs.Instance.{Instance}
+use Rattle.catalogue.specs.Values.{demand_of, use_of}
+use Rattle.slices.specs.declared.slice.Slices.{Slices}
+use Rattle.slices.specs.declared.stage.Stage.{Stage}
+use Rattle.slices.specs.declared.slice.Weight.TheVariants.{Amount}
+use Rattle.slices.specs.Actions.{action_duration, end_of, kind_of}
+use Rattle.slices.specs.Elements.{state_of, vm}
+use Rattle.slices.specs.Snapshots.{held_at, held_by, stage_at}
+use Rattle.slices.specs.Stages.{Nodes, acting_slices, idle_slices, one, slices_by, slices_of, stage_from, weigh}
+use Rattle.slices.proofs.Public.{ends_by_duration}
+use Rattle.domains.specs.Choices.{DomainView, choices, row_choices}
+use Rattle.domains.specs.Sets.{RegionView, domain_at, sets, surely}
+use Rattle.domains.proofs.Public.{contains_here, least_of_each, surely_each}
+use Rattle.reasons.specs.Sure.{sure}
+use Rattle.standing.specs.declared.numbers.Arrival.{Arrival}
+use Rattle.standing.specs.declared.numbers.Standing.{Standing}
+use Rattle.standing.specs.Standings.{IsStanding, base, had_there, has_come, kept_until, leave_of, never, weight_if}
+use Rattle.standing.specs.Tables.{AreStanding, no_standing}
+use Rattle.rule_load.specs.declared.period.Period.{Period}
+use Rattle.rule_load.specs.Parts.{HasLeft, StartsAfter, start_count}
+use Rattle.rule_load.specs.Periods.{AreMost, IsDuring, IsMost}
+use Rattle.rule_load.specs.Totals.{comes_after, most_anywhere}
+
+-- ---- what slices weigh
+
+-- all that slices weigh on a set
+abbrev all-in : Instance → ℕ → ℕ → Nodes → Stage → Slices → ℕ
+all-in p v r set g x = weigh p v (Amount r) x.source g set + weigh p v (Amount r) x.target g set + weigh p v (Amount r) x.image g set
+
+most : (a : Bool) (k : ℕ) → cond a k 0 ≤ k
+most true k = omega arith
+most false k = omega arith
+
+-- what is covered by a test that fails weighs nothing
+gone : (a b : Bool) (k : ℕ) → b ≡ false → cond (a && b) k 0 ≤ 0
+gone true b k e = rw e (omega arith)
+gone false b k e = omega arith
+
+-- what a machine in a state has at present
+abbrev had : Instance → ℕ → ℕ → State → ℕ
+had p v r s = weight_if p v (Amount r) (had_there s)
+
+idle-most : (p : Instance) (v r : ℕ) (set : Nodes) (g : Stage) (s : State) → all-in p v r set g (idle_slices s) ≤ had p v r s
+idle-most p v r set g Init = omega arith
+idle-most p v r set g Ready = omega arith
+idle-most p v r set g (Running h) = let a = most (set h.0 && true) (use_of p.machines v r) in omega (arith, a)
+idle-most p v r set g (Sleeping h) = let a = most (set h.0 && true) 0 in omega (arith, a)
+idle-most p v r set g Gone = omega arith
+
+acting-most : (p : Instance) (v r : ℕ) (set : Nodes) (g : Stage) (s : State) (k : Kind) (place : Place) → all-in p v r set g (acting_slices s k place) ≤ had p v r s + demand_of p v r
+acting-most p v r set g (Running h) Migrate (At n) = let a = most (set h.0 && not g.ended) (use_of p.machines v r) in let b = most (set n.0 && g.started) (demand_of p v r) in omega (arith, a, b)
+acting-most p v r set g (Running h) Allocate place = let a = most (set h.0 && true) (use_of p.machines v r) in let b = most (set h.0 && g.started) (demand_of p v r - use_of p.machines v r) in omega (arith, a, b)
+acting-most p v r set g (Running h) Shutdown place = let a = most (set h.0 && not g.ended) (use_of p.machines v r) in omega (arith, a)
+acting-most p v r set g (Running h) Kill place = let a = most (set h.0 && not g.ended) (use_of p.machines v r) in omega (arith, a)
+acting-most p v r set g (Running h) Suspend place = let a = most (set h.0 && not g.ended) (use_of p.machines v r) in let b = most (set h.0 && g.started) 0 in omega (arith, a, b)
+acting-most p v r set g Ready Boot (At n) = let b = most (set n.0 && g.started) (demand_of p v r) in omega (arith, b)
+acting-most p v r set g (Sleeping h) Resume (At n) = let b = most (set n.0 && g.started) (demand_of p v r) in let c = most (set h.0 && not g.ended) 0 in omega (arith, b, c)
+acting-most p v r set g (Sleeping h) Kill place = let c = most (set h.0 && not g.ended) 0 in omega (arith, c)
+acting-most p v r set g s k place = omega arith
+
+-- before its start
+unstarted-most : (p : Instance) (v r : ℕ) (set : Nodes) (g : Stage) (s : State) (k : Kind) (place : Place) → g.started ≡ false → all-in p v r set g (acting_slices s k place) ≤ had p v r s
+unstarted-most p v r set g (Running h) Migrate (At n) e = let a = most (set h.0 && not g.ended) (use_of p.machines v r) in let b = gone (set n.0) g.started (demand_of p v r) e in omega (arith, a, b)
+unstarted-most p v r set g (Running h) Allocate place e = let a = most (set h.0 && true) (use_of p.machines v r) in let b = gone (set h.0) g.started (demand_of p v r - use_of p.machines v r) e in omega (arith, a, b)
+unstarted-most p v r set g (Running h) Shutdown place e = let a = most (set h.0 && not g.ended) (use_of p.machines v r) in omega (arith, a)
+unstarted-most p v r set g (Running h) Kill place e = let a = most (set h.0 && not g.ended) (use_of p.machines v r) in omega (arith, a)
+unstarted-most p v r set g (Running h) Suspend place e = let a = most (set h.0 && not g.ended) (use_of p.machines v r) in let b = most (set h.0 && g.started) 0 in omega (arith, a, b)
+unstarted-most p v r set g Ready Boot (At n) e = let b = gone (set n.0) g.started (demand_of p v r) e in omega (arith, b)
+unstarted-most p v r set g (Sleeping h) Resume (At n) e = let b = gone (set n.0) g.started (demand_of p v r) e in let c = most (set h.0 && not g.ended) 0 in omega (arith, b, c)
+unstarted-most p v r set g (Sleeping h) Kill place e = let c = most (set h.0 && not g.ended) 0 in omega (arith, c)
+unstarted-most p v r set g s k place e = omega arith
+
+-- after its end, where that gives the host up
+off : (b : Bool) → b ≡ true → not b ≡ false
+off b e = rw e refl
+
+ended-most : (p : Instance) (v r t e : ℕ) (set : Nodes) (g : Stage) (s : State) (k : Kind) (place : Place) → t < never → kept_until (Some k) e ≤ t → (e ≤ t → g.ended ≡ true) → all-in p v r set g (acting_slices s k place) ≤ demand_of p v r
+ended-most p v r t e set g (Running h) Migrate (At n) short l done = let a = gone (set h.0) (not g.ended) (use_of p.machines v r) (off g.ended (done l)) in let b = most (set n.0 && g.started) (demand_of p v r) in omega (arith, a, b)
+ended-most p v r t e set g (Running h) Allocate place short l done = absurd (omega (arith, short, l))
+ended-most p v r t e set g (Running h) Shutdown place short l done = let a = gone (set h.0) (not g.ended) (use_of p.machines v r) (off g.ended (done l)) in omega (arith, a)
+ended-most p v r t e set g (Running h) Kill place short l done = let a = gone (set h.0) (not g.ended) (use_of p.machines v r) (off g.ended (done l)) in omega (arith, a)
+ended-most p v r t e set g (Running h) Suspend place short l done = let a = gone (set h.0) (not g.ended) (use_of p.machines v r) (off g.ended (done l)) in let b = most (set h.0 && g.started) 0 in omega (arith, a, b)
+ended-most p v r t e set g Ready Boot (At n) short l done = let b = most (set n.0 && g.started) (demand_of p v r) in omega (arith, b)
+ended-most p v r t e set g (Sleeping h) Resume (At n) short l done = let b = most (set n.0 && g.started) (demand_of p v r) in let c = most (set h.0 && not g.ended) 0 in omega (arith, b, c)
+ended-most p v r t e set g (Sleeping h) Kill place short l done = let c = most (set h.0 && not g.ended) 0 in omega (arith, c)
+ended-most p v r t e set g s k place short l done = omega arith
+
+-- ---- what a choice holds
+
+by-most : (p : Instance) (v r : ℕ) (set : Nodes) (g : Stage) (s : State) (place : Place) (o : Option Kind) → all-in p v r set g (slices_by s place o) ≤ had p v r s + demand_of p v r
+unfolding slices_by
+by-most p v r set g s place None = omega arith
+by-most p v r set g s place (Some k) = acting-most p v r set g s k place
+
+by-unstarted : (p : Instance) (v r : ℕ) (set : Nodes) (g : Stage) (s : State) (place : Place) (o : Option Kind) → g.started ≡ false → all-in p v r set g (slices_by s place o) ≤ had p v r s
+unfolding slices_by
+by-unstarted p v r set g s place None e = omega arith
+by-unstarted p v r set g s place (Some k) e = unstarted-most p v r set g s k place e
+
+by-ended : (p : Instance) (v r t e : ℕ) (set : Nodes) (g : Stage) (s : State) (place : Place) (o : Option Kind) → t < never → kept_until o e ≤ t → (e ≤ t → g.ended ≡ true) → all-in p v r set g (slices_by s place o) ≤ demand_of p v r
+unfolding slices_by
+by-ended p v r t e set g s place None short l done = omega arith
+by-ended p v r t e set g s place (Some k) short l done = ended-most p v r t e set g s k place short l done
+
+pub held-idle : (p : Instance) (v r : ℕ) (set : Nodes) (t : ℕ) → held_at p v (Amount r) set t Idle ≤ base p v (Amount r)
+unfolding held_at held_by stage_at slices_of
+held-idle p v r set t = idle-most p v r set (record { started = false; ended = false }) (state_of p v)
+
+pub held-ever : (p : Instance) (v r : ℕ) (set : Nodes) (t : ℕ) (c : Choice) → held_at p v (Amount r) set t c ≤ base p v (Amount r) + demand_of p v r
+unfolding held_at held_by stage_at slices_of
+held-ever p v r set t Idle = let a = idle-most p v r set (record { started = false; ended = false }) (state_of p v) in omega (arith, a)
+held-ever p v r set t (Act place start) = by-most p v r set (stage_from start (action_duration p (vm v) place) t) (state_of p v) place (kind_of p (vm v) place)
+
+pub held-before : (p : Instance) (v r : ℕ) (set : Nodes) (t : ℕ) (place : Place) (start : ℕ) → t < start → held_at p v (Amount r) set t (Act place start) ≤ base p v (Amount r)
+unfolding held_at held_by stage_at slices_of
+held-before p v r set t place start l =
+    let not_yet : nat_le start t ≡ false = grind (arith, nat_tests, l) in
+    by-unstarted p v r set (stage_from start (action_duration p (vm v) place) t) (state_of p v) place (kind_of p (vm v) place) not_yet
+
+pub held-after : (p : Instance) (v r : ℕ) (set : Nodes) (t : ℕ) (c : Choice) → t < never → leave_of p v c ≤ t → held_at p v (Amount r) set t c ≤ demand_of p v r
+unfolding held_at held_by stage_at slices_of
+held-after p v r set t Idle short l = absurd (omega (arith, short, l))
+held-after p v r set t (Act place start) short l =
+    by-ended p v r t (end_of p (vm v) (Act place start)) set (stage_from start (action_duration p (vm v) place) t) (state_of p v) place (kind_of p (vm v) place) short l
+    (λ late. let over : start + action_duration p (vm v) place ≤ t = omega (arith, ends_by_duration p (vm v) place start, late) in let done : nat_le (start + action_duration p (vm v) place) t ≡ true = grind (arith, nat_tests, over) in done)
+
+-- ---- what is sure
+
+least-some : (f : Choice → ℕ) (m : ℕ) (cs : List Choice) (c : Choice) → Contains cs c → f c ≤ m → least f cs ≤ m
+least-some f m cs c i l = omega (arith, least_of_each f cs c i, l)
+
+least-all : (f : Choice → ℕ) (m : ℕ) (cs : List Choice) → ((c : Choice) → f c ≤ m) → least f cs ≤ m
+least-all f m [] h = omega arith
+least-all f m (c ∷ cs) h = least-some f m (c ∷ cs) c (contains_here c cs) (h c)
+
+later : (x : Choice) (xs : List Choice) (c : Choice) → Contains xs c → Contains (x ∷ xs) c
+later x xs c h = (suc h.0, omega (arith, h.1), h.2)
+
+-- some choice has the least
+least-held : (f : Choice → ℕ) (c : Choice) (cs : List Choice) → (d : Choice) × Contains (c ∷ cs) d × (f d ≤ least f (c ∷ cs))
+least-held f c [] = (c, contains_here c [], omega arith)
+least-held f c (d ∷ ds) =
+    let rest = least-held f d ds in
+    elim (cases_lt (f c) (least f (d ∷ ds))) [
+      | inl l ↦ (c, contains_here c (d ∷ ds), omega (arith, l))
+      | inr l ↦ (rest.0, later c (d ∷ ds) rest.0 rest.1, omega (arith, l, rest.2))
+    ]
+
+sure-left : (p : Instance) (v r : ℕ) (set : Nodes) (t : ℕ) (cs : List Choice) → t < never → least (leave_of p v) cs ≤ t → least (held_at p v (Amount r) set t) cs ≤ demand_of p v r
+sure-left p v r set t [] short l = omega arith
+sure-left p v r set t (c ∷ cs) short l =
+    let first = least-held (leave_of p v) c cs in
+    least-some (held_at p v (Amount r) set t) (demand_of p v r) (c ∷ cs) first.0 first.1 (held-after p v r set t first.0 short (omega (arith, first.2, l)))
+
+-- of choices that have not all come by t and have by some later instant, one starts after t
+not-all : (test : Choice → Bool) (cs : List Choice) → surely test cs ≡ false → (c : Choice) × Contains cs c × (test c ≡ false)
+not-all test [] e = absurd (false≢true (sym e))
+not-all test (c ∷ cs) e = by (test c) refl (λ tail. not-all test cs tail)
+  where
+    by : (b : Bool) → test c ≡ b → (surely test cs ≡ false → (d : Choice) × Contains cs d × (test d ≡ false)) → (d : Choice) × Contains (c ∷ cs) d × (test d ≡ false)
+    by false is tail = (c, contains_here c cs, is)
+    by true is tail = let rest = tail (rw is at e) in (rest.0, later c cs rest.0 rest.1, rest.2)
+
+both : (a b : Bool) → (a && b) ≡ true → (a ≡ true) × (b ≡ true)
+both true b e = (refl, e)
+both false b e = absurd (false≢true e)
+
+starts-late : (p : Instance) (v r : ℕ) (set : Nodes) (n t last : ℕ) (c : Choice) → has_come n last c ≡ true → has_come n t c ≡ false → held_at p v (Amount r) set t c ≤ base p v (Amount r)
+starts-late p v r set n t last Idle come not_yet = absurd (false≢true come)
+starts-late p v r set n t last (Act Nowhere s) come not_yet = absurd (false≢true come)
+starts-late p v r set n t last (Act (At m) s) come not_yet =
+    let there = (both (one n m.0) (nat_le s last) come).0 in
+    let after : nat_le s t ≡ false = rw there at not_yet in
+    elim (cases_lt t s) [
+      | inl l ↦ held-before p v r set t (At m) s l
+      | inr l ↦ let on : nat_le s t ≡ true = grind (arith, nat_tests, l) in absurd (false≢true (sym after ∙ on))
+    ]
+
+sure-later : (p : Instance) (v r : ℕ) (set : Nodes) (t : ℕ) (cs : List Choice) (k : Standing) (a : Arrival) → IsStanding p v cs k → k.come ≡ Some a → t < a.last → least (held_at p v (Amount r) set t) cs ≤ base p v (Amount r)
+sure-later p v r set t [] k a is e l = omega arith
+sure-later p v r set t (c ∷ cs) k a is e l =
+    let there : one a.node.0 a.node.0 ≡ true = (Decides-eqb a.node.0 a.node.0).1 refl in
+    let ends : nat_le a.last a.last ≡ true = grind (arith, nat_tests) in
+    let early : nat_le a.last t ≡ false = grind (arith, nat_tests, l) in
+    let all : surely (has_come a.node.0 a.last) (c ∷ cs) ≡ true = sym (is.come a.node.0 a.last) ∙ rw (e, there, ends) refl in
+    let some : surely (has_come a.node.0 t) (c ∷ cs) ≡ false = sym (is.come a.node.0 t) ∙ rw (e, there, early) refl in
+    let x = not-all (has_come a.node.0 t) (c ∷ cs) some in
+    least-some (held_at p v (Amount r) set t) (base p v (Amount r)) (c ∷ cs) x.0 x.1
+    (starts-late p v r set a.node.0 t a.last x.0 (surely_each (has_come a.node.0 a.last) (c ∷ cs) x.0 x.1 all) x.2)
+
+sure-most : (p : Instance) (v r : ℕ) (set : Nodes) (x : Period) (t : ℕ) (cs : List Choice) (idle : Bool) (k : Standing) → x.to < never → IsStanding p v cs k → (idle ≡ true → Contains cs Idle) → IsDuring x t →
+    least (held_at p v (Amount r) set t) cs ≤ most_anywhere p v r x idle k
+sure-most p v r set x t cs true k short is stays h = least-some (held_at p v (Amount r) set t) (base p v (Amount r)) cs Idle (stays refl) (held-idle p v r set t)
+sure-most p v r set x t cs false k short is stays h = by (nat_le k.leave x.from) refl
+  where
+    come : (o : Option Arrival) → k.come ≡ o → least (held_at p v (Amount r) set t) cs ≤ cond (comes_after x.to o) (base p v (Amount r)) (base p v (Amount r) + demand_of p v r)
+    come None e = least-all (held_at p v (Amount r) set t) (base p v (Amount r) + demand_of p v r) cs (held-ever p v r set t)
+    come (Some a) e =
+        elim (cases_lt x.to a.last) [
+          | inl l ↦ let on : nat_lt x.to a.last ≡ true = grind (arith, nat_tests, l) in rw on (sure-later p v r set t cs k a is e (omega (arith, h.1, l)))
+          | inr l ↦ let off : nat_lt x.to a.last ≡ false = grind (arith, nat_tests, l) in rw off (least-all (held_at p v (Amount r) set t) (base p v (Amount r) + demand_of p v r) cs (held-ever p v r set t))
+        ]
+
+    by : (b : Bool) → nat_le k.leave x.from ≡ b → least (held_at p v (Amount r) set t) cs ≤ cond b (demand_of p v r) (cond (comes_after x.to k.come) (base p v (Amount r)) (base p v (Amount r) + demand_of p v r))
+    by true e =
+        elim (cases_lt x.from k.leave) [
+          | inl l ↦ let off : nat_le k.leave x.from ≡ false = grind (arith, nat_tests, l) in absurd (false≢true (sym off ∙ e))
+          | inr l ↦ sure-left p v r set t cs (omega (arith, h.1, short)) (omega (arith, is.leave, l, h.0))
+        ]
+    by false e = come k.come refl
+
+pub are_most : (p : Instance) (g : RegionView) (ks : List Standing) (r : ℕ) (set : Nodes) (x : Period) → x.to < never → AreStanding p (sets g) ks →
+    AreMost p (sets g) r set x (λ v. most_anywhere p v r x (domain_at g (vm v)).idle (slice_index_or ks v no_standing))
+unfolding sure
+are_most p g ks r set x short are = record {
+  each = λ v t l h. sure-most p v r set x t (sets g (vm v)) (domain_at g (vm v)).idle (slice_index_or ks v no_standing) short (are.each v l) (idle-in (domain_at g (vm v))) h;
+}
+  where
+    idle-in : (d : DomainView) → d.idle ≡ true → Contains (choices d) Idle
+    idle-in d e = rw e (contains_here Idle (flat_map row_choices d.rows))
+
+-- ---- under each of its choices
+
+pub ever_most : (p : Instance) (v : ℕ) (cs : List Choice) (r : ℕ) (set : Nodes) (x : Period) (had demand bound : ℕ) → had ≡ base p v (Amount r) → demand ≡ demand_of p v r → had + demand ≤ bound → IsMost p v cs r set x bound
+ever_most p v cs r set x had demand bound a b fits = record { each = λ c t i h. omega (arith, a, b, fits, held-ever p v r set t c) }
+
+pub left_most : (p : Instance) (v : ℕ) (cs : List Choice) (r : ℕ) (set : Nodes) (x : Period) (demand bound : ℕ) → x.to < never → demand ≡ demand_of p v r → HasLeft p v cs x.from → demand ≤ bound → IsMost p v cs r set x bound
+left_most p v cs r set x demand bound short is left fits = record {
+  each = λ c t i h. omega (arith, is, fits, held-after p v r set t c (omega (arith, short, h.1)) (omega (arith, left.each c i, h.0)));
+}
+
+pub later_most : (p : Instance) (v : ℕ) (cs : List Choice) (r : ℕ) (set : Nodes) (x : Period) (had bound : ℕ) → had ≡ base p v (Amount r) → StartsAfter cs x.to → had ≤ bound → IsMost p v cs r set x bound
+later_most p v cs r set x had bound is after fits = record { each = λ c t i h. omega (arith, is, fits, at c t h (after.each c i)) }
+  where
+    at : (c : Choice) (t : ℕ) → IsDuring x t → x.to < start_count c → held_at p v (Amount r) set t c ≤ base p v (Amount r)
+    at Idle t h l = absurd (omega (arith, l))
+    at (Act place s) t h l = held-before p v r set t place s (omega (arith, h.1, l))
+
+pub all_after : (cs : List Choice) (t x : ℕ) → x ≡ least start_count cs → t < x → StartsAfter cs t
+all_after cs t x is l = record { each = λ c i. omega (arith, is, l, least_of_each start_count cs c i) }

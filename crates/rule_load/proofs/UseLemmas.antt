@@ -1,0 +1,182 @@
+-- What one machine uses of a node at the most during a period.
+use Rattle.std.proofs.Common.{◌≡◌, ℕ, ◌+◌, ◌-◌, ◌<◌, ◌≤◌, ◌==◌, Bool, true, false, ◌&&◌, nat_lt, nat_le, cond, Option, Some, None, List, [], ◌∷◌, refl, ap, subst, ◌∙◌, arith}
+use Rattle.std.specs.Prelude.{slice_index_or}
+use Rattle.std.specs.List.{Contains, filter}
+use Rattle.std.proofs.lemmas.Bool.{false≢true}
+use Rattle.std.proofs.lemmas.Bool.Decides.{Decides-eqb, nat_tests}
+use Rattle.sums.specs.Least.{least}
+use Rattle.cluster.specs.declared.choices.Choice.{Choice}
+use Rattle.cluster.specs.declared.choices.Choice.TheVariants.{Idle, Act}
+use Rattle.cluster.specs.declared.choices.Place.TheVariants.{Nowhere, At}
+use Rattle.cluster.specs.declared.ids.NodeId.{NodeId}
+use Rattle.cluster.specs.declared.kinds.Kind.{Kind}
+use Rattle.cluster.specs.declared.kinds.Kind.TheVariants.{Forge, Boot, Shutdown, Suspend, Resume, Migrate, Allocate, Kill, NodeBoot, NodeShutdown}
+use Rattle.catalogue.specs.Instance.{Instance}
+use Rattle.catalogue.specs.Values.{demand_of}
+use Rattle.slices.specs.declared.slice.Weight.{Weight}
+use Rattle.slices.specs.declared.slice.Weight.TheVariants.{Amount}
+use Rattle.slices.specs.Actions.{kind_of}
+use Rattle.slices.specs.Elements.{state_of, vm}
+use Rattle.slices.specs.Snapshots.{held_at}
+use Rattle.slices.specs.Stages.{one}
+use Rattle.domains.specs.declared.parts.Part.TheVariants.{Upto}
+use Rattle.domains.specs.declared.parts.Side.TheVariants.{Inside}
+use Rattle.domains.specs.Parts.{in_part, on_side}
+use Rattle.domains.specs.Sets.{Sets}
+use Rattle.domains.proofs.Public.{contains_filter, least_of_each}
+use Rattle.reasons.specs.Sure.{sure}
+use Rattle.relax.specs.Areas.{hosted_in}
+use Rattle.standing.specs.declared.numbers.Arrival.{Arrival}
+use Rattle.standing.specs.declared.numbers.Standing.{Standing}
+use Rattle.standing.specs.Standings.{base, brought, comes_by, gain, has_come, kept_use, leave_of, never, weight_if}
+use Rattle.standing.specs.Tables.{AreStanding, no_standing}
+use Rattle.standing.proofs.Public.{kept_law}
+use Rattle.rule_load.specs.declared.period.Period.{Period}
+use Rattle.rule_load.specs.Parts.{HasLeft, IsMostBrought, IsMostLeft, left_over}
+use Rattle.rule_load.specs.Periods.{AreMost, IsDuring, IsMost, most_kept}
+use Rattle.rule_load.proofs.StillLemmas.{arrival_of, choice_stands}
+
+-- ---- what counts only where a test holds
+
+more : (a b : Bool) (k : ℕ) → (a ≡ true → b ≡ true) → cond a k 0 ≤ cond b k 0
+more true b k f = rw (f refl) (omega arith)
+more false b k f = omega arith
+
+most : (a : Bool) (k : ℕ) → cond a k 0 ≤ k
+most true k = omega arith
+most false k = omega arith
+
+-- ---- by the numbers of a machine
+
+still-here : (h : Bool) (from t leave : ℕ) → from ≤ t → (h && nat_lt t leave) ≡ true → (h && nat_lt from leave) ≡ true
+still-here true from t leave l e = grind (arith, nat_tests, l, e)
+still-here false from t leave l e = e
+
+and-later : (b : Bool) (a t to : ℕ) → t ≤ to → (b && nat_le a t) ≡ true → (b && nat_le a to) ≡ true
+and-later true a t to l e = grind (arith, nat_tests, l, e)
+and-later false a t to l e = e
+
+come-later : (n t to : ℕ) (o : Option Arrival) → t ≤ to → comes_by n t o ≡ true → comes_by n to o ≡ true
+come-later n t to None l e = e
+come-later n t to (Some a) l e = and-later (one n a.node.0) a.last t to l e
+
+kept-most : (p : Instance) (v : ℕ) (w : Weight) (n t : ℕ) (x : Period) (k : Standing) → IsDuring x t → kept_use p v w n t k ≤ most_kept p v w n x k
+kept-most p v w n t x k h =
+    let host = more (hosted_in (state_of p v) (one n) && nat_lt t k.leave) (hosted_in (state_of p v) (one n) && nat_lt x.from k.leave) (base p v w) (still-here (hosted_in (state_of p v) (one n)) x.from t k.leave h.0) in
+    let come = more (comes_by n t k.come) (comes_by n x.to k.come) (gain p v w n) (come-later n t x.to k.come h.1) in
+    omega (arith, host, come)
+
+pub sure_most : (p : Instance) (s : Sets) (ks : List Standing) (r n : ℕ) (x : Period) → x.to < never → AreStanding p s ks → AreMost p s r (one n) x (λ v. most_kept p v (Amount r) n x (slice_index_or ks v no_standing))
+unfolding sure
+sure_most p s ks r n x short are = record {
+  each = λ v t l h.
+      let law = kept_law p v (Amount r) n t (s (vm v)) (slice_index_or ks v no_standing) (omega (arith, short, h.1)) (are.each v l) in
+      let less = kept-most p v (Amount r) n t x (slice_index_or ks v no_standing) h in
+      omega (arith, law, less);
+}
+
+-- ---- by the choices of a machine
+
+come-is : (c : Choice) (n t : ℕ) → comes_by n t (arrival_of c) ≡ has_come n t c
+come-is Idle n t = refl
+come-is (Act Nowhere s) n t = refl
+come-is (Act (At m) s) n t = refl
+
+held-parts : (p : Instance) (v : ℕ) (w : Weight) (n t : ℕ) (c : Choice) → t < never → held_at p v w (one n) t c ≡ cond (hosted_in (state_of p v) (one n) && nat_lt t (leave_of p v c)) (base p v w) 0 + cond (has_come n t c) (gain p v w n) 0
+held-parts p v w n t c h =
+    kept_law p v w n t (c ∷ []) (record { leave = leave_of p v c; come = arrival_of c }) h (choice_stands p v c)
+    ∙ ap (λ b. cond (hosted_in (state_of p v) (one n) && nat_lt t (leave_of p v c)) (base p v w) 0 + cond b (gain p v w n) 0) (come-is c n t)
+
+pub fits_now : (p : Instance) (v : ℕ) (cs : List Choice) (r n : ℕ) (x : Period) (left come bound : ℕ) → x.to < never → IsMostLeft p v cs n r x.from left → IsMostBrought p v cs n r x.to come → left + come ≤ bound → IsMost p v cs r (one n) x bound
+fits_now p v cs r n x left come bound short a b fits = record {
+  each = λ c t i h.
+      let parts = held-parts p v (Amount r) n t c (omega (arith, short, h.1)) in
+      let first = a.each c t i h.0 in
+      let second = b.each c t i h.1 in
+      omega (arith, parts, first, second, fits);
+}
+
+-- ---- what is left of what it has
+
+pub all_left : (p : Instance) (v : ℕ) (cs : List Choice) (by x : ℕ) → by < never → x ≡ least (left_over p v) cs → never - by ≤ x → HasLeft p v cs by
+all_left p v cs by x short is enough = record {
+  each = λ c i.
+      let some = least_of_each (left_over p v) cs c i in
+      omega (arith, short, is, enough, some);
+}
+
+off-left : (h : Bool) (t leave k : ℕ) → leave ≤ t → cond (h && nat_lt t leave) k 0 ≤ 0
+off-left true t leave k l = let gone : nat_lt t leave ≡ false = grind (arith, nat_tests, l) in rw gone (omega arith)
+off-left false t leave k l = omega arith
+
+pub none_left : (p : Instance) (v : ℕ) (cs : List Choice) (n r from : ℕ) → HasLeft p v cs from → IsMostLeft p v cs n r from 0
+none_left p v cs n r from left = record {
+  each = λ c t i l. off-left (hosted_in (state_of p v) (one n)) t (leave_of p v c) (base p v (Amount r)) (omega (arith, left.each c i, l));
+}
+
+here-left : (h b : Bool) (k : ℕ) → cond (h && b) k 0 ≤ cond h k 0
+here-left true b k = most b k
+here-left false b k = omega arith
+
+pub some_left : (p : Instance) (v : ℕ) (cs : List Choice) (n r from here : ℕ) → here ≡ cond (hosted_in (state_of p v) (one n)) (base p v (Amount r)) 0 → IsMostLeft p v cs n r from here
+some_left p v cs n r from here is = record {
+  each = λ c t i l. rw is (here-left (hosted_in (state_of p v) (one n)) (nat_lt t (leave_of p v c)) (base p v (Amount r)));
+}
+
+-- ---- what it brings
+
+in-empty : (c : Choice) → Contains [] c → ⊥
+in-empty c h = omega (arith, h.1)
+
+both : (a b : Bool) → (a && b) ≡ true → (a ≡ true) × (b ≡ true)
+both true b e = (refl, e)
+both false b e = absurd (false≢true e)
+
+in-here : (m n : NodeId) (s t to : ℕ) → t ≤ to → (one n.0 m.0 && nat_le s t) ≡ true → in_part (Upto (At n) to) (Act (At m) s) ≡ true
+in-here m n s t to l e =
+    let two = both (one n.0 m.0) (nat_le s t) e in
+    let same : m.0 ≡ n.0 = (Decides-eqb m.0 n.0).0 two.0 in
+    let place : (m.0 + 1 == n.0 + 1) ≡ true = (Decides-eqb (m.0 + 1) (n.0 + 1)).1 (ap (λ i. i + 1) same) in
+    let by : nat_le s to ≡ true = and-later true s t to l two.1 in
+    rw (place, by) refl
+
+not-come : (n : NodeId) (cs : List Choice) (c : Choice) (t to : ℕ) → filter (on_side Inside (Upto (At n) to)) cs ≡ [] → Contains cs c → t ≤ to → has_come n.0 t c ≡ true → ⊥
+not-come n cs Idle t to none i l e = false≢true e
+not-come n cs (Act Nowhere s) t to none i l e = false≢true e
+not-come n cs (Act (At m) s) t to none i l e =
+    in-empty (Act (At m) s) (subst (λ ds. Contains ds (Act (At m) s)) none (contains_filter (on_side Inside (Upto (At n) to)) cs (Act (At m) s) i (in-here m n s t to l e)))
+
+unless : (b : Bool) (k : ℕ) → (b ≡ true → ⊥) → cond b k 0 ≤ 0
+unless true k f = absurd (f refl)
+unless false k f = omega arith
+
+pub none_brought : (p : Instance) (v : ℕ) (cs : List Choice) (n : NodeId) (r by : ℕ) → filter (on_side Inside (Upto (At n) by)) cs ≡ [] → IsMostBrought p v cs n.0 r by 0
+none_brought p v cs n r by none = record { each = λ c t i l. unless (has_come n.0 t c) (gain p v (Amount r) n.0) (not-come n cs c t by none i l) }
+
+pub some_brought : (p : Instance) (v : ℕ) (cs : List Choice) (n r by : ℕ) → IsMostBrought p v cs n r by (gain p v (Amount r) n)
+some_brought p v cs n r by = record { each = λ c t i l. most (has_come n t c) (gain p v (Amount r) n) }
+
+brought-small : (p : Instance) (v r : ℕ) (o : Option Kind) → weight_if p v (Amount r) (brought o) ≤ demand_of p v r
+brought-small p v r None = omega arith
+brought-small p v r (Some Forge) = omega arith
+brought-small p v r (Some Boot) = omega arith
+brought-small p v r (Some Shutdown) = omega arith
+brought-small p v r (Some Suspend) = omega arith
+brought-small p v r (Some Resume) = omega arith
+brought-small p v r (Some Migrate) = omega arith
+brought-small p v r (Some Allocate) = omega arith
+brought-small p v r (Some Kill) = omega arith
+brought-small p v r (Some NodeBoot) = omega arith
+brought-small p v r (Some NodeShutdown) = omega arith
+
+demand-brought : (p : Instance) (v : ℕ) (cs : List Choice) (n r by : ℕ) → IsMostBrought p v cs n r by (demand_of p v r)
+demand-brought p v cs n r by = record {
+  each = λ c t i l.
+      let less = most (has_come n t c) (gain p v (Amount r) n) in
+      let small : gain p v (Amount r) n ≤ demand_of p v r = brought-small p v r (kind_of p (vm v) (At (record { 0 = n }))) in
+      omega (arith, less, small);
+}
+
+pub fits_ever : (p : Instance) (v : ℕ) (cs : List Choice) (r n : ℕ) (x : Period) (here demand bound : ℕ) → x.to < never → here ≡ cond (hosted_in (state_of p v) (one n)) (base p v (Amount r)) 0 → demand ≡ demand_of p v r → here + demand ≤ bound → IsMost p v cs r (one n) x bound
+fits_ever p v cs r n x here demand bound short is all fits =
+    fits_now p v cs r n x here (demand_of p v r) bound short (some_left p v cs n r x.from here is) (demand-brought p v cs n r x.to) (omega (arith, all, fits))

@@ -1,0 +1,9 @@
+use Rattle.std.proofs.Common.{ℕ, ◌<◌}
+use Rattle.slices.specs.Stages.{one}
+use Rattle.domains.specs.Sets.{sets}
+use Rattle.reasons.specs.Reasons.{IsOverload}
+use Rattle.rule_load.specs.Periods.{IsFreeDuring}
+use Rattle.rule_load.proofs.doubt.load_doubt.Given as goal
+
+abbrev pub invariant-loop-r : goal.invariant-loop-r
+invariant-loop-r l = (r : ℕ) → r < l.r → IsFreeDuring (λ b. IsOverload l.p.given b r (one l.n.0)) l.p.given (sets l.g) l.x

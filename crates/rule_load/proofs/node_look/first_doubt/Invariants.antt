@@ -1,0 +1,15 @@
+use Rattle.std.proofs.Common.{ℕ, ◌+◌, ◌-◌, ◌<◌, ◌≤◌}
+use Rattle.slices.specs.Stages.{one}
+use Rattle.domains.specs.Sets.{sets}
+use Rattle.closing.specs.Kinds.{IsOverloaded}
+use Rattle.closing.specs.Looks.{IsFreeOf}
+use Rattle.rule_load.proofs.node_look.first_doubt.Given as goal
+
+abbrev pub invariant-periods : goal.invariant-periods
+invariant-periods l = record {
+  most : l.from ≤ l.p.given.horizon + 1;
+  clean : (t : ℕ) → t < l.from → IsFreeOf (IsOverloaded l.p.given (one l.n.0)) l.p.given (sets l.g) t;
+}
+
+abbrev pub decreases-periods : goal.decreases-periods
+decreases-periods l = l.p.given.horizon + 1 - l.from

@@ -1,0 +1,10 @@
+use Rattle.std.proofs.Common.{sym, ap, ◌∙◌}
+use Rattle.slices.specs.Elements.{node}
+use Rattle.slices.specs.Snapshots.{usable_at}
+use Rattle.domains.specs.Laws.{is_above_none}
+use Rattle.domains.specs.Sets.{sets}
+use Rattle.domains.proofs.Public.{surely_by_least}
+use Rattle.rule_load.proofs.room.is_surely_usable.Goals as goal
+
+pub returns : goal.returns
+returns c = c.is_above.ensures ∙ ap is_above_none c.lowest_seen.ensures ∙ sym (surely_by_least (usable_at c.args.p.now.given c.args.n.0 c.args.t) (sets c.args.g.now (node c.args.n.0)))

@@ -1,0 +1,13 @@
+use Rattle.std.proofs.Common.{◌≡◌, ◌*◌, ◌≤◌, cond}
+use Rattle.sums.specs.Sums.{sum_to}
+use Rattle.catalogue.specs.Limits.{max_capacity}
+use Rattle.catalogue.specs.Values.{capacity_of}
+use Rattle.domains.specs.Sets.{sets}
+use Rattle.rule_load.specs.Totals.{is_steady}
+use Rattle.rule_load.proofs.room.steady_room.Given as goal
+
+abbrev pub invariant-loop-i : goal.invariant-loop-i
+invariant-loop-i l = record {
+  total : l.total ≡ sum_to l.i (λ n. cond (is_steady l.p.given (sets l.g) l.x n) (capacity_of l.p.given n l.r) 0);
+  small : l.total ≤ l.i * max_capacity;
+}

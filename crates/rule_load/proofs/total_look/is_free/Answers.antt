@@ -1,0 +1,13 @@
+use Rattle.std.proofs.Common.{◌≡◌, true, rules, arith}
+use Rattle.domains.specs.Sets.{sets}
+use Rattle.reasons.specs.Closed.{all_nodes}
+use Rattle.rule_load.proofs.FreeLemmas.{all_free, free_more}
+use Rattle.rule_load.proofs.total_look.is_free.Goals as goal
+
+pub loop-r-preserved : goal.loop-r-preserved
+loop-r-preserved c =
+    let on : c.has_enough.result ≡ true = search rules in
+    free_more c.args.p.now.given (sets c.args.g.now) (all_nodes c.args.p.now.given) c.args.x c.loop-r.r c.loop-r.invariant (c.has_enough.ensures on)
+
+pub returns : goal.returns
+returns c = λ on. all_free c.args.p.now.given (sets c.args.g.now) (all_nodes c.args.p.now.given) c.args.x (λ r h. c.loop-r.invariant r (omega (arith, h)))

@@ -1,0 +1,9 @@
+use Rattle.std.proofs.Common.{ℕ, ◌<◌}
+use Rattle.domains.specs.Sets.{sets}
+use Rattle.reasons.specs.Closed.{all_nodes}
+use Rattle.reasons.specs.Reasons.{IsOverload}
+use Rattle.rule_load.specs.Periods.{IsFreeDuring}
+use Rattle.rule_load.proofs.total_look.is_free.Given as goal
+
+abbrev pub invariant-loop-r : goal.invariant-loop-r
+invariant-loop-r l = (r : ℕ) → r < l.r → IsFreeDuring (λ b. IsOverload l.p.given b r (all_nodes l.p.given)) l.p.given (sets l.g) l.x

@@ -1,0 +1,40 @@
+-- What the code says of single machines and nodes.
+use Rattle.std.specs.Prelude.{ℕ, ◌-◌, ◌<◌, ◌≤◌, ◌&&◌, List, nat_lt, if◌then◌else◌}
+use Rattle.std.specs.List.{Contains}
+use Rattle.cluster.specs.declared.choices.Choice.{Choice}
+use Rattle.cluster.specs.declared.choices.Choice.TheVariants.{Idle, Act}
+use Rattle.catalogue.specs.Instance.{Instance}
+use Rattle.slices.specs.declared.slice.Weight.TheVariants.{Amount}
+use Rattle.slices.specs.Elements.{state_of}
+use Rattle.slices.specs.Snapshots.{usable_at}
+use Rattle.slices.specs.Stages.{one}
+use Rattle.relax.specs.Areas.{hosted_in}
+use Rattle.standing.specs.Standings.{base, gain, has_come, leave_of, never}
+
+-- under each of these choices machine v gives its host up by the instant
+pub record HasLeft (p : Instance) (v : ℕ) (cs : List Choice) (by : ℕ) : Type 0 where
+  pub each : (c : Choice) → Contains cs c → leave_of p v c ≤ by
+
+-- under none of them has it more than m on node n, its host, from an instant on
+pub record IsMostLeft (p : Instance) (v : ℕ) (cs : List Choice) (n r from m : ℕ) : Type 0 where
+  pub each : (c : Choice) (t : ℕ) → Contains cs c → from ≤ t → (if hosted_in (state_of p v) (one n) && nat_lt t (leave_of p v c) then base p v (Amount r) else 0) ≤ m
+
+-- under none of them has it brought more than m to node n by an instant
+pub record IsMostBrought (p : Instance) (v : ℕ) (cs : List Choice) (n r by m : ℕ) : Type 0 where
+  pub each : (c : Choice) (t : ℕ) → Contains cs c → t ≤ by → (if has_come n t c then gain p v (Amount r) n else 0) ≤ m
+
+-- each of these choices starts after the instant; Idle does not
+abbrev pub start_count : Choice → ℕ
+start_count Idle = 0
+start_count (Act place start) = start
+
+pub record StartsAfter (cs : List Choice) (t : ℕ) : Type 0 where
+  pub each : (c : Choice) → Contains cs c → t < start_count c
+
+-- how long before the end of time machine v gives its host up, 0 where it never does
+abbrev pub left_over : Instance → ℕ → Choice → ℕ
+left_over p v c = never - leave_of p v c
+
+-- 1 for a choice under which the node is usable
+abbrev pub usable_count : Instance → ℕ → ℕ → Choice → ℕ
+usable_count p n t c = if usable_at p n t c then 1 else 0

@@ -1,0 +1,55 @@
+-- What is so at each instant of a period.
+use Rattle.std.specs.Prelude.{ℕ, ◌+◌, ◌<◌, ◌≤◌, ◌&&◌, List, nat_lt, if◌then◌else◌}
+use Rattle.std.specs.List.{Contains}
+use Rattle.cluster.specs.declared.choices.Choice.{Choice}
+use Rattle.catalogue.specs.Instance.{Instance}
+use Rattle.slices.specs.declared.slice.Weight.{Weight}
+use Rattle.slices.specs.declared.slice.Weight.TheVariants.{Amount}
+use Rattle.slices.specs.Elements.{machine_count, node_count, node, state_of, vm}
+use Rattle.slices.specs.Snapshots.{Snapshot, held_at, room}
+use Rattle.slices.specs.Stages.{Nodes, one}
+use Rattle.domains.specs.Sets.{Sets, setting}
+use Rattle.reasons.specs.Sure.{sure}
+use Rattle.relax.specs.Areas.{hosted_in}
+use Rattle.closing.specs.Looks.{IsFreeOf}
+use Rattle.standing.specs.declared.numbers.Standing.{Standing}
+use Rattle.standing.specs.Standings.{base, comes_by, gain}
+use Rattle.rule_load.specs.declared.period.Period.{Period}
+
+-- the instant is one of the period
+abbrev pub IsDuring : Period → ℕ → Type 0
+IsDuring x t = (x.from ≤ t) × (t ≤ x.to)
+
+-- a condition is met at no instant of the period, nor with any one element set to an end of its choices
+pub record IsFreeDuring (met : Snapshot → Type 0) (p : Instance) (s : Sets) (x : Period) : Type 0 where
+  pub each : (t : ℕ) → IsDuring x t → IsFreeOf met p s t
+
+-- ---- machines
+
+-- what a machine with these numbers surely has on node n during the period, at the most: what it has left by the first instant is gone,
+-- and what has come by the last is there
+abbrev pub most_kept : Instance → ℕ → Weight → ℕ → Period → Standing → ℕ
+most_kept p v w n x k =
+    (if hosted_in (state_of p v) (one n) && nat_lt x.from k.leave then base p v w else 0) + (if comes_by n x.to k.come then gain p v w n else 0)
+
+-- what each machine surely uses on a set of nodes is at most `most` of it
+pub record AreMost (p : Instance) (s : Sets) (r : ℕ) (set : Nodes) (x : Period) (most : ℕ → ℕ) : Type 0 where
+  pub each : (v t : ℕ) → v < machine_count p → IsDuring x t → (sure p s t).held v (Amount r) set ≤ most v
+
+-- under none of these choices does machine v use more than m
+pub record IsMost (p : Instance) (v : ℕ) (cs : List Choice) (r : ℕ) (set : Nodes) (x : Period) (m : ℕ) : Type 0 where
+  pub each : (c : Choice) (t : ℕ) → Contains cs c → IsDuring x t → held_at p v (Amount r) set t c ≤ m
+
+-- where so much is spare, no machine uses more under any of its choices than that and `most` of it
+pub record MachinesFit (p : Instance) (s : Sets) (r : ℕ) (set : Nodes) (x : Period) (most : ℕ → ℕ) (spare : ℕ) : Type 0 where
+  pub each : (v : ℕ) → v < machine_count p → IsMost p v (s (vm v)) r set x (spare + most v)
+
+-- ---- nodes
+
+-- the nodes of a set have so much room
+pub record HasRoom (p : Instance) (s : Sets) (r : ℕ) (set : Nodes) (x : Period) (free : ℕ) : Type 0 where
+  pub at : (t : ℕ) → IsDuring x t → free ≤ room p (sure p s t) r set
+
+-- and so they do with any one node set to any of its choices
+pub record NodesFit (p : Instance) (s : Sets) (r : ℕ) (set : Nodes) (x : Period) (used : ℕ) : Type 0 where
+  pub each : (n : ℕ) (c : Choice) (t : ℕ) → n < node_count p → Contains (s (node n)) c → IsDuring x t → used ≤ room p (sure p (setting (node n) c s) t) r set

@@ -1,0 +1,196 @@
+//! Where a node may be overloaded during a period.
+ghost use Rattle.std.specs.Prelude.{◌≡◌, ◌<◌, ◌≤◌, IfNone, length, slice_index_or};
+ghost use Rattle.catalogue.specs.Instance.{IsElement};
+ghost use Rattle.catalogue.specs.Limits.{max_capacity};
+ghost use Rattle.slices.specs.Elements.{node_count};
+ghost use Rattle.slices.specs.Stages.{one};
+ghost use Rattle.slices.specs.declared.slice.Weight.TheVariants.{Amount as AmountOf};
+ghost use Rattle.domains.specs.Sets.{sets};
+ghost use Rattle.reasons.specs.Reasons.{IsOverload};
+ghost use Rattle.relax.specs.Areas.{IsSized};
+ghost use Rattle.closing.specs.Kinds.{IsOverloaded};
+ghost use Rattle.standing.specs.Tables.{AreStanding, no_standing};
+ghost use Rattle.rule_load.specs.Periods.{IsFreeDuring, MachinesFit, most_kept};
+
+use crate::nodes::resource_total;
+use crate::period::Period;
+use crate::room::{node_fits, room_of};
+use crate::uses::{machine_fits, most_brought, most_used};
+use catalogue::problem::Problem;
+use cluster::choices::{Choice, Instant, Place};
+use cluster::ids::{Element, NodeId, VmId};
+use domains::domain::Domain;
+use domains::measure::Measure;
+use domains::parts::Row;
+use domains::region::Region;
+use standing::numbers::{Leaving, Standing};
+
+/// A case in which nodes may be overloaded, which is to be looked at.
+#[derive(Clone, Copy)]
+pub(crate) enum Doubt {
+    /// The region as it is, at the instant.
+    Whole(Instant),
+    /// With the element set to the choice, at the instant.
+    Set(Element, Choice, Instant),
+}
+
+fn first_of(row: Row) -> Choice {
+    Choice::Act {
+        place: row.place,
+        start: row.lo,
+    }
+}
+
+fn last_of(row: Row) -> Choice {
+    Choice::Act {
+        place: row.place,
+        start: row.hi,
+    }
+}
+
+// a choice of a machine under which it keeps its host past an instant
+fn staying(p: &Problem, v: VmId, domain: &Domain, from: Instant) -> Choice
+    requires { IsElement p.now.given (Element.Vm v) }
+{
+    let leaving = Leaving {
+        problem: p,
+        machine: v,
+    };
+    if domain.idle() {
+        return Choice::Idle;
+    }
+    for row in domain.rows() {
+        let last = last_of(*row);
+        if leaving.value(last) > u64::from(from) {
+            return last;
+        }
+    }
+    Choice::Idle
+}
+
+// the first start of a machine at a node
+fn coming(domain: &Domain, n: NodeId) -> Option<Instant> {
+    for row in domain.rows() {
+        if row.place == Place::At(n) {
+            return Some(row.lo);
+        }
+    }
+    None
+}
+
+// the case of a machine that may use too much: it comes, or it keeps its host
+fn of_machine(p: &Problem, g: &Region, v: VmId, n: NodeId, r: u8, x: Period) -> Doubt
+    requires region { IsSized p.now.given g.now }
+    requires machine { IsElement p.now.given (Element.Vm v) }
+    requires resource { r < length p.now.given.resources }
+{
+    let e = Element::Vm(v);
+    let domain = g.domain(e);
+    if most_brought(p, g, v, n, r, x.to) > 0 {
+        if let Some(start) = coming(domain, n) {
+            let place = Place::At(n);
+            return Doubt::Set(e, Choice::Act { place, start }, start.max(x.from));
+        }
+    }
+    Doubt::Set(e, staying(p, v, domain, x.from), x.from)
+}
+
+// the case of a machine that may use more of a node than is spare
+fn machine_doubt(
+    p: &Problem,
+    g: &Region,
+    ks: &[Standing],
+    n: NodeId,
+    r: u8,
+    x: Period,
+    spare: u64,
+) -> Option<Doubt>
+    requires region { IsSized p.now.given g.now }
+    requires right { AreStanding p.now.given (sets g.now) ks.now }
+    requires resource { r < length p.now.given.resources }
+    requires period { x.to ≤ p.now.given.horizon }
+    requires small { spare ≤ max_capacity }
+    ensures { IfNone result (MachinesFit p.now.given (sets g.now) r (one n.0) x (λ v. most_kept p.now.given v (AmountOf r) n.0 x (slice_index_or ks.now v no_standing)) spare) }
+{
+    for i in 0..p.cluster().machines().len() {
+        let v = VmId(i as u32);
+        if !machine_fits(p, g, v, ks[i], n, r, x, spare) {
+            return Some(of_machine(p, g, v, n, r, x));
+        }
+    }
+    None
+}
+
+// the case of a node that may not be usable: its first choice that is not so for the whole period is tried
+// as it shuts down or boots
+fn of_node(p: &Problem, g: &Region, n: NodeId, x: Period) -> Doubt
+    requires region { IsSized p.now.given g.now }
+    requires node { n.0 < node_count p.now.given }
+{
+    let e = Element::Node(n);
+    let domain = g.domain(e);
+    let online = p.cluster().nodes()[n.0 as usize].online;
+    match domain.rows() {
+        [row, ..] => if online {
+            Doubt::Set(e, first_of(*row), x.to)
+        } else if domain.idle() {
+            Doubt::Set(e, Choice::Idle, x.from)
+        } else {
+            Doubt::Set(e, last_of(*row), x.from)
+        },
+        [] => Doubt::Set(e, Choice::Idle, x.from),
+    }
+}
+
+// the case of a resource of which a node may lack some
+fn resource_doubt(
+    p: &Problem,
+    g: &Region,
+    ks: &[Standing],
+    n: NodeId,
+    r: u8,
+    x: Period,
+) -> Option<Doubt>
+    requires region { IsSized p.now.given g.now }
+    requires right { AreStanding p.now.given (sets g.now) ks.now }
+    requires node { n.0 < node_count p.now.given }
+    requires resource { r < length p.now.given.resources }
+    requires period { x.to ≤ p.now.given.horizon }
+    ensures { IfNone result (IsFreeDuring (λ b. IsOverload p.now.given b r (one n.0)) p.now.given (sets g.now) x) }
+{
+    let used = most_used(p, ks, n, r, x);
+    let room = room_of(p, g, n, r, x);
+    if used > room {
+        return Some(Doubt::Whole(x.from));
+    }
+    if let Some(doubt) = machine_doubt(p, g, ks, n, r, x, room - used) {
+        return Some(doubt);
+    }
+    if node_fits(p, g, n, x, used) {
+        None
+    } else {
+        Some(of_node(p, g, n, x))
+    }
+}
+
+/// A case in which a node may be overloaded during a period, if there is one.
+pub(crate) fn load_doubt(
+    p: &Problem,
+    g: &Region,
+    ks: &[Standing],
+    n: NodeId,
+    x: Period,
+) -> Option<Doubt>
+    requires region { IsSized p.now.given g.now }
+    requires right { AreStanding p.now.given (sets g.now) ks.now }
+    requires node { n.0 < node_count p.now.given }
+    requires period { x.to ≤ p.now.given.horizon }
+    ensures { IfNone result (IsFreeDuring (IsOverloaded p.now.given (one n.0)) p.now.given (sets g.now) x) }
+{
+    for r in 0..resource_total(p) {
+        if let Some(doubt) = resource_doubt(p, g, ks, n, r as u8, x) {
+            return Some(doubt);
+        }
+    }
+    None
+}

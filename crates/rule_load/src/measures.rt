@@ -1,0 +1,106 @@
+//! What can be asked of one choice: over the starts at one place each is least at the first or the last.
+ghost use Rattle.std.specs.Prelude.{◌≡◌};
+ghost use Rattle.catalogue.specs.Instance.{IsElement};
+ghost use Rattle.slices.specs.Elements.{node, vm};
+ghost use Rattle.rule_load.specs.Parts.{left_over, start_count, usable_count};
+
+use catalogue::problem::Problem;
+use cluster::choices::{Choice, Instant};
+use cluster::ids::{NodeId, VmId};
+use domains::measure::Measure;
+use slices::choice::usable;
+use standing::numbers::{Leaving, NEVER};
+
+/// How long before the end of time a machine gives its host up.
+#[derive(Drop)]
+pub struct LeftOver<'a> {
+    pub problem: &'a Problem,
+    pub machine: VmId,
+}
+
+impl Measure for LeftOver<'_> {
+    ghost use Rattle.std.proofs.Common.{arith};
+    ghost use Rattle.rule_load.specs.Measured.{left_at_ends};
+
+    ghost ready = { λ m. IsElement m.problem.now.given (vm m.machine.0) };
+
+    ghost value_of = { λ m. left_over m.problem.now.given m.machine.0 };
+
+    ghost floor_of = { λ m. 0 };
+
+    ghost least_at_ends = { λ m. left_at_ends m.problem.now.given m.machine.0 };
+
+    ghost above_floor = { λ m c. Prim.omega arith };
+
+    fn value(&self, c: Choice) -> u64 {
+        let leaving = Leaving {
+            problem: self.problem,
+            machine: self.machine,
+        };
+        NEVER.saturating_sub(leaving.value(c))
+    }
+
+    fn floor(&self) -> u64 {
+        0
+    }
+}
+
+/// 1 where a node is usable at an instant.
+#[derive(Drop)]
+pub struct IsUsable<'a> {
+    pub problem: &'a Problem,
+    pub node: NodeId,
+    pub at: Instant,
+}
+
+impl Measure for IsUsable<'_> {
+    ghost use Rattle.std.proofs.Common.{arith};
+    ghost use Rattle.rule_load.specs.Measured.{usable_at_ends};
+
+    ghost ready = { λ m. IsElement m.problem.now.given (node m.node.0) };
+
+    ghost value_of = { λ m. usable_count m.problem.now.given m.node.0 m.at };
+
+    ghost floor_of = { λ m. 0 };
+
+    ghost least_at_ends = { λ m. usable_at_ends m.problem.now.given m.node.0 m.at };
+
+    ghost above_floor = { λ m c. Prim.omega arith };
+
+    fn value(&self, c: Choice) -> u64 {
+        u64::from(usable(self.problem, self.node, c, self.at))
+    }
+
+    fn floor(&self) -> u64 {
+        0
+    }
+}
+
+/// When an action starts, 0 for Idle.
+#[derive(Drop)]
+pub struct Start;
+
+impl Measure for Start {
+    ghost use Rattle.std.proofs.Common.{arith};
+
+    ghost ready = { λ _. Unit {0} };
+
+    ghost value_of = { λ _. start_count };
+
+    ghost floor_of = { λ _. 0 };
+
+    ghost least_at_ends = { λ m place lo s hi l u. Prim.omega arith };
+
+    ghost above_floor = { λ m c. Prim.omega arith };
+
+    fn value(&self, c: Choice) -> u64 {
+        match c {
+            Choice::Idle => 0,
+            Choice::Act { place: _, start } => u64::from(start),
+        }
+    }
+
+    fn floor(&self) -> u64 {
+        0
+    }
+}

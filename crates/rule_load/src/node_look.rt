@@ -1,0 +1,58 @@
+//! The look at the load of one node, by where machines surely stand.
+ghost use Rattle.std.specs.Prelude.{◌<◌, IfNone};
+ghost use Rattle.slices.specs.Elements.{node_count};
+ghost use Rattle.domains.specs.Sets.{sets};
+ghost use Rattle.relax.specs.Areas.{IsSized};
+ghost use Rattle.closing.specs.Looks.{IsLook};
+ghost use Rattle.closing.specs.Kinds.{load_watch};
+ghost use Rattle.standing.specs.Tables.{AreStanding};
+
+use crate::doubt::{Doubt, load_doubt};
+use crate::period::Period;
+use crate::settle::confirmed;
+use crate::turns::next_change;
+use catalogue::problem::Problem;
+use closing::look::Look;
+use closing::watch::look_at_load;
+use cluster::ids::NodeId;
+use domains::region::Region;
+use standing::numbers::Standing;
+
+// the first case in which a node may be overloaded
+fn first_doubt(p: &Problem, g: &Region, ks: &[Standing], n: NodeId) -> Option<Doubt>
+    requires region { IsSized p.now.given g.now }
+    requires right { AreStanding p.now.given (sets g.now) ks.now }
+    requires node { n.0 < node_count p.now.given }
+    ensures { IfNone result (IsLook (load_watch p.now.given n.0) p.now.given (sets g.now) Look.Clean) }
+{
+    let mut from = 0u64;
+    'periods: while from <= u64::from(p.horizon()) {
+        let next = next_change(p, g, ks, n, from);
+        let x = Period {
+            from: from as u32,
+            to: (next - 1) as u32,
+        };
+        if let Some(doubt) = load_doubt(p, g, ks, n, x) {
+            return Some(doubt);
+        }
+        from = next;
+    }
+    None
+}
+
+/// A look at the load of a node. No row of a machine is read but of those that may be too much; a case that may
+/// be one is looked at exactly, and where it is none, the node is looked at in full.
+pub(crate) fn node_look(p: &Problem, g: &Region, ks: &[Standing], n: NodeId) -> Look
+    requires region { IsSized p.now.given g.now }
+    requires right { AreStanding p.now.given (sets g.now) ks.now }
+    requires node { n.0 < node_count p.now.given }
+    ensures { IsLook (load_watch p.now.given n.0) p.now.given (sets g.now) result }
+{
+    match first_doubt(p, g, ks, n) {
+        None => Look::Clean,
+        Some(doubt) => match confirmed(p, g, n, doubt) {
+            Some(look) => look,
+            None => look_at_load(p, g, n),
+        },
+    }
+}

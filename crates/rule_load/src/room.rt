@@ -1,0 +1,118 @@
+//! Which room a node has during a period.
+ghost use Rattle.std.specs.Prelude.{◌≡◌, ℕ, ◌*◌, ◌<◌, ◌≤◌, length, IsTrue, if◌then◌else◌};
+ghost use Rattle.cluster.specs.Limits.{max_nodes};
+ghost use Rattle.sums.specs.Sums.{sum_to};
+ghost use Rattle.catalogue.specs.Limits.{max_capacity};
+ghost use Rattle.catalogue.specs.Values.{capacity_of};
+ghost use Rattle.slices.specs.Elements.{node, node_count};
+ghost use Rattle.slices.specs.Snapshots.{usable_at};
+ghost use Rattle.slices.specs.Stages.{one};
+ghost use Rattle.domains.specs.Laws.{is_above_none};
+ghost use Rattle.domains.specs.Sets.{sets, surely};
+ghost use Rattle.relax.specs.Areas.{IsSized};
+ghost use Rattle.rule_load.specs.Periods.{HasRoom, NodesFit};
+ghost use Rattle.rule_load.specs.Totals.{is_steady as the_is_steady};
+
+use crate::measures::IsUsable;
+use crate::period::Period;
+use catalogue::problem::Problem;
+use cluster::choices::Instant;
+use cluster::ids::{Element, NodeId};
+use domains::region::Region;
+use domains::view::{Lens, View, lowest_seen};
+use relax::sure::may_be_usable;
+
+/// The capacity of a node for a resource, 0 where it cannot be usable at the first or the last instant.
+#[tactic(auto, using(crate::proofs::RoomLemmas::room_while_usable, crate::proofs::RoomLemmas::no_room))]
+pub(crate) fn room_of(p: &Problem, g: &Region, n: NodeId, r: u8, x: Period) -> u64
+    requires region { IsSized p.now.given g.now }
+    requires node { n.0 < node_count p.now.given }
+    requires resource { r < length p.now.given.resources }
+    ensures room { HasRoom p.now.given (sets g.now) r (one n.0) x result }
+    ensures small { result ≤ max_capacity }
+{
+    let view = View {
+        region: g,
+        lens: Lens::Whole,
+    };
+    if may_be_usable(p, &view, n, x.from) && may_be_usable(p, &view, n, x.to) {
+        p.capacity(n, r)
+    } else {
+        0
+    }
+}
+
+// whether a value, if there is one, is above 0
+fn is_above(lowest: Option<u64>) -> bool
+    ensures { result ≡ is_above_none lowest }
+{
+    match lowest {
+        None => true,
+        Some(x) => x > 0,
+    }
+}
+
+// whether a node is usable at an instant under each of its choices
+fn is_surely_usable(p: &Problem, g: &Region, n: NodeId, t: Instant) -> bool
+    requires region { IsSized p.now.given g.now }
+    requires node { n.0 < node_count p.now.given }
+    ensures { result ≡ surely (usable_at p.now.given n.0 t) (sets g.now (node n.0)) }
+{
+    let view = View {
+        region: g,
+        lens: Lens::Whole,
+    };
+    let usable = IsUsable {
+        problem: p,
+        node: n,
+        at: t,
+    };
+    is_above(lowest_seen(&view, Element::Node(n), &usable))
+}
+
+/// Whether what is used of a node fits under each of its choices: nothing is, or it is usable under each of
+/// them at the first and the last instant.
+#[tactic(auto, using(crate::proofs::RoomLemmas::unused_fits, crate::proofs::RoomLemmas::usable_fits))]
+pub(crate) fn node_fits(p: &Problem, g: &Region, n: NodeId, x: Period, used: u64) -> bool
+    requires region { IsSized p.now.given g.now }
+    requires node { n.0 < node_count p.now.given }
+    ensures { IsTrue result → (r free : ℕ) → HasRoom p.now.given (sets g.now) r (one n.0) x free → used ≤ free → NodesFit p.now.given (sets g.now) r (one n.0) x used }
+{
+    if used == 0 {
+        return true;
+    }
+    is_surely_usable(p, g, n, x.from) && is_surely_usable(p, g, n, x.to)
+}
+
+/// Whether a node is usable at both ends of a period under each of its choices, of which there is one.
+#[tactic(auto, unfolding(reasons::specs::Sure::sure))]
+fn is_steady(p: &Problem, g: &Region, n: NodeId, x: Period) -> bool
+    requires region { IsSized p.now.given g.now }
+    requires node { n.0 < node_count p.now.given }
+    ensures { result ≡ the_is_steady p.now.given (sets g.now) x n.0 }
+{
+    let view = View {
+        region: g,
+        lens: Lens::Whole,
+    };
+    may_be_usable(p, &view, n, x.from)
+        && is_surely_usable(p, g, n, x.from)
+        && is_surely_usable(p, g, n, x.to)
+}
+
+/// The sum of the capacities for a resource of those nodes.
+pub(crate) fn steady_room(p: &Problem, g: &Region, r: u8, x: Period) -> u64
+    requires region { IsSized p.now.given g.now }
+    requires resource { r < length p.now.given.resources }
+    ensures room { result ≡ sum_to (node_count p.now.given) (λ n. if the_is_steady p.now.given (sets g.now) x n then capacity_of p.now.given n r else 0) }
+    ensures small { result ≤ max_nodes * max_capacity }
+{
+    let mut total = 0;
+    for i in 0..p.cluster().nodes().len() {
+        let n = NodeId(i as u32);
+        if is_steady(p, g, n, x) {
+            total += p.capacity(n, r);
+        }
+    }
+    total
+}

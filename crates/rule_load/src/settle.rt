@@ -1,0 +1,133 @@
+//! Cases in which nodes may be overloaded, looked at one by one.
+ghost use Rattle.std.specs.Prelude.{◌≡◌, ◌⊎◌, ℕ, ◌<◌, length, slice_index_or, IfSome, IsTrue};
+ghost use Rattle.catalogue.specs.Instance.{IsElement};
+ghost use Rattle.slices.specs.Elements.{node_count};
+ghost use Rattle.slices.specs.Stages.{one};
+ghost use Rattle.domains.specs.Choices.{choices, no_row};
+ghost use Rattle.domains.specs.Sets.{sets};
+ghost use Rattle.domains.specs.Views.{seen};
+ghost use Rattle.reasons.specs.Closed.{IsEnd};
+ghost use Rattle.reasons.specs.Sure.{sure};
+ghost use Rattle.relax.specs.Areas.{IsSized};
+ghost use Rattle.closing.specs.Kinds.{IsOverloaded, load_watch};
+ghost use Rattle.closing.specs.Looks.{IsLook};
+
+use crate::doubt::Doubt;
+use crate::nodes::{node_set, node_total};
+use crate::reason::overloaded;
+use catalogue::problem::Problem;
+use closing::look::Look;
+use cluster::choices::{Choice, Instant, Place};
+use cluster::ids::{Element, NodeId};
+use domains::domain::Domain;
+use domains::parts::Row;
+use domains::region::Region;
+use domains::view::{Lens, View};
+
+// whether a row starts or ends at a place with a start
+fn has_end(rows: &[Row], place: Place, start: Instant) -> bool
+    ensures { IsTrue result → (i : ℕ) × (i < length rows.now) × ((slice_index_or rows.now i no_row).place ≡ place)
+        × (((slice_index_or rows.now i no_row).lo ≡ start) ⊎ ((slice_index_or rows.now i no_row).hi ≡ start)) }
+{
+    for i in 0..rows.len() {
+        let row = rows[i];
+        if row.place == place && (row.lo == start || row.hi == start) {
+            return true;
+        }
+    }
+    false
+}
+
+// whether a choice is an end of a domain's choices
+#[tactic(auto, using(crate::proofs::SettleLemmas::idle_is_end))]
+fn is_end(domain: &Domain, c: Choice) -> bool
+    ensures { IsTrue result → IsEnd (choices domain.now) c }
+{
+    let rows = domain.rows();
+    match c {
+        Choice::Idle => domain.idle(),
+        Choice::Act { place, start } => has_end(rows, place, start),
+    }
+}
+
+// whether an element is one of the problem
+fn is_element(p: &Problem, e: Element) -> bool
+    ensures { IsTrue result → IsElement p.now.given e }
+{
+    match e {
+        Element::Vm(v) => (v.0 as usize) < p.cluster().machines().len(),
+        Element::Node(n) => (n.0 as usize) < node_total(p),
+    }
+}
+
+// whether a node is overloaded in what is seen of a region
+fn is_broken(p: &Problem, view: &View, n: NodeId, t: Instant) -> bool
+    requires region { IsSized p.now.given view.now.region.now }
+    requires node { n.0 < node_count p.now.given }
+    ensures { IsTrue result → IsOverloaded p.now.given (one n.0) (sure p.now.given (seen view.now.region.now view.now.lens) t) }
+{
+    let set = node_set(p, n);
+    match overloaded(p, view, &set, t) {
+        None => false,
+        Some(_) => true,
+    }
+}
+
+// the region at an instant, where the node is overloaded
+fn whole(p: &Problem, g: &Region, n: NodeId, t: Instant) -> Option<Look>
+    requires region { IsSized p.now.given g.now }
+    requires node { n.0 < node_count p.now.given }
+    ensures { IfSome result (IsLook (load_watch p.now.given n.0) p.now.given (sets g.now)) }
+{
+    if t > p.horizon() {
+        return None;
+    }
+    let view = View {
+        region: g,
+        lens: Lens::Whole,
+    };
+    if is_broken(p, &view, n, t) {
+        Some(Look::Fail(t))
+    } else {
+        None
+    }
+}
+
+// an element set to an end of its choices, where the node is overloaded
+#[tactic(auto, using(crate::proofs::SettleLemmas::cut_is_look))]
+fn set(p: &Problem, g: &Region, n: NodeId, e: Element, c: Choice, t: Instant) -> Option<Look>
+    requires region { IsSized p.now.given g.now }
+    requires node { n.0 < node_count p.now.given }
+    ensures { IfSome result (IsLook (load_watch p.now.given n.0) p.now.given (sets g.now)) }
+{
+    if t > p.horizon() {
+        return None;
+    }
+    if !is_element(p, e) {
+        return None;
+    }
+    if !is_end(g.domain(e), c) {
+        return None;
+    }
+    let view = View {
+        region: g,
+        lens: Lens::Set(e, c),
+    };
+    if is_broken(p, &view, n, t) {
+        Some(Look::Cut(e, c, t))
+    } else {
+        None
+    }
+}
+
+/// What the case is, if it is one.
+pub(crate) fn confirmed(p: &Problem, g: &Region, n: NodeId, doubt: Doubt) -> Option<Look>
+    requires region { IsSized p.now.given g.now }
+    requires node { n.0 < node_count p.now.given }
+    ensures { IfSome result (IsLook (load_watch p.now.given n.0) p.now.given (sets g.now)) }
+{
+    match doubt {
+        Doubt::Whole(t) => whole(p, g, n, t),
+        Doubt::Set(e, c, t) => set(p, g, n, e, c, t),
+    }
+}

@@ -1,0 +1,99 @@
+//! The look at the load of all nodes together, by where machines surely stand.
+ghost use Rattle.std.specs.Prelude.{◌<◌, ◌≤◌, length, IsTrue};
+ghost use Rattle.domains.specs.Sets.{sets};
+ghost use Rattle.reasons.specs.Closed.{all_nodes};
+ghost use Rattle.reasons.specs.Reasons.{IsOverload};
+ghost use Rattle.relax.specs.Areas.{IsSized};
+ghost use Rattle.closing.specs.Kinds.{IsOverloaded, total_load_watch};
+ghost use Rattle.closing.specs.Looks.{IsLook};
+ghost use Rattle.standing.specs.Tables.{AreStanding};
+ghost use Rattle.rule_load.specs.Periods.{IsFreeDuring};
+
+use crate::nodes::resource_total;
+use crate::period::Period;
+use crate::room::steady_room;
+use crate::total_uses::{machines_fit, most_total};
+use crate::turns::next_change_anywhere;
+use catalogue::problem::Problem;
+use closing::look::Look;
+use closing::watch::look_at_total_load;
+use domains::region::Region;
+use standing::numbers::Standing;
+
+// whether it is seen that of a resource enough is there during a period
+fn has_enough(p: &Problem, g: &Region, ks: &[Standing], r: u8, x: Period) -> bool
+    requires region { IsSized p.now.given g.now }
+    requires right { AreStanding p.now.given (sets g.now) ks.now }
+    requires resource { r < length p.now.given.resources }
+    requires period { x.to ≤ p.now.given.horizon }
+    ensures { IsTrue result → IsFreeDuring (λ b. IsOverload p.now.given b r (all_nodes p.now.given)) p.now.given (sets g.now) x }
+{
+    let used = most_total(p, g, ks, r, x);
+    let room = steady_room(p, g, r, x);
+    used <= room && machines_fit(p, g, ks, r, x, room - used)
+}
+
+// whether it is of each resource
+fn is_free(p: &Problem, g: &Region, ks: &[Standing], x: Period) -> bool
+    requires region { IsSized p.now.given g.now }
+    requires right { AreStanding p.now.given (sets g.now) ks.now }
+    requires period { x.to ≤ p.now.given.horizon }
+    ensures { IsTrue result → IsFreeDuring (IsOverloaded p.now.given (all_nodes p.now.given)) p.now.given (sets g.now) x }
+{
+    for r in 0..resource_total(p) {
+        if !has_enough(p, g, ks, r as u8, x) {
+            return false;
+        }
+    }
+    true
+}
+
+// whether it is at all times taken together
+fn is_always_free(p: &Problem, g: &Region, ks: &[Standing]) -> bool
+    requires region { IsSized p.now.given g.now }
+    requires right { AreStanding p.now.given (sets g.now) ks.now }
+    ensures { IsTrue result → IsLook (total_load_watch p.now.given) p.now.given (sets g.now) Look.Clean }
+{
+    let x = Period {
+        from: 0,
+        to: p.horizon(),
+    };
+    is_free(p, g, ks, x)
+}
+
+// whether it is from each change to the next
+fn is_free_by_periods(p: &Problem, g: &Region, ks: &[Standing]) -> bool
+    requires region { IsSized p.now.given g.now }
+    requires right { AreStanding p.now.given (sets g.now) ks.now }
+    ensures { IsTrue result → IsLook (total_load_watch p.now.given) p.now.given (sets g.now) Look.Clean }
+{
+    let mut from = 0u64;
+    'periods: while from <= u64::from(p.horizon()) {
+        let next = next_change_anywhere(p, g, ks, from);
+        let x = Period {
+            from: from as u32,
+            to: (next - 1) as u32,
+        };
+        if !is_free(p, g, ks, x) {
+            return false;
+        }
+        from = next;
+    }
+    true
+}
+
+/// A look at the load of all nodes together. Where it is not seen by where machines surely stand that it is clean,
+/// it is looked at in full.
+pub(crate) fn total_look(p: &Problem, g: &Region, ks: &[Standing]) -> Look
+    requires region { IsSized p.now.given g.now }
+    requires right { AreStanding p.now.given (sets g.now) ks.now }
+    ensures { IsLook (total_load_watch p.now.given) p.now.given (sets g.now) result }
+{
+    if is_always_free(p, g, ks) {
+        return Look::Clean;
+    }
+    if is_free_by_periods(p, g, ks) {
+        return Look::Clean;
+    }
+    look_at_total_load(p, g)
+}

@@ -1,0 +1,135 @@
+//! What machines use at the most on all nodes together during a period.
+ghost use Rattle.std.specs.Prelude.{◌≡◌, ◌+◌, ◌*◌, ◌<◌, ◌≤◌, length, slice_index_or, IsTrue};
+ghost use Rattle.cluster.specs.Limits.{max_amount, max_machines, max_nodes};
+ghost use Rattle.sums.specs.Sums.{sum_to};
+ghost use Rattle.catalogue.specs.Instance.{IsElement};
+ghost use Rattle.catalogue.specs.Limits.{max_capacity};
+ghost use Rattle.slices.specs.Elements.{machine_count, vm};
+ghost use Rattle.domains.specs.Sets.{domain_at, sets};
+ghost use Rattle.reasons.specs.Closed.{all_nodes};
+ghost use Rattle.relax.specs.Areas.{IsSized};
+ghost use Rattle.standing.specs.Tables.{AreStanding, no_standing};
+ghost use Rattle.rule_load.specs.Parts.{StartsAfter};
+ghost use Rattle.rule_load.specs.Periods.{IsMost, MachinesFit};
+ghost use Rattle.rule_load.specs.Totals.{comes_after as the_comes_after, most_anywhere as the_most_anywhere};
+
+use crate::measures::Start;
+use crate::period::Period;
+use crate::uses::has_left;
+use catalogue::problem::Problem;
+use cluster::choices::Instant;
+use cluster::ids::{Element, VmId};
+use domains::region::Region;
+use domains::view::{Lens, View, lowest_seen};
+use slices::slice::Weight;
+use standing::numbers::{Arrival, Standing};
+use standing::uses::base;
+
+fn comes_after(come: Option<Arrival>, t: Instant) -> bool
+    ensures { result ≡ the_comes_after t come }
+{
+    match come {
+        None => false,
+        Some(a) => t < a.last,
+    }
+}
+
+// what a machine with these numbers surely uses at the most
+fn most_anywhere(p: &Problem, v: VmId, r: u8, x: Period, idle: bool, k: Standing) -> u64
+    requires machine { IsElement p.now.given (Element.Vm v) }
+    requires resource { r < length p.now.given.resources }
+    ensures most { result ≡ the_most_anywhere p.now.given v.0 r x idle k }
+    ensures small { result ≤ 2 * max_amount }
+{
+    let had = base(p, v, Weight::Amount(r));
+    if idle {
+        return had;
+    }
+    let demand = p.demand(v, r);
+    if k.leave <= u64::from(x.from) {
+        demand
+    } else if comes_after(k.come, x.to) {
+        had
+    } else {
+        had + demand
+    }
+}
+
+/// What the machines with these numbers surely use at the most.
+pub(crate) fn most_total(p: &Problem, g: &Region, ks: &[Standing], r: u8, x: Period) -> u64
+    requires region { IsSized p.now.given g.now }
+    requires count { length ks.now ≡ machine_count p.now.given }
+    requires resource { r < length p.now.given.resources }
+    ensures sum { result ≡ sum_to (machine_count p.now.given) (λ v. the_most_anywhere p.now.given v r x (domain_at g.now (vm v)).idle (slice_index_or ks.now v no_standing)) }
+    ensures small { result ≤ max_machines * (2 * max_amount) }
+{
+    let mut total = 0;
+    for i in 0..p.cluster().machines().len() {
+        let v = VmId(i as u32);
+        let idle = g.domain(Element::Vm(v)).idle();
+        total += most_anywhere(p, v, r, x, idle, ks[i]);
+    }
+    total
+}
+
+// whether a machine starts after an instant under each of its choices
+#[tactic(auto, using(crate::proofs::TotalLemmas::all_after))]
+fn starts_after(g: &Region, v: VmId, t: Instant) -> bool
+    requires { v.0 < length g.now.machines }
+    ensures { IsTrue result → StartsAfter (sets g.now (vm v.0)) t }
+{
+    let view = View {
+        region: g,
+        lens: Lens::Whole,
+    };
+    let first = lowest_seen(&view, Element::Vm(v), &Start).unwrap_or(0);
+    first > u64::from(t)
+}
+
+// whether a machine uses no more than a bound under any of its choices
+#[tactic(auto, using(crate::proofs::TotalLemmas::ever_most, crate::proofs::TotalLemmas::left_most, crate::proofs::TotalLemmas::later_most))]
+fn is_below(p: &Problem, g: &Region, v: VmId, r: u8, x: Period, bound: u64) -> bool
+    requires region { IsSized p.now.given g.now }
+    requires machine { IsElement p.now.given (Element.Vm v) }
+    requires resource { r < length p.now.given.resources }
+    requires period { x.to ≤ p.now.given.horizon }
+    ensures { IsTrue result → IsMost p.now.given v.0 (sets g.now (vm v.0)) r (all_nodes p.now.given) x bound }
+{
+    let had = base(p, v, Weight::Amount(r));
+    let demand = p.demand(v, r);
+    if had + demand <= bound {
+        return true;
+    }
+    if demand <= bound && has_left(p, g, v, x.from) {
+        return true;
+    }
+    had <= bound && starts_after(g, v, x.to)
+}
+
+/// Whether each machine uses no more, under any of its choices, than what is spare and what it surely uses
+/// itself.
+pub(crate) fn machines_fit(
+    p: &Problem,
+    g: &Region,
+    ks: &[Standing],
+    r: u8,
+    x: Period,
+    spare: u64,
+) -> bool
+    requires region { IsSized p.now.given g.now }
+    requires count { length ks.now ≡ machine_count p.now.given }
+    requires resource { r < length p.now.given.resources }
+    requires period { x.to ≤ p.now.given.horizon }
+    requires small { spare ≤ max_nodes * max_capacity }
+    ensures { IsTrue result → MachinesFit p.now.given (sets g.now) r (all_nodes p.now.given) x (λ v. the_most_anywhere p.now.given v r x (domain_at g.now (vm v)).idle (slice_index_or ks.now v no_standing)) spare }
+{
+    for i in 0..p.cluster().machines().len() {
+        let v = VmId(i as u32);
+        let idle = g.domain(Element::Vm(v)).idle();
+        let bound = spare + most_anywhere(p, v, r, x, idle, ks[i]);
+        if !is_below(p, g, v, r, x, bound) {
+            return false;
+        }
+    }
+    true
+}

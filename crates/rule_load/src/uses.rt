@@ -1,0 +1,163 @@
+//! What machines use of a node at the most during a period.
+ghost use Rattle.std.specs.Prelude.{◌≡◌, ◌+◌, ◌*◌, ◌<◌, ◌≤◌, length, slice_index_or, IsTrue, if◌then◌else◌};
+ghost use Rattle.cluster.specs.Limits.{max_amount, max_machines};
+ghost use Rattle.sums.specs.Sums.{sum_to};
+ghost use Rattle.catalogue.specs.Instance.{IsElement};
+ghost use Rattle.catalogue.specs.Limits.{max_capacity};
+ghost use Rattle.slices.specs.Elements.{machine_count, state_of, vm};
+ghost use Rattle.slices.specs.Stages.{one};
+ghost use Rattle.slices.specs.declared.slice.Weight.TheVariants.{Amount as AmountOf};
+ghost use Rattle.domains.specs.Sets.{sets};
+ghost use Rattle.relax.specs.Areas.{IsSized, hosted_in};
+ghost use Rattle.standing.specs.Standings.{base as the_base};
+ghost use Rattle.standing.specs.Tables.{no_standing};
+ghost use Rattle.rule_load.specs.Parts.{HasLeft, IsMostBrought, IsMostLeft};
+ghost use Rattle.rule_load.specs.Periods.{IsMost, most_kept as the_most_kept};
+
+use crate::measures::LeftOver;
+use crate::period::Period;
+use catalogue::problem::Problem;
+use cluster::choices::{Instant, Place};
+use cluster::ids::{Element, NodeId, VmId};
+use domains::parts::{Change, Part, Side};
+use domains::region::Region;
+use domains::view::{Lens, View, lowest_seen};
+use slices::slice::Weight;
+use standing::numbers::{NEVER, Standing};
+use standing::uses::{base, comes_by, gain, is_host};
+
+// what a machine with these numbers surely uses at the most
+fn most_kept(p: &Problem, v: VmId, n: NodeId, r: u8, x: Period, k: Standing) -> u64
+    requires machine { IsElement p.now.given (Element.Vm v) }
+    requires resource { r < length p.now.given.resources }
+    ensures most { result ≡ the_most_kept p.now.given v.0 (AmountOf r) n.0 x k }
+    ensures small { result ≤ 2 * max_amount }
+{
+    let weight = Weight::Amount(r);
+    let kept = if is_host(p, v, n) && u64::from(x.from) < k.leave {
+        base(p, v, weight)
+    } else {
+        0
+    };
+    let come = if comes_by(k.come, n, x.to) {
+        gain(p, v, weight, n)
+    } else {
+        0
+    };
+    kept + come
+}
+
+/// What the machines with these numbers surely use of a node at the most.
+pub(crate) fn most_used(p: &Problem, ks: &[Standing], n: NodeId, r: u8, x: Period) -> u64
+    requires count { length ks.now ≡ machine_count p.now.given }
+    requires resource { r < length p.now.given.resources }
+    ensures sum { result ≡ sum_to (machine_count p.now.given) (λ v. the_most_kept p.now.given v (AmountOf r) n.0 x (slice_index_or ks.now v no_standing)) }
+    ensures small { result ≤ max_machines * (2 * max_amount) }
+{
+    let mut total = 0;
+    for i in 0..p.cluster().machines().len() {
+        total += most_kept(p, VmId(i as u32), n, r, x, ks[i]);
+    }
+    total
+}
+
+// what a machine has at present on a node
+fn most_here(p: &Problem, v: VmId, n: NodeId, r: u8) -> u64
+    requires machine { IsElement p.now.given (Element.Vm v) }
+    requires resource { r < length p.now.given.resources }
+    ensures here { result ≡ (if hosted_in (state_of p.now.given v.0) (one n.0) then the_base p.now.given v.0 (AmountOf r) else 0) }
+    ensures small { result ≤ max_amount }
+{
+    if is_host(p, v, n) {
+        base(p, v, Weight::Amount(r))
+    } else {
+        0
+    }
+}
+
+/// Whether a machine gives its host up by an instant under each of its choices.
+#[tactic(auto, using(crate::proofs::UseLemmas::all_left))]
+pub(crate) fn has_left(p: &Problem, g: &Region, v: VmId, by: Instant) -> bool
+    requires region { IsSized p.now.given g.now }
+    requires machine { IsElement p.now.given (Element.Vm v) }
+    ensures { IsTrue result → HasLeft p.now.given v.0 (sets g.now (vm v.0)) by }
+{
+    let view = View {
+        region: g,
+        lens: Lens::Whole,
+    };
+    let left = LeftOver {
+        problem: p,
+        machine: v,
+    };
+    let least = lowest_seen(&view, Element::Vm(v), &left).unwrap_or(0);
+    least >= NEVER - u64::from(by)
+}
+
+// the most that is left of what a machine has at present on a node, from an instant on
+#[tactic(auto, using(crate::proofs::UseLemmas::none_left, crate::proofs::UseLemmas::some_left))]
+fn most_left(p: &Problem, g: &Region, v: VmId, n: NodeId, r: u8, from: Instant) -> u64
+    requires region { IsSized p.now.given g.now }
+    requires machine { IsElement p.now.given (Element.Vm v) }
+    requires resource { r < length p.now.given.resources }
+    ensures most { IsMostLeft p.now.given v.0 (sets g.now (vm v.0)) n.0 r from result }
+    ensures small { result ≤ max_amount }
+{
+    let here = most_here(p, v, n, r);
+    if here > 0 && has_left(p, g, v, from) {
+        return 0;
+    }
+    here
+}
+
+/// The most that a machine has brought to a node by an instant.
+#[tactic(auto, using(crate::proofs::UseLemmas::none_brought, crate::proofs::UseLemmas::some_brought))]
+pub(crate) fn most_brought(p: &Problem, g: &Region, v: VmId, n: NodeId, r: u8, by: Instant) -> u64
+    requires region { IsSized p.now.given g.now }
+    requires machine { IsElement p.now.given (Element.Vm v) }
+    requires resource { r < length p.now.given.resources }
+    ensures most { IsMostBrought p.now.given v.0 (sets g.now (vm v.0)) n.0 r by result }
+    ensures small { result ≤ max_amount }
+{
+    let here = Change {
+        element: Element::Vm(v),
+        part: Part::Upto(Place::At(n), by),
+        side: Side::Inside,
+    };
+    if g.leaves_none(here) {
+        0
+    } else {
+        gain(p, v, Weight::Amount(r), n)
+    }
+}
+
+/// Whether a machine uses no more of a node, under any of its choices, than what is spare and what it surely
+/// uses there itself. Its rows are looked at only where its present use and its demand are more.
+#[tactic(auto, using(crate::proofs::UseLemmas::fits_ever))]
+pub(crate) fn machine_fits(
+    p: &Problem,
+    g: &Region,
+    v: VmId,
+    k: Standing,
+    n: NodeId,
+    r: u8,
+    x: Period,
+    spare: u64,
+) -> bool
+    requires region { IsSized p.now.given g.now }
+    requires machine { IsElement p.now.given (Element.Vm v) }
+    requires resource { r < length p.now.given.resources }
+    requires period { x.to ≤ p.now.given.horizon }
+    requires small { spare ≤ max_capacity }
+    ensures { IsTrue result → IsMost p.now.given v.0 (sets g.now (vm v.0)) r (one n.0) x (spare + the_most_kept p.now.given v.0 (AmountOf r) n.0 x k) }
+{
+    let ever = most_here(p, v, n, r) + p.demand(v, r);
+    if ever <= spare {
+        return true;
+    }
+    let bound = spare + most_kept(p, v, n, r, x, k);
+    if ever <= bound {
+        return true;
+    }
+    most_left(p, g, v, n, r, x.from) + most_brought(p, g, v, n, r, x.to) <= bound
+}
