@@ -1,5 +1,6 @@
 -- What `demo` answers and leaves.
-use Rattle.std.proofs.Common.{◌≡◌, ◌≢◌, ◌⊎◌, ◌∙◌, ℕ, false, List, ◌++◌, Option, Some, Result, Ok, Err, codes, refl, sym, ap, subst, inl, inr, append_assoc}
+use Rattle.std.proofs.Common.{◌≡◌, ◌≢◌, ◌⊎◌, ◌∙◌, ℕ, true, false, List, ◌++◌, Option, Some, Result, Ok, Err, codes, refl, sym, ap, subst, inl, inr, append_assoc}
+use Rattle.std.proofs.lemmas.Slice.Eq.{bytes_eq-Decides}
 use Rattle.std.specs.Fmt.{decimal}
 use Rattle.plan_io.specs.Files.{Files, OthersStay}
 use Rattle.catalogue.specs.Instance.{Instance}
@@ -26,7 +27,11 @@ use Rattle.btrplan.specs.declared.status.Status.TheVariants as status
 use Rattle.btrplan.proofs.Ends.{says, answers_well, answers_refused, ends_more}
 use Rattle.btrplan.proofs.LastLines.{always_anyhow}
 
--- ---- the line
+-- ---- its files and its line
+
+-- the files that are planned into are two
+pub files_apart : demo_plan ≢ demo_certificate
+files_apart same = let both : false ≡ true = (bytes_eq-Decides demo_plan demo_certificate).1 same in absurd (cc)
 
 -- the line of an optimal plan
 pub optimal_text : (seed cost : ℕ) (line : List ℕ) → line ≡ codes "demo " ++ (decimal seed ++ (codes " optimal " ++ (decimal cost ++ codes " yes\n"))) → line ≡ optimal_line seed cost

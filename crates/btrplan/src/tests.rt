@@ -7,6 +7,7 @@ use std::test::Fail;
 
 mod acting;
 mod checking;
+mod demonstrating;
 mod executing;
 mod generating;
 mod instances;

@@ -119,7 +119,7 @@ fn check_found<D: Desk>(
 }
 
 /// Plans the problem of a seed, and checks what was found, if it is not that there is no plan.
-#[tactic(auto, using(crate::proofs::DemoAnswers::none_there, crate::proofs::DemoAnswers::checked_then, crate::proofs::Ends::refused_write), unfolding(crate::specs::Endings::Ends))]
+#[tactic(auto, using(crate::proofs::DemoAnswers::files_apart, crate::proofs::DemoAnswers::none_there, crate::proofs::DemoAnswers::checked_then, crate::proofs::Ends::refused_write), unfolding(crate::specs::Endings::Ends))]
 fn plan_and_check<D: Desk>(
     alloc: Global,
     desk: &mut D,
