@@ -1,12 +1,6 @@
-use crate::rules::run_by_rules;
 use crate::status::Status;
-use crate::tests::instances::{
-    ALONE, APART, APART_ALWAYS, APART_AT_THE_END, BANNED, CROSSED, CROWDED, EMPTY, HALVED, LIT,
-    NO_TIME, OFFLINE, OVERBOOKED, OVERLOADED, RAISED, SHARED_ALWAYS, SHARED_AT_THE_END, SWAP,
-    TURNS, UNFENCED,
-};
-use crate::tests::{Given, Left, OLD_CERTIFICATE, OLD_PLAN, desk, runs, words};
-use plan_io::{SinkMem, SourceMem};
+use crate::tests::instances::{ALONE, APART, EMPTY};
+use crate::tests::{Given, Left, OLD_CERTIFICATE, OLD_PLAN, runs};
 use std::alloc::Global;
 use std::process::Abort;
 use std::test::Fail;
@@ -49,34 +43,6 @@ fn plans<'a>(
     runs(rt, alloc, given, left, at)
 }
 
-/// Plans an instance and checks the certificate strictly, on the same desk and sink, and sees the status
-/// of the plan and what is printed by both.
-fn plans_and_checks<'a>(
-    rt: &impl Abort,
-    alloc: Global,
-    (line, instance): (&'a str, &'a [u8]),
-    (status, printed): (Status, &str),
-) -> Result<(), Fail> {
-    let given = Given {
-        line,
-        instance,
-        plan: None,
-        failing: (None, None),
-    };
-    let mut desk = desk(alloc, given)?;
-    let mut input = SourceMem::new(Vec::new(alloc), Vec::new(alloc));
-    let mut out = SinkMem::new(Vec::new(alloc));
-    let to_plan = words(alloc, line)?;
-    let planned = run_by_rules(alloc, &to_plan, &mut desk, &mut input, &mut out);
-    let to_check = words(alloc, "check i p c strict")?;
-    let checked = run_by_rules(alloc, &to_check, &mut desk, &mut input, &mut out);
-    assert_eq!(rt; out.written(), printed.as_bytes());
-    assert_eq!(rt; (planned, checked), (status, Status::Good));
-    assert_eq!(rt; desk.get("i"), Some(instance));
-    assert_eq!(rt; desk.get("other"), Some(b"kept".as_slice()));
-    Ok(())
-}
-
 #[test]
 fn files_and_refusals(rt: HostRuntime) -> Result<(), Fail> {
     let alloc = rt.alloc();
@@ -103,96 +69,6 @@ fn files_and_refusals(rt: HostRuntime) -> Result<(), Fail> {
     for (at, (instance, line)) in refused.into_iter().enumerate() {
         let left = (Status::Input, line, OLD_CERTIFICATE, OLD_PLAN);
         plans(&rt, alloc, (instance, (None, None)), left, at)?;
-    }
-    Ok(())
-}
-
-#[test]
-fn optimal_plans(rt: HostRuntime) -> Result<(), Fail> {
-    let alloc = rt.alloc();
-    let table = [
-        (ALONE, "optimal 0\nyes optimal 0\n"),
-        (UNFENCED, "optimal 0\nyes optimal 0\n"),
-        (OFFLINE, "optimal 0\nyes optimal 0\n"),
-        (OVERBOOKED, "optimal 0\nyes optimal 0\n"),
-        (RAISED, "optimal 1\nyes optimal 1\n"),
-        (BANNED, "optimal 3\nyes optimal 3\n"),
-        (TURNS, "optimal 3\nyes optimal 3\n"),
-        (SHARED_AT_THE_END, "optimal 3\nyes optimal 3\n"),
-        (LIT, "optimal 3\nyes optimal 3\n"),
-        (APART_AT_THE_END, "optimal 6\nyes optimal 6\n"),
-        (APART_ALWAYS, "optimal 9\nyes optimal 9\n"),
-        (SWAP, "optimal 9\nyes optimal 9\n"),
-    ];
-    for (instance, printed) in table {
-        let given = ("plan i p c", instance);
-        plans_and_checks(&rt, alloc, given, (Status::Good, printed))?;
-    }
-    Ok(())
-}
-
-#[test]
-fn no_plan(rt: HostRuntime) -> Result<(), Fail> {
-    let alloc = rt.alloc();
-    for instance in [
-        APART,
-        HALVED,
-        SHARED_ALWAYS,
-        CROSSED,
-        OVERLOADED,
-        CROWDED,
-        NO_TIME,
-    ] {
-        let given = ("plan i p c", instance);
-        let wanted = (Status::Negative, "infeasible\nyes infeasible\n");
-        plans_and_checks(&rt, alloc, given, wanted)?;
-    }
-    Ok(())
-}
-
-#[test]
-fn budgets(rt: HostRuntime) -> Result<(), Fail> {
-    let alloc = rt.alloc();
-    let table = [
-        (
-            "plan i p c budget 0",
-            BANNED,
-            Status::Undecided,
-            "undecided least 3\nyes undecided 0 least 3\n",
-        ),
-        (
-            "plan i p c budget 0",
-            LIT,
-            Status::Undecided,
-            "undecided least 0\nyes undecided 0 least 0\n",
-        ),
-        (
-            "plan i p c budget 1",
-            LIT,
-            Status::Undecided,
-            "undecided best 6 least 3\nyes undecided 1 least 3\n",
-        ),
-        (
-            "plan i p c budget 0",
-            ALONE,
-            Status::Good,
-            "optimal 0\nyes optimal 0\n",
-        ),
-        (
-            "plan i p c budget 0",
-            APART,
-            Status::Negative,
-            "infeasible\nyes infeasible\n",
-        ),
-        (
-            "plan i p c budget 18446744073709551615",
-            LIT,
-            Status::Good,
-            "optimal 3\nyes optimal 3\n",
-        ),
-    ];
-    for (line, instance, status, printed) in table {
-        plans_and_checks(&rt, alloc, (line, instance), (status, printed))?;
     }
     Ok(())
 }
