@@ -80,5 +80,3 @@ pub const NO_TIME: &[u8] =
 /// A machine on a node that is not listed, and a constraint of no kind.
 pub const UNLISTED: &[u8] =
     br#"{"horizon":20,"resources":["cpu"],"nodes":[{"name":"n0","capacity":{"cpu":4}}],"machines":[{"name":"v0","state":"running","node":"n9","use":{"cpu":1}}],"constraints":[{"kind":"sprad"}]}"#;
-
-/// Three nodes whose stop takes all the time there is: the first may not be on at the end beside the second, nor
