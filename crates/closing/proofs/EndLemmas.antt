@@ -7,10 +7,13 @@ use Rattle.std.proofs.lemmas.List.{get_or_past}
 use Rattle.cluster.specs.declared.choices.Choice.{Choice}
 use Rattle.cluster.specs.declared.choices.Choice.TheVariants.{Idle, Act}
 use Rattle.cluster.specs.declared.choices.Place.{Place}
+use Rattle.cluster.specs.declared.choices.Place.TheVariants.{Nowhere, At}
+use Rattle.cluster.specs.declared.ids.NodeId.{NodeId}
 use Rattle.cluster.specs.declared.ids.Element.{Element}
 use Rattle.cluster.specs.declared.ids.Element.TheVariants.{Vm, Node as TheNode}
 use Rattle.catalogue.specs.Instance.{Instance, IsElement}
 use Rattle.slices.specs.Elements.{machine_count, node_count, node, vm}
+use Rattle.slices.specs.Stages.{one}
 use Rattle.slices.specs.Starts.{start_of}
 use Rattle.domains.specs.Choices.{DomainView, Climbs, choices, no_row, same_place, staying}
 use Rattle.domains.specs.declared.parts.Part.TheVariants.{From}
@@ -22,7 +25,7 @@ use Rattle.reasons.specs.Closed.{IsEnd}
 use Rattle.reasons.specs.Quiet.{AreOf, IsTurn}
 use Rattle.reasons.specs.Regions.{row_at}
 use Rattle.reasons.proofs.Public.{end_is_choice, ends_of_rows}
-use Rattle.relax.specs.Areas.{IsSized}
+use Rattle.relax.specs.Areas.{IsSized, goes_in}
 use Rattle.closing.specs.Parts.{AreRowsPast, FailAtEnds, FailAtRows, IsEndThat, IsRowEndThat, PassOnlyAt, StartsPast}
 
 -- ---- tests at ends
@@ -82,6 +85,12 @@ fails_at_place P place cs only fail = record { ends = λ c end. by c end (at-pla
 
 pub end_at_place : (P : Choice → Type 0) (place : Place) (cs : List Choice) (c : Choice) → IsEndThat P (filter (in_part (From place 0)) cs) c → IsEndThat P cs c
 end_at_place P place cs c end = record { is_end = end-kept place cs c end.is_end; passes = end.passes }
+
+-- where a choice is not one at the place of a node, it does not go there
+pub goes_elsewhere : (n : NodeId) (c : Choice) → in_part (From (At n) 0) c ≡ false → goes_in c (one n.0) ≡ false
+goes_elsewhere n Idle out = refl
+goes_elsewhere n (Act Nowhere s) out = refl
+goes_elsewhere n (Act (At m) s) out = grind (arith, nat_tests)
 
 -- ---- instants
 
