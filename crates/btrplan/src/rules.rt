@@ -26,9 +26,9 @@ fn run_boxed<D: Desk, I: Source, O: Sink>(
 {
     let mut rules: Vec<Box<dyn Propagator>> = Vec::new(alloc);
     // The first that answers ends a round, so those that look at least come first.
+    rules.push(Box::new(alloc, load_rule(alloc))?)?;
     rules.push(Box::new(alloc, PlaceRule::new(alloc))?)?;
     rules.push(Box::new(alloc, PairRule::new(alloc))?)?;
-    rules.push(Box::new(alloc, load_rule(alloc))?)?;
     rules.push(Box::new(alloc, SetRule::new(alloc))?)?;
     rules.push(Box::new(alloc, GroupRule::new(alloc))?)?;
     let brancher: Box<dyn Brancher> = Box::new(alloc, StayFirst::new())?;
