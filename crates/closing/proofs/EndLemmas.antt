@@ -1,25 +1,35 @@
 -- Ends of choices by rows, and the instants at which they start.
-use Rattle.std.proofs.Common.{◌≡◌, ◌⊎◌, inl, inr, ℕ, zero, suc, ◌+◌, ◌<◌, ◌≤◌, Bool, true, Some, List, [], ◌∷◌, length, slice_index_or, refl, ap, arith}
-use Rattle.std.specs.List.{Contains}
-use Rattle.std.proofs.lemmas.Bool.{cases_lt}
+use Rattle.std.proofs.Common.{◌≡◌, ◌⊎◌, inl, inr, ℕ, zero, suc, ◌+◌, ◌<◌, ◌≤◌, Bool, true, false, ◌&&◌, nat_le, Some, List, [], ◌∷◌, length, slice_index_or, refl, ap, arith}
+use Rattle.std.specs.List.{Contains, filter}
+use Rattle.std.proofs.lemmas.Bool.{cases_lt, false≢true}
+use Rattle.std.proofs.lemmas.Bool.Decides.{nat_tests}
 use Rattle.std.proofs.lemmas.List.{get_or_past}
 use Rattle.cluster.specs.declared.choices.Choice.{Choice}
 use Rattle.cluster.specs.declared.choices.Choice.TheVariants.{Idle, Act}
 use Rattle.cluster.specs.declared.choices.Place.{Place}
+use Rattle.cluster.specs.declared.choices.Place.TheVariants.{Nowhere, At}
+use Rattle.cluster.specs.declared.ids.NodeId.{NodeId}
 use Rattle.cluster.specs.declared.ids.Element.{Element}
 use Rattle.cluster.specs.declared.ids.Element.TheVariants.{Vm, Node as TheNode}
+use Rattle.cluster.specs.declared.ids.VmId.{VmId}
 use Rattle.catalogue.specs.Instance.{Instance, IsElement}
 use Rattle.slices.specs.Elements.{machine_count, node_count, node, vm}
+use Rattle.slices.specs.Holds.{IsMember}
+use Rattle.slices.specs.Stages.{one}
 use Rattle.slices.specs.Starts.{start_of}
-use Rattle.domains.specs.Choices.{DomainView, Climbs, choices, no_row, staying}
+use Rattle.domains.specs.Choices.{DomainView, Climbs, choices, no_row, same_place, staying}
+use Rattle.domains.specs.declared.parts.Part.TheVariants.{From}
 use Rattle.domains.specs.declared.parts.Row.{Row}
+use Rattle.domains.specs.Parts.{in_part}
+use Rattle.domains.proofs.Public.{contains_filter, filter_contains}
 use Rattle.domains.specs.Sets.{RegionView, sets}
 use Rattle.reasons.specs.Closed.{IsEnd}
 use Rattle.reasons.specs.Quiet.{AreOf, IsTurn}
 use Rattle.reasons.specs.Regions.{row_at}
 use Rattle.reasons.proofs.Public.{end_is_choice, ends_of_rows}
-use Rattle.relax.specs.Areas.{IsSized}
-use Rattle.closing.specs.Parts.{AreRowsPast, FailAtEnds, FailAtRows, IsEndThat, IsRowEndThat, StartsPast}
+use Rattle.relax.specs.Areas.{IsSized, goes_in}
+use Rattle.closing.specs.Watches.{is_among, only_of}
+use Rattle.closing.specs.Parts.{AreRowsPast, FailAtEnds, FailAtRows, IsEndThat, IsRowEndThat, PassOnlyAt, StartsPast}
 
 -- ---- tests at ends
 
@@ -49,6 +59,41 @@ row_is_end P d rows i c same climbs h end = end-of_row P d i c (rw same at climb
 
 pub idle_is_end : (P : Choice → Type 0) (d : DomainView) (rows : List Row) → rows ≡ d.rows → Climbs 0 rows → d.idle ≡ true → P Idle → IsEndThat P (choices d) Idle
 idle_is_end P d rows same climbs idle passes = record { is_end = (ends_of_rows d (rw same at climbs) Idle).1 idle; passes = passes }
+
+-- ---- at one place
+
+abbrev at-place : Place → Choice → Bool
+at-place place = in_part (From place 0)
+
+-- whatever its start
+at-any : (here : Bool) (s u : ℕ) → (here && nat_le 0 s) ≡ true → (here && nat_le 0 u) ≡ true
+at-any here s u h = grind (arith, nat_tests)
+
+kept-end : (place : Place) (cs : List Choice) (c : Choice) → IsEnd cs c → at-place place c ≡ true → IsEnd (filter (at-place place) cs) c
+kept-end place cs Idle end here = absurd (false≢true here)
+kept-end place cs (Act q s) (there, inl least) here = (contains_filter (at-place place) cs (Act q s) there here, inl (λ u h. least u (filter_contains (at-place place) cs (Act q u) h).0))
+kept-end place cs (Act q s) (there, inr most) here = (contains_filter (at-place place) cs (Act q s) there here, inr (λ u h. most u (filter_contains (at-place place) cs (Act q u) h).0))
+
+end-kept : (place : Place) (cs : List Choice) (c : Choice) → IsEnd (filter (at-place place) cs) c → IsEnd cs c
+end-kept place cs Idle end = (filter_contains (at-place place) cs Idle end).0
+end-kept place cs (Act q s) (there, inl least) = let h = filter_contains (at-place place) cs (Act q s) there in (h.0, inl (λ u x. least u (contains_filter (at-place place) cs (Act q u) x (at-any (same_place q place) s u h.1))))
+end-kept place cs (Act q s) (there, inr most) = let h = filter_contains (at-place place) cs (Act q s) there in (h.0, inr (λ u x. most u (contains_filter (at-place place) cs (Act q u) x (at-any (same_place q place) s u h.1))))
+
+pub fails_at_place : (P : Choice → Type 0) (place : Place) (cs : List Choice) → PassOnlyAt place P → FailAtEnds P (filter (in_part (From place 0)) cs) → FailAtEnds P cs
+fails_at_place P place cs only fail = record { ends = λ c end. by c end (at-place place c) refl }
+  where
+    by : (c : Choice) → IsEnd cs c → (b : Bool) → at-place place c ≡ b → ¬ P c
+    by c end true here = fail.ends c (kept-end place cs c end here)
+    by c end false out = only.elsewhere c out
+
+pub end_at_place : (P : Choice → Type 0) (place : Place) (cs : List Choice) (c : Choice) → IsEndThat P (filter (in_part (From place 0)) cs) c → IsEndThat P cs c
+end_at_place P place cs c end = record { is_end = end-kept place cs c end.is_end; passes = end.passes }
+
+-- where a choice is not one at the place of a node, it does not go there
+pub goes_elsewhere : (n : NodeId) (c : Choice) → in_part (From (At n) 0) c ≡ false → goes_in c (one n.0) ≡ false
+goes_elsewhere n Idle out = refl
+goes_elsewhere n (Act Nowhere s) out = refl
+goes_elsewhere n (Act (At m) s) out = grind (arith, nat_tests)
 
 -- ---- instants
 
@@ -95,3 +140,14 @@ no_turn p g after next is last most machines nodes t later sooner (inr (inr x)) 
     at (Vm v) c end starts (inl there) = let le = (machines v.0 there).past c t end starts later in omega (arith, le, sooner)
     at (TheNode n) c end starts (inl there) = let le = (nodes n.0 there).past c t end starts later in omega (arith, le, sooner)
     at e c end starts (inr idle) = staying-never c t (rw idle at (end_is_choice (sets g e) c end)) starts
+
+-- of the machines of a list alone
+pub no_turn_of : (p : Instance) (g : RegionView) (vs : List VmId) (after next : ℕ) → (after < p.horizon → next ≤ p.horizon) → next ≤ p.horizon + 1 → ((v : ℕ) → IsMember vs v → StartsPast (sets g (vm v)) after next) → (t : ℕ) → after < t → t < next → ¬ IsTurn p (only_of vs (sets g)) t
+no_turn_of p g vs after next last most machines t later sooner (inl first) = omega (arith, first, later)
+no_turn_of p g vs after next last most machines t later sooner (inr (inl e)) = let le = last (omega (arith, e, later)) in omega (arith, le, e, sooner)
+no_turn_of p g vs after next last most machines t later sooner (inr (inr x)) = at x.element x.choice x.is_end x.starts (is_among vs x.element) refl
+  where
+    at : (e : Element) (c : Choice) → IsEnd (only_of vs (sets g) e) c → start_of c ≡ Some t → (b : Bool) → is_among vs e ≡ b → ⊥
+    at (Vm v) c end starts true seen = let le = (machines v.0 seen).past c t (rw seen at end) starts later in omega (arith, le, sooner)
+    at (TheNode n) c end starts true seen = false≢true seen
+    at e c end starts false out = staying-never c t (end_is_choice (Idle ∷ []) c (rw out at end)) starts

@@ -2,19 +2,23 @@
 use Rattle.std.specs.Prelude.{◌≡◌, ◌⊎◌, ℕ, ◌+◌, ◌<◌, ◌≤◌, Bool, true, false, List, Some, IsTrue, slice_index_or}
 use Rattle.cluster.specs.declared.choices.Choice.{Choice}
 use Rattle.cluster.specs.declared.choices.Choice.TheVariants.{Idle, Act}
+use Rattle.cluster.specs.declared.choices.Place.{Place}
 use Rattle.catalogue.specs.Instance.{Instance}
 use Rattle.catalogue.specs.Values.{capacity_of}
 use Rattle.slices.specs.declared.slice.Weight.{Weight}
 use Rattle.slices.specs.declared.slice.Weight.TheVariants.{Image, Presence}
-use Rattle.slices.specs.Elements.{node, vm}
+use Rattle.slices.specs.Elements.{node, state_of, vm}
 use Rattle.slices.specs.Snapshots.{held_at, powered_at, usable_at}
 use Rattle.slices.specs.Starts.{start_of}
 use Rattle.slices.specs.Stages.{Nodes, one}
 use Rattle.domains.specs.Choices.{no_row}
+use Rattle.domains.specs.declared.parts.Part.TheVariants.{From}
 use Rattle.domains.specs.declared.parts.Row.{Row}
+use Rattle.domains.specs.Parts.{in_part}
 use Rattle.domains.specs.Sets.{Sets}
 use Rattle.reasons.specs.Closed.{IsEnd}
 use Rattle.reasons.specs.Sure.{sure}
+use Rattle.relax.specs.Areas.{hosted_in}
 
 -- ---- instants
 
@@ -41,6 +45,10 @@ pub record FailAtEnds (test : Choice → Type 0) (cs : List Choice) : Type 0 whe
 pub record IsEndThat (test : Choice → Type 0) (cs : List Choice) (c : Choice) : Type 0 where
   pub is_end : IsEnd cs c
   pub passes : test c
+
+-- only choices at a place pass it
+pub record PassOnlyAt (place : Place) (test : Choice → Type 0) : Type 0 where
+  pub elsewhere : (c : Choice) → in_part (From place 0) c ≡ false → ¬ test c
 
 -- no end of a row does; one does
 pub record FailAtRow (test : Choice → Type 0) (r : Row) : Type 0 where
@@ -92,6 +100,10 @@ pub record IsNodeMissed (p : Instance) (s : Sets) (r : ℕ) (set : Nodes) (t spa
 -- under the choice a machine is on the node or has its image there
 abbrev pub StandsUnder : Instance → ℕ → ℕ → ℕ → Choice → Type 0
 StandsUnder p v n t c = (0 < held_at p v Presence (one n) t c) ⊎ (0 < held_at p v Image (one n) t c)
+
+-- none of the first so many machines that have the node as their host, or of those that have not, is so at an end of its choices
+pub record NoneAmong (p : Instance) (s : Sets) (n t : ℕ) (hosted : Bool) (count : ℕ) : Type 0 where
+  pub fail : (v : ℕ) → v < count → hosted_in (state_of p v) (one n) ≡ hosted → FailAtEnds (StandsUnder p v n t) (s (vm v))
 
 -- under the choice the node is powered
 abbrev pub IsPoweredUnder : Instance → ℕ → ℕ → Choice → Type 0

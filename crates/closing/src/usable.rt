@@ -1,21 +1,25 @@
 //! Nodes that are needed and may not be usable.
-ghost use Rattle.std.specs.Prelude.{◌≡◌, ℕ, ◌<◌, ◌≤◌, false, IfNone, IfSome, IsTrue};
+ghost use Rattle.std.specs.Prelude.{◌≡◌, ℕ, ◌<◌, ◌≤◌, false, [], ◌∷◌, IfNone, IfSome, IsTrue};
+ghost use Rattle.cluster.specs.declared.choices.Choice.TheVariants.{Idle};
 ghost use Rattle.catalogue.specs.Instance.{IsElement};
 ghost use Rattle.slices.specs.Elements.{machine_count, node, node_count, vm};
 ghost use Rattle.slices.specs.Snapshots.{stands_on};
+ghost use Rattle.domains.specs.Choices.{choices};
 ghost use Rattle.domains.specs.Sets.{sets};
 ghost use Rattle.reasons.specs.Sure.{sure};
 ghost use Rattle.relax.specs.Areas.{IsSized};
 ghost use Rattle.closing.specs.Kinds.{IsNeeded};
-ghost use Rattle.closing.specs.Looks.{IsFound};
-ghost use Rattle.closing.specs.Parts.{FailAtEnds, IsEndThat, IsNotUsable, StandsUnder};
+ghost use Rattle.closing.specs.Looks.{IsFound, IsFreeOf};
+ghost use Rattle.closing.specs.Parts.{FailAtEnds, IsEndThat, IsNotUsable, NoneAmong, StandsUnder};
 
 use crate::counts::machines_of;
-use crate::ends::{Test, end_that};
+use crate::ends::{Test, end_at, end_that};
+use crate::hosts::is_host;
 use crate::look::Look;
 use catalogue::problem::Problem;
-use cluster::choices::{Choice, Instant};
+use cluster::choices::{Choice, Instant, Place};
 use cluster::ids::{Element, NodeId, VmId};
+use domains::domain::Domain;
 use domains::region::Region;
 use domains::view::{Lens, View};
 use relax::area::Area;
@@ -98,25 +102,60 @@ fn is_needed(p: &Problem, g: &Region, n: NodeId, t: Instant) -> bool
     false
 }
 
-// a machine and an end of its choices under which it is on the node or has its image there
+// an end of a machine's choices under which it is on the node or has its image there
+fn end_on(p: &Problem, g: &Region, v: VmId, n: NodeId, t: Instant) -> Option<Choice>
+    requires region { IsSized p.now.given g.now }
+    requires machine { v.0 < machine_count p.now.given }
+    ensures none { IfNone result (FailAtEnds (StandsUnder p.now.given v.0 n.0 t) (sets g.now (vm v.0))) }
+    ensures some { IfSome result (IsEndThat (StandsUnder p.now.given v.0 n.0 t) (sets g.now (vm v.0))) }
+{
+    let test = StandsOn {
+        problem: p,
+        machine: v,
+        node: n,
+        at: t,
+    };
+    let domain = g.domain(Element::Vm(v));
+    if is_host(p, v, n) {
+        end_that(domain, &test)
+    } else {
+        end_at(domain, Place::At(n), &test)
+    }
+}
+
+// of the machines that the node hosts, or of the others, one and such an end of its choices
+fn machine_among(
+    p: &Problem,
+    g: &Region,
+    n: NodeId,
+    t: Instant,
+    hosted: bool,
+) -> Option<(VmId, Choice)>
+    requires region { IsSized p.now.given g.now }
+    ensures none { IfNone result (NoneAmong p.now.given (sets g.now) n.0 t hosted (machine_count p.now.given)) }
+    ensures some { IfSome result (λ x. (x.0.0 < machine_count p.now.given) × IsEndThat (StandsUnder p.now.given x.0.0 n.0 t) (sets g.now (vm x.0.0)) x.1) }
+{
+    for i in 0..machines_of(p) {
+        let v = VmId(i as u32);
+        if is_host(p, v, n) == hosted {
+            if let Some(c) = end_on(p, g, v, n, t) {
+                return Some((v, c));
+            }
+        }
+    }
+    None
+}
+
+// a machine and such an end of its choices; those from elsewhere are tried first, of which one row is looked at
 fn machine_on(p: &Problem, g: &Region, n: NodeId, t: Instant) -> Option<(VmId, Choice)>
     requires region { IsSized p.now.given g.now }
     ensures none { IfNone result ((v : ℕ) → v < machine_count p.now.given → FailAtEnds (StandsUnder p.now.given v n.0 t) (sets g.now (vm v))) }
     ensures some { IfSome result (λ x. (x.0.0 < machine_count p.now.given) × IsEndThat (StandsUnder p.now.given x.0.0 n.0 t) (sets g.now (vm x.0.0)) x.1) }
 {
-    for i in 0..machines_of(p) {
-        let v = VmId(i as u32);
-        let test = StandsOn {
-            problem: p,
-            machine: v,
-            node: n,
-            at: t,
-        };
-        if let Some(c) = end_that(g.domain(Element::Vm(v)), &test) {
-            return Some((v, c));
-        }
+    match machine_among(p, g, n, t, false) {
+        Some((v, c)) => Some((v, c)),
+        None => machine_among(p, g, n, t, true),
     }
-    None
 }
 
 // of a node that may be usable
@@ -158,6 +197,22 @@ fn found_where_not(p: &Problem, g: &Region, n: NodeId, t: Instant) -> Look
         None => Look::Clean,
         Some((v, c)) => Look::Cut(Element::Vm(v), c, t),
     }
+}
+
+// whether Idle is the only choice
+fn can_only_stay(domain: &Domain) -> bool
+    ensures { IsTrue result → choices domain.now ≡ Idle ∷ [] }
+{
+    domain.idle() && domain.rows().is_empty()
+}
+
+/// Whether a node is usable, and can only stay as it is.
+pub fn stays_usable(p: &Problem, g: &Region, n: NodeId) -> bool
+    requires region { IsSized p.now.given g.now }
+    requires node { n.0 < node_count p.now.given }
+    ensures { IsTrue result → (t : ℕ) → IsFreeOf (IsNeeded p.now.given n.0) p.now.given (sets g.now) t }
+{
+    can_only_stay(g.domain(Element::Node(n))) && usable(p, n, Choice::Idle, 0)
 }
 
 /// A look at one instant at whether a node on which a machine is, or has its image, is usable.
