@@ -124,27 +124,30 @@ unfolding IsAnswer
 refused_instance instance plan_file certificate strict source before after printed said kept read =
     answers_refused (IsChecked plan_file certificate strict) _ said _ _ _ read (says said status.Input before after printed kept)
 
--- the line that refuses the plan
-pub refused_plan : (instance plan_file certificate : List ℕ) (strict : Bool) (source : Option (List ℕ)) (before after : Files) (printed said : List ℕ) (p : Instance) → after ≡ before →
-    instance_in before instance ≡ Ok p → any_plan_in p before plan_file ≡ Err said →
-    IsAnswer (Some (check instance plan_file certificate strict)) source (outside before printed) (outside after (printed ++ said)) status.Input
-unfolding IsAnswer
-refused_plan instance plan_file certificate strict source before after printed said p kept read plan_read =
-    answers_well (IsChecked plan_file certificate strict) _ p _ _ _ read (answers_refused (Checks p certificate strict) _ said _ _ _ plan_read (says said status.Input before after printed kept))
-
--- what the check of the certificate gives
-pub checked : (instance plan_file certificate : List ℕ) (strict : Bool) (source : Option (List ℕ)) (before after : Outside) (p : Instance) (plan : Option Choices) (result : Status) →
-    instance_in before.files instance ≡ Ok p → any_plan_in p before.files plan_file ≡ Ok plan → Checks p certificate strict plan before after result →
+-- what is answered where the instance has a problem
+pub well : (instance plan_file certificate : List ℕ) (strict : Bool) (source : Option (List ℕ)) (before after : Outside) (p : Instance) (result : Status) → instance_in before.files instance ≡ Ok p → IsChecked plan_file certificate strict p before after result →
     IsAnswer (Some (check instance plan_file certificate strict)) source before after result
 unfolding IsAnswer
-checked instance plan_file certificate strict source before after p plan result read plan_read is =
-    answers_well (IsChecked plan_file certificate strict) _ p _ _ _ read (answers_well (Checks p certificate strict) _ plan _ _ _ plan_read is)
+well instance plan_file certificate strict source before after p result read is = answers_well (IsChecked plan_file certificate strict) _ p _ _ _ read is
 
--- how the command ends with it
-pub answered : (instance plan_file certificate : List ℕ) (strict : Bool) (source : Option (List ℕ)) (before between then after : Files) (printed : List ℕ) (p : Instance) (plan : Option Choices) (ended : Result Ending Fault) →
-    between ≡ before → then ≡ between → instance_in before instance ≡ Ok p → any_plan_in p between plan_file ≡ Ok plan →
-    Ends (Checks p certificate strict plan (outside then printed)) (outside after printed) ended →
-    Ends (IsAnswer (Some (check instance plan_file certificate strict)) source (outside before printed)) (outside after printed) ended
-answered instance plan_file certificate strict source before between then after printed p plan ended kept then_kept read plan_read ends =
-    ends_more (Checks p certificate strict plan (outside before printed)) (IsAnswer (Some (check instance plan_file certificate strict)) source (outside before printed)) (outside after printed) ended
-    (λ last result. checked instance plan_file certificate strict source (outside before printed) last p plan result read (rw kept at plan_read)) (rw (then_kept, kept) at ends)
+-- how the command ends where the instance has a problem
+pub answered : (instance plan_file certificate : List ℕ) (strict : Bool) (source : Option (List ℕ)) (before between after : Files) (printed : List ℕ) (p : Instance) (ended : Result Ending Fault) → between ≡ before → instance_in before instance ≡ Ok p →
+    Ends (IsChecked plan_file certificate strict p (outside between printed)) (outside after printed) ended → Ends (IsAnswer (Some (check instance plan_file certificate strict)) source (outside before printed)) (outside after printed) ended
+answered instance plan_file certificate strict source before between after printed p ended kept read ends =
+    ends_more (IsChecked plan_file certificate strict p (outside before printed)) (IsAnswer (Some (check instance plan_file certificate strict)) source (outside before printed)) (outside after printed) ended
+    (λ last result. well instance plan_file certificate strict source (outside before printed) last p result read) (rw kept at ends)
+
+-- ---- by the problem
+
+-- the line that refuses the plan
+pub refused_plan : (plan_file certificate : List ℕ) (strict : Bool) (before after : Files) (printed said : List ℕ) (p : Instance) → after ≡ before → any_plan_in p before plan_file ≡ Err said →
+    IsChecked plan_file certificate strict p (outside before printed) (outside after (printed ++ said)) status.Input
+refused_plan plan_file certificate strict before after printed said p kept plan_read =
+    answers_refused (Checks p certificate strict) _ said _ _ _ plan_read (says said status.Input before after printed kept)
+
+-- what the check of the certificate gives
+pub checked : (plan_file certificate : List ℕ) (strict : Bool) (before between after : Files) (printed : List ℕ) (p : Instance) (plan : Option Choices) (ended : Result Ending Fault) → between ≡ before → any_plan_in p before plan_file ≡ Ok plan →
+    Ends (Checks p certificate strict plan (outside between printed)) (outside after printed) ended → Ends (IsChecked plan_file certificate strict p (outside before printed)) (outside after printed) ended
+checked plan_file certificate strict before between after printed p plan ended kept read ends =
+    ends_more (Checks p certificate strict plan (outside before printed)) (IsChecked plan_file certificate strict p (outside before printed)) (outside after printed) ended
+    (λ last result is. answers_well (Checks p certificate strict) _ plan _ _ _ read is) (rw kept at ends)

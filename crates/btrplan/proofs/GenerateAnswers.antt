@@ -1,13 +1,13 @@
 -- What `generate` answers and leaves.
 use Rattle.std.proofs.Common.{◌≡◌, ℕ, List, ◌++◌, Option, Some, Result, refl, ap, inl}
-use Rattle.plan_io.specs.Files.{Files}
+use Rattle.plan_io.specs.Files.{Files, OthersStay}
 use Rattle.instance_make.specs.Generated.{generated as problem_of}
 use Rattle.instance_make.specs.Text.{instance_text}
 use Rattle.btrplan.specs.Words.{Command, generate}
 use Rattle.btrplan.specs.Answer.{Outside, outside}
 use Rattle.btrplan.specs.Commands.{IsAnswer, Takes}
 use Rattle.btrplan.specs.Commands.Executing.{Taking}
-use Rattle.btrplan.specs.Commands.Generating.{generated_line, LeavesGenerated}
+use Rattle.btrplan.specs.Commands.Generating.{generated_line, HasGenerated, LeavesGenerated}
 use Rattle.btrplan.specs.Endings.{EndsAnyhow}
 use Rattle.btrplan.specs.declared.fault.Ending.{Ending}
 use Rattle.btrplan.specs.declared.fault.Fault.{Fault}
@@ -15,16 +15,18 @@ use Rattle.btrplan.specs.declared.status.Status.TheVariants as status
 use Rattle.btrplan.proofs.LastLines.{always_anyhow}
 
 -- the answer where the text was written
-pub answered : (seed : ℕ) (instance : List ℕ) (source : Option (List ℕ)) (before after : Files) (printed line : List ℕ) → after instance ≡ Some (instance_text (problem_of seed))
-    → LeavesGenerated seed instance before after → line ≡ generated_line seed
+pub answered : (seed : ℕ) (instance : List ℕ) (source : Option (List ℕ)) (before after : Files) (printed line : List ℕ) → HasGenerated seed instance before after → line ≡ generated_line seed
     → IsAnswer (Some (generate seed instance)) source (outside before printed) (outside after (printed ++ line)) status.Good
 unfolding IsAnswer
-answered seed instance source before after printed line whole left text_is = record {
-  whole = whole;
-  others = left.others;
+answered seed instance source before after printed line is text_is = record {
+  written = is;
   printed = ap (λ l. printed ++ l) text_is;
   status = refl;
 }
+
+-- the text was written
+pub has_generated : (seed : ℕ) (instance : List ℕ) (before after : Files) → after instance ≡ Some (instance_text (problem_of seed)) → OthersStay instance before after → HasGenerated seed instance before after
+has_generated seed instance before after whole others = record { whole = whole; others = others }
 
 -- what is left where nothing was written
 pub leaves_nothing : (seed : ℕ) (instance : List ℕ) (files : Files) → LeavesGenerated seed instance files files

@@ -1,6 +1,7 @@
 pub mod Causing
 pub mod CheckAnswers
 pub mod Covering
+pub mod DemoAnswers
 pub mod Ends
 pub mod ExecuteAnswers
 pub mod GenerateAnswers

@@ -4,9 +4,10 @@ pub mod Checking
 pub mod Replaying
 pub mod Executing
 pub mod Generating
+pub mod Demonstrating
 use Rattle.std.specs.Prelude.{◌≡◌, Bool, ℕ, List, Option, Some, None, IsTrue, codes}
 use Rattle.plan_io.specs.Files.{Files}
-use Rattle.btrplan.specs.Words.{Command, plan, check, replay, execute, generate}
+use Rattle.btrplan.specs.Words.{Command, plan, check, replay, execute, generate, demo}
 use Rattle.btrplan.specs.Inputs.Instance.{instance_in}
 use Rattle.btrplan.specs.Answer.{Outside, Says, AnswersBy, LeavesBy}
 use Rattle.btrplan.specs.Commands.Planning.{IsPlanned, LeavesPlanned}
@@ -14,6 +15,7 @@ use Rattle.btrplan.specs.Commands.Checking.{IsChecked}
 use Rattle.btrplan.specs.Commands.Replaying.{IsReplayed}
 use Rattle.btrplan.specs.Commands.Executing.{IsExecuted, Starts, Taking, TakesRead}
 use Rattle.btrplan.specs.Commands.Generating.{IsGenerated, LeavesGenerated}
+use Rattle.btrplan.specs.Commands.Demonstrating.{IsDemonstrated, LeavesDemo, demo_certificate, demo_instance, demo_plan}
 use Rattle.btrplan.specs.declared.status.Status.{Status}
 use Rattle.btrplan.specs.declared.status.Status.TheVariants as status
 
@@ -25,6 +27,7 @@ MayRun reads writes (Some (check instance plan_file certificate strict)) = IsTru
 MayRun reads writes (Some (replay instance plan_file)) = IsTrue (reads instance) × IsTrue (reads plan_file)
 MayRun reads writes (Some (execute instance plan_file)) = IsTrue (reads instance) × IsTrue (reads plan_file)
 MayRun reads writes (Some (generate seed instance)) = IsTrue (writes instance)
+MayRun reads writes (Some (demo seed)) = IsTrue (writes demo_instance) × IsTrue (reads demo_instance) × IsTrue (writes demo_plan) × IsTrue (reads demo_plan) × IsTrue (writes demo_certificate) × IsTrue (reads demo_certificate)
 
 -- The answer to what was asked, from what the source has left and from what stood before.
 unfoldable pub IsAnswer : Option Command → Option (List ℕ) → Outside → Outside → Status → Type 0
@@ -38,6 +41,7 @@ IsAnswer (Some (replay instance plan_file)) source before after result =
 IsAnswer (Some (execute instance plan_file)) source before after result =
     AnswersBy (IsExecuted source plan_file) (instance_in before.files instance) before after result
 IsAnswer (Some (generate seed instance)) source before after result = IsGenerated seed instance before after result
+IsAnswer (Some (demo seed)) source before after result = IsDemonstrated seed before after result
 
 -- What a command leaves in the files, however it ends. Words that are no command, and one that only reads, leave all as they were.
 abbrev pub Leaves : Option Command → Files → Files → Type 0
@@ -47,8 +51,9 @@ Leaves (Some (check instance plan_file certificate strict)) before after = after
 Leaves (Some (replay instance plan_file)) before after = after ≡ before
 Leaves (Some (execute instance plan_file)) before after = after ≡ before
 Leaves (Some (generate seed instance)) before after = LeavesGenerated seed instance before after
+Leaves (Some (demo seed)) before after = LeavesDemo seed before after
 
--- What a command leaves in the files where a read failed. None so far has written before it has read, and of `generate` no read can fail.
+-- What a command leaves in the files where a read failed. But for `demo`, which reads what it wrote, none has written before it has read; and of `generate` no read can fail.
 abbrev pub LeavesAtFailedRead : Option Command → Files → Files → Type 0
 LeavesAtFailedRead None before after = after ≡ before
 LeavesAtFailedRead (Some (plan instance plan_file certificate budget)) before after = after ≡ before
@@ -56,6 +61,7 @@ LeavesAtFailedRead (Some (check instance plan_file certificate strict)) before a
 LeavesAtFailedRead (Some (replay instance plan_file)) before after = after ≡ before
 LeavesAtFailedRead (Some (execute instance plan_file)) before after = after ≡ before
 LeavesAtFailedRead (Some (generate seed instance)) before after = ⊥
+LeavesAtFailedRead (Some (demo seed)) before after = LeavesDemo seed before after
 
 -- Where a command leaves the source as it was. `execute` does so where the files are told and an input is refused, or the plan is not valid.
 abbrev pub KeepsSource : {S : Type 0} → Bool → Files → Option Command → S → S → Type 0
@@ -65,6 +71,7 @@ KeepsSource told files (Some (check instance plan_file certificate strict)) befo
 KeepsSource told files (Some (replay instance plan_file)) before after = after ≡ before
 KeepsSource told files (Some (execute instance plan_file)) before after = IsTrue told → ¬ Starts files instance plan_file → after ≡ before
 KeepsSource told files (Some (generate seed instance)) before after = after ≡ before
+KeepsSource told files (Some (demo seed)) before after = after ≡ before
 
 -- What a command takes from a source that tells, by what it prints and its status.
 abbrev pub Takes : Option Command → Taking → Outside → Outside → Status → Type 0
@@ -74,6 +81,7 @@ Takes (Some (check instance plan_file certificate strict)) taking before after r
 Takes (Some (replay instance plan_file)) taking before after result = Unit {0}
 Takes (Some (execute instance plan_file)) taking before after result = TakesRead instance plan_file taking before after result
 Takes (Some (generate seed instance)) taking before after result = Unit {0}
+Takes (Some (demo seed)) taking before after result = Unit {0}
 
 -- What a command does to the desk's count of failed writes. One that only reads leaves it.
 abbrev pub KeepsDeskWrites : Option Command → ℕ → ℕ → Type 0
@@ -83,6 +91,7 @@ KeepsDeskWrites (Some (check instance plan_file certificate strict)) before afte
 KeepsDeskWrites (Some (replay instance plan_file)) before after = after ≡ before
 KeepsDeskWrites (Some (execute instance plan_file)) before after = after ≡ before
 KeepsDeskWrites (Some (generate seed instance)) before after = Unit {0}
+KeepsDeskWrites (Some (demo seed)) before after = Unit {0}
 
 -- What a command does to the desk's count of failed reads. One that only writes leaves it.
 abbrev pub KeepsDeskReads : Option Command → ℕ → ℕ → Type 0
@@ -92,6 +101,7 @@ KeepsDeskReads (Some (check instance plan_file certificate strict)) before after
 KeepsDeskReads (Some (replay instance plan_file)) before after = Unit {0}
 KeepsDeskReads (Some (execute instance plan_file)) before after = Unit {0}
 KeepsDeskReads (Some (generate seed instance)) before after = after ≡ before
+KeepsDeskReads (Some (demo seed)) before after = Unit {0}
 
 -- The command reads a file or the source, so a read may fail.
 abbrev pub ReadsInput : Option Command → Type 0
@@ -101,3 +111,4 @@ ReadsInput (Some (check instance plan_file certificate strict)) = Unit {0}
 ReadsInput (Some (replay instance plan_file)) = Unit {0}
 ReadsInput (Some (execute instance plan_file)) = Unit {0}
 ReadsInput (Some (generate seed instance)) = ⊥
+ReadsInput (Some (demo seed)) = Unit {0}

@@ -1,7 +1,7 @@
 -- A command as the program holds it.
-use Rattle.btrplan.specs.Words.{Command, plan, check, replay, execute, generate}
+use Rattle.btrplan.specs.Words.{Command, plan, check, replay, execute, generate, demo}
 use Rattle.btrplan.specs.declared.words.Command.{Command as Read}
-use Rattle.btrplan.specs.declared.words.Command.TheVariants.{Plan, Check, Replay, Execute, Generate}
+use Rattle.btrplan.specs.declared.words.Command.TheVariants.{Plan, Check, Replay, Execute, Generate, Demo}
 use Rattle.std.specs.Prelude.{◌≢◌}
 
 abbrev pub meaning : Read → Command
@@ -10,6 +10,7 @@ meaning (Check instance plan_file certificate strict) = check instance.now plan_
 meaning (Replay instance plan_file) = replay instance.now plan_file.now
 meaning (Execute instance plan_file) = execute instance.now plan_file.now
 meaning (Generate seed instance) = generate seed instance.now
+meaning (Demo seed) = demo seed
 
 -- The files that a command creates are different files.
 abbrev pub HasFilesApart : Command → Type 0
@@ -18,3 +19,4 @@ HasFilesApart (check instance plan_file certificate strict) = Unit {0}
 HasFilesApart (replay instance plan_file) = Unit {0}
 HasFilesApart (execute instance plan_file) = Unit {0}
 HasFilesApart (generate seed instance) = Unit {0}
+HasFilesApart (demo seed) = Unit {0}

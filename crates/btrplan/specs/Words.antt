@@ -13,6 +13,7 @@ pub data Command : Type 0 where
   replay : (instance plan_file : List ℕ) → Command
   execute : (instance plan_file : List ℕ) → Command
   generate : (seed : ℕ) (instance : List ℕ) → Command
+  demo : (seed : ℕ) → Command
 
 -- A file's name has a byte, and no more than the longest.
 abbrev pub is_name : List ℕ → Bool
@@ -46,6 +47,7 @@ command_of (word ∷ first ∷ second ∷ []) =
     if bytes_eq word (codes "replay") && are_names (first ∷ second ∷ []) then Some (replay first second) else
     if bytes_eq word (codes "execute") && are_names (first ∷ second ∷ []) then Some (execute first second) else
     if bytes_eq word (codes "generate") && is_name second then option_map (λ seed. generate seed second) (number_of first) else None
+command_of (word ∷ number ∷ []) = if bytes_eq word (codes "demo") then option_map demo (number_of number) else None
 command_of _ = None
 
 -- The command that the words of the command line ask for.

@@ -15,6 +15,7 @@ ghost use Rattle.btrplan.specs.Causes.{Counts, Causes, CommandCauses, NothingFai
 ghost use Rattle.btrplan.specs.Endings.{Ends, EndsAnyhow, IsAnswered, LineEnds};
 
 use crate::commands::checking::check;
+use crate::commands::demonstrating::demo;
 use crate::commands::executing::execute;
 use crate::commands::generating::generate;
 use crate::commands::planning::plan;
@@ -28,7 +29,7 @@ use prop_core::propagator::Propagator;
 use std::alloc::Global;
 
 /// Does what the words ask for, but for the last line where one is still to be printed.
-#[tactic(auto, using(crate::proofs::Ends::no_command, crate::proofs::LastLines::no_command_takes, crate::proofs::LastLines::plan_takes, crate::proofs::LastLines::check_takes, crate::proofs::LastLines::replay_takes, crate::proofs::GenerateAnswers::generate_takes, crate::proofs::Printing::prints_nothing))]
+#[tactic(auto, using(crate::proofs::Ends::no_command, crate::proofs::LastLines::no_command_takes, crate::proofs::LastLines::plan_takes, crate::proofs::LastLines::check_takes, crate::proofs::LastLines::replay_takes, crate::proofs::GenerateAnswers::generate_takes, crate::proofs::DemoAnswers::demo_takes, crate::proofs::Printing::prints_nothing))]
 fn answer<D: Desk, I: Source, O: Sink>(
     alloc: Global,
     words: &[String],
@@ -110,6 +111,7 @@ fn answer<D: Desk, I: Source, O: Sink>(
             },
         ) => execute(alloc, desk, input, out, instance, plan_file),
         Some(Command::Generate { seed, instance }) => generate(alloc, desk, seed, instance),
+        Some(Command::Demo { seed }) => demo(alloc, desk, rules, brancher, seed),
         None => Err(Fault::Words),
     }
 }

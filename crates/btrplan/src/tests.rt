@@ -7,6 +7,7 @@ use std::test::Fail;
 
 mod acting;
 mod checking;
+mod demonstrating;
 mod executing;
 mod generating;
 mod instances;
@@ -68,6 +69,18 @@ fn desk(alloc: Global, given: Given<'_>) -> Result<DeskMem, Fail> {
     Ok(desk)
 }
 
+/// Runs the words of a line over a desk and a sink; the source has nothing.
+fn runs_on(
+    alloc: Global,
+    line: &str,
+    desk: &mut DeskMem,
+    out: &mut SinkMem,
+) -> Result<Status, Fail> {
+    let words = words(alloc, line)?;
+    let mut input = SourceMem::new(Vec::new(alloc), Vec::new(alloc));
+    Ok(run_by_rules(alloc, &words, desk, &mut input, out))
+}
+
 /// Runs what is given, and sees what is left.
 fn runs(
     rt: &impl Abort,
@@ -76,11 +89,9 @@ fn runs(
     left: Left<'_>,
     at: usize,
 ) -> Result<(), Fail> {
-    let words = words(alloc, given.line)?;
     let mut desk = desk(alloc, given)?;
-    let mut input = SourceMem::new(Vec::new(alloc), Vec::new(alloc));
     let mut out = SinkMem::new(calls(alloc, given.failing.1)?);
-    let status = run_by_rules(alloc, &words, &mut desk, &mut input, &mut out);
+    let status = runs_on(alloc, given.line, &mut desk, &mut out)?;
     assert_eq!(rt; status, left.status, "at {at}");
     assert_eq!(rt; out.written(), left.printed, "at {at}");
     assert_eq!(rt; desk.get("i"), Some(given.instance), "at {at}");
@@ -120,6 +131,12 @@ fn words_in_no_command(rt: HostRuntime) -> Result<(), Fail> {
         "check p p c strict",
         "check i p c lean",
         "check i p c strict strict",
+        "demo",
+        "demo ",
+        "demo 01",
+        "demo +1",
+        "demo 18446744073709551616",
+        "demo 1 i",
     ];
     for (at, line) in lines.into_iter().enumerate() {
         let given = Given {

@@ -1,7 +1,7 @@
 //! The words of the command line.
 
 ghost use Rattle.std.specs.Prelude.{◌≡◌, ◌≢◌, [], ◌∷◌, option_map, IfSome};
-ghost use Rattle.btrplan.specs.Words.{asked, command_of, are_names, is_name, is_plain, number_of, generate, plan};
+ghost use Rattle.btrplan.specs.Words.{asked, command_of, are_names, is_name, is_plain, number_of, demo, generate, plan};
 ghost use Rattle.btrplan.specs.Meaning.{meaning, HasFilesApart};
 
 /// A command, with the names of its files, and its seed, its budget of decisions, or whether the check is strict.
@@ -35,6 +35,10 @@ pub enum Command<'a> {
     Generate {
         seed: u64,
         instance: &'a str,
+    },
+    /// Generates the problem of a seed, plans it and checks the certificate.
+    Demo {
+        seed: u64,
     },
 }
 
@@ -92,6 +96,20 @@ fn generating<'a>(seed: &str, instance: &'a str) -> Option<Command<'a>>
 {
     match number_of(seed) {
         Some(seed) => Some(Command::Generate { seed, instance }),
+        None => None,
+    }
+}
+
+/// The command that this word is before a seed.
+fn with_one<'a>(word: &str, seed: &str) -> Option<Command<'a>>
+    ensures meaning { option_map meaning result ≡ command_of (word.now ∷ seed.now ∷ []) }
+    ensures apart { IfSome result (λ command. HasFilesApart (meaning command)) }
+{
+    if word != "demo" {
+        return None;
+    }
+    match number_of(seed) {
+        Some(seed) => Some(Command::Demo { seed }),
         None => None,
     }
 }
@@ -222,6 +240,7 @@ pub fn read_words(words: &[String]) -> Option<Command<'_>>
     ensures apart { IfSome result (λ command. HasFilesApart (meaning command)) }
 {
     match words {
+        [word, seed] => with_one(word.as_str(), seed.as_str()),
         [word, first, second] => with_two(word.as_str(), first.as_str(), second.as_str()),
         [word, instance, plan_file, certificate] => with_three(
             word.as_str(),

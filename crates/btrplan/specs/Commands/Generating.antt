@@ -12,10 +12,14 @@ use Rattle.btrplan.specs.declared.status.Status.TheVariants as status
 unfoldable pub generated_line : ℕ → List ℕ
 generated_line seed = codes "generated " ++ decimal seed ++ codes "\n"
 
--- The problem of a seed is written, no other file changes, and the line has the seed.
+-- The problem of a seed is written, and no other file changes.
+pub record HasGenerated (seed : ℕ) (instance : List ℕ) (before after : Files) : Type 0 where
+  pub whole : after instance ≡ Some (instance_text (generated seed))
+  pub others : OthersStay instance before after
+
+-- The problem of a seed is written, and the line has the seed.
 pub record IsGenerated (seed : ℕ) (instance : List ℕ) (before after : Outside) (result : Status) : Type 0 where
-  pub whole : after.files instance ≡ Some (instance_text (generated seed))
-  pub others : OthersStay instance before.files after.files
+  pub written : HasGenerated seed instance before.files after.files
   pub printed : after.printed ≡ before.printed ++ generated_line seed
   pub status : result ≡ status.Good
 

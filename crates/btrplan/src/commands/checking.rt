@@ -9,7 +9,8 @@ ghost use Rattle.btrplan.specs.Words.{check};
 ghost use Rattle.btrplan.specs.Answer.{outside};
 ghost use Rattle.btrplan.specs.Causes.{PartCauses, ReadCauses};
 ghost use Rattle.btrplan.specs.Commands.{MayRun, IsAnswer};
-ghost use Rattle.btrplan.specs.Commands.Checking.{Checks, IsLineRefusal, no_line, not_a_line};
+ghost use Rattle.btrplan.specs.Commands.Checking.{Checks, IsChecked, IsLineRefusal};
+ghost use Rattle.btrplan.specs.Commands.Checking.{no_line, not_a_line};
 ghost use Rattle.btrplan.specs.Commands.Checking.{too_long_line, undecided_line, verdict_line};
 ghost use Rattle.btrplan.specs.Commands.Checking.{verdict_status, why_text};
 ghost use Rattle.btrplan.specs.Endings.{Ends, IsLastLine, IsOfReading, IsRefusal, outcome_status};
@@ -164,9 +165,34 @@ fn check_certificate<D: Desk>(
     }
 }
 
-/// Checks the certificate of a plan of an instance, or of none, as a `null` in the plan's file says.
-/// It reads the instance, then the plan, then the certificate line by line, each only where it is due.
-#[tactic(auto, using(crate::proofs::CheckAnswers::refused_instance, crate::proofs::CheckAnswers::refused_plan), unfolding(crate::specs::Endings::Ends))]
+/// Checks the certificate of a plan of a problem, or of none, as a `null` in the plan's file says.
+/// It reads the plan, then the certificate line by line, each only where it is due.
+#[tactic(auto, using(crate::proofs::CheckAnswers::refused_plan), unfolding(crate::specs::Endings::Ends))]
+pub fn check_problem<D: Desk>(
+    alloc: Global,
+    desk: &mut D,
+    p: &Problem,
+    plan_file: &str,
+    certificate: &str,
+    strict: bool,
+) -> Result<Ending, Fault>
+    requires reads_plan { IsTrue (D.reads plan_file.now) }
+    requires reads_certificate { IsTrue (D.reads certificate.now) }
+    ensures ends { let checked = IsChecked plan_file.now certificate.now strict p.now.given in
+        IsTrue D.tells → (printed : List ℕ)
+        → Ends (checked (outside (D.files desk.old) printed)) (outside (D.files desk.new) printed) result }
+    ensures files { IsTrue D.tells → D.files desk.new ≡ D.files desk.old }
+    ensures causes { ReadCauses (D.read_faults desk.old) (D.read_faults desk.new) result }
+    ensures writes_kept { D.write_faults desk.new ≡ D.write_faults desk.old }
+    ensures kind { IfErr result IsOfReading }
+{
+    let plan = any_plan_at(alloc, desk, p, plan_file)?;
+    check_certificate(alloc, desk, p, plan.as_ref(), certificate, strict)
+}
+
+/// Checks the certificate of a plan of an instance, or of none. It reads the instance, and then as
+/// `check_problem` does.
+#[tactic(auto, using(crate::proofs::CheckAnswers::refused_instance), unfolding(crate::specs::Endings::Ends))]
 pub fn check<D: Desk>(
     alloc: Global,
     desk: &mut D,
@@ -188,6 +214,5 @@ pub fn check<D: Desk>(
     ensures words { result ≢ Err Fault.Words }
 {
     let problem = problem_at(alloc, desk, instance)?;
-    let plan = any_plan_at(alloc, desk, &problem, plan_file)?;
-    check_certificate(alloc, desk, &problem, plan.as_ref(), certificate, strict)
+    check_problem(alloc, desk, &problem, plan_file, certificate, strict)
 }

@@ -9,7 +9,7 @@ ghost use Rattle.btrplan.specs.Words.{generate};
 ghost use Rattle.btrplan.specs.Answer.{outside};
 ghost use Rattle.btrplan.specs.Causes.{PartCauses};
 ghost use Rattle.btrplan.specs.Commands.{MayRun, IsAnswer, Leaves};
-ghost use Rattle.btrplan.specs.Commands.Generating.{generated_line, LeavesGenerated};
+ghost use Rattle.btrplan.specs.Commands.Generating.{generated_line, HasGenerated, LeavesGenerated};
 ghost use Rattle.btrplan.specs.Endings.{Ends};
 
 use crate::fault::{Ending, Fault, Outcome};
@@ -35,15 +35,16 @@ fn generated_text(alloc: Global, seed: u64) -> Result<Vec<u8>, Memory>
 }
 
 /// Writes the text of the generated problem of a seed.
-fn write_generated<D: Desk>(
+#[tactic(auto, using(crate::proofs::GenerateAnswers::has_generated))]
+pub fn write_generated<D: Desk>(
     alloc: Global,
     desk: &mut D,
     seed: u64,
     instance: &str,
 ) -> Result<(), OutFault>
     requires { IsTrue (D.writes instance.now) }
-    ensures written { let text = instance_text (generated seed) in
-        IsTrue D.tells → OnOk result (D.files desk.new instance.now ≡ Some text) }
+    ensures written { IsTrue D.tells
+        → OnOk result (HasGenerated seed instance.now (D.files desk.old) (D.files desk.new)) }
     ensures cut { IsTrue D.tells
         → LeavesGenerated seed instance.now (D.files desk.old) (D.files desk.new) }
     ensures cause { CountsWrites (D.write_faults desk.old) (D.write_faults desk.new) result }

@@ -56,7 +56,7 @@ fn undecided_line(alloc: Global, best: Option<u64>, least: u64) -> Result<String
 
 /// The line of an answer.
 #[tactic(auto, unfolding(crate::specs::Commands::Planning::found_line))]
-fn found_line(alloc: Global, p: &Problem, found: &Found) -> Result<String, Memory>
+pub fn found_line(alloc: Global, p: &Problem, found: &Found) -> Result<String, Memory>
     requires { IfSome (plan_in found.now) (IsPlanOf p.now.given) }
     ensures { IfOk result (λ line. string_bytes line ≡ found_line p.now.given found.now) }
 {
@@ -72,7 +72,7 @@ fn found_line(alloc: Global, p: &Problem, found: &Found) -> Result<String, Memor
 }
 
 /// How the command ends with an answer.
-fn outcome_of(found: &Found) -> Outcome
+pub fn outcome_of(found: &Found) -> Outcome
     ensures { outcome_status result ≡ found_status found.now }
 {
     match found {
@@ -136,7 +136,7 @@ fn write_plan<D: Desk>(
 
 /// Decides on a problem, and writes the certificate and then the plan.
 #[tactic(auto, using(crate::proofs::PlanAnswers::whole_plan, crate::proofs::PlanAnswers::leaves_certificate, crate::proofs::PlanAnswers::leaves_plan, crate::proofs::PlanAnswers::written))]
-fn write_found<D: Desk>(
+pub fn write_found<D: Desk>(
     alloc: Global,
     desk: &mut D,
     p: &Problem,

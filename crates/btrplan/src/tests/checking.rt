@@ -1,12 +1,11 @@
 //! The command `check`, on certificates as texts.
 
-use crate::rules::run_by_rules;
 use crate::status::Status;
 use crate::tests::acting::{FENCES, IN_TURN, PRECEDENCE, instance_of};
 use crate::tests::instances::{BANNED, CROSSED, CROWDED, NO_TIME, OVERLOADED, SWAP, UNLISTED};
 use crate::tests::replaying::{AT_ONCE, ONE_BY_ONE};
-use crate::tests::words;
-use plan_io::{DeskMem, SinkMem, SourceMem};
+use crate::tests::runs_on;
+use plan_io::{DeskMem, SinkMem};
 use std::alloc::Global;
 use std::process::Abort;
 use std::test::Fail;
@@ -72,12 +71,10 @@ fn checks(
     (desk_fails, sink_fails): (Vec<u64>, Vec<u64>),
     (status, printed): (Status, &str),
 ) -> Result<(), Fail> {
-    let words = words(alloc, line)?;
     let mut desk = DeskMem::new(desk_fails);
     put(&mut desk, files)?;
-    let mut input = SourceMem::new(Vec::new(alloc), Vec::new(alloc));
     let mut out = SinkMem::new(sink_fails);
-    let answer = run_by_rules(alloc, &words, &mut desk, &mut input, &mut out);
+    let answer = runs_on(alloc, line, &mut desk, &mut out)?;
     assert_eq!(rt; (answer, out.written()), (status, printed.as_bytes()));
     assert_eq!(rt; desk.get("i"), Some(files.instance));
     assert_eq!(rt; desk.get("p"), files.plan);

@@ -1,9 +1,8 @@
 //! The command `generate`, with each of its calls failing in turn.
 
-use crate::rules::run_by_rules;
 use crate::status::Status;
-use crate::tests::{calls, words};
-use plan_io::{DeskMem, SinkMem, SourceMem};
+use crate::tests::{calls, runs_on};
+use plan_io::{DeskMem, SinkMem};
 use std::alloc::Global;
 use std::process::Abort;
 use std::test::Fail;
@@ -20,13 +19,11 @@ type Case<'a> = (
 
 fn generates(rt: &impl Abort, alloc: Global, case: Case<'_>, at: usize) -> Result<(), Fail> {
     let (line, failing, (status, printed, left)) = case;
-    let words = words(alloc, line)?;
     let mut desk = DeskMem::new(calls(alloc, failing.0)?);
     desk.put("g", OLD)?;
     desk.put("other", b"kept")?;
-    let mut input = SourceMem::new(Vec::new(alloc), Vec::new(alloc));
     let mut out = SinkMem::new(calls(alloc, failing.1)?);
-    let answer = run_by_rules(alloc, &words, &mut desk, &mut input, &mut out);
+    let answer = runs_on(alloc, line, &mut desk, &mut out)?;
     assert_eq!(rt; answer, status, "at {at}");
     assert_eq!(rt; out.written(), printed, "at {at}");
     assert_eq!(rt;

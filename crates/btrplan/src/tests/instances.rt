@@ -80,3 +80,8 @@ pub const NO_TIME: &[u8] =
 /// A machine on a node that is not listed, and a constraint of no kind.
 pub const UNLISTED: &[u8] =
     br#"{"horizon":20,"resources":["cpu"],"nodes":[{"name":"n0","capacity":{"cpu":4}}],"machines":[{"name":"v0","state":"running","node":"n9","use":{"cpu":1}}],"constraints":[{"kind":"sprad"}]}"#;
+
+/// Three nodes whose stop takes all the time there is: the first may not be on at the end beside the second, nor
+/// beside the third.
+pub const LIT: &[u8] =
+    br#"{"horizon":3,"resources":["cpu"],"durations":{"migrate":{"base":3},"allocate":{"base":1},"node_boot":{"base":4},"node_shutdown":{"base":3}},"nodes":[{"name":"n0","capacity":{"cpu":4}},{"name":"n1","capacity":{"cpu":4}},{"name":"n2","capacity":{"cpu":4}}],"machines":[],"constraints":[{"kind":"maxOnline","nodes":["n0","n1"],"amount":1},{"kind":"maxOnline","nodes":["n0","n2"],"amount":1}]}"#;
