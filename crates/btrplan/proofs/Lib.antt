@@ -1,3 +1,5 @@
+pub mod Public
+pub mod AcceptAnswers
 pub mod Causing
 pub mod CheckAnswers
 pub mod Covering

@@ -10,10 +10,11 @@ use Rattle.sums.proofs.Prefixes.{longer_text}
 use Rattle.sums.proofs.Sums.{sum_to-none}
 use Rattle.cluster.specs.declared.choices.Choice.TheVariants.{Idle}
 use Rattle.cluster.specs.declared.ids.Element.{Element}
-use Rattle.catalogue.specs.Instance.{Instance}
+use Rattle.catalogue.specs.Instance.{Instance, IsInstance}
 use Rattle.slices.specs.Actions.{end_of}
 use Rattle.slices.specs.Elements.{machine_count, node, node_count, vm}
 use Rattle.slices.specs.Plans.{IsPlanOf, PlanChoices, choices_of}
+use Rattle.plan_json.specs.Plans.{plan_of}
 use Rattle.plan_json.specs.Print.{plan_text}
 use Rattle.trees.specs.declared.steps.Goal.TheVariants.{Infeasible as NonePlanned}
 use Rattle.trees.specs.Trees.{steps_of}
@@ -144,14 +145,16 @@ leaves_plan plan_file certificate budget p found before between after apart whol
     by (inr front) = inr (record { found = found; certified = subst (IsCertified p budget found) (sym kept) whole; cut = front })
 
 -- the answer is written
-pub written : (plan_file certificate : List ℕ) (budget : ℕ) (p : Instance) (found : Found) (before between after : Files) → plan_file ≢ certificate → IsCertified p budget found (between certificate) →
-    OthersStay certificate before between → IsTrueOf p budget found → (MayStay p → IsToStay p found) → after plan_file ≡ Some (plan_text p (plan_in found)) → OthersStay plan_file between after →
+pub written : (plan_file certificate : List ℕ) (budget : ℕ) (p : Instance) (found : Found) (before between after : Files) → plan_file ≢ certificate → IsInstance p → IsCertified p budget found (between certificate) →
+    OthersStay certificate before between → IsTrueOf p budget found → (MayStay p → IsToStay p found) → after plan_file ≡ Some (plan_text p (plan_in found)) → plan_of p (plan_text p (plan_in found)) ≡ Ok (plan_in found) → OthersStay plan_file between after →
     IsWritten plan_file certificate budget p before after found
-written plan_file certificate budget p found before between after apart whole stay is stays plan_whole then = record {
+written plan_file certificate budget p found before between after apart sound whole stay is stays plan_whole reads then = record {
+  problem = sound;
   certified = subst (IsCertified p budget found) (sym (then certificate (λ same. apart (sym same)))) whole;
   true_of = is;
   stays = stays;
   plan_whole = plan_whole;
+  plan_reads = rw plan_whole reads;
   others = rest_of_both plan_file certificate before between after stay then;
 }
 

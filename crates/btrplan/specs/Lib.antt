@@ -7,3 +7,4 @@ pub mod Commands
 pub mod Printed
 pub mod Causes
 pub mod Endings
+pub mod Laws

@@ -5,6 +5,7 @@
 mod commands;
 mod fault;
 mod inputs;
+mod laws;
 mod rules;
 mod run;
 mod status;

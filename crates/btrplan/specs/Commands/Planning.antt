@@ -1,11 +1,12 @@
 -- What `plan` answers, and what it leaves in the files.
-use Rattle.std.specs.Prelude.{◌≡◌, ◌≢◌, ◌⊎◌, ◌++◌, ℕ, List, Option, Some, None, option_map, codes}
+use Rattle.std.specs.Prelude.{◌≡◌, ◌≢◌, ◌⊎◌, ◌++◌, ℕ, List, Option, Some, None, Ok, option_map, codes}
 use Rattle.std.specs.Fmt.{decimal}
 use Rattle.std.specs.Io.{StartsWith}
 use Rattle.plan_io.specs.Files.{Files, IsCut, bytes_of}
-use Rattle.catalogue.specs.Instance.{Instance}
+use Rattle.catalogue.specs.Instance.{Instance, IsInstance}
 use Rattle.slices.specs.Plans.{PlanChoices, choices_of}
 use Rattle.slices.specs.Costs.{cost_of}
+use Rattle.plan_json.specs.Plans.{plan_of}
 use Rattle.plan_json.specs.Print.{plan_text}
 use Rattle.trees.specs.declared.steps.Goal.{Goal}
 use Rattle.trees.specs.declared.steps.Step.{Step}
@@ -74,12 +75,14 @@ pub record IsToStay (p : Instance) (found : Found) : Type 0 where
   pub stays : IsStayingPlan p plan
   pub costs : plan_cost p plan ≡ 0
 
--- An answer is written: one tree shows it, it is so of all plans, the two files are whole, and no other file changes. Where staying is a valid plan it is the answer, whatever the budget.
+-- An answer is written: one tree shows it, it is so of all plans of the problem, the two files are whole, the plan's is read back, and no other file changes. Where staying is a valid plan it is the answer, whatever the budget.
 pub record IsWritten (plan_file certificate : List ℕ) (budget : ℕ) (p : Instance) (before after : Files) (found : Found) : Type 0 where
+  pub problem : IsInstance p
   pub certified : IsCertified p budget found (after certificate)
   pub true_of : IsTrueOf p budget found
   pub stays : MayStay p → IsToStay p found
   pub plan_whole : after plan_file ≡ Some (plan_text p (plan_in found))
+  pub plan_reads : plan_of p (bytes_of (after plan_file)) ≡ Ok (plan_in found)
   pub others : RestStays plan_file certificate before after
 
 -- `plan` of a problem: an answer is written, and its line is printed.

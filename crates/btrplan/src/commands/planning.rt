@@ -1,11 +1,12 @@
 //! The command `plan`.
 
-ghost use Rattle.std.specs.Prelude.{◌≡◌, ◌≢◌, ℕ, List, Option, Some, Err};
+ghost use Rattle.std.specs.Prelude.{◌≡◌, ◌≢◌, ℕ, List, Option, Some, Ok, Err};
 ghost use Rattle.std.specs.Prelude.{IsTrue, IfOk, IfErr, IfSome, OnOk, string_bytes};
 ghost use Rattle.std.specs.Option.{option_copied};
 ghost use Rattle.plan_io.specs.Causes.{CountsWrites};
 ghost use Rattle.plan_io.specs.Files.{OthersStay, IsCut};
 ghost use Rattle.slices.specs.Plans.{IsPlanOf};
+ghost use Rattle.plan_json.specs.Plans.{plan_of as plan_read};
 ghost use Rattle.plan_json.specs.Print.{plan_text};
 ghost use Rattle.prop_core.specs.Lists.{Covered};
 ghost use Rattle.search.specs.Answers.{IsTrueOf, plan_in};
@@ -122,6 +123,8 @@ fn write_plan<D: Desk>(
     requires plan { IfSome (plan_in found.now) (IsPlanOf p.now.given) }
     ensures written { let text = plan_text p.now.given (plan_in found.now) in
         IsTrue D.tells → OnOk result (D.files desk.new plan_file.now ≡ Some text) }
+    ensures reads { let text = plan_text p.now.given (plan_in found.now) in
+        OnOk result (plan_read p.now.given text ≡ Ok (plan_in found.now)) }
     ensures cut { let text = plan_text p.now.given (plan_in found.now) in
         IsTrue D.tells
         → IsCut (D.files desk.old plan_file.now) text (D.files desk.new plan_file.now) }
