@@ -2,6 +2,7 @@
 pub mod Public
 pub mod EndLemmas
 pub mod CountLemmas
+pub mod LoadLemmas
 pub mod LeanLemmas
 pub mod PlanLemmas
 pub mod WholeLemmas

@@ -1,0 +1,44 @@
+-- Sets of one node, what a machine has there, and the room there.
+use Rattle.std.proofs.Common.{◌≡◌, ◌≢◌, ℕ, ◌+◌, ◌<◌, ◌≤◌, ◌==◌, Bool, true, false, not, cond, List, length, IsTrue, refl, sym, ap, subst, arith}
+use Rattle.std.specs.Prelude.{slice_index_or}
+use Rattle.std.specs.List.{Contains}
+use Rattle.std.proofs.lemmas.Bool.{false≢true, ne_eqb}
+use Rattle.std.proofs.lemmas.Bool.Decides.{Decides-eqb}
+use Rattle.sums.specs.Sums.{sum_to}
+use Rattle.sums.proofs.Sums.{sum_to-change, sum_to-zero}
+use Rattle.cluster.specs.Bits.{has_bit}
+use Rattle.cluster.specs.Sets.{has_node}
+use Rattle.cluster.specs.declared.choices.Choice.{Choice}
+use Rattle.cluster.specs.declared.choices.Choice.TheVariants.{Act}
+use Rattle.cluster.specs.declared.sets.NodeSet.{NodeSet}
+use Rattle.catalogue.specs.Instance.{Instance}
+use Rattle.catalogue.specs.Values.{capacity_of}
+use Rattle.slices.specs.Elements.{node_count}
+use Rattle.slices.specs.Snapshots.{Snapshot, room}
+use Rattle.slices.specs.Stages.{one}
+use Rattle.domains.specs.Choices.{Climbs, DomainView, choices}
+use Rattle.domains.specs.declared.parts.Row.{Row}
+use Rattle.relax.specs.Areas.{goes_in}
+use Rattle.relax.proofs.Public.{start_in}
+
+-- sets of the same words have the same nodes
+pub same_nodes : (a b : NodeSet) → a.words ≡ b.words → has_node a ≡ has_node b
+unfolding has_node
+same_nodes a b same = ap (λ words n. has_bit words n) same
+
+-- the first choice, which does not go to a node
+pub first_out : (d : DomainView) (rows : List Row) (x : Row) (n : ℕ) (goes : Bool) → Climbs 0 d.rows → rows ≡ d.rows → 1 ≤ length rows → ((start : ℕ) → goes ≡ goes_in (Act (slice_index_or rows 0 x).place start) (one n)) → IsTrue (not goes) → (c : Choice) × Contains (choices d) c × (goes_in c (one n) ≡ false)
+first_out d rows x n true climbs same some told out = absurd (false≢true out)
+first_out d rows x n false climbs same some told out =
+    let there = start_in d 0 x climbs (subst (λ rs. 0 < length rs) same (omega (arith, some))) in
+    (_, there, sym (subst (λ rs. false ≡ goes_in (Act (slice_index_or rs 0 x).place (slice_index_or rs 0 x).lo) (one n)) same (told (slice_index_or rows 0 x).lo)))
+
+-- of a sum over one node there is one term
+sum_of_one : (count n : ℕ) (f : ℕ → ℕ) → n < count → sum_to count (λ k. cond (one n k) (f k) 0) ≡ f n
+sum_of_one count n f low =
+    let here : cond (one n n) (f n) 0 ≡ f n = let same : (n == n) ≡ true = (Decides-eqb n n).1 refl in rw same refl in
+    let other : (k : ℕ) → k ≢ n → cond (one n k) (f k) 0 ≡ 0 = λ k ne. let off : (k == n) ≡ false = ne_eqb k n ne in rw off refl in
+    omega (arith, sum_to-change count (λ k. cond (one n k) (f k) 0) (λ _. 0) n low other, sum_to-zero count, here)
+
+pub room_of_one : (p : Instance) (s : Snapshot) (r n : ℕ) → n < node_count p → room p s r (one n) ≡ cond (s.usable n) (capacity_of p n r) 0
+room_of_one p s r n low = sum_of_one (node_count p) n (λ k. cond (s.usable k) (capacity_of p k r) 0) low

@@ -1,0 +1,210 @@
+//! Reasons of loads. Where one node is asked for, it is told at once of most machines that they surely have nothing there.
+ghost use Rattle.std.specs.Prelude.{◌≡◌, ◌≢◌, ◌↔◌, ℕ, ◌<◌, ◌≤◌, false, length, IfSome, IsTrue};
+ghost use Rattle.std.specs.List.{Contains};
+ghost use Rattle.cluster.specs.Sets.{has_node};
+ghost use Rattle.cluster.specs.declared.choices.Choice.{Choice as AnyChoice};
+ghost use Rattle.sums.specs.Least.{least};
+ghost use Rattle.catalogue.specs.Instance.{IsElement};
+ghost use Rattle.slices.specs.Elements.{node_count, state_of, vm};
+ghost use Rattle.slices.specs.Limits.{max_held};
+ghost use Rattle.slices.specs.Snapshots.{held_at, load as load_of, room as room_of};
+ghost use Rattle.slices.specs.Stages.{one};
+ghost use Rattle.slices.specs.declared.slice.Weight.{Weight as AnyWeight};
+ghost use Rattle.slices.specs.declared.slice.Weight.TheVariants.{Amount as AmountOf};
+ghost use Rattle.domains.specs.Choices.{Climbs, choices};
+ghost use Rattle.domains.specs.Sets.{RegionView, sets};
+ghost use Rattle.domains.specs.Views.{seen};
+ghost use Rattle.reasons.specs.Reasons.{IsOverload};
+ghost use Rattle.reasons.specs.Sure.{sure};
+ghost use Rattle.relax.specs.Areas.{IsSized, goes_in, hosted_in};
+
+use catalogue::problem::Problem;
+use cluster::choices::{Instant, Place};
+use cluster::ids::{Element, NodeId, VmId};
+use cluster::sets::NodeSet;
+use cluster::states::State;
+use domains::domain::Domain;
+use domains::view::{Lens, View};
+use relax::amounts;
+use relax::area::Area;
+use relax::sure::{least_held, may_be_usable};
+use slices::slice::Weight;
+
+// ---- the set
+
+// the set of one node
+fn one_node(p: &Problem, n: NodeId) -> NodeSet
+    requires { n.0 < node_count p.now.given }
+    ensures { (m : ℕ) → has_node result m ≡ one n.0 m }
+{
+    let mut set = NodeSet::new();
+    set.insert(n);
+    set
+}
+
+fn node_set(p: &Problem, n: NodeId) -> NodeSet
+    requires { n.0 < node_count p.now.given }
+    ensures { has_node result ≡ one n.0 }
+{
+    one_node(p, n)
+}
+
+// the node of a set, where it has that one alone
+fn only_node(p: &Problem, set: &NodeSet) -> Option<NodeId>
+    ensures { IfSome result (λ n. (n.0 < node_count p.now.given) × (has_node set.now ≡ one n.0)) }
+{
+    for i in 0..p.cluster().nodes().len() {
+        let n = NodeId(i as u32);
+        if set.has(n) {
+            return if *set == node_set(p, n) { Some(n) } else { None };
+        }
+    }
+    None
+}
+
+// ---- one machine
+
+// the state of a machine at present
+fn state(p: &Problem, v: VmId) -> State
+    requires { IsElement p.now.given (Element.Vm v) }
+    ensures { result ≡ state_of p.now.given v.0 }
+{
+    p.cluster().machines()[v.0 as usize].state
+}
+
+// whether a machine in a state has its host at a node
+fn is_hosted(state: State, n: NodeId) -> bool
+    ensures { result ≡ hosted_in state (one n.0) }
+{
+    match state {
+        State::Running(h) | State::Sleeping(h) => h.0 == n.0,
+        State::Init | State::Ready | State::Gone => false,
+    }
+}
+
+// whether a place is a node
+fn is_at(place: Place, n: NodeId) -> bool
+    ensures { (start : ℕ) → result ≡ goes_in (AnyChoice.Act place start) (one n.0) }
+{
+    match place {
+        Place::Nowhere => false,
+        Place::At(m) => m.0 == n.0,
+    }
+}
+
+// whether Idle, or else the first choice, does not go to a node
+fn may_stay_out(domain: &Domain, n: NodeId) -> bool
+    requires { Climbs 0 domain.now.rows }
+    ensures { IsTrue result → (c : AnyChoice) × Contains (choices domain.now) c × (goes_in c (one n.0) ≡ false) }
+{
+    if domain.idle() {
+        return true;
+    }
+    match domain.rows() {
+        [] => false,
+        [row, ..] => !is_at(row.place, n),
+    }
+}
+
+// whether a machine of which all is seen has nothing on a node under some choice, since its host is elsewhere
+fn is_elsewhere(p: &Problem, view: &View, v: VmId, n: NodeId) -> bool
+    requires region { IsSized p.now.given view.now.region.now }
+    requires machine { IsElement p.now.given (Element.Vm v) }
+    ensures { IsTrue result → (w : AnyWeight) (t : ℕ) → least (held_at p.now.given v.0 w (one n.0) t) (sets view.now.region.now (vm v.0)) ≡ 0 }
+{
+    if is_hosted(state(p, v), n) {
+        return false;
+    }
+    may_stay_out(view.region.domain(Element::Vm(v)), n)
+}
+
+// the machine of which a lens may not show all
+fn narrowed(lens: Lens) -> Option<VmId>
+    ensures { (g : RegionView) (v : ℕ) → IfSome result (λ x. v ≢ x.0) → seen g lens (vm v) ≡ sets g (vm v) }
+{
+    match lens {
+        Lens::Whole => None,
+        Lens::Inside(x, _) | Lens::Outside(x, _) | Lens::Set(x, _) => match x {
+            Element::Vm(v) => Some(v),
+            Element::Node(_) => None,
+        },
+    }
+}
+
+// whether a machine is another than one, if there is one
+fn is_other(v: VmId, x: Option<VmId>) -> bool
+    ensures { IsTrue result → IfSome x (λ x. v.0 ≢ x.0) }
+{
+    match x {
+        None => true,
+        Some(x) => v.0 != x.0,
+    }
+}
+
+// the least that a machine uses of a resource on a node; `x` is the machine of which not all may be seen
+#[tactic(auto, unfolding(reasons::specs::Sure::sure))]
+fn least_use(
+    p: &Problem,
+    view: &View,
+    v: VmId,
+    x: Option<VmId>,
+    r: u8,
+    n: NodeId,
+    t: Instant,
+) -> u64
+    requires region { IsSized p.now.given view.now.region.now }
+    requires machine { IsElement p.now.given (Element.Vm v) }
+    requires resource { r < length p.now.given.resources }
+    requires whole { IfSome x (λ x. v.0 ≢ x.0) → seen view.now.region.now view.now.lens (vm v.0) ≡ sets view.now.region.now (vm v.0) }
+    ensures held { result ≡ (sure p.now.given (seen view.now.region.now view.now.lens) t).held v.0 (AmountOf r) (one n.0) }
+    ensures small { result ≤ max_held }
+{
+    if is_other(v, x) && is_elsewhere(p, view, v, n) {
+        return 0;
+    }
+    least_held(p, view, v, Weight::Amount(r), &Area::One(n), t)
+}
+
+// ---- one node
+
+// the sum of the least uses of a resource on a node
+fn load(p: &Problem, view: &View, r: u8, n: NodeId, t: Instant) -> u64
+    requires region { IsSized p.now.given view.now.region.now }
+    requires resource { r < length p.now.given.resources }
+    ensures { result ≡ load_of p.now.given (sure p.now.given (seen view.now.region.now view.now.lens) t) r (one n.0) }
+{
+    let x = narrowed(view.lens);
+    let mut total = 0;
+    for i in 0..p.cluster().machines().len() {
+        total += least_use(p, view, VmId(i as u32), x, r, n, t);
+    }
+    total
+}
+
+// the capacity of a node for a resource, 0 where it cannot be usable
+#[tactic(auto, using(crate::proofs::LoadLemmas::room_of_one))]
+fn room(p: &Problem, view: &View, r: u8, n: NodeId, t: Instant) -> u64
+    requires region { IsSized p.now.given view.now.region.now }
+    requires resource { r < length p.now.given.resources }
+    requires node { n.0 < node_count p.now.given }
+    ensures { result ≡ room_of p.now.given (sure p.now.given (seen view.now.region.now view.now.lens) t) r (one n.0) }
+{
+    if may_be_usable(p, view, n, t) {
+        p.capacity(n, r)
+    } else {
+        0
+    }
+}
+
+/// Whether the least uses of a resource on the nodes of a set exceed the capacities of those of them
+/// that may be usable.
+pub(crate) fn is_overload(p: &Problem, view: &View, r: u8, set: &NodeSet, t: Instant) -> bool
+    requires region { IsSized p.now.given view.now.region.now }
+    requires resource { r < length p.now.given.resources }
+    ensures { IsTrue result ↔ IsOverload p.now.given (sure p.now.given (seen view.now.region.now view.now.lens) t) r (has_node set.now) }
+{
+    match only_node(p, set) {
+        None => amounts::is_overload(p, view, r, set, t),
+        Some(n) => room(p, view, r, n, t) < load(p, view, r, n, t),
+    }
+}
