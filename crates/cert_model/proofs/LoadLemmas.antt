@@ -1,8 +1,8 @@
 -- Sets of one node, what a machine has there, and the room there.
-use Rattle.std.proofs.Common.{◌≡◌, ◌≢◌, ℕ, ◌+◌, ◌<◌, ◌≤◌, ◌==◌, Bool, true, false, not, cond, List, length, IsTrue, refl, sym, ap, subst, arith}
+use Rattle.std.proofs.Common.{◌≡◌, ◌≢◌, inl, inr, ℕ, zero, suc, ◌+◌, ◌<◌, ◌≤◌, ◌==◌, Bool, true, false, not, cond, List, length, IsTrue, refl, sym, ap, subst, arith}
 use Rattle.std.specs.Prelude.{slice_index_or}
 use Rattle.std.specs.List.{Contains}
-use Rattle.std.proofs.lemmas.Bool.{false≢true, ne_eqb}
+use Rattle.std.proofs.lemmas.Bool.{cases_eq, false≢true, ne_eqb}
 use Rattle.std.proofs.lemmas.Bool.Decides.{Decides-eqb}
 use Rattle.sums.specs.Sums.{sum_to}
 use Rattle.sums.proofs.Sums.{sum_to-change, sum_to-zero}
@@ -32,6 +32,27 @@ first_out d rows x n true climbs same some told out = absurd (false≢true out)
 first_out d rows x n false climbs same some told out =
     let there = start_in d 0 x climbs (subst (λ rs. 0 < length rs) same (omega (arith, some))) in
     (_, there, sym (subst (λ rs. false ≡ goes_in (Act (slice_index_or rs 0 x).place (slice_index_or rs 0 x).lo) (one n)) same (told (slice_index_or rows 0 x).lo)))
+
+-- what holds from a number on holds with one more
+pub each_next : (from n : ℕ) (P : ℕ → Type 0) → ((v : ℕ) → from ≤ v → v < n → P v) → P n → (v : ℕ) → from ≤ v → v < n + 1 → P v
+each_next from n P each next v low high = elim (cases_eq v n) [
+  | inl same ↦ rw same next
+  | inr other ↦ each v low (omega (arith, high))
+]
+
+-- terms of 0 add nothing
+pub sum_of_more : (a b : ℕ) (f : ℕ → ℕ) → a ≤ b → ((k : ℕ) → a ≤ k → k < b → f k ≡ 0) → sum_to b f ≡ sum_to a f
+sum_of_more a zero f low none = let same : a ≡ 0 = omega (arith, low) in rw same refl
+sum_of_more a (suc b) f low none = elim (cases_eq a (suc b)) [
+  | inl same ↦ rw same refl
+  | inr other ↦ omega (arith, sum_of_more a b f (omega (arith, low)) (λ k from to. none k from (omega (arith, to))), none b (omega (arith, low)) (omega arith))
+]
+
+-- one term more, and then terms of 0
+pub sum_of_next : (i next total term : ℕ) (f : ℕ → ℕ) → total ≡ sum_to i f → term ≡ f i → i + 1 ≤ next → ((k : ℕ) → i + 1 ≤ k → k < next → f k ≡ 0) → total + term ≡ sum_to next f
+sum_of_next i next total term f same is low none =
+    let more : sum_to next f ≡ sum_to (suc i) f = sum_of_more (suc i) next f (omega (arith, low)) (λ k from to. none k (omega (arith, from)) to) in
+    omega (arith, same, is, more)
 
 -- of a sum over one node there is one term
 sum_of_one : (count n : ℕ) (f : ℕ → ℕ) → n < count → sum_to count (λ k. cond (one n k) (f k) 0) ≡ f n

@@ -164,8 +164,8 @@ fn refutes_inside(
     refutes(p, bound, least, &view, reason)
 }
 
-// whether a reason refutes what is seen of the region, of which the sum of the least ends is handed in for `Bound`;
-// of a load it is told in a quicker way
+// whether a reason refutes what is seen of the region; the sum of the least ends there is added up where it is
+// not handed in, and a load is looked at here, which is quicker
 fn refutes(
     p: &Problem,
     bound: Option<u64>,

@@ -1,11 +1,11 @@
-//! Reasons of loads. Where one node is asked for, it is told at once of most machines that they surely have nothing there.
+//! Reasons of loads. Of most machines it is told at once that they surely have nothing on a node.
 ghost use Rattle.std.specs.Prelude.{◌≡◌, ◌≢◌, ◌↔◌, ℕ, ◌<◌, ◌≤◌, false, length, IfSome, IsTrue};
 ghost use Rattle.std.specs.List.{Contains};
 ghost use Rattle.cluster.specs.Sets.{has_node};
 ghost use Rattle.cluster.specs.declared.choices.Choice.{Choice as AnyChoice};
 ghost use Rattle.sums.specs.Least.{least};
 ghost use Rattle.catalogue.specs.Instance.{IsElement};
-ghost use Rattle.slices.specs.Elements.{node_count, state_of, vm};
+ghost use Rattle.slices.specs.Elements.{machine_count, node_count, state_of, vm};
 ghost use Rattle.slices.specs.Limits.{max_held};
 ghost use Rattle.slices.specs.Snapshots.{held_at, load as load_of, room as room_of};
 ghost use Rattle.slices.specs.Stages.{one};
@@ -30,7 +30,7 @@ use relax::area::Area;
 use relax::sure::{least_held, may_be_usable};
 use slices::slice::Weight;
 
-// ---- the set
+// ---- sets of one node
 
 // the set of one node
 fn one_node(p: &Problem, n: NodeId) -> NodeSet
@@ -42,6 +42,7 @@ fn one_node(p: &Problem, n: NodeId) -> NodeSet
     set
 }
 
+// and what it has, as a whole
 fn node_set(p: &Problem, n: NodeId) -> NodeSet
     requires { n.0 < node_count p.now.given }
     ensures { has_node result ≡ one n.0 }
@@ -49,14 +50,18 @@ fn node_set(p: &Problem, n: NodeId) -> NodeSet
     one_node(p, n)
 }
 
-// the node of a set, where it has that one alone
+// the node of a set that has one alone; None where it has more, or none
 fn only_node(p: &Problem, set: &NodeSet) -> Option<NodeId>
     ensures { IfSome result (λ n. (n.0 < node_count p.now.given) × (has_node set.now ≡ one n.0)) }
 {
     for i in 0..p.cluster().nodes().len() {
         let n = NodeId(i as u32);
         if set.has(n) {
-            return if *set == node_set(p, n) { Some(n) } else { None };
+            return if *set == node_set(p, n) {
+                Some(n)
+            } else {
+                None
+            };
         }
     }
     None
@@ -92,7 +97,7 @@ fn is_at(place: Place, n: NodeId) -> bool
     }
 }
 
-// whether Idle, or else the first choice, does not go to a node
+// whether Idle, or else the first choice, keeps a machine away from a node
 fn may_stay_out(domain: &Domain, n: NodeId) -> bool
     requires { Climbs 0 domain.now.rows }
     ensures { IsTrue result → (c : AnyChoice) × Contains (choices domain.now) c × (goes_in c (one n.0) ≡ false) }
@@ -106,7 +111,8 @@ fn may_stay_out(domain: &Domain, n: NodeId) -> bool
     }
 }
 
-// whether a machine of which all is seen has nothing on a node under some choice, since its host is elsewhere
+// whether it is told at once that a machine, of which all is seen, surely has nothing on a node: it is hosted
+// elsewhere, and one choice keeps it away
 fn is_elsewhere(p: &Problem, view: &View, v: VmId, n: NodeId) -> bool
     requires region { IsSized p.now.given view.now.region.now }
     requires machine { IsElement p.now.given (Element.Vm v) }
@@ -118,7 +124,7 @@ fn is_elsewhere(p: &Problem, view: &View, v: VmId, n: NodeId) -> bool
     may_stay_out(view.region.domain(Element::Vm(v)), n)
 }
 
-// the machine of which a lens may not show all
+// the machine of which a lens may not show all choices
 fn narrowed(lens: Lens) -> Option<VmId>
     ensures { (g : RegionView) (v : ℕ) → IfSome result (λ x. v ≢ x.0) → seen g lens (vm v) ≡ sets g (vm v) }
 {
@@ -131,7 +137,7 @@ fn narrowed(lens: Lens) -> Option<VmId>
     }
 }
 
-// whether a machine is another than one, if there is one
+// whether a machine is not a certain one, if there is one
 fn is_other(v: VmId, x: Option<VmId>) -> bool
     ensures { IsTrue result → IfSome x (λ x. v.0 ≢ x.0) }
 {
@@ -141,28 +147,24 @@ fn is_other(v: VmId, x: Option<VmId>) -> bool
     }
 }
 
-// the least that a machine uses of a resource on a node; `x` is the machine of which not all may be seen
-#[tactic(auto, unfolding(reasons::specs::Sure::sure))]
-fn least_use(
-    p: &Problem,
-    view: &View,
-    v: VmId,
-    x: Option<VmId>,
-    r: u8,
-    n: NodeId,
-    t: Instant,
-) -> u64
+// the first machine from a number on that may have something on a node, or how many machines there are; `x` is the
+// one of which not all may be seen. This calls nothing that reads many rows, and so is quick
+fn next_near(p: &Problem, view: &View, x: Option<VmId>, n: NodeId, from: usize) -> usize
     requires region { IsSized p.now.given view.now.region.now }
-    requires machine { IsElement p.now.given (Element.Vm v) }
-    requires resource { r < length p.now.given.resources }
-    requires whole { IfSome x (λ x. v.0 ≢ x.0) → seen view.now.region.now view.now.lens (vm v.0) ≡ sets view.now.region.now (vm v.0) }
-    ensures held { result ≡ (sure p.now.given (seen view.now.region.now view.now.lens) t).held v.0 (AmountOf r) (one n.0) }
-    ensures small { result ≤ max_held }
+    requires from { from ≤ machine_count p.now.given }
+    requires whole { (v : ℕ) → IfSome x (λ x. v ≢ x.0) → seen view.now.region.now view.now.lens (vm v) ≡ sets view.now.region.now (vm v) }
+    ensures later { from ≤ result }
+    ensures within { result ≤ machine_count p.now.given }
+    ensures between { (v : ℕ) → from ≤ v → v < result → (w : AnyWeight) (t : ℕ) → least (held_at p.now.given v w (one n.0) t) (seen view.now.region.now view.now.lens (vm v)) ≡ 0 }
 {
-    if is_other(v, x) && is_elsewhere(p, view, v, n) {
-        return 0;
+    let count = p.cluster().machines().len();
+    for i in from..count {
+        let v = VmId(i as u32);
+        if !is_other(v, x) || !is_elsewhere(p, view, v, n) {
+            return i;
+        }
     }
-    least_held(p, view, v, Weight::Amount(r), &Area::One(n), t)
+    count
 }
 
 // ---- one node
@@ -173,10 +175,14 @@ fn load(p: &Problem, view: &View, r: u8, n: NodeId, t: Instant) -> u64
     requires resource { r < length p.now.given.resources }
     ensures { result ≡ load_of p.now.given (sure p.now.given (seen view.now.region.now view.now.lens) t) r (one n.0) }
 {
+    let count = p.cluster().machines().len();
     let x = narrowed(view.lens);
     let mut total = 0;
-    for i in 0..p.cluster().machines().len() {
-        total += least_use(p, view, VmId(i as u32), x, r, n, t);
+    let mut i = next_near(p, view, x, n, 0);
+    while i < count {
+        let v = VmId(i as u32);
+        total += least_held(p, view, v, Weight::Amount(r), &Area::One(n), t);
+        i = next_near(p, view, x, n, i + 1);
     }
     total
 }

@@ -7,13 +7,14 @@ use crate::why::Why;
 use catalogue::constraint::Constraint;
 use catalogue::lists::Vms;
 use catalogue::problem::Problem;
-use cluster::choices::{Choice, Place};
+use cluster::choices::{Choice, Instant, Place};
 use cluster::durations::Duration;
 use cluster::ids::{Element, NodeId, VmId};
 use cluster::inventory::Cluster;
 use cluster::machines::Machine;
 use cluster::names::Name;
 use cluster::nodes::Node;
+use cluster::sets::NodeSet;
 use cluster::states::State;
 use domains::parts::Part;
 use reasons::reason::Reason;
@@ -70,6 +71,8 @@ enum Given {
     Idles,
     /// A node that shuts down cannot have the machine at the end, so it is kept.
     Keep,
+    /// At an instant a node that shuts down has no room for the machine.
+    Full(Instant),
     /// Booting later ends at 2.
     Sooner,
     /// The node has a choice.
@@ -91,6 +94,11 @@ fn step(given: Given) -> Step {
             Part::From(Place::Nowhere, 0),
             Reason::Usable(3, VmId(0), NodeId(0)),
         ),
+        Given::Full(t) => {
+            let mut node = NodeSet::new();
+            node.insert(NodeId(0));
+            Step::Cut(N, Part::From(Place::Nowhere, 0), Reason::Load(t, 0, node))
+        }
         Given::Sooner => Step::Cut(V, later, Reason::Bound),
         Given::NoNode => Step::Fail(Reason::Empty(N)),
         Given::Bound => Step::Fail(Reason::Bound),
@@ -171,13 +179,16 @@ macro_rules! cases {
     };
 }
 
-static CASES: [Case; 16] = cases! {
+static CASES: [Case; 18] = cases! {
     false true [Given::Stay, Given::AtOnce, Given::Plan(1), Given::Bound, Given::Bound] Goal::Optimal(1), None, None;
     false true [Given::Stay, Given::AtOnce, Given::Plan(1), Given::Bound, Given::Bound] Goal::Infeasible, Some((5, Why::Goal)), None;
     // the outer side is open still
     false true [Given::Stay, Given::Bound] Goal::Optimal(1), Some((2, Why::Structure)), None;
     // nothing is open any more
     false true [Given::Bound, Given::Left] Goal::Optimal(1), Some((1, Why::Structure)), None;
+    // the machine surely runs at 3, and not yet at 1
+    false false [Given::Full(3), Given::Left] Goal::Undecided(0), None, Some(1);
+    false false [Given::Full(1)] Goal::Infeasible, Some((0, Why::Reason)), None;
     // no bound without a plan
     false false [Given::Bound] Goal::Infeasible, Some((0, Why::Reason)), None;
     false true [Given::Idles] Goal::Optimal(1), Some((0, Why::Part)), None;
