@@ -1,7 +1,8 @@
 -- Ends of choices by rows, and the instants at which they start.
-use Rattle.std.proofs.Common.{◌≡◌, ◌⊎◌, inl, inr, ℕ, zero, suc, ◌+◌, ◌<◌, ◌≤◌, Bool, true, Some, List, [], ◌∷◌, length, slice_index_or, refl, ap, arith}
-use Rattle.std.specs.List.{Contains}
-use Rattle.std.proofs.lemmas.Bool.{cases_lt}
+use Rattle.std.proofs.Common.{◌≡◌, ◌⊎◌, inl, inr, ℕ, zero, suc, ◌+◌, ◌<◌, ◌≤◌, Bool, true, false, ◌&&◌, nat_le, Some, List, [], ◌∷◌, length, slice_index_or, refl, ap, arith}
+use Rattle.std.specs.List.{Contains, filter}
+use Rattle.std.proofs.lemmas.Bool.{cases_lt, false≢true}
+use Rattle.std.proofs.lemmas.Bool.Decides.{nat_tests}
 use Rattle.std.proofs.lemmas.List.{get_or_past}
 use Rattle.cluster.specs.declared.choices.Choice.{Choice}
 use Rattle.cluster.specs.declared.choices.Choice.TheVariants.{Idle, Act}
@@ -11,15 +12,18 @@ use Rattle.cluster.specs.declared.ids.Element.TheVariants.{Vm, Node as TheNode}
 use Rattle.catalogue.specs.Instance.{Instance, IsElement}
 use Rattle.slices.specs.Elements.{machine_count, node_count, node, vm}
 use Rattle.slices.specs.Starts.{start_of}
-use Rattle.domains.specs.Choices.{DomainView, Climbs, choices, no_row, staying}
+use Rattle.domains.specs.Choices.{DomainView, Climbs, choices, no_row, same_place, staying}
+use Rattle.domains.specs.declared.parts.Part.TheVariants.{From}
 use Rattle.domains.specs.declared.parts.Row.{Row}
+use Rattle.domains.specs.Parts.{in_part}
+use Rattle.domains.proofs.Public.{contains_filter, filter_contains}
 use Rattle.domains.specs.Sets.{RegionView, sets}
 use Rattle.reasons.specs.Closed.{IsEnd}
 use Rattle.reasons.specs.Quiet.{AreOf, IsTurn}
 use Rattle.reasons.specs.Regions.{row_at}
 use Rattle.reasons.proofs.Public.{end_is_choice, ends_of_rows}
 use Rattle.relax.specs.Areas.{IsSized}
-use Rattle.closing.specs.Parts.{AreRowsPast, FailAtEnds, FailAtRows, IsEndThat, IsRowEndThat, StartsPast}
+use Rattle.closing.specs.Parts.{AreRowsPast, FailAtEnds, FailAtRows, IsEndThat, IsRowEndThat, PassOnlyAt, StartsPast}
 
 -- ---- tests at ends
 
@@ -49,6 +53,35 @@ row_is_end P d rows i c same climbs h end = end-of_row P d i c (rw same at climb
 
 pub idle_is_end : (P : Choice → Type 0) (d : DomainView) (rows : List Row) → rows ≡ d.rows → Climbs 0 rows → d.idle ≡ true → P Idle → IsEndThat P (choices d) Idle
 idle_is_end P d rows same climbs idle passes = record { is_end = (ends_of_rows d (rw same at climbs) Idle).1 idle; passes = passes }
+
+-- ---- at one place
+
+abbrev at-place : Place → Choice → Bool
+at-place place = in_part (From place 0)
+
+-- whatever its start
+at-any : (here : Bool) (s u : ℕ) → (here && nat_le 0 s) ≡ true → (here && nat_le 0 u) ≡ true
+at-any here s u h = grind (arith, nat_tests)
+
+kept-end : (place : Place) (cs : List Choice) (c : Choice) → IsEnd cs c → at-place place c ≡ true → IsEnd (filter (at-place place) cs) c
+kept-end place cs Idle end here = absurd (false≢true here)
+kept-end place cs (Act q s) (there, inl least) here = (contains_filter (at-place place) cs (Act q s) there here, inl (λ u h. least u (filter_contains (at-place place) cs (Act q u) h).0))
+kept-end place cs (Act q s) (there, inr most) here = (contains_filter (at-place place) cs (Act q s) there here, inr (λ u h. most u (filter_contains (at-place place) cs (Act q u) h).0))
+
+end-kept : (place : Place) (cs : List Choice) (c : Choice) → IsEnd (filter (at-place place) cs) c → IsEnd cs c
+end-kept place cs Idle end = (filter_contains (at-place place) cs Idle end).0
+end-kept place cs (Act q s) (there, inl least) = let h = filter_contains (at-place place) cs (Act q s) there in (h.0, inl (λ u x. least u (contains_filter (at-place place) cs (Act q u) x (at-any (same_place q place) s u h.1))))
+end-kept place cs (Act q s) (there, inr most) = let h = filter_contains (at-place place) cs (Act q s) there in (h.0, inr (λ u x. most u (contains_filter (at-place place) cs (Act q u) x (at-any (same_place q place) s u h.1))))
+
+pub fails_at_place : (P : Choice → Type 0) (place : Place) (cs : List Choice) → PassOnlyAt place P → FailAtEnds P (filter (in_part (From place 0)) cs) → FailAtEnds P cs
+fails_at_place P place cs only fail = record { ends = λ c end. by c end (at-place place c) refl }
+  where
+    by : (c : Choice) → IsEnd cs c → (b : Bool) → at-place place c ≡ b → ¬ P c
+    by c end true here = fail.ends c (kept-end place cs c end here)
+    by c end false out = only.elsewhere c out
+
+pub end_at_place : (P : Choice → Type 0) (place : Place) (cs : List Choice) (c : Choice) → IsEndThat P (filter (in_part (From place 0)) cs) c → IsEndThat P cs c
+end_at_place P place cs c end = record { is_end = end-kept place cs c end.is_end; passes = end.passes }
 
 -- ---- instants
 

@@ -2,6 +2,7 @@
 use Rattle.std.specs.Prelude.{◌≡◌, ◌⊎◌, ℕ, ◌+◌, ◌<◌, ◌≤◌, Bool, true, false, List, Some, IsTrue, slice_index_or}
 use Rattle.cluster.specs.declared.choices.Choice.{Choice}
 use Rattle.cluster.specs.declared.choices.Choice.TheVariants.{Idle, Act}
+use Rattle.cluster.specs.declared.choices.Place.{Place}
 use Rattle.catalogue.specs.Instance.{Instance}
 use Rattle.catalogue.specs.Values.{capacity_of}
 use Rattle.slices.specs.declared.slice.Weight.{Weight}
@@ -11,7 +12,9 @@ use Rattle.slices.specs.Snapshots.{held_at, powered_at, usable_at}
 use Rattle.slices.specs.Starts.{start_of}
 use Rattle.slices.specs.Stages.{Nodes, one}
 use Rattle.domains.specs.Choices.{no_row}
+use Rattle.domains.specs.declared.parts.Part.TheVariants.{From}
 use Rattle.domains.specs.declared.parts.Row.{Row}
+use Rattle.domains.specs.Parts.{in_part}
 use Rattle.domains.specs.Sets.{Sets}
 use Rattle.reasons.specs.Closed.{IsEnd}
 use Rattle.reasons.specs.Sure.{sure}
@@ -41,6 +44,10 @@ pub record FailAtEnds (test : Choice → Type 0) (cs : List Choice) : Type 0 whe
 pub record IsEndThat (test : Choice → Type 0) (cs : List Choice) (c : Choice) : Type 0 where
   pub is_end : IsEnd cs c
   pub passes : test c
+
+-- only choices at a place pass it
+pub record PassOnlyAt (place : Place) (test : Choice → Type 0) : Type 0 where
+  pub elsewhere : (c : Choice) → in_part (From place 0) c ≡ false → ¬ test c
 
 -- no end of a row does; one does
 pub record FailAtRow (test : Choice → Type 0) (r : Row) : Type 0 where

@@ -2,11 +2,11 @@
 ghost use Rattle.std.specs.Prelude.{◌≡◌, false, IfNone, IfSome, IsTrue};
 ghost use Rattle.cluster.specs.declared.choices.Choice.{Choice as AnyChoice};
 ghost use Rattle.domains.specs.Choices.{choices};
-ghost use Rattle.closing.specs.Parts.{FailAtEnds, FailAtRow, IsEndThat, IsRowEndThat};
+ghost use Rattle.closing.specs.Parts.{FailAtEnds, FailAtRow, IsEndThat, IsRowEndThat, PassOnlyAt};
 
-use cluster::choices::{Choice, Instant};
+use cluster::choices::{Choice, Instant, Place};
 use domains::domain::Domain;
-use domains::parts::Row;
+use domains::parts::{Part, Row};
 
 /// A test of single choices.
 pub trait Test {
@@ -66,4 +66,15 @@ pub fn end_that<T: Test>(domain: &Domain, test: &T) -> Option<Choice>
         }
     }
     None
+}
+
+/// As `end_that`, for a test that only choices at one place pass.
+pub fn end_at<T: Test>(domain: &Domain, place: Place, test: &T) -> Option<Choice>
+    requires ready { T.ready test.now }
+    requires only { PassOnlyAt place (T.meant test.now) }
+    ensures none { IfNone result (FailAtEnds (T.meant test.now) (choices domain.now)) }
+    ensures some { IfSome result (IsEndThat (T.meant test.now) (choices domain.now)) }
+{
+    let there = domain.inside(Part::From(place, 0));
+    end_that(&there, test)
 }

@@ -1,21 +1,26 @@
 //! Nodes that are needed and may not be usable.
-ghost use Rattle.std.specs.Prelude.{◌≡◌, ℕ, ◌<◌, ◌≤◌, false, IfNone, IfSome, IsTrue};
+ghost use Rattle.std.specs.Prelude.{◌≡◌, ℕ, ◌<◌, ◌≤◌, false, [], ◌∷◌, IfNone, IfSome, IsTrue};
+ghost use Rattle.cluster.specs.declared.choices.Choice.TheVariants.{Idle};
 ghost use Rattle.catalogue.specs.Instance.{IsElement};
-ghost use Rattle.slices.specs.Elements.{machine_count, node, node_count, vm};
+ghost use Rattle.slices.specs.Elements.{machine_count, node, node_count, state_of, vm};
 ghost use Rattle.slices.specs.Snapshots.{stands_on};
+ghost use Rattle.slices.specs.Stages.{one};
+ghost use Rattle.domains.specs.Choices.{choices};
 ghost use Rattle.domains.specs.Sets.{sets};
 ghost use Rattle.reasons.specs.Sure.{sure};
-ghost use Rattle.relax.specs.Areas.{IsSized};
+ghost use Rattle.relax.specs.Areas.{IsSized, hosted_in};
 ghost use Rattle.closing.specs.Kinds.{IsNeeded};
-ghost use Rattle.closing.specs.Looks.{IsFound};
+ghost use Rattle.closing.specs.Looks.{IsFound, IsFreeOf};
 ghost use Rattle.closing.specs.Parts.{FailAtEnds, IsEndThat, IsNotUsable, StandsUnder};
 
 use crate::counts::machines_of;
-use crate::ends::{Test, end_that};
+use crate::ends::{Test, end_at, end_that};
 use crate::look::Look;
 use catalogue::problem::Problem;
-use cluster::choices::{Choice, Instant};
+use cluster::choices::{Choice, Instant, Place};
 use cluster::ids::{Element, NodeId, VmId};
+use cluster::states::State;
+use domains::domain::Domain;
 use domains::region::Region;
 use domains::view::{Lens, View};
 use relax::area::Area;
@@ -98,7 +103,46 @@ fn is_needed(p: &Problem, g: &Region, n: NodeId, t: Instant) -> bool
     false
 }
 
-// a machine and an end of its choices under which it is on the node or has its image there
+// whether a node is the host of a state
+fn is_host_in(state: State, n: NodeId) -> bool
+    ensures { result ≡ hosted_in state (one n.0) }
+{
+    match state {
+        State::Running(h) | State::Sleeping(h) => h.0 == n.0,
+        State::Init | State::Ready | State::Gone => false,
+    }
+}
+
+// whether a node is the host of a machine
+fn is_host(p: &Problem, v: VmId, n: NodeId) -> bool
+    requires { v.0 < machine_count p.now.given }
+    ensures { result ≡ hosted_in (state_of p.now.given v.0) (one n.0) }
+{
+    is_host_in(p.cluster().machines()[v.0 as usize].state, n)
+}
+
+// an end of a machine's choices under which it is on the node or has its image there
+fn end_on(p: &Problem, g: &Region, v: VmId, n: NodeId, t: Instant) -> Option<Choice>
+    requires region { IsSized p.now.given g.now }
+    requires machine { v.0 < machine_count p.now.given }
+    ensures none { IfNone result (FailAtEnds (StandsUnder p.now.given v.0 n.0 t) (sets g.now (vm v.0))) }
+    ensures some { IfSome result (IsEndThat (StandsUnder p.now.given v.0 n.0 t) (sets g.now (vm v.0))) }
+{
+    let test = StandsOn {
+        problem: p,
+        machine: v,
+        node: n,
+        at: t,
+    };
+    let domain = g.domain(Element::Vm(v));
+    if is_host(p, v, n) {
+        end_that(domain, &test)
+    } else {
+        end_at(domain, Place::At(n), &test)
+    }
+}
+
+// a machine and such an end of its choices
 fn machine_on(p: &Problem, g: &Region, n: NodeId, t: Instant) -> Option<(VmId, Choice)>
     requires region { IsSized p.now.given g.now }
     ensures none { IfNone result ((v : ℕ) → v < machine_count p.now.given → FailAtEnds (StandsUnder p.now.given v n.0 t) (sets g.now (vm v))) }
@@ -106,13 +150,7 @@ fn machine_on(p: &Problem, g: &Region, n: NodeId, t: Instant) -> Option<(VmId, C
 {
     for i in 0..machines_of(p) {
         let v = VmId(i as u32);
-        let test = StandsOn {
-            problem: p,
-            machine: v,
-            node: n,
-            at: t,
-        };
-        if let Some(c) = end_that(g.domain(Element::Vm(v)), &test) {
+        if let Some(c) = end_on(p, g, v, n, t) {
             return Some((v, c));
         }
     }
@@ -158,6 +196,22 @@ fn found_where_not(p: &Problem, g: &Region, n: NodeId, t: Instant) -> Look
         None => Look::Clean,
         Some((v, c)) => Look::Cut(Element::Vm(v), c, t),
     }
+}
+
+// whether Idle is the only choice
+fn can_only_stay(domain: &Domain) -> bool
+    ensures { IsTrue result → choices domain.now ≡ Idle ∷ [] }
+{
+    domain.idle() && domain.rows().is_empty()
+}
+
+/// Whether a node is usable, and can only stay as it is.
+pub fn stays_usable(p: &Problem, g: &Region, n: NodeId) -> bool
+    requires region { IsSized p.now.given g.now }
+    requires node { n.0 < node_count p.now.given }
+    ensures { IsTrue result → (t : ℕ) → IsFreeOf (IsNeeded p.now.given n.0) p.now.given (sets g.now) t }
+{
+    can_only_stay(g.domain(Element::Node(n))) && usable(p, n, Choice::Idle, 0)
 }
 
 /// A look at one instant at whether a node on which a machine is, or has its image, is usable.

@@ -12,7 +12,7 @@ use crate::constraint::constraint_found;
 use crate::loads::load_found;
 use crate::look::Look;
 use crate::turns::next_turn;
-use crate::usable::usable_found;
+use crate::usable::{stays_usable, usable_found};
 use catalogue::problem::Problem;
 use cluster::choices::Instant;
 use cluster::ids::NodeId;
@@ -127,13 +127,21 @@ pub fn look_at_total_load(p: &Problem, g: &Region) -> Look
     look(&TotalLoad, p, g)
 }
 
-/// A look at whether a node on which machines are, or have their images, is usable.
+/// A look at whether a node on which machines are, or have their images, is usable. The horizon is looked at
+/// first: what is found there cuts the most starts at once.
 pub fn look_at_usable(p: &Problem, g: &Region, n: NodeId) -> Look
     requires region { IsSized p.now.given g.now }
     requires node { n.0 < node_count p.now.given }
     ensures { IsLook (usable_watch p.now.given n.0) p.now.given (sets g.now) result }
 {
-    look(&NodeUsable(n), p, g)
+    if stays_usable(p, g, n) {
+        return Look::Clean;
+    }
+    match usable_found(p, g, n, p.horizon()) {
+        Look::Clean => look(&NodeUsable(n), p, g),
+        Look::Fail(t) => Look::Fail(t),
+        Look::Cut(e, c, t) => Look::Cut(e, c, t),
+    }
 }
 
 /// A look at the constraint of a number. One that is to hold at the horizon alone is looked at there alone.
