@@ -15,7 +15,7 @@ use cert_write::CertWriter;
 use ends::Ends;
 use far_first::FarFirst;
 use plan_io::{DeskMem, OutFault};
-use problems::{banned, two_machines};
+use problems::{BANNED, CROWDED, ROOMY, STEADY, problem};
 use prop_core::cover::covered;
 use prop_core::propagator::Propagator;
 use search::{Found, solve};
@@ -136,10 +136,9 @@ fn answered(text: &[u8]) -> u64 {
     count
 }
 
-/// A search on two machines and one node or two, and what is wanted of it.
+/// A search, and what is wanted of it.
 struct Case {
-    nodes: &'static [&'static [u8]],
-    is_to_run: bool,
+    instance: &'static str,
     budget: u64,
     outcome: Outcome,
     /// How many cuts and fails are answered, and written.
@@ -147,30 +146,23 @@ struct Case {
     end: &'static str,
 }
 
-const ONE: &[&[u8]] = &[b"m"];
-
-const TWO: &[&[u8]] = &[b"m", b"n"];
-
 const CASES: [Case; 6] = [
     Case {
-        nodes: ONE,
-        is_to_run: false,
+        instance: STEADY,
         budget: 0,
         outcome: Outcome::Optimal(0),
         given: 0,
         end: "\nfail bound\nend optimal 0\n",
     },
     Case {
-        nodes: ONE,
-        is_to_run: true,
+        instance: CROWDED,
         budget: 9,
         outcome: Outcome::Infeasible,
         given: 1,
         end: "\ncut a idle load 2 cpu *\nfail empty a\nend infeasible\n",
     },
     Case {
-        nodes: TWO,
-        is_to_run: true,
+        instance: ROOMY,
         budget: 0,
         outcome: Outcome::Undecided {
             best: None,
@@ -180,8 +172,7 @@ const CASES: [Case; 6] = [
         end: "\nleft\nend undecided 0\n",
     },
     Case {
-        nodes: TWO,
-        is_to_run: true,
+        instance: ROOMY,
         budget: 1,
         outcome: Outcome::Undecided {
             best: None,
@@ -191,16 +182,14 @@ const CASES: [Case; 6] = [
         end: "\nleft\nend undecided 1\n",
     },
     Case {
-        nodes: TWO,
-        is_to_run: true,
+        instance: ROOMY,
         budget: 2,
         outcome: Outcome::Optimal(1),
         given: 10,
         end: "\nplan 1\nfail bound\nfail bound\nend optimal 1\n",
     },
     Case {
-        nodes: TWO,
-        is_to_run: true,
+        instance: ROOMY,
         budget: 9,
         outcome: Outcome::Optimal(1),
         given: 10,
@@ -216,7 +205,7 @@ fn check_case(
     rules: &mut Vec<Box<dyn Propagator>>,
     brancher: &mut Box<dyn Brancher>,
 ) -> Result<(), Fail> {
-    let p = two_machines(alloc, case.nodes, case.is_to_run)?;
+    let p = problem(alloc, case.instance)?;
     let run = search_with(alloc, &p, case.budget, rules, brancher, Vec::new(alloc))?;
     let budget = case.budget;
     assert_eq!(rt; run.outcome, case.outcome, "budget {budget}");
@@ -245,7 +234,7 @@ fn run_last(
     brancher: &mut Box<dyn Brancher>,
     fails: Vec<u64>,
 ) -> Result<Run, Fail> {
-    let p = two_machines(alloc, TWO, true)?;
+    let p = problem(alloc, ROOMY)?;
     search_with(alloc, &p, 9, rules, brancher, fails)
 }
 
@@ -269,7 +258,7 @@ fn run_banned(
     rules: &mut Vec<Box<dyn Propagator>>,
     brancher: &mut Box<dyn Brancher>,
 ) -> Result<Run, Fail> {
-    let p = banned(alloc)?;
+    let p = problem(alloc, BANNED)?;
     search_with(alloc, &p, 1, rules, brancher, Vec::new(alloc))
 }
 

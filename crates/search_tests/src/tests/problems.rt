@@ -1,80 +1,43 @@
 //! The problems that the tests search.
-use catalogue::constraint::Constraint;
-use catalogue::lists::Vms;
 use catalogue::problem::Problem;
-use cluster::choices::Instant;
-use cluster::durations::Duration;
-use cluster::ids::{NodeId, VmId};
-use cluster::inventory::Cluster;
-use cluster::machines::Machine;
-use cluster::names::Name;
-use cluster::nodes::Node;
-use cluster::sets::NodeSet;
-use cluster::states::State;
+use instance_json::read_instance;
 use std::alloc::Global;
 use std::test::Fail;
 
-/// A cluster with one resource, whose nodes have so much of it. Each action lasts as long.
-fn cluster(alloc: Global, nodes: &[&[u8]], capacity: u64, lasts: u32) -> Result<Cluster, Fail> {
-    let mut resources = Vec::new(alloc);
-    resources.push(Name::new(alloc, b"cpu")?)?;
-    let duration = Duration {
-        base: lasts,
-        per: 0,
-        resource: None,
-    };
-    let mut cluster = Cluster::new(alloc, resources, [duration; 10])?;
-    for name in nodes {
-        cluster.add_node(Node {
-            name: Name::new(alloc, name)?,
-            online: true,
-            capacity: [capacity, 0, 0, 0, 0, 0, 0, 0],
-            own: [None; 10],
-        })?;
-    }
-    Ok(cluster)
-}
+/// Machine a runs on the only node, which has room for one, and b is ready. Actions last 1, and all end by 3.
+pub const STEADY: &str = r#"{"horizon":3,"resources":["cpu"],
+"nodes":[{"name":"m","capacity":{"cpu":1}}],
+"machines":[{"name":"a","state":"running","node":"m","use":{"cpu":1}},
+{"name":"b","state":"ready","use":{"cpu":1}}],"constraints":[]}"#;
 
-/// A machine that uses one of the resource.
-fn machine(alloc: Global, name: &[u8], state: State) -> Result<Machine, Fail> {
-    Ok(Machine {
-        name: Name::new(alloc, name)?,
-        state,
-        usage: [1, 0, 0, 0, 0, 0, 0, 0],
-        own: [None; 10],
-    })
-}
+/// The same, where b is to run.
+pub const CROWDED: &str = r#"{"horizon":3,"resources":["cpu"],
+"nodes":[{"name":"m","capacity":{"cpu":1}}],
+"machines":[{"name":"a","state":"running","node":"m","use":{"cpu":1}},
+{"name":"b","state":"ready","use":{"cpu":1}}],
+"constraints":[{"kind":"running","machines":["b"]}]}"#;
 
-/// Machine a runs on the first node, and b is ready, and is to run where that is asked. A node has room for one.
-/// Actions last 1, and all end by 3.
-pub fn two_machines(alloc: Global, nodes: &[&[u8]], is_to_run: bool) -> Result<Problem, Fail> {
-    let mut cluster = cluster(alloc, nodes, 1, 1)?;
-    cluster.add_machine(machine(alloc, b"a", State::Running(NodeId(0)))?)?;
-    cluster.add_machine(machine(alloc, b"b", State::Ready)?)?;
-    let mut p = Problem::new(alloc, cluster, 3);
-    if is_to_run {
-        p.add(Constraint::Running {
-            machines: Vms::new(Vec::from_slice(alloc, &[VmId(1)])?),
-        })?;
-    }
-    Ok(p)
-}
+/// The same with a second node.
+pub const ROOMY: &str = r#"{"horizon":3,"resources":["cpu"],
+"nodes":[{"name":"m","capacity":{"cpu":1}},{"name":"n","capacity":{"cpu":1}}],
+"machines":[{"name":"a","state":"running","node":"m","use":{"cpu":1}},
+{"name":"b","state":"ready","use":{"cpu":1}}],
+"constraints":[{"kind":"running","machines":["b"]}]}"#;
 
 /// Machine v0 runs on n0, and is not to be there at the end. Each of three nodes has room for four, and is to stay
-/// online. Actions last 3, and all end by 10.
-pub fn banned(alloc: Global) -> Result<Problem, Fail> {
-    let mut cluster = cluster(alloc, &[b"n0", b"n1", b"n2"], 4, 3)?;
-    cluster.add_machine(machine(alloc, b"v0", State::Running(NodeId(0)))?)?;
-    let mut p = Problem::new(alloc, cluster, 10);
-    let mut nodes = NodeSet::new();
-    nodes.insert(NodeId(0));
-    p.add(Constraint::Ban {
-        machines: Vms::new(Vec::from_slice(alloc, &[VmId(0)])?),
-        nodes,
-        continuous: false,
-    })?;
-    nodes.insert(NodeId(1));
-    nodes.insert(NodeId(2));
-    p.add(Constraint::Online { nodes })?;
-    Ok(p)
+/// online. A migration lasts 3, and all ends by 10.
+pub const BANNED: &str = r#"{"horizon":10,"resources":["cpu"],
+"durations":{"migrate":{"base":3}},
+"nodes":[{"name":"n0","capacity":{"cpu":4}},{"name":"n1","capacity":{"cpu":4}},
+{"name":"n2","capacity":{"cpu":4}}],
+"machines":[{"name":"v0","state":"running","node":"n0","use":{"cpu":1}}],
+"constraints":[{"kind":"ban","machines":["v0"],"nodes":["n0"]},
+{"kind":"online","nodes":["n0","n1","n2"]}]}"#;
+
+/// The problem of an instance's text.
+pub fn problem(alloc: Global, text: &str) -> Result<Problem, Fail> {
+    match read_instance(alloc, text.as_bytes()) {
+        Ok(p) => Ok(p),
+        Err(_) => Err("the instance has a fault".into()),
+    }
 }
