@@ -1,5 +1,5 @@
 -- What the propagator of the tests answers, and what their searches answer.
-use Rattle.std.proofs.Common.{◌≡◌, ◌≢◌, ℕ, Bool, List, [], ◌∷◌, Option, Some, None, IfSome, refl}
+use Rattle.std.proofs.Common.{◌≡◌, ◌≢◌, ℕ, true, List, [], ◌∷◌, Option, Some, None, IfSome, refl}
 use Rattle.std.specs.List.{Contains, filter}
 use Rattle.cluster.specs.declared.choices.Choice.{Choice}
 use Rattle.cluster.specs.declared.ids.Element.{Element}
@@ -19,8 +19,8 @@ use Rattle.search.specs.declared.found.Found.{Found}
 use Rattle.search.specs.declared.found.Found.TheVariants.{Optimal, Infeasible, Undecided}
 use Rattle.search.specs.Answers.{IsTrueOf, plan_in}
 
-pub quiet_of : (p : Instance) (s : Sets) (all : Bool) → IsClosed p s → AllQuiet p s (keeps_nothing 0 0 all)
-quiet_of p s all closed = record { each = λ k _. ((closed_by_kinds p s).0 closed).1 k }
+pub quiet_of : (p : Instance) (s : Sets) → IsClosed p s → AllQuiet p s (keeps_nothing 0 0 true)
+quiet_of p s closed = record { each = λ k _. ((closed_by_kinds p s).0 closed).1 k }
 
 some_choice : (cs : List Choice) → cs ≢ [] → (c : Choice) × Contains cs c
 some_choice [] some = absurd (some refl)
