@@ -23,9 +23,8 @@ use Rattle.reasons.specs.declared.reason.Reason.TheVariants as reason
 use Rattle.trees.specs.declared.steps.Step.{Step}
 use Rattle.trees.specs.declared.steps.Step.TheVariants as step
 use Rattle.cert_text.specs.Kinds.{Word}
-use Rattle.cert_text.specs.Spelling.{HasPlace, element_name, has_all, nodes_text, part_text, place_name, reason_text, resource_name, step_text}
+use Rattle.cert_text.specs.Spelling.{HasPart, HasPlace, element_name, has_all, nodes_text, part_text, place_name, reason_text, resource_name, step_text}
 use Rattle.cert_text.specs.Texts.{IsNumber}
-use Rattle.cert_check.specs.Laws.{IsWritablePart}
 use Rattle.cert_check.specs.Names.{as_instant, first_nodes, named_constraint, named_element, named_hall, named_load, named_machine, named_node, named_nodes, named_pair, named_part, named_place, named_reason, named_resource, named_stay, named_step, named_use, node_added, nodes_added}
 
 -- ---- numbers
@@ -66,7 +65,7 @@ unfolding named_place
 place_here p is Nowhere there = refl
 place_here p is (At n) there = rw (node_here p is n there) refl
 
-part_here : (p : Instance) → IsInstance p → (part : Part) → IsWritablePart p part → named_part p (part_text p part) ≡ Some part
+part_here : (p : Instance) → IsInstance p → (part : Part) → HasPart p part → named_part p (part_text p part) ≡ Some part
 unfolding named_part
 part_here p is Idle there = refl
 part_here p is (Upto place start) there = rw (place_here p is place there.0, early start (omega (arith, there.1))) refl
@@ -218,8 +217,8 @@ module _ (p : Instance) (is : IsInstance p) where
 
 -- all that a step names is the problem's, and its numbers are those of the code
 abbrev pub IsNamedStep : Instance → Step → Type 0
-IsNamedStep p (step.Decide x part) = IsElement p x × IsWritablePart p part
-IsNamedStep p (step.Cut x part r) = IsElement p x × IsWritablePart p part × IsNamed p r
+IsNamedStep p (step.Decide x part) = IsElement p x × HasPart p part
+IsNamedStep p (step.Cut x part r) = IsElement p x × HasPart p part × IsNamed p r
 IsNamedStep p (step.Fail r) = IsNamed p r
 IsNamedStep p (step.Plan cost) = IsNumber cost
 IsNamedStep p step.Left = Unit {0}

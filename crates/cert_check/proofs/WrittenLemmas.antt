@@ -1,7 +1,7 @@
 -- The steps of a tree that proves all legal choices can be written, and name what they are.
-use Rattle.std.proofs.Common.{◌≡◌, ℕ, ◌+◌, ◌*◌, ◌<◌, ◌≤◌, Bool, true, false, List, [], ◌∷◌, ◌++◌, length, map, Option, Some, None, IsTrue, refl, sym, subst, arith}
+use Rattle.std.proofs.Common.{◌≡◌, ℕ, ◌+◌, ◌*◌, ◌≤◌, Bool, true, false, List, [], ◌∷◌, ◌++◌, map, Option, Some, None, IsTrue, refl, sym, subst, arith}
 use Rattle.std.specs.List.{All}
-use Rattle.std.proofs.lemmas.List.Elements.{All-head, All-tail}
+use Rattle.std.proofs.lemmas.List.Elements.{All-head, All-tail, All-weaker}
 use Rattle.sums.proofs.Sums.{sum_to-bound}
 use Rattle.sums.specs.Sums.{sum_to}
 use Rattle.cluster.specs.declared.choices.Choice.{Choice}
@@ -14,29 +14,39 @@ use Rattle.slices.specs.Elements.{machine_count, node, node_count, vm}
 use Rattle.slices.specs.Limits.{max_cost}
 use Rattle.slices.specs.Plans.{Choices, IsPlan}
 use Rattle.slices.proofs.Public.{ends_by_duration, legal_acts_last}
-use Rattle.domains.specs.declared.parts.Part.{Part}
-use Rattle.domains.specs.declared.parts.Part.TheVariants as part
 use Rattle.domains.specs.Parts.{in_part, out_of_part}
 use Rattle.domains.specs.Sets.{IsIn, Sets}
 use Rattle.domains.proofs.Public.{plan_stays}
-use Rattle.reasons.specs.declared.reason.Reason.{Reason}
-use Rattle.reasons.specs.declared.reason.Reason.TheVariants as reason
-use Rattle.reasons.specs.Reasons.{IsNamed}
 use Rattle.reasons.specs.Start.{start_sets}
 use Rattle.trees.specs.declared.steps.Step.{Step}
 use Rattle.trees.specs.declared.steps.Step.TheVariants.{Decide, Cut, Fail, Plan, Left}
 use Rattle.trees.specs.Trees.{Leads, Tree, children, steps_of}
 use Rattle.trees.specs.Proving.{IsPlanLeaf, Proves, StepHolds}
-use Rattle.trees.specs.Goals.{goal_of}
+use Rattle.trees.specs.Goals.{decisions, goal_of}
 use Rattle.trees.specs.Certificates.{IsHandedIn, bound_of}
 use Rattle.trees.proofs.Public.{leads_tree, only_in, start_is_plan}
-use Rattle.cert_text.specs.Laws.{PartFits, ReasonFits, StepFits}
-use Rattle.cert_text.specs.Spelling.{HasPart, HasReason, HasStep, step_text}
+use Rattle.cert_text.specs.Spelling.{HasStep, step_text}
 use Rattle.cert_text.specs.Texts.{IsGoal, IsNumber}
+use Rattle.cert_text.proofs.Public.{named_reason}
 use Rattle.cert_read.specs.Laws.{AreWritable}
-use Rattle.cert_check.specs.Laws.{HasWritablePart, IsWritablePart}
+use Rattle.cert_check.specs.Laws.{HasWritablePart, IsWritable}
 use Rattle.cert_check.specs.Names.{named_step}
 use Rattle.cert_check.proofs.NamedLemmas.{IsNamedStep, step_here}
+
+-- ---- a tree whose steps can be written
+
+has_writable_part : (p : Instance) (step : Step) → HasStep p step → HasWritablePart p step
+has_writable_part p (Decide x side) has = has.1
+has_writable_part p (Cut x side why) has = has.1
+has_writable_part p (Fail why) has = tt
+has_writable_part p (Plan cost) has = tt
+has_writable_part p Left has = tt
+
+pub is_writable : (p : Instance) (t : Tree) → All (HasStep p) (steps_of t) → IsNumber (decisions (steps_of t)) → IsWritable p t
+is_writable p t steps few = record {
+  parts = All-weaker (HasStep p) (HasWritablePart p) (has_writable_part p) (steps_of t) steps;
+  counted = few;
+}
 
 -- ---- how great a cost is
 
@@ -112,43 +122,17 @@ module _ (p : Instance) (is : IsInstance p) (bound : Option ℕ) where
 
 -- ---- so it is a line, which names it
 
-part_written : (p : Instance) (side : Part) → IsWritablePart p side → HasPart p side × PartFits side
-part_written p part.Idle written = (tt, tt)
-part_written p (part.Upto place start) written = (written.0, omega (arith, written.1))
-part_written p (part.From place start) written = (written.0, omega (arith, written.1))
-
 module _ (p : Instance) (is : IsInstance p) where
-  number_fits : (c : ℕ) → c < length p.constraints → IsNumber c
-  number_fits c there = omega (arith, there, is.few)
-
-  instant_fits : (t : ℕ) → t ≤ p.horizon → IsNumber t
-  instant_fits t upto = omega (arith, upto, is.horizon)
-
-  reason_written : (why : Reason) → IsNamed p why → HasReason p why × ReasonFits why
-  reason_written (reason.Empty e) named = (named, tt)
-  reason_written reason.Bound named = (tt, tt)
-  reason_written (reason.Load t r set) named = ((named.1, named.2), instant_fits t named.0)
-  reason_written (reason.Pair c t v w n) named = ((named.2, named.3, named.4), (number_fits c named.0, instant_fits t named.1))
-  reason_written (reason.Place c t v n) named = ((named.2, named.3), (number_fits c named.0, instant_fits t named.1))
-  reason_written (reason.Group c t) named = (tt, (number_fits c named.0, instant_fits t named.1))
-  reason_written (reason.SetLoad c t) named = (tt, (number_fits c named.0, instant_fits t named.1))
-  reason_written (reason.Power c t) named = (tt, (number_fits c named.0, instant_fits t named.1))
-  reason_written (reason.Usable t v n) named = ((named.1, named.2), instant_fits t named.0)
-  reason_written (reason.Hall c t set) named = (named.2, (number_fits c named.0, instant_fits t named.1))
-
-  step_written : (step : Step) → IsNamedStep p step → HasStep p step × StepFits step
-  step_written (Decide x side) named = let w = part_written p side named.1 in ((named.0, w.0), w.1)
-  step_written (Cut x side why) named =
-      let w = part_written p side named.1 in
-      let r = reason_written why named.2 in
-      ((named.0, w.0, r.0), (w.1, r.1))
-  step_written (Fail why) named = reason_written why named
-  step_written (Plan cost) named = (tt, named)
-  step_written Left named = (tt, tt)
+  step_written : (step : Step) → IsNamedStep p step → HasStep p step
+  step_written (Decide x side) named = named
+  step_written (Cut x side why) named = (named.0, named.1, named_reason p is why named.2)
+  step_written (Fail why) named = named_reason p is why named
+  step_written (Plan cost) named = named
+  step_written Left named = tt
 
   pub all_written : (steps : List Step) → AreNamedSteps p steps → AreWritable p steps
   all_written [] named = tt
-  all_written (step ∷ steps) named = let w = step_written step named.0 in (w.0, w.1, all_written steps named.1)
+  all_written (step ∷ steps) named = (step_written step named.0, all_written steps named.1)
 
   pub all_here : (steps : List Step) → AreNamedSteps p steps → map (named_step p) (map (step_text p) steps) ≡ map (λ step. Some step) steps
   all_here [] named = refl

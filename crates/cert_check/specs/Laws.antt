@@ -3,8 +3,6 @@ use Rattle.std.specs.Prelude.{◌≡◌, ℕ, ◌<◌, ◌^◌, Bool, true, List
 use Rattle.std.specs.List.{All}
 use Rattle.catalogue.specs.Instance.{Instance, IsInstance}
 use Rattle.slices.specs.Plans.{Choices}
-use Rattle.domains.specs.declared.parts.Part.{Part}
-use Rattle.domains.specs.declared.parts.Part.TheVariants.{Idle, Upto, From}
 use Rattle.reasons.specs.Start.{start_sets}
 use Rattle.trees.specs.declared.steps.Goal.{Goal}
 use Rattle.trees.specs.declared.steps.Step.{Step}
@@ -13,7 +11,7 @@ use Rattle.trees.specs.Trees.{Tree, steps_of}
 use Rattle.trees.specs.Goals.{decisions}
 use Rattle.trees.specs.Searching.{IsLean}
 use Rattle.trees.specs.Certificates.{IsCertificate, IsHandedIn, least_of}
-use Rattle.cert_text.specs.Spelling.{HasPlace, certificate_text}
+use Rattle.cert_text.specs.Spelling.{HasPart, certificate_text}
 use Rattle.cert_read.specs.Reader.{IsOutside}
 use Rattle.cert_check.specs.declared.verdict.CheckFault.{CheckFault}
 use Rattle.cert_check.specs.declared.verdict.CheckFault.TheVariants.{Line, Memory}
@@ -23,16 +21,10 @@ use Rattle.cert_check.specs.Verdicts.{CheckGives}
 
 -- ---- which trees can be written
 
--- the place of a part is the problem's, and its start fits 32 bits, as each instant of the code does
-abbrev pub IsWritablePart : Instance → Part → Type 0
-IsWritablePart p Idle = Unit {0}
-IsWritablePart p (Upto place start) = HasPlace p place × (start < 2 ^ 32)
-IsWritablePart p (From place start) = HasPlace p place × (start < 2 ^ 32)
-
--- so it is of the part of a step, if the step has one; all else that a step names is the problem's where the step holds
+-- the part of a step, if the step has one, can be written; so can all else that a step says, where the step holds
 abbrev pub HasWritablePart : Instance → Step → Type 0
-HasWritablePart p (Decide x part) = IsWritablePart p part
-HasWritablePart p (Cut x part reason) = IsWritablePart p part
+HasWritablePart p (Decide x part) = HasPart p part
+HasWritablePart p (Cut x part reason) = HasPart p part
 HasWritablePart p (Fail reason) = Unit {0}
 HasWritablePart p (Plan cost) = Unit {0}
 HasWritablePart p Left = Unit {0}

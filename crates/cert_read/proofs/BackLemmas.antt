@@ -78,13 +78,13 @@ after_header p is [] writable goal good file at goes_on later left =
     (after, turn_read file at (EndText goal) [] goes_on later good fits left, (after, turn_is_end file after refl ∙ nothing_left after (drop after.place file) (ap length (left_after file (text_of (EndText goal)) [] at.place left)), tt))
 after_header p is (s ∷ steps) writable goal good file at goes_on later left =
     let line = StepText (step_text p s) in
-    let fits = lines_fit.steps p is s writable.0 writable.1 in
+    let fits = lines_fit.steps p is s writable.0 in
     let rest = flat_map (step_line p) steps ++ end_line goal in
     let apart : drop at.place file ≡ text_of line ++ 10 ∷ rest = left ∙ append_assoc (text_of line ++ 10 ∷ []) (flat_map (step_line p) steps) (end_line goal) ∙ append_assoc (text_of line) (10 ∷ []) rest in
     let after = position_after at (length (text_of line)) false in (
       after,
-      turn_read file at line rest goes_on later (steps_are_lines p is s writable.0 writable.1) fits apart,
-      after_header p is steps writable.2 goal good file after refl (omega arith) (left_after file (text_of line) rest at.place apart),
+      turn_read file at line rest goes_on later (steps_are_lines p is s writable.0) fits apart,
+      after_header p is steps writable.1 goal good file after refl (omega arith) (left_after file (text_of line) rest at.place apart),
     )
 
 -- ---- the header

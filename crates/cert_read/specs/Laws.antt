@@ -3,7 +3,6 @@ use Rattle.std.specs.Prelude.{◌≡◌, ℕ, List, [], ◌∷◌, Ok}
 use Rattle.catalogue.specs.Instance.{Instance, IsInstance}
 use Rattle.trees.specs.declared.steps.Goal.{Goal}
 use Rattle.trees.specs.declared.steps.Step.{Step}
-use Rattle.cert_text.specs.Laws.{StepFits}
 use Rattle.cert_text.specs.Spelling.{HasStep, certificate_text, step_text}
 use Rattle.cert_text.specs.Texts.{IsGoal}
 use Rattle.cert_read.specs.declared.line.Line.{Line}
@@ -14,7 +13,7 @@ use Rattle.cert_read.specs.Lines.{start, turn}
 -- each of the steps can be written
 abbrev pub AreWritable : Instance → List Step → Type 0
 AreWritable p [] = Unit {0}
-AreWritable p (s ∷ steps) = HasStep p s × StepFits s × AreWritable p steps
+AreWritable p (s ∷ steps) = HasStep p s × AreWritable p steps
 
 -- what a certificate with these steps and this goal says, line by line after its header
 abbrev pub lines_of : Instance → List Step → Goal → List Line

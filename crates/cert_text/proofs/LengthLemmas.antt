@@ -15,7 +15,6 @@ use Rattle.trees.specs.declared.steps.Goal.TheVariants.{Optimal, Infeasible, Und
 use Rattle.trees.specs.declared.steps.Step.{Step}
 use Rattle.trees.specs.declared.steps.Step.TheVariants as step
 use Rattle.cert_text.specs.declared.text.LineText.TheVariants.{Step as StepLine, End}
-use Rattle.cert_text.specs.Laws.{StepFits}
 use Rattle.cert_text.specs.Spelling.{HasStep, element_name, has_all, node_numbers, nodes_text, part_text, reason_text, step_text}
 use Rattle.cert_text.specs.Texts.{IsGoal, goal_words, joined, line_words, nodes_words, part_words, reason_words, step_words}
 use Rattle.cert_text.proofs.SplitLemmas.{line_short}
@@ -71,9 +70,9 @@ goal_count (Optimal cost) = omega arith
 goal_count Infeasible = omega arith
 goal_count (Undecided count) = omega arith
 
-pub step_line_fits : (p : Instance) → IsInstance p → (s : Step) → HasStep p s → StepFits s → length (joined (line_words (StepLine (step_text p s)))) ≤ 65536
-step_line_fits p is s there fits =
-    let bytes = line_short (StepLine (step_text p s)) (step_line_is p is s there fits) in
+pub step_line_fits : (p : Instance) → IsInstance p → (s : Step) → HasStep p s → length (joined (line_words (StepLine (step_text p s)))) ≤ 65536
+step_line_fits p is s there =
+    let bytes = line_short (StepLine (step_text p s)) (step_line_is p is s there) in
     let words = step_count p is s in
     omega arith
 

@@ -1,4 +1,4 @@
--- The steps of a problem are lines.
+-- The steps of a problem are lines, where they can be written.
 use Rattle.std.proofs.Common.{◌≡◌, ◌≢◌, ◌∙◌, ℕ, zero, suc, ◌+◌, ◌<◌, ◌≤◌, Bool, true, false, List, [], length, map, refl, sym, ap, arith, inl, inr}
 use Rattle.std.proofs.lemmas.Bool.{and_from, cases_lt}
 use Rattle.std.specs.List.{filter, list_all, range_with_len}
@@ -13,15 +13,14 @@ use Rattle.catalogue.specs.Instance.{Instance, IsElement, IsInstance, inventory_
 use Rattle.slices.specs.Elements.{node, node_count, vm}
 use Rattle.domains.specs.declared.parts.Part.{Part}
 use Rattle.domains.specs.declared.parts.Part.TheVariants.{Idle, Upto, From}
-use Rattle.reasons.specs.Reasons.{AreListed}
+use Rattle.reasons.specs.Reasons.{AreListed, IsNamed}
 use Rattle.reasons.specs.declared.reason.Reason.{Reason}
 use Rattle.reasons.specs.declared.reason.Reason.TheVariants as reason
 use Rattle.trees.specs.declared.steps.Step.{Step}
 use Rattle.trees.specs.declared.steps.Step.TheVariants as step
 use Rattle.cert_text.specs.Kinds.{Word}
-use Rattle.cert_text.specs.Laws.{PartFits, ReasonFits, StepFits}
 use Rattle.cert_text.specs.Spelling.{HasPart, HasPlace, HasReason, HasStep, element_name, has_all, node_names, nodes_text, part_text, place_name, reason_text, resource_name, step_text}
-use Rattle.cert_text.specs.Texts.{AreNodes, IsName, IsPart, IsPlace, IsReason, IsStep}
+use Rattle.cert_text.specs.Texts.{AreNodes, IsName, IsNumber, IsPart, IsPlace, IsReason, IsStep}
 
 element_named : (p : Instance) → IsInstance p → (e : Element) → IsElement p e → IsName (element_name p e)
 element_named p is e there = is_name-name_of (inventory_of p) e is.inventory there
@@ -33,10 +32,10 @@ place_named : (p : Instance) → IsInstance p → (place : Place) → HasPlace p
 place_named p is Nowhere there = tt
 place_named p is (At n) there = element_named p is (node n.0) there
 
-part_line : (p : Instance) → IsInstance p → (part : Part) → HasPart p part → PartFits part → IsPart (part_text p part)
-part_line p is Idle there fits = tt
-part_line p is (Upto place start) there fits = (place_named p is place there, fits)
-part_line p is (From place start) there fits = (place_named p is place there, fits)
+part_line : (p : Instance) → IsInstance p → (part : Part) → HasPart p part → IsPart (part_text p part)
+part_line p is Idle there = tt
+part_line p is (Upto place start) there = (place_named p is place there.0, omega (arith, there.1))
+part_line p is (From place start) there = (place_named p is place there.0, omega (arith, there.1))
 
 -- ---- nodes
 
@@ -87,22 +86,43 @@ nodes_by p is set false few listed = rw few (listed_some p set listed few, names
 nodes_line : (p : Instance) → IsInstance p → (set : NodeSet) → AreListed p set → AreNodes (nodes_text p set)
 nodes_line p is set listed = nodes_by p is set (has_all p set) refl listed
 
-reason_line : (p : Instance) → IsInstance p → (r : Reason) → HasReason p r → ReasonFits r → IsReason (reason_text p r)
-reason_line p is (reason.Empty e) there fits = element_named p is e there
-reason_line p is reason.Bound there fits = tt
-reason_line p is (reason.Load t r set) there fits = (fits, resource_named p is r there.0, nodes_line p is set there.1)
-reason_line p is (reason.Pair c t v w n) there fits =
-    (fits.0, fits.1, element_named p is (vm v.0) there.0, element_named p is (vm w.0) there.1, element_named p is (node n.0) there.2)
-reason_line p is (reason.Place c t v n) there fits = (fits.0, fits.1, element_named p is (vm v.0) there.0, element_named p is (node n.0) there.1)
-reason_line p is (reason.Group c t) there fits = fits
-reason_line p is (reason.SetLoad c t) there fits = fits
-reason_line p is (reason.Power c t) there fits = fits
-reason_line p is (reason.Usable t v n) there fits = (fits, element_named p is (vm v.0) there.0, element_named p is (node n.0) there.1)
-reason_line p is (reason.Hall c t set) there fits = (fits.0, fits.1, nodes_line p is set there)
+reason_line : (p : Instance) → IsInstance p → (r : Reason) → HasReason p r → IsReason (reason_text p r)
+reason_line p is (reason.Empty e) there = element_named p is e there
+reason_line p is reason.Bound there = tt
+reason_line p is (reason.Load t r set) there = (there.0, resource_named p is r there.1, nodes_line p is set there.2)
+reason_line p is (reason.Pair c t v w n) there =
+    (there.0, there.1, element_named p is (vm v.0) there.2, element_named p is (vm w.0) there.3, element_named p is (node n.0) there.4)
+reason_line p is (reason.Place c t v n) there = (there.0, there.1, element_named p is (vm v.0) there.2, element_named p is (node n.0) there.3)
+reason_line p is (reason.Group c t) there = there
+reason_line p is (reason.SetLoad c t) there = there
+reason_line p is (reason.Power c t) there = there
+reason_line p is (reason.Usable t v n) there = (there.0, element_named p is (vm v.0) there.1, element_named p is (node n.0) there.2)
+reason_line p is (reason.Hall c t set) there = (there.0, there.1, nodes_line p is set there.2)
 
-pub step_line_is : (p : Instance) → IsInstance p → (s : Step) → HasStep p s → StepFits s → IsStep (step_text p s)
-step_line_is p is (step.Decide e part) there fits = (element_named p is e there.0, part_line p is part there.1 fits)
-step_line_is p is (step.Cut e part r) there fits = (element_named p is e there.0, part_line p is part there.1 fits.0, reason_line p is r there.2 fits.1)
-step_line_is p is (step.Fail r) there fits = reason_line p is r there fits
-step_line_is p is (step.Plan cost) there fits = fits
-step_line_is p is step.Left there fits = tt
+pub step_line_is : (p : Instance) → IsInstance p → (s : Step) → HasStep p s → IsStep (step_text p s)
+step_line_is p is (step.Decide e part) there = (element_named p is e there.0, part_line p is part there.1)
+step_line_is p is (step.Cut e part r) there = (element_named p is e there.0, part_line p is part there.1, reason_line p is r there.2)
+step_line_is p is (step.Fail r) there = reason_line p is r there
+step_line_is p is (step.Plan cost) there = there
+step_line_is p is step.Left there = tt
+
+-- ---- a reason that names what the instance has can be written
+
+module _ (p : Instance) (is : IsInstance p) where
+  number_fits : (c : ℕ) → c < length p.constraints → IsNumber c
+  number_fits c there = omega (arith, there, is.few)
+
+  instant_fits : (t : ℕ) → t ≤ p.horizon → IsNumber t
+  instant_fits t upto = omega (arith, upto, is.horizon)
+
+  pub named_reason : (r : Reason) → IsNamed p r → HasReason p r
+  named_reason (reason.Empty e) named = named
+  named_reason reason.Bound named = tt
+  named_reason (reason.Load t r set) named = (instant_fits t named.0, named.1, named.2)
+  named_reason (reason.Pair c t v w n) named = (number_fits c named.0, instant_fits t named.1, named.2, named.3, named.4)
+  named_reason (reason.Place c t v n) named = (number_fits c named.0, instant_fits t named.1, named.2, named.3)
+  named_reason (reason.Group c t) named = (number_fits c named.0, instant_fits t named.1)
+  named_reason (reason.SetLoad c t) named = (number_fits c named.0, instant_fits t named.1)
+  named_reason (reason.Power c t) named = (number_fits c named.0, instant_fits t named.1)
+  named_reason (reason.Usable t v n) named = (instant_fits t named.0, named.1, named.2)
+  named_reason (reason.Hall c t set) named = (number_fits c named.0, instant_fits t named.1, named.2)

@@ -2,18 +2,13 @@
 use Rattle.std.specs.Prelude.{◌≡◌, ℕ, ◌≤◌, List, length, Some}
 use Rattle.std.specs.List.{Contains}
 use Rattle.catalogue.specs.Instance.{Instance, IsInstance}
-use Rattle.domains.specs.declared.parts.Part.{Part}
-use Rattle.domains.specs.declared.parts.Part.TheVariants.{Idle, Upto, From}
-use Rattle.reasons.specs.declared.reason.Reason.{Reason}
-use Rattle.reasons.specs.declared.reason.Reason.TheVariants as reason
 use Rattle.trees.specs.declared.steps.Goal.{Goal}
 use Rattle.trees.specs.declared.steps.Step.{Step}
-use Rattle.trees.specs.declared.steps.Step.TheVariants as step
 use Rattle.cert_text.specs.declared.text.LineText.{LineText}
 use Rattle.cert_text.specs.declared.text.LineText.TheVariants.{Step as StepLine, End}
 use Rattle.cert_text.specs.Reading.{reading}
 use Rattle.cert_text.specs.Spelling.{HasStep, step_text}
-use Rattle.cert_text.specs.Texts.{IsGoal, IsLine, IsNumber, Spells, joined, line_words, max_line}
+use Rattle.cert_text.specs.Texts.{IsGoal, IsLine, Spells, joined, line_words, max_line}
 
 -- what is read is spelled, and what is spelled is read
 pub record ReadingsAreExact : Type 0 where
@@ -24,34 +19,9 @@ pub record ReadingsAreExact : Type 0 where
 abbrev pub LinesHaveOneReading : Type 0
 LinesHaveOneReading = (bytes : List ℕ) (one other : LineText) → Spells bytes one → Spells bytes other → one ≡ other
 
--- the numbers of a step fit 64 bits, as those of the code do
-abbrev pub PartFits : Part → Type 0
-PartFits Idle = Unit {0}
-PartFits (Upto place start) = IsNumber start
-PartFits (From place start) = IsNumber start
-
-abbrev pub ReasonFits : Reason → Type 0
-ReasonFits (reason.Empty e) = Unit {0}
-ReasonFits reason.Bound = Unit {0}
-ReasonFits (reason.Load t r set) = IsNumber t
-ReasonFits (reason.Pair c t v w n) = IsNumber c × IsNumber t
-ReasonFits (reason.Place c t v n) = IsNumber c × IsNumber t
-ReasonFits (reason.Group c t) = IsNumber c × IsNumber t
-ReasonFits (reason.SetLoad c t) = IsNumber c × IsNumber t
-ReasonFits (reason.Power c t) = IsNumber c × IsNumber t
-ReasonFits (reason.Usable t v n) = IsNumber t
-ReasonFits (reason.Hall c t set) = IsNumber c × IsNumber t
-
-abbrev pub StepFits : Step → Type 0
-StepFits (step.Decide e part) = PartFits part
-StepFits (step.Cut e part r) = PartFits part × ReasonFits r
-StepFits (step.Fail r) = ReasonFits r
-StepFits (step.Plan cost) = IsNumber cost
-StepFits step.Left = Unit {0}
-
 -- a step that can be written is a line
 abbrev pub StepsAreLines : Type 0
-StepsAreLines = (p : Instance) → IsInstance p → (s : Step) → HasStep p s → StepFits s → IsLine (StepLine (step_text p s))
+StepsAreLines = (p : Instance) → IsInstance p → (s : Step) → HasStep p s → IsLine (StepLine (step_text p s))
 
 -- no line has a newline in it
 abbrev pub LinesHaveNoNewline : Type 0
@@ -59,5 +29,5 @@ LinesHaveNoNewline = (line : LineText) → IsLine line → ¬ Contains (joined (
 
 -- the lines of steps that can be written, and of goals, have no more bytes than lines may have
 pub record LinesFit : Type 0 where
-  pub steps : (p : Instance) → IsInstance p → (s : Step) → HasStep p s → StepFits s → length (joined (line_words (StepLine (step_text p s)))) ≤ max_line
+  pub steps : (p : Instance) → IsInstance p → (s : Step) → HasStep p s → length (joined (line_words (StepLine (step_text p s)))) ≤ max_line
   pub goals : (goal : Goal) → IsGoal goal → length (joined (line_words (End goal))) ≤ max_line

@@ -1,5 +1,5 @@
 -- Which lines the steps of a problem are.
-use Rattle.std.specs.Prelude.{ℕ, ◌<◌, Bool, List, [], ◌++◌, length, map, slice_index_or, Option, Some, None, codes, if◌then◌else◌}
+use Rattle.std.specs.Prelude.{ℕ, ◌<◌, ◌^◌, Bool, List, [], ◌++◌, length, map, slice_index_or, Option, Some, None, codes, if◌then◌else◌}
 use Rattle.std.specs.List.{filter, flat_map, list_all, range_with_len}
 use Rattle.cluster.specs.Inventory.{name_of}
 use Rattle.cluster.specs.Sets.{has_node}
@@ -28,7 +28,7 @@ use Rattle.cert_text.specs.declared.text.ReasonText.TheVariants.{Empty, Bound, L
 use Rattle.cert_text.specs.declared.text.StepText.{StepText}
 use Rattle.cert_text.specs.declared.text.StepText.TheVariants.{Decide, Cut, Fail, Plan, Left}
 use Rattle.cert_text.specs.Kinds.{Word}
-use Rattle.cert_text.specs.Texts.{header, joined, line_words}
+use Rattle.cert_text.specs.Texts.{IsNumber, header, joined, line_words}
 
 -- ---- by names
 
@@ -97,33 +97,37 @@ end_line goal = joined (line_words (End goal)) ++ codes "\n"
 unfoldable pub certificate_text : Instance → List Step → Goal → List ℕ
 certificate_text p steps goal = header_line ++ flat_map (step_line p) steps ++ end_line goal
 
--- ---- which steps can be written: each element, machine, node and resource that they name is the problem's, and a set of nodes has one
--- of them unless there is none
+-- ---- which steps can be written: each element, machine, node and resource that they name is the problem's, a set of nodes has one of
+-- them unless there is none, and numbers fit those of the code
 
 abbrev pub HasPlace : Instance → Place → Type 0
 HasPlace p Nowhere = Unit {0}
 HasPlace p (At n) = n.0 < node_count p
 
+-- the start of a part, as each instant of the code, has 32 bits
+abbrev pub IsStart : ℕ → Type 0
+IsStart t = t < 2 ^ 32
+
 abbrev pub HasPart : Instance → Part → Type 0
 HasPart p IdlePart = Unit {0}
-HasPart p (UptoPart place start) = HasPlace p place
-HasPart p (FromPart place start) = HasPlace p place
+HasPart p (UptoPart place start) = HasPlace p place × IsStart start
+HasPart p (FromPart place start) = HasPlace p place × IsStart start
 
 abbrev pub HasReason : Instance → Reason → Type 0
 HasReason p (reason.Empty e) = IsElement p e
 HasReason p reason.Bound = Unit {0}
-HasReason p (reason.Load t r set) = (r < length p.resources) × AreListed p set
-HasReason p (reason.Pair c t v w n) = (v.0 < machine_count p) × (w.0 < machine_count p) × (n.0 < node_count p)
-HasReason p (reason.Place c t v n) = (v.0 < machine_count p) × (n.0 < node_count p)
-HasReason p (reason.Group c t) = Unit {0}
-HasReason p (reason.SetLoad c t) = Unit {0}
-HasReason p (reason.Power c t) = Unit {0}
-HasReason p (reason.Usable t v n) = (v.0 < machine_count p) × (n.0 < node_count p)
-HasReason p (reason.Hall c t set) = AreListed p set
+HasReason p (reason.Load t r set) = IsNumber t × (r < length p.resources) × AreListed p set
+HasReason p (reason.Pair c t v w n) = IsNumber c × IsNumber t × (v.0 < machine_count p) × (w.0 < machine_count p) × (n.0 < node_count p)
+HasReason p (reason.Place c t v n) = IsNumber c × IsNumber t × (v.0 < machine_count p) × (n.0 < node_count p)
+HasReason p (reason.Group c t) = IsNumber c × IsNumber t
+HasReason p (reason.SetLoad c t) = IsNumber c × IsNumber t
+HasReason p (reason.Power c t) = IsNumber c × IsNumber t
+HasReason p (reason.Usable t v n) = IsNumber t × (v.0 < machine_count p) × (n.0 < node_count p)
+HasReason p (reason.Hall c t set) = IsNumber c × IsNumber t × AreListed p set
 
 abbrev pub HasStep : Instance → Step → Type 0
 HasStep p (step.Decide e part) = IsElement p e × HasPart p part
 HasStep p (step.Cut e part r) = IsElement p e × HasPart p part × HasReason p r
 HasStep p (step.Fail r) = HasReason p r
-HasStep p (step.Plan cost) = Unit {0}
+HasStep p (step.Plan cost) = IsNumber cost
 HasStep p step.Left = Unit {0}

@@ -7,10 +7,15 @@ use Rattle.std.proofs.lemmas.List.{get_or_past}
 use Rattle.cluster.specs.declared.choices.Choice.{Choice}
 use Rattle.cluster.specs.declared.choices.Choice.TheVariants.{Idle, Act}
 use Rattle.cluster.specs.declared.choices.Place.{Place}
+use Rattle.cluster.specs.declared.choices.Place.TheVariants.{Nowhere, At}
+use Rattle.cluster.specs.declared.ids.NodeId.{NodeId}
 use Rattle.cluster.specs.declared.ids.Element.{Element}
 use Rattle.cluster.specs.declared.ids.Element.TheVariants.{Vm, Node as TheNode}
+use Rattle.cluster.specs.declared.ids.VmId.{VmId}
 use Rattle.catalogue.specs.Instance.{Instance, IsElement}
 use Rattle.slices.specs.Elements.{machine_count, node_count, node, vm}
+use Rattle.slices.specs.Holds.{IsMember}
+use Rattle.slices.specs.Stages.{one}
 use Rattle.slices.specs.Starts.{start_of}
 use Rattle.domains.specs.Choices.{DomainView, Climbs, choices, no_row, same_place, staying}
 use Rattle.domains.specs.declared.parts.Part.TheVariants.{From}
@@ -22,7 +27,8 @@ use Rattle.reasons.specs.Closed.{IsEnd}
 use Rattle.reasons.specs.Quiet.{AreOf, IsTurn}
 use Rattle.reasons.specs.Regions.{row_at}
 use Rattle.reasons.proofs.Public.{end_is_choice, ends_of_rows}
-use Rattle.relax.specs.Areas.{IsSized}
+use Rattle.relax.specs.Areas.{IsSized, goes_in}
+use Rattle.closing.specs.Watches.{is_among, only_of}
 use Rattle.closing.specs.Parts.{AreRowsPast, FailAtEnds, FailAtRows, IsEndThat, IsRowEndThat, PassOnlyAt, StartsPast}
 
 -- ---- tests at ends
@@ -83,6 +89,12 @@ fails_at_place P place cs only fail = record { ends = λ c end. by c end (at-pla
 pub end_at_place : (P : Choice → Type 0) (place : Place) (cs : List Choice) (c : Choice) → IsEndThat P (filter (in_part (From place 0)) cs) c → IsEndThat P cs c
 end_at_place P place cs c end = record { is_end = end-kept place cs c end.is_end; passes = end.passes }
 
+-- where a choice is not one at the place of a node, it does not go there
+pub goes_elsewhere : (n : NodeId) (c : Choice) → in_part (From (At n) 0) c ≡ false → goes_in c (one n.0) ≡ false
+goes_elsewhere n Idle out = refl
+goes_elsewhere n (Act Nowhere s) out = refl
+goes_elsewhere n (Act (At m) s) out = grind (arith, nat_tests)
+
 -- ---- instants
 
 past_at_rows : (d : DomainView) (a b : ℕ) → Climbs 0 d.rows → AreRowsPast a b (length d.rows) d.rows → StartsPast (choices d) a b
@@ -128,3 +140,14 @@ no_turn p g after next is last most machines nodes t later sooner (inr (inr x)) 
     at (Vm v) c end starts (inl there) = let le = (machines v.0 there).past c t end starts later in omega (arith, le, sooner)
     at (TheNode n) c end starts (inl there) = let le = (nodes n.0 there).past c t end starts later in omega (arith, le, sooner)
     at e c end starts (inr idle) = staying-never c t (rw idle at (end_is_choice (sets g e) c end)) starts
+
+-- of the machines of a list alone
+pub no_turn_of : (p : Instance) (g : RegionView) (vs : List VmId) (after next : ℕ) → (after < p.horizon → next ≤ p.horizon) → next ≤ p.horizon + 1 → ((v : ℕ) → IsMember vs v → StartsPast (sets g (vm v)) after next) → (t : ℕ) → after < t → t < next → ¬ IsTurn p (only_of vs (sets g)) t
+no_turn_of p g vs after next last most machines t later sooner (inl first) = omega (arith, first, later)
+no_turn_of p g vs after next last most machines t later sooner (inr (inl e)) = let le = last (omega (arith, e, later)) in omega (arith, le, e, sooner)
+no_turn_of p g vs after next last most machines t later sooner (inr (inr x)) = at x.element x.choice x.is_end x.starts (is_among vs x.element) refl
+  where
+    at : (e : Element) (c : Choice) → IsEnd (only_of vs (sets g) e) c → start_of c ≡ Some t → (b : Bool) → is_among vs e ≡ b → ⊥
+    at (Vm v) c end starts true seen = let le = (machines v.0 seen).past c t (rw seen at end) starts later in omega (arith, le, sooner)
+    at (TheNode n) c end starts true seen = false≢true seen
+    at e c end starts false out = staying-never c t (end_is_choice (Idle ∷ []) c (rw out at end)) starts

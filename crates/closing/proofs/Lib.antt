@@ -8,6 +8,7 @@ mod MostLemmas
 mod PairLemmas
 mod RuleLemmas
 mod SettingLemmas
+mod SomeLemmas
 mod StandLemmas
 mod SumLemmas
 mod UsableLemmas

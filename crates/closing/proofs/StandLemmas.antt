@@ -1,12 +1,15 @@
 -- Where a machine stands, by one of its choices.
-use Rattle.std.proofs.Common.{◌≡◌, inl, ℕ, ◌<◌, Bool, true, false, ◌&&◌, ◌||◌, List, [], length, slice_index_or, Option, Some, None, is_some, IsTrue, refl, sym, ap, ◌∙◌}
+use Rattle.std.proofs.Common.{◌≡◌, inl, ℕ, ◌<◌, Bool, true, false, ◌&&◌, ◌||◌, ◌==◌, List, [], length, slice_index_or, Option, Some, None, is_some, IsTrue, refl, sym, ap, ◌∙◌, arith}
 use Rattle.std.specs.List.{Contains}
-use Rattle.std.proofs.lemmas.Bool.{eq-eqb, or_left, or_right}
+use Rattle.std.proofs.lemmas.Bool.{eq-eqb, false≢true, or_left, or_right}
+use Rattle.std.proofs.lemmas.Bool.Decides.{nat_tests}
 use Rattle.cluster.specs.declared.choices.Choice.{Choice}
 use Rattle.cluster.specs.declared.choices.Choice.TheVariants.{Act}
+use Rattle.cluster.specs.declared.choices.Place.TheVariants.{At}
 use Rattle.cluster.specs.declared.ids.NodeId.{NodeId}
 use Rattle.catalogue.specs.Instance.{Instance}
-use Rattle.slices.specs.Elements.{vm}
+use Rattle.slices.specs.declared.slice.Weight.TheVariants.{Presence}
+use Rattle.slices.specs.Elements.{state_of, vm}
 use Rattle.slices.specs.Snapshots.{present_at}
 use Rattle.slices.specs.Stages.{one}
 use Rattle.domains.specs.Choices.{DomainView, Climbs, choices, no_row}
@@ -16,9 +19,14 @@ use Rattle.domains.proofs.Public.{surely_each}
 use Rattle.reasons.specs.Regions.{row_at}
 use Rattle.reasons.specs.Sure.{sure}
 use Rattle.reasons.proofs.Public.{end_is_choice, ends_of_rows}
+use Rattle.reasons.specs.Closed.{IsEnd}
+use Rattle.relax.specs.Areas.{goes_in, hosted_in}
+use Rattle.relax.proofs.Public.{away}
+use Rattle.closing.proofs.EndLemmas.{goes_elsewhere}
+use Rattle.closing.specs.Parts.{FailAtEnds, IsEndThat, PassOnlyAt}
 use Rattle.closing.specs.declared.stands.Stands.{Stands}
 use Rattle.closing.specs.declared.stands.Stands.TheVariants.{On}
-use Rattle.closing.specs.Stands.{AreWithin, IsWithin, has_node_of, is_node}
+use Rattle.closing.specs.Stands.{AreWithin, IsOn, IsWithin, has_node_of, is_node}
 
 -- the first start of the first row is a choice
 first-choice : (d : DomainView) → Climbs 0 d.rows → 0 < length d.rows → Contains (choices d) (Act (row_at d 0).place (row_at d 0).lo)
@@ -64,3 +72,36 @@ second_there nodes s a b is within h =
     let both = rw is at within in
     let w = node_there nodes b both.1 h in
     rw is (w.0, w.1, or_right (is_node a w.0) (is_node b w.0) w.2)
+
+-- ---- on a node under a choice
+
+is-this : (m k : ℕ) → IsTrue ((m == k) || false) → m ≡ k
+is-this m k h = grind (arith, nat_tests)
+
+first-of : (x : Bool) → IsTrue (x || false) → IsTrue x
+first-of true h = h
+first-of false h = h
+
+-- a machine that is hosted elsewhere is on the node only where it goes there
+pub on_only_at : (p : Instance) (v t : ℕ) (n : NodeId) → hosted_in (state_of p v) (one n.0) ≡ false → PassOnlyAt (At n) (IsOn p v (has_node_of (On (Some n) None)) t)
+on_only_at p v t n apart = record { elsewhere = λ c out h. by c (goes_elsewhere n c out) h.0 (is-this h.0 n.0 h.2) h.3 }
+  where
+    by : (c : Choice) → goes_in c (one n.0) ≡ false → (m : ℕ) → m ≡ n.0 → IsTrue (present_at p v (one m) t c) → ⊥
+    by c off m same h = false≢true (rw (same, away p v Presence (one n.0) t c apart off) at h)
+
+module _ (p : Instance) (v t : ℕ) (cs : List Choice) where
+  pub fail_on_none : FailAtEnds (IsOn p v (has_node_of (On None None)) t) cs
+  fail_on_none = record { ends = λ c end h. false≢true h.2 }
+
+  pub fail_on_both : (a b : Option NodeId) → FailAtEnds (IsOn p v (has_node_of (On a None)) t) cs → FailAtEnds (IsOn p v (has_node_of (On b None)) t) cs → FailAtEnds (IsOn p v (has_node_of (On a b)) t) cs
+  fail_on_both a b first second = record { ends = λ c end h. by c end h (is_node a h.0) refl }
+    where
+      by : (c : Choice) → IsEnd cs c → (h : IsOn p v (has_node_of (On a b)) t c) → (x : Bool) → is_node a h.0 ≡ x → ⊥
+      by c end h true e = first.ends c end (h.0, h.1, or_left (is_node a h.0) false e, h.3)
+      by c end h false e = second.ends c end (h.0, h.1, or_left (is_node b h.0) false (rw e at h.2), h.3)
+
+  pub end_on_first : (a b : Option NodeId) (c : Choice) → IsEndThat (IsOn p v (has_node_of (On a None)) t) cs c → IsEndThat (IsOn p v (has_node_of (On a b)) t) cs c
+  end_on_first a b c end = record { is_end = end.is_end; passes = let h = end.passes in (h.0, h.1, or_left (is_node a h.0) (is_node b h.0) (first-of (is_node a h.0) h.2), h.3) }
+
+  pub end_on_second : (a b : Option NodeId) (c : Choice) → IsEndThat (IsOn p v (has_node_of (On b None)) t) cs c → IsEndThat (IsOn p v (has_node_of (On a b)) t) cs c
+  end_on_second a b c end = record { is_end = end.is_end; passes = let h = end.passes in (h.0, h.1, or_right (is_node a h.0) (is_node b h.0) (first-of (is_node b h.0) h.2), h.3) }

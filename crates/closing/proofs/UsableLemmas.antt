@@ -1,10 +1,10 @@
 -- When a node is needed and not usable, with one element set.
-use Rattle.std.proofs.Common.{◌≡◌, ◌≢◌, ◌⊎◌, inl, inr, ℕ, ◌<◌, ◌||◌, Bool, false, List, [], ◌∷◌, nat_lt, IsTrue, refl, sym, ap, subst, ◌∙◌, arith}
+use Rattle.std.proofs.Common.{◌≡◌, ◌≢◌, ◌⊎◌, inl, inr, ℕ, ◌<◌, ◌||◌, Bool, true, false, List, [], ◌∷◌, nat_lt, IsTrue, refl, sym, ap, subst, ◌∙◌, arith}
 use Rattle.std.proofs.lemmas.Bool.{cases_eq, false≢true}
 use Rattle.std.proofs.lemmas.Bool.Decides.{nat_tests}
 use Rattle.cluster.specs.declared.choices.Choice.{Choice}
-use Rattle.cluster.specs.declared.choices.Choice.TheVariants.{Idle, Act}
-use Rattle.cluster.specs.declared.choices.Place.TheVariants.{Nowhere, At}
+use Rattle.cluster.specs.declared.choices.Choice.TheVariants.{Idle}
+use Rattle.cluster.specs.declared.choices.Place.TheVariants.{At}
 use Rattle.cluster.specs.declared.ids.VmId.{VmId}
 use Rattle.cluster.specs.declared.ids.NodeId.{NodeId}
 use Rattle.cluster.specs.declared.ids.Element.{Element}
@@ -14,8 +14,6 @@ use Rattle.slices.specs.declared.slice.Weight.TheVariants.{Image, Presence}
 use Rattle.slices.specs.Elements.{machine_count, node_count, node, state_of, vm}
 use Rattle.slices.specs.Snapshots.{Snapshot, held_at, stands_on, usable_at}
 use Rattle.slices.specs.Stages.{one}
-use Rattle.domains.specs.declared.parts.Part.TheVariants.{From}
-use Rattle.domains.specs.Parts.{in_part}
 use Rattle.domains.specs.Sets.{Sets, setting}
 use Rattle.domains.proofs.Public.{contains_one}
 use Rattle.std.specs.List.{Contains}
@@ -25,9 +23,10 @@ use Rattle.reasons.specs.Sure.{sure}
 use Rattle.reasons.proofs.Public.{end_is_choice, setting_sets}
 use Rattle.relax.specs.Areas.{goes_in, hosted_in}
 use Rattle.relax.proofs.Public.{away}
+use Rattle.closing.proofs.EndLemmas.{goes_elsewhere}
 use Rattle.closing.specs.Kinds.{IsNeeded}
 use Rattle.closing.specs.Looks.{IsFreeOf, IsMetWith}
-use Rattle.closing.specs.Parts.{FailAtEnds, IsEndThat, IsNotUsable, PassOnlyAt, StandsUnder}
+use Rattle.closing.specs.Parts.{FailAtEnds, IsEndThat, IsNotUsable, NoneAmong, PassOnlyAt, StandsUnder}
 
 either : (x y : ℕ) → IsTrue (nat_lt 0 x || nat_lt 0 y) → (0 < x) ⊎ (0 < y)
 either x y h =
@@ -57,16 +56,19 @@ other-node m n ne e = ne (let same : record { 0 = m } ≡ (let x : NodeId = reco
 
 -- a machine that is hosted elsewhere stands on the node only where it goes there
 pub stands_only_at : (p : Instance) (v t : ℕ) (n : NodeId) → hosted_in (state_of p v) (one n.0) ≡ false → PassOnlyAt (At n) (StandsUnder p v n.0 t)
-stands_only_at p v t n apart = record { elsewhere = λ c out h. by c (going c out) h }
+stands_only_at p v t n apart = record { elsewhere = λ c out h. by c (goes_elsewhere n c out) h }
   where
-    going : (c : Choice) → in_part (From (At n) 0) c ≡ false → goes_in c (one n.0) ≡ false
-    going Idle out = refl
-    going (Act Nowhere s) out = refl
-    going (Act (At m) s) out = grind (arith, nat_tests)
-
     by : (c : Choice) → goes_in c (one n.0) ≡ false → StandsUnder p v n.0 t c → ⊥
     by c off (inl h) = omega (arith, h, away p v Presence (one n.0) t c apart off)
     by c off (inr h) = omega (arith, h, away p v Image (one n.0) t c apart off)
+
+-- nor is any machine, whatever its host
+pub none_among : (p : Instance) (s : Sets) (n t count : ℕ) → NoneAmong p s n t false count → NoneAmong p s n t true count → (v : ℕ) → v < count → FailAtEnds (StandsUnder p v n t) (s (vm v))
+none_among p s n t count away here v h = by (hosted_in (state_of p v) (one n)) refl
+  where
+    by : (b : Bool) → hosted_in (state_of p v) (one n) ≡ b → FailAtEnds (StandsUnder p v n t) (s (vm v))
+    by false e = away.fail v h e
+    by true e = here.fail v h e
 
 module _ (p : Instance) (s : Sets) (n t : ℕ) where
   abbrev NoneStands : Type 0

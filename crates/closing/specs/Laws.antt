@@ -1,6 +1,7 @@
 -- Helping only: what looks say of closed regions.
-use Rattle.std.specs.Prelude.{◌↔◌, ℕ, ◌<◌, ◌≤◌, length}
+use Rattle.std.specs.Prelude.{◌↔◌, ℕ, ◌<◌, ◌≤◌, List, length}
 use Rattle.cluster.specs.declared.ids.Element.{Element}
+use Rattle.cluster.specs.declared.ids.VmId.{VmId}
 use Rattle.catalogue.specs.Instance.{Instance, IsElement}
 use Rattle.slices.specs.Elements.{node_count}
 use Rattle.slices.specs.Stages.{Nodes}
@@ -9,7 +10,7 @@ use Rattle.reasons.specs.Closed.{HaveChoices, IsClosed}
 use Rattle.reasons.specs.Quiet.{AreOf, IsTurn}
 use Rattle.closing.specs.Kinds.{constraint_watch, load_on, load_watch, total_load_watch, usable_watch}
 use Rattle.closing.specs.Looks.{IsClean, IsFreeOf, broken_at}
-use Rattle.closing.specs.Watches.{IsLocal, Watch}
+use Rattle.closing.specs.Watches.{IsLocal, SeesOnly, Watch, only_of}
 
 -- each watch looks at nothing past its scope, and what breaks it in a part breaks it in the whole
 abbrev pub LoadIsLocal : Type 0
@@ -26,6 +27,12 @@ abbrev pub TurnsAreEnough : Type 1
 TurnsAreEnough =
     (w : Watch) (p : Instance) (s : Sets) → IsLocal w → AreOf p s → ((t : ℕ) → t ≤ p.horizon → IsTurn p s t → IsFreeOf (broken_at w p t) p s t) →
     IsClean w p s
+
+-- where it looks at the machines of a list alone, their turns are enough
+abbrev pub TurnsOfSomeAreEnough : Type 1
+TurnsOfSomeAreEnough =
+    (w : Watch) (p : Instance) (s : Sets) (vs : List VmId) → IsLocal w → SeesOnly vs w.scope → AreOf p s →
+    ((t : ℕ) → t ≤ p.horizon → IsTurn p (only_of vs s) t → IsFreeOf (broken_at w p t) p s t) → IsClean w p s
 
 -- at an instant a watch is clean
 abbrev pub IsCleanAt : Watch → Instance → Sets → ℕ → Type 0

@@ -7,7 +7,7 @@ use Rattle.catalogue.specs.Instance.{Instance}
 use Rattle.catalogue.specs.Values.{capacity_of}
 use Rattle.slices.specs.declared.slice.Weight.{Weight}
 use Rattle.slices.specs.declared.slice.Weight.TheVariants.{Image, Presence}
-use Rattle.slices.specs.Elements.{node, vm}
+use Rattle.slices.specs.Elements.{node, state_of, vm}
 use Rattle.slices.specs.Snapshots.{held_at, powered_at, usable_at}
 use Rattle.slices.specs.Starts.{start_of}
 use Rattle.slices.specs.Stages.{Nodes, one}
@@ -18,6 +18,7 @@ use Rattle.domains.specs.Parts.{in_part}
 use Rattle.domains.specs.Sets.{Sets}
 use Rattle.reasons.specs.Closed.{IsEnd}
 use Rattle.reasons.specs.Sure.{sure}
+use Rattle.relax.specs.Areas.{hosted_in}
 
 -- ---- instants
 
@@ -99,6 +100,10 @@ pub record IsNodeMissed (p : Instance) (s : Sets) (r : ℕ) (set : Nodes) (t spa
 -- under the choice a machine is on the node or has its image there
 abbrev pub StandsUnder : Instance → ℕ → ℕ → ℕ → Choice → Type 0
 StandsUnder p v n t c = (0 < held_at p v Presence (one n) t c) ⊎ (0 < held_at p v Image (one n) t c)
+
+-- none of the first so many machines that have the node as their host, or of those that have not, is so at an end of its choices
+pub record NoneAmong (p : Instance) (s : Sets) (n t : ℕ) (hosted : Bool) (count : ℕ) : Type 0 where
+  pub fail : (v : ℕ) → v < count → hosted_in (state_of p v) (one n) ≡ hosted → FailAtEnds (StandsUnder p v n t) (s (vm v))
 
 -- under the choice the node is powered
 abbrev pub IsPoweredUnder : Instance → ℕ → ℕ → Choice → Type 0

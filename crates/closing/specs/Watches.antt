@@ -1,11 +1,15 @@
 -- Watches: single things that can be broken in what is sure, each with what it looks at.
-use Rattle.std.specs.Prelude.{ℕ, ◌≤◌, Bool, IsTrue}
+use Rattle.std.specs.Prelude.{◌≡◌, ℕ, ◌≤◌, Bool, false, List, [], ◌∷◌, IsTrue, if◌then◌else◌}
+use Rattle.cluster.specs.declared.choices.Choice.TheVariants.{Idle}
 use Rattle.cluster.specs.declared.ids.Element.{Element}
 use Rattle.cluster.specs.declared.ids.Element.TheVariants.{Vm, Node as TheNode}
+use Rattle.cluster.specs.declared.ids.VmId.{VmId}
+use Rattle.catalogue.specs.Faults.{is_member}
 use Rattle.slices.specs.declared.slice.Weight.{Weight}
 use Rattle.slices.specs.declared.stage.Progress.{Progress}
 use Rattle.slices.specs.Snapshots.{Snapshot}
 use Rattle.slices.specs.Stages.{Nodes}
+use Rattle.domains.specs.Sets.{Sets}
 
 -- what is looked at of a snapshot: what machines hold on sets of nodes, where they are, which nodes are usable and powered, how far actions are
 pub record Scope : Type 1 where
@@ -45,3 +49,18 @@ pub record IsNodeUnseen (k : Scope) (n : ℕ) : Type 0 where
 abbrev pub IsUnseen : Scope → Element → Type 0
 IsUnseen k (Vm v) = IsMachineUnseen k v.0
 IsUnseen k (TheNode n) = IsNodeUnseen k n.0
+
+-- ---- some machines alone
+
+-- whether an element is a machine of a list
+abbrev pub is_among : List VmId → Element → Bool
+is_among vs (Vm v) = is_member vs v.0
+is_among vs (TheNode n) = false
+
+-- nothing is looked at but of the machines of the list
+pub record SeesOnly (vs : List VmId) (k : Scope) : Type 0 where
+  pub unseen : (e : Element) → is_among vs e ≡ false → IsUnseen k e
+
+-- these machines have their choices, and each other element can only stay
+abbrev pub only_of : List VmId → Sets → Sets
+only_of vs s e = if is_among vs e then s e else Idle ∷ []

@@ -1,11 +1,14 @@
 //! A look at one instant at one constraint.
-ghost use Rattle.std.specs.Prelude.{◌≡◌, ◌<◌, ◌≤◌, length, true};
+ghost use Rattle.std.specs.Prelude.{◌≡◌, ◌<◌, ◌≤◌, IfSome, length, nat_lt, true};
+ghost use Rattle.std.specs.List.{list_all};
 ghost use Rattle.catalogue.specs.Faults.{is_rule};
 ghost use Rattle.catalogue.specs.Instance.{inventory_of};
+ghost use Rattle.slices.specs.Elements.{machine_count};
 ghost use Rattle.domains.specs.Sets.{sets};
 ghost use Rattle.relax.specs.Areas.{IsSized};
-ghost use Rattle.closing.specs.Kinds.{IsBroken, constraint_watch};
+ghost use Rattle.closing.specs.Kinds.{IsBroken, constraint_watch, scope_of};
 ghost use Rattle.closing.specs.Looks.{IsFound, broken_at};
+ghost use Rattle.closing.specs.Watches.{SeesOnly};
 
 use crate::capacities::{powered_found, presences_found, uses_found};
 use crate::groups::group_found;
@@ -15,6 +18,7 @@ use crate::places::placed_found;
 use catalogue::constraint::Constraint;
 use catalogue::problem::Problem;
 use cluster::choices::Instant;
+use cluster::ids::VmId;
 use domains::region::Region;
 
 // whether the constraint is broken, whether or not it is to hold at the instant
@@ -67,4 +71,36 @@ pub fn constraint_found(p: &Problem, g: &Region, c: u32, t: Instant) -> Look
         return Look::Clean;
     }
     rule_found(p, g, &p.constraints()[c as usize], t)
+}
+
+/// The machines of a constraint that looks at nothing but where they are, or how far their actions are.
+#[tactic(auto, using(crate::proofs::SomeLemmas::presences_see, crate::proofs::SomeLemmas::actions_see))]
+pub fn members<'a>(p: &Problem, constraint: &'a Constraint) -> Option<&'a [VmId]>
+    requires rule { is_rule (inventory_of p.now.given) constraint.now ≡ true }
+    ensures machines { IfSome result (λ vs. list_all (λ x. nat_lt x.0 (machine_count p.now.given)) vs.now ≡ true) }
+    ensures sees { IfSome result (λ vs. SeesOnly vs.now (scope_of constraint.now)) }
+{
+    match constraint {
+        Constraint::Spread { machines, .. }
+        | Constraint::Ban { machines, .. }
+        | Constraint::Fence { machines, .. }
+        | Constraint::Gather { machines, .. }
+        | Constraint::Among { machines, .. }
+        | Constraint::Root { machines }
+        | Constraint::Serialize { machines } => Some(machines.items()),
+        Constraint::Lonely { .. }
+        | Constraint::Split { .. }
+        | Constraint::Precedence { .. }
+        | Constraint::Preserve { .. }
+        | Constraint::ResourceCapacity { .. }
+        | Constraint::RunningCapacity { .. }
+        | Constraint::MaxOnline { .. }
+        | Constraint::Overbook { .. }
+        | Constraint::Online { .. }
+        | Constraint::Offline { .. }
+        | Constraint::Running { .. }
+        | Constraint::Sleeping { .. }
+        | Constraint::Ready { .. }
+        | Constraint::Killed { .. } => None,
+    }
 }

@@ -9,6 +9,7 @@ mod counts;
 mod each;
 mod ends;
 mod groups;
+mod hosts;
 mod loads;
 pub mod look;
 mod pairs;

@@ -1,5 +1,5 @@
 //! On which nodes a machine surely is.
-ghost use Rattle.std.specs.Prelude.{◌≡◌, ℕ, ◌<◌, ◌&&◌, [], IfNone, IfSome, IsTrue, false};
+ghost use Rattle.std.specs.Prelude.{◌≡◌, ℕ, ◌<◌, ◌&&◌, [], None, Some, IfNone, IfSome, IsTrue, false};
 ghost use Rattle.std.specs.List.{Contains};
 ghost use Rattle.slices.specs.Elements.{machine_count, node_count, vm};
 ghost use Rattle.slices.specs.Holdings.{IsHeldWithin, is_in};
@@ -9,12 +9,14 @@ ghost use Rattle.domains.specs.Sets.{sets};
 ghost use Rattle.reasons.specs.Sure.{sure};
 ghost use Rattle.relax.specs.Areas.{IsSized};
 ghost use Rattle.closing.specs.Parts.{FailAtEnds, IsEndThat};
+ghost use Rattle.closing.specs.declared.stands.Stands.{Stands as AnyStands};
 ghost use Rattle.closing.specs.Stands.{AreWithin, IsOn, IsWithin, has_node_of, is_node};
 
 use crate::counts::nodes_of;
-use crate::ends::{Test, end_that};
+use crate::ends::{Test, end_at, end_that};
+use crate::hosts::is_host;
 use catalogue::problem::Problem;
-use cluster::choices::{Choice, Instant};
+use cluster::choices::{Choice, Instant, Place};
 use cluster::ids::{Element, NodeId, VmId};
 use domains::domain::Domain;
 use domains::region::Region;
@@ -144,33 +146,72 @@ impl Test for IsBeside<'_> {
     }
 }
 
-// whether there is no node
-fn is_nowhere(stands: Stands) -> bool
-    ensures { IsTrue result → (n : ℕ) → has_node_of stands n ≡ false }
+// an end of a machine's choices under which it is on a node; where that is not its host, one row alone is looked at
+fn end_on_node(p: &Problem, g: &Region, v: VmId, n: NodeId, t: Instant) -> Option<Choice>
+    requires region { IsSized p.now.given g.now }
+    requires machine { v.0 < machine_count p.now.given }
+    ensures none { IfNone result (FailAtEnds (IsOn p.now.given v.0 (has_node_of (AnyStands.On (Some n) None)) t) (sets g.now (vm v.0))) }
+    ensures some { IfSome result (IsEndThat (IsOn p.now.given v.0 (has_node_of (AnyStands.On (Some n) None)) t) (sets g.now (vm v.0))) }
 {
-    match stands {
-        Stands::Everywhere => false,
-        Stands::On(a, b) => a.is_none() && b.is_none(),
+    let test = IsBeside {
+        problem: p,
+        machine: v,
+        stands: Stands::On(Some(n), None),
+        at: t,
+    };
+    let domain = g.domain(Element::Vm(v));
+    if is_host(p, v, n) {
+        end_that(domain, &test)
+    } else {
+        end_at(domain, Place::At(n), &test)
     }
 }
 
+// of a node, if there is one
+#[tactic(auto, using(crate::proofs::StandLemmas::fail_on_none))]
+fn end_on(p: &Problem, g: &Region, v: VmId, node: Option<NodeId>, t: Instant) -> Option<Choice>
+    requires region { IsSized p.now.given g.now }
+    requires machine { v.0 < machine_count p.now.given }
+    ensures none { IfNone result (FailAtEnds (IsOn p.now.given v.0 (has_node_of (AnyStands.On node None)) t) (sets g.now (vm v.0))) }
+    ensures some { IfSome result (IsEndThat (IsOn p.now.given v.0 (has_node_of (AnyStands.On node None)) t) (sets g.now (vm v.0))) }
+{
+    match node {
+        None => None,
+        Some(n) => end_on_node(p, g, v, n, t),
+    }
+}
+
+// an end of a machine's choices under which it is on any node
+fn end_anywhere(p: &Problem, g: &Region, v: VmId, t: Instant) -> Option<Choice>
+    requires region { IsSized p.now.given g.now }
+    requires machine { v.0 < machine_count p.now.given }
+    ensures none { IfNone result (FailAtEnds (IsOn p.now.given v.0 (has_node_of AnyStands.Everywhere) t) (sets g.now (vm v.0))) }
+    ensures some { IfSome result (IsEndThat (IsOn p.now.given v.0 (has_node_of AnyStands.Everywhere) t) (sets g.now (vm v.0))) }
+{
+    let test = IsBeside {
+        problem: p,
+        machine: v,
+        stands: Stands::Everywhere,
+        at: t,
+    };
+    end_that(g.domain(Element::Vm(v)), &test)
+}
+
 /// An end of a machine's choices under which it is on a node on which another one stands.
+#[tactic(auto, using(crate::proofs::StandLemmas::fail_on_both, crate::proofs::StandLemmas::end_on_first, crate::proofs::StandLemmas::end_on_second))]
 pub fn end_beside(p: &Problem, g: &Region, v: VmId, stands: Stands, t: Instant) -> Option<Choice>
     requires region { IsSized p.now.given g.now }
     requires machine { v.0 < machine_count p.now.given }
     ensures none { IfNone result (FailAtEnds (IsOn p.now.given v.0 (has_node_of stands) t) (sets g.now (vm v.0))) }
     ensures some { IfSome result (IsEndThat (IsOn p.now.given v.0 (has_node_of stands) t) (sets g.now (vm v.0))) }
 {
-    if is_nowhere(stands) {
-        return None;
+    match stands {
+        Stands::Everywhere => end_anywhere(p, g, v, t),
+        Stands::On(a, b) => match end_on(p, g, v, a, t) {
+            Some(c) => Some(c),
+            None => end_on(p, g, v, b, t),
+        },
     }
-    let test = IsBeside {
-        problem: p,
-        machine: v,
-        stands,
-        at: t,
-    };
-    end_that(g.domain(Element::Vm(v)), &test)
 }
 
 // whether another machine stands on a node, if there is one

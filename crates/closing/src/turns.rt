@@ -1,10 +1,12 @@
 //! The instants at which what is sure in a region can grow.
-ghost use Rattle.std.specs.Prelude.{◌≡◌, ℕ, ◌+◌, ◌<◌, ◌≤◌, length};
+ghost use Rattle.std.specs.Prelude.{◌≡◌, ℕ, ◌+◌, ◌<◌, ◌≤◌, length, nat_lt, true};
+ghost use Rattle.std.specs.List.{list_all};
 ghost use Rattle.slices.specs.Elements.{machine_count, node, node_count, vm};
 ghost use Rattle.domains.specs.Sets.{HasElement, sets};
 ghost use Rattle.reasons.specs.Quiet.{IsTurn};
 ghost use Rattle.relax.specs.Areas.{IsSized};
 ghost use Rattle.closing.specs.Parts.{AreRowsPast, IsNotBetween, StartsPast};
+ghost use Rattle.closing.specs.Watches.{only_of};
 
 use crate::counts::{machines_of, nodes_of};
 use catalogue::problem::Problem;
@@ -84,6 +86,23 @@ pub fn next_turn(p: &Problem, g: &Region, after: Instant) -> u64
     }
     for n in 0..nodes_of(p) {
         next = next_of_element(g, Element::Node(NodeId(n as u32)), after, next);
+    }
+    next
+}
+
+/// As `next_turn`, with the starts of these machines alone.
+pub fn next_turn_of(p: &Problem, g: &Region, machines: &[VmId], after: Instant) -> u64
+    requires region { IsSized p.now.given g.now }
+    requires machines { list_all (λ x. nat_lt x.0 (machine_count p.now.given)) machines.now ≡ true }
+    requires within { after ≤ p.now.given.horizon }
+    ensures later { after < result }
+    ensures most { result ≤ p.now.given.horizon + 1 }
+    ensures turns { (t : ℕ) → after < t → t < result → ¬ IsTurn p.now.given (only_of machines.now (sets g.now)) t }
+{
+    let last = last_turn(p, after);
+    let mut next = last;
+    for i in 0..machines.len() {
+        next = next_of_element(g, Element::Vm(machines[i]), after, next);
     }
     next
 }

@@ -2,24 +2,23 @@
 ghost use Rattle.std.specs.Prelude.{◌≡◌, ℕ, ◌<◌, ◌≤◌, false, [], ◌∷◌, IfNone, IfSome, IsTrue};
 ghost use Rattle.cluster.specs.declared.choices.Choice.TheVariants.{Idle};
 ghost use Rattle.catalogue.specs.Instance.{IsElement};
-ghost use Rattle.slices.specs.Elements.{machine_count, node, node_count, state_of, vm};
+ghost use Rattle.slices.specs.Elements.{machine_count, node, node_count, vm};
 ghost use Rattle.slices.specs.Snapshots.{stands_on};
-ghost use Rattle.slices.specs.Stages.{one};
 ghost use Rattle.domains.specs.Choices.{choices};
 ghost use Rattle.domains.specs.Sets.{sets};
 ghost use Rattle.reasons.specs.Sure.{sure};
-ghost use Rattle.relax.specs.Areas.{IsSized, hosted_in};
+ghost use Rattle.relax.specs.Areas.{IsSized};
 ghost use Rattle.closing.specs.Kinds.{IsNeeded};
 ghost use Rattle.closing.specs.Looks.{IsFound, IsFreeOf};
-ghost use Rattle.closing.specs.Parts.{FailAtEnds, IsEndThat, IsNotUsable, StandsUnder};
+ghost use Rattle.closing.specs.Parts.{FailAtEnds, IsEndThat, IsNotUsable, NoneAmong, StandsUnder};
 
 use crate::counts::machines_of;
 use crate::ends::{Test, end_at, end_that};
+use crate::hosts::is_host;
 use crate::look::Look;
 use catalogue::problem::Problem;
 use cluster::choices::{Choice, Instant, Place};
 use cluster::ids::{Element, NodeId, VmId};
-use cluster::states::State;
 use domains::domain::Domain;
 use domains::region::Region;
 use domains::view::{Lens, View};
@@ -103,24 +102,6 @@ fn is_needed(p: &Problem, g: &Region, n: NodeId, t: Instant) -> bool
     false
 }
 
-// whether a node is the host of a state
-fn is_host_in(state: State, n: NodeId) -> bool
-    ensures { result ≡ hosted_in state (one n.0) }
-{
-    match state {
-        State::Running(h) | State::Sleeping(h) => h.0 == n.0,
-        State::Init | State::Ready | State::Gone => false,
-    }
-}
-
-// whether a node is the host of a machine
-fn is_host(p: &Problem, v: VmId, n: NodeId) -> bool
-    requires { v.0 < machine_count p.now.given }
-    ensures { result ≡ hosted_in (state_of p.now.given v.0) (one n.0) }
-{
-    is_host_in(p.cluster().machines()[v.0 as usize].state, n)
-}
-
 // an end of a machine's choices under which it is on the node or has its image there
 fn end_on(p: &Problem, g: &Region, v: VmId, n: NodeId, t: Instant) -> Option<Choice>
     requires region { IsSized p.now.given g.now }
@@ -142,19 +123,39 @@ fn end_on(p: &Problem, g: &Region, v: VmId, n: NodeId, t: Instant) -> Option<Cho
     }
 }
 
-// a machine and such an end of its choices
+// of the machines that the node hosts, or of the others, one and such an end of its choices
+fn machine_among(
+    p: &Problem,
+    g: &Region,
+    n: NodeId,
+    t: Instant,
+    hosted: bool,
+) -> Option<(VmId, Choice)>
+    requires region { IsSized p.now.given g.now }
+    ensures none { IfNone result (NoneAmong p.now.given (sets g.now) n.0 t hosted (machine_count p.now.given)) }
+    ensures some { IfSome result (λ x. (x.0.0 < machine_count p.now.given) × IsEndThat (StandsUnder p.now.given x.0.0 n.0 t) (sets g.now (vm x.0.0)) x.1) }
+{
+    for i in 0..machines_of(p) {
+        let v = VmId(i as u32);
+        if is_host(p, v, n) == hosted {
+            if let Some(c) = end_on(p, g, v, n, t) {
+                return Some((v, c));
+            }
+        }
+    }
+    None
+}
+
+// a machine and such an end of its choices; those from elsewhere are tried first, of which one row is looked at
 fn machine_on(p: &Problem, g: &Region, n: NodeId, t: Instant) -> Option<(VmId, Choice)>
     requires region { IsSized p.now.given g.now }
     ensures none { IfNone result ((v : ℕ) → v < machine_count p.now.given → FailAtEnds (StandsUnder p.now.given v n.0 t) (sets g.now (vm v))) }
     ensures some { IfSome result (λ x. (x.0.0 < machine_count p.now.given) × IsEndThat (StandsUnder p.now.given x.0.0 n.0 t) (sets g.now (vm x.0.0)) x.1) }
 {
-    for i in 0..machines_of(p) {
-        let v = VmId(i as u32);
-        if let Some(c) = end_on(p, g, v, n, t) {
-            return Some((v, c));
-        }
+    match machine_among(p, g, n, t, false) {
+        Some((v, c)) => Some((v, c)),
+        None => machine_among(p, g, n, t, true),
     }
-    None
 }
 
 // of a node that may be usable

@@ -1,21 +1,22 @@
 //! Single things that can be broken, looked at over a region: at one instant, and at all.
-ghost use Rattle.std.specs.Prelude.{◌≡◌, ℕ, ◌+◌, ◌<◌, ◌≤◌, length};
+ghost use Rattle.std.specs.Prelude.{◌≡◌, ℕ, ◌+◌, ◌<◌, ◌≤◌, length, nat_lt, true};
+ghost use Rattle.std.specs.List.{list_all};
 ghost use Rattle.catalogue.specs.Instance.{Instance};
-ghost use Rattle.slices.specs.Elements.{node_count};
+ghost use Rattle.slices.specs.Elements.{machine_count, node_count};
 ghost use Rattle.domains.specs.Sets.{sets};
 ghost use Rattle.relax.specs.Areas.{IsSized};
 ghost use Rattle.closing.specs.Kinds.{constraint_watch, load_watch, total_load_watch, usable_watch};
 ghost use Rattle.closing.specs.Looks.{IsFound, IsLook, broken_at};
-ghost use Rattle.closing.specs.Watches.{IsLocal, Watch};
+ghost use Rattle.closing.specs.Watches.{IsLocal, SeesOnly, Watch};
 
-use crate::constraint::constraint_found;
+use crate::constraint::{constraint_found, members};
 use crate::loads::load_found;
 use crate::look::Look;
-use crate::turns::next_turn;
+use crate::turns::{next_turn, next_turn_of};
 use crate::usable::{stays_usable, usable_found};
 use catalogue::problem::Problem;
 use cluster::choices::Instant;
-use cluster::ids::NodeId;
+use cluster::ids::{NodeId, VmId};
 use domains::region::Region;
 use relax::area::Area;
 
@@ -110,6 +111,27 @@ pub fn look<W: Watched>(watched: &W, p: &Problem, g: &Region) -> Look
     Look::Clean
 }
 
+/// As `look`, at something that looks at these machines alone: their turns are enough.
+fn look_among<W: Watched>(watched: &W, p: &Problem, g: &Region, machines: &[VmId]) -> Look
+    requires region { IsSized p.now.given g.now }
+    requires ready { W.ready watched.now p.now.given }
+    requires local { IsLocal (W.watch watched.now p.now.given) }
+    requires machines { list_all (λ x. nat_lt x.0 (machine_count p.now.given)) machines.now ≡ true }
+    requires sees { SeesOnly machines.now (W.watch watched.now p.now.given).scope }
+    ensures { IsLook (W.watch watched.now p.now.given) p.now.given (sets g.now) result }
+{
+    let mut at = 0u64;
+    'instants: while at <= u64::from(p.horizon()) {
+        match watched.found(p, g, at as u32) {
+            Look::Clean => {}
+            Look::Fail(t) => return Look::Fail(t),
+            Look::Cut(e, c, t) => return Look::Cut(e, c, t),
+        }
+        at = next_turn_of(p, g, machines, at as u32);
+    }
+    Look::Clean
+}
+
 /// A look at the load of one node.
 pub fn look_at_load(p: &Problem, g: &Region, n: NodeId) -> Look
     requires region { IsSized p.now.given g.now }
@@ -144,6 +166,18 @@ pub fn look_at_usable(p: &Problem, g: &Region, n: NodeId) -> Look
     }
 }
 
+// a look at a constraint at all instants, or where it looks at some machines alone at their turns
+fn look_always(p: &Problem, g: &Region, c: u32) -> Look
+    requires region { IsSized p.now.given g.now }
+    requires constraint { c < length p.now.given.constraints }
+    ensures { IsLook (constraint_watch p.now.given c) p.now.given (sets g.now) result }
+{
+    match members(p, &p.constraints()[c as usize]) {
+        None => look(&OneConstraint(c), p, g),
+        Some(machines) => look_among(&OneConstraint(c), p, g, machines),
+    }
+}
+
 /// A look at the constraint of a number. One that is to hold at the horizon alone is looked at there alone.
 pub fn look_at_constraint(p: &Problem, g: &Region, c: u32) -> Look
     requires region { IsSized p.now.given g.now }
@@ -151,7 +185,7 @@ pub fn look_at_constraint(p: &Problem, g: &Region, c: u32) -> Look
     ensures { IsLook (constraint_watch p.now.given c) p.now.given (sets g.now) result }
 {
     if p.constraints()[c as usize].is_continuous() {
-        look(&OneConstraint(c), p, g)
+        look_always(p, g, c)
     } else {
         constraint_found(p, g, c, p.horizon())
     }

@@ -100,14 +100,21 @@ pub fn place_on(
     None
 }
 
-/// A machine that surely is on a node or surely has its image there, where the node is surely not usable.
+/// A machine that surely is on a node or surely has its image there, where the node is surely not usable. The
+/// machine that is set to a choice is tried first.
 pub fn machine_in_need(p: &Problem, view: &View, n: NodeId, t: Instant) -> Option<VmId>
     requires region { IsSized p.now.given view.now.region.now }
     requires node { n.0 < node_count p.now.given }
     ensures none { IfNone result (¬ IsNeeded p.now.given n.0 (sure p.now.given (seen view.now.region.now view.now.lens) t)) }
     ensures some { IfSome result (λ v. (v.0 < machine_count p.now.given) × IsUnusable (sure p.now.given (seen view.now.region.now view.now.lens) t) v.0 n.0) }
 {
-    for i in 0..p.cluster().machines().len() {
+    let machines = p.cluster().machines().len();
+    if let Lens::Set(Element::Vm(v), _) = view.lens {
+        if (v.0 as usize) < machines && is_unusable(p, view, v, n, t) {
+            return Some(v);
+        }
+    }
+    for i in 0..machines {
         let v = VmId(i as u32);
         if is_unusable(p, view, v, n, t) {
             return Some(v);

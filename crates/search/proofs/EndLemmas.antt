@@ -1,6 +1,6 @@
 -- From the steps of a search that is done to its tree, and from the tree to what is so of all plans.
 use Rattle.std.proofs.Common.{◌≡◌, inl, inr, ℕ, ◌≤◌, Bool, true, false, List, [], refl, sym, ap, subst, ◌∙◌, arith, Option, Some, None, is_some}
-use Rattle.std.specs.Prelude.{IfSome}
+use Rattle.std.specs.Prelude.{All, IfSome}
 use Rattle.std.specs.Option.{IsSomeAnd}
 use Rattle.sums.specs.Least.{lowest}
 use Rattle.catalogue.specs.Instance.{Instance, IsInstance}
@@ -18,6 +18,7 @@ use Rattle.trees.specs.Proving.{Proves}
 use Rattle.trees.specs.Searching.{IsPlanFound, WasSearched, plan_costs, plan_set, plan_sets}
 use Rattle.trees.specs.Certificates.{IsHandedIn, bound_of, least_of}
 use Rattle.trees.proofs.Public.{IsOneTree, certificates_hold, cheapest_is_low, found_is_lean, found_is_searched, found_proves, gathered_whole, lean_trees_fit, least_is_shown, plans_found_hold, tree_of}
+use Rattle.cert_text.specs.Spelling.{HasStep}
 use Rattle.search.specs.declared.counts.Best.{Best}
 use Rattle.search.specs.declared.counts.Counts.{Counts}
 use Rattle.search.specs.declared.found.Found.{Found}
@@ -106,6 +107,7 @@ module _ (p : Instance) (budget : ℕ) (k : Counts) (steps : List Step) (u : Und
             found = subst (λ q. IsPlanFound (choices_in q) (plan_sets (start_sets p) one.tree)) plan leaves_are;
           });
           within = subst (λ n. n ≤ budget) (u.spent ∙ ap decisions one.same) u.within;
+          writable = subst (All (HasStep p)) one.same u.writable;
         };
       }
 

@@ -16,6 +16,8 @@ use Rattle.trees.specs.Trees.{inside, outside}
 use Rattle.trees.specs.Proving.{IsSplit}
 use Rattle.trees.specs.Searching.{IsUndecided, plan_costs}
 use Rattle.trees.proofs.Public.{IsAbove, above_cheapest}
+use Rattle.cert_text.specs.Spelling.{HasStep}
+use Rattle.cert_text.specs.Texts.{IsNumber}
 use Rattle.prop_core.specs.Lists.{Pairs}
 use Rattle.prop_core.specs.Propagators.{Meaning, SameRule}
 use Rattle.prop_core.proofs.Public.{Rise-trans}
@@ -41,9 +43,9 @@ undecided_of p budget k g e rest sized clear free u = record {
 }
 
 module _ (p : Instance) (budget : ℕ) (tells : Bool) (k l : Counts) (old new : List ℕ) (g : RegionView) (sum : ℕ) (is : sum ≡ least_cost p (sets g)) (clear : IsClear p k.best (sets g)) where
-  pub leaf_plan : IsInstance p → (plan : PlanChoices) → IsPlanOf p plan → IsOnly (sets g) (choices_of plan) → l ≡ record { spent = k.spent; best = Some (record { plan = plan; cost = sum }); least = k.least } →
+  pub leaf_plan : IsInstance p → IsNumber sum → (plan : PlanChoices) → IsPlanOf p plan → IsOnly (sets g) (choices_of plan) → l ≡ record { spent = k.spent; best = Some (record { plan = plan; cost = sum }); least = k.least } →
       (IsTrue tells → new ≡ old ++ lines p (Plan sum ∷ [])) → IsLeaf p budget tells k l old new (sets g)
-  leaf_plan sound plan whole only now text =
+  leaf_plan sound number plan whole only now text =
       let costs : least_cost p (sets g) ≡ _ = only_costs p (sets g) (choices_of plan) only in
       let best : Best = record { plan = plan; cost = sum } in
       record {
@@ -51,7 +53,7 @@ module _ (p : Instance) (budget : ℕ) (tells : Bool) (k l : Counts) (old new : 
         text = text;
         given = refl;
         runs = λ e rest u. step_plan p budget k e (sets g) rest u l best
-            (record { plan = choices_of plan; only = only; valid = (only_closed p sound (sets g) (choices_of plan) only).0 clear.closed; costs = sym costs ∙ sym is }) only
+            (record { plan = choices_of plan; only = only; valid = (only_closed p sound (sets g) (choices_of plan) only).0 clear.closed; costs = sym costs ∙ sym is }) number only
             (record { whole = whole; costs = is ∙ costs }) (subst (λ n. IfSome (cost_kept k.best) (λ known. n < known)) (sym is) clear.below)
             (ap (λ (c : Counts). c.spent) now) (ap (λ (c : Counts). c.best) now) (ap (λ (c : Counts). c.least) now);
       }
@@ -67,12 +69,12 @@ module _ (p : Instance) (budget : ℕ) (tells : Bool) (k l : Counts) (old new : 
   }
 
 -- a split
-pub split_works : {B : Type 0} (m : B → Meaning) (p : Instance) (tells : Bool) (k l : Counts) (old new : List ℕ) (xs ys zs : List B) (g : RegionView) (x : Element) (part : Part) → IsSized p g → IsClear p k.best (sets g) → ¬ IsFixed g → IsSplit p (sets g) x part →
+pub split_works : {B : Type 0} (m : B → Meaning) (p : Instance) (tells : Bool) (k l : Counts) (old new : List ℕ) (xs ys zs : List B) (g : RegionView) (x : Element) (part : Part) → IsSized p g → IsClear p k.best (sets g) → ¬ IsFixed g → IsSplit p (sets g) x part → HasStep p (Decide x part) →
     l ≡ record { spent = k.spent + 1; best = k.best; least = k.least } → (IsTrue tells → new ≡ old ++ lines p (Decide x part ∷ [])) → Pairs m SameRule xs ys → Pairs m SameRule ys zs → (budget : ℕ) → k.spent < budget →
     Works m p budget tells k l old new xs zs (sets g) (inside x part (sets g) ∷ outside x part (sets g) ∷ [])
-split_works m p tells k l old new xs ys zs g x part sized clear free split now text r q budget room = record {
+split_works m p tells k l old new xs ys zs g x part sized clear free split named now text r q budget room = record {
   more = Decide x part ∷ [];
   text = text;
   given = rise_less m (0 + 0) 0 xs zs (omega arith) (Rise-trans m 0 0 xs ys zs r.count q.count (rise_rule m xs ys r) (rise_rule m ys zs q));
-  runs = λ e rest u. step_decide p budget k e (sets g) rest u l x part split (undecided_of p budget k g e rest sized clear free u) room (ap (λ (c : Counts). c.spent) now) (ap (λ (c : Counts). c.best) now) (ap (λ (c : Counts). c.least) now);
+  runs = λ e rest u. step_decide p budget k e (sets g) rest u l x part split named (undecided_of p budget k g e rest sized clear free u) room (ap (λ (c : Counts). c.spent) now) (ap (λ (c : Counts). c.best) now) (ap (λ (c : Counts). c.least) now);
 }

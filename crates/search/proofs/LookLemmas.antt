@@ -3,7 +3,7 @@ use Rattle.std.proofs.Common.{◌≡◌, ◌≢◌, ℕ, ◌+◌, ◌<◌, ◌�
 use Rattle.std.specs.Prelude.{IfSome}
 use Rattle.std.specs.Option.{IsSomeAnd}
 use Rattle.cluster.specs.declared.ids.Element.{Element}
-use Rattle.catalogue.specs.Instance.{Instance}
+use Rattle.catalogue.specs.Instance.{Instance, IsInstance}
 use Rattle.sums.specs.Least.{lowest}
 use Rattle.domains.specs.declared.parts.Part.{Part}
 use Rattle.domains.specs.Sets.{Sets}
@@ -16,6 +16,8 @@ use Rattle.trees.specs.declared.steps.Step.TheVariants.{Cut, Fail}
 use Rattle.trees.specs.Trees.{outside}
 use Rattle.trees.specs.Searching.{SomeUpto, plan_costs}
 use Rattle.trees.proofs.Public.{upto_cheapest}
+use Rattle.cert_text.specs.Spelling.{HasStep}
+use Rattle.cert_text.proofs.Public.{named_reason}
 use Rattle.prop_core.specs.Lists.{Covered, Pairs, Rise}
 use Rattle.prop_core.specs.Propagators.{AllQuiet, CutHolds, FailHolds, IsAsked, Meaning, SameRule}
 use Rattle.prop_core.proofs.Public.{closed_when_quiet, covered_after, Rise-trans}
@@ -46,44 +48,44 @@ module _ {B : Type 0} (m : B → Meaning) (p : Instance) (tells : Bool) (k : Cou
     runs = λ e rest u. step_fail p budget k e s rest u Bound (record {
       met = λ _. met_upto k.best sum (least_cost p s) (plan_costs e) u.best.cheapest is reached;
       refuted = λ other. absurd (other refl);
-    });
+    }) tt;
   }
 
   -- a propagator's fail
-  pub look_fail : (reason : Reason) → FailHolds p s reason → (IsTrue tells → new ≡ old ++ lines p (Fail reason ∷ [])) → Rise m 1 xs ys → (budget : ℕ) → Works m p budget tells k k old new xs ys s []
-  look_fail reason holds text rise budget = record {
+  pub look_fail : IsInstance p → (reason : Reason) → FailHolds p s reason → (IsTrue tells → new ≡ old ++ lines p (Fail reason ∷ [])) → Rise m 1 xs ys → (budget : ℕ) → Works m p budget tells k k old new xs ys s []
+  look_fail sound reason holds text rise budget = record {
     more = Fail reason ∷ [];
     text = text;
     given = rise_less m 1 (by_rule reason + 0) xs ys (let l = by_rule_once reason in omega arith) rise;
     runs = λ e rest u. step_fail p budget k e s rest u reason (record {
       met = λ same. absurd (not_bound p s reason holds.refuted same);
       refuted = λ _. holds.refuted;
-    });
+    }) (named_reason p sound reason holds.refuted.named);
   }
 
   -- a propagator's cut
-  pub look_cut : (x : Element) (part : Part) (reason : Reason) (t : Sets) → CutHolds p s x part reason → t ≡ outside x part s → (IsTrue tells → new ≡ old ++ lines p (cut_steps true x part reason)) → Rise m 1 xs ys → (budget : ℕ) → Works m p budget tells k k old new xs ys s (t ∷ [])
-  look_cut x part reason t holds is text rise budget = record {
+  pub look_cut : (x : Element) (part : Part) (reason : Reason) (t : Sets) → CutHolds p s x part reason → HasStep p (Cut x part reason) → t ≡ outside x part s → (IsTrue tells → new ≡ old ++ lines p (cut_steps true x part reason)) → Rise m 1 xs ys → (budget : ℕ) → Works m p budget tells k k old new xs ys s (t ∷ [])
+  look_cut x part reason t holds named is text rise budget = record {
     more = Cut x part reason ∷ [];
     text = text;
     given = rise;
-    runs = λ e rest u. subst (λ (r : Sets). Underway p budget k (e ++ Cut x part reason ∷ []) (r ∷ rest)) (sym is) (step_cut p budget k e s rest u x part reason (record { element = holds.exists; refuted = holds.refuted }));
+    runs = λ e rest u. subst (λ (r : Sets). Underway p budget k (e ++ Cut x part reason ∷ []) (r ∷ rest)) (sym is) (step_cut p budget k e s rest u x part reason (record { element = holds.exists; refuted = holds.refuted }) named);
   }
 
   -- and one that leaves no choice
-  pub look_empty : (x : Element) (part : Part) (reason : Reason) (t : Sets) → CutHolds p s x part reason → t ≡ outside x part s → t x ≡ [] → (IsTrue tells → new ≡ old ++ lines p (cut_steps false x part reason)) → Rise m 1 xs ys → (budget : ℕ) → Works m p budget tells k k old new xs ys s []
-  look_empty x part reason t holds is none text rise budget = record {
+  pub look_empty : (x : Element) (part : Part) (reason : Reason) (t : Sets) → CutHolds p s x part reason → HasStep p (Cut x part reason) → t ≡ outside x part s → t x ≡ [] → (IsTrue tells → new ≡ old ++ lines p (cut_steps false x part reason)) → Rise m 1 xs ys → (budget : ℕ) → Works m p budget tells k k old new xs ys s []
+  look_empty x part reason t holds named is none text rise budget = record {
     more = Cut x part reason ∷ Fail (Empty x) ∷ [];
     text = text;
     given = rise;
     runs = λ e rest u.
-        let cut = step_cut p budget k e s rest u x part reason (record { element = holds.exists; refuted = holds.refuted }) in
+        let cut = step_cut p budget k e s rest u x part reason (record { element = holds.exists; refuted = holds.refuted }) named in
         let gone : outside x part s x ≡ [] = ap (λ (r : Sets). r x) (sym is) ∙ none in
         subst (λ a. Underway p budget k a rest) (append_assoc e (Cut x part reason ∷ []) (Fail (Empty x) ∷ []))
         (step_fail p budget k (e ++ Cut x part reason ∷ []) (outside x part s) rest cut (Empty x) (record {
           met = λ same. absurd (cc);
           refuted = λ _. record { named = holds.exists; says = gone };
-        }));
+        }) holds.exists);
   }
 
 -- all are quiet

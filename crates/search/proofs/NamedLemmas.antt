@@ -1,4 +1,4 @@
--- What a step names is the problem's.
+-- The steps of a search can be written.
 use Rattle.std.proofs.Common.{◌≡◌, ◌≢◌, ℕ, ◌+◌, Bool, true, false, ◌&&◌, nat_lt, nat_le, List, [], ◌∷◌, Option, None, is_some, refl, subst, arith, if◌then◌else◌}
 use Rattle.std.specs.List.{Contains, filter}
 use Rattle.std.proofs.lemmas.Bool.Decides.{nat_tests, Decides-eqb}
@@ -13,7 +13,7 @@ use Rattle.cluster.specs.declared.kinds.Kind.{Kind}
 use Rattle.cluster.specs.Inventory.{is_online}
 use Rattle.catalogue.specs.declared.targets.Wish.{Wish}
 use Rattle.catalogue.specs.declared.targets.Wish.TheVariants.{Keep, To, Clash}
-use Rattle.catalogue.specs.Instance.{Instance}
+use Rattle.catalogue.specs.Instance.{Instance, IsInstance}
 use Rattle.catalogue.specs.Values.{wanted_of}
 use Rattle.slices.specs.Actions.{is_legal, is_raised, kind_of, machine_kind, node_kind, wanted_state}
 use Rattle.slices.specs.Elements.{node_count, state_of}
@@ -21,29 +21,15 @@ use Rattle.domains.specs.declared.parts.Part.{Part}
 use Rattle.domains.specs.declared.parts.Part.TheVariants as part
 use Rattle.domains.specs.Choices.{same_place}
 use Rattle.domains.specs.Parts.{in_part}
-use Rattle.domains.specs.Sets.{Sets, keeping}
+use Rattle.domains.specs.Sets.{Sets}
 use Rattle.domains.proofs.Public.{contains_here, filter_contains}
 use Rattle.reasons.specs.declared.reason.Reason.{Reason}
-use Rattle.reasons.specs.declared.reason.Reason.TheVariants.{Empty, Bound, Load, Pair, Place as AtPlace, Group, SetLoad, Power, Usable, Hall}
-use Rattle.reasons.specs.Reasons.{Refutes}
 use Rattle.relax.specs.Areas.{AreLegal}
 use Rattle.trees.specs.declared.steps.Step.TheVariants.{Cut, Decide}
 use Rattle.trees.specs.Proving.{IsSplit}
-use Rattle.cert_text.specs.Spelling.{HasPart, HasPlace, HasReason, HasStep}
+use Rattle.cert_text.specs.Spelling.{HasPart, HasPlace, HasStep, IsStart}
+use Rattle.cert_text.proofs.Public.{named_reason}
 use Rattle.prop_core.specs.Propagators.{CutHolds}
-
--- all that a reason names is there where it refutes
-pub has_reason : (p : Instance) (bound : Option ℕ) (s : Sets) (reason : Reason) → Refutes p bound s reason → HasReason p reason
-has_reason p bound s (Empty e) r = r.named
-has_reason p bound s Bound r = tt
-has_reason p bound s (Load t n set) r = (r.named.1, r.named.2)
-has_reason p bound s (Pair c t v w n) r = (r.named.2, r.named.3, r.named.4)
-has_reason p bound s (AtPlace c t v n) r = (r.named.2, r.named.3)
-has_reason p bound s (Group c t) r = tt
-has_reason p bound s (SetLoad c t) r = tt
-has_reason p bound s (Power c t) r = tt
-has_reason p bound s (Usable t v n) r = (r.named.1, r.named.2)
-has_reason p bound s (Hall c t set) r = r.named.2
 
 -- ---- the place of a legal choice
 
@@ -79,24 +65,30 @@ same_has p q Nowhere same has = tt
 same_has p Nowhere (At n) same has = let e : 0 ≡ n.0 + 1 = (Decides-eqb 0 (n.0 + 1)).0 same in absurd (omega arith)
 same_has p (At m) (At n) same has = let e : m.0 + 1 ≡ n.0 + 1 = (Decides-eqb (m.0 + 1) (n.0 + 1)).0 same in omega (arith, has, e)
 
+-- the start of a part, if it has one, is one that the code can hold
+abbrev pub StartFits : Part → Type 0
+StartFits part.Idle = Unit {0}
+StartFits (part.Upto place start) = IsStart start
+StartFits (part.From place start) = IsStart start
+
 -- a part that holds a legal choice names a place of the problem
-pub has_part : (p : Instance) (e : Element) (part : Part) (c : Choice) → is_legal p e c ≡ true → in_part part c ≡ true → HasPart p part
-has_part p e part.Idle c legal held = tt
-has_part p e (part.Upto place start) Idle legal held = absurd (cc)
-has_part p e (part.Upto place start) (Act q s) legal held = same_has p q place (both_true (same_place q place) (nat_le s start) held).0 (legal_place p e q s legal)
-has_part p e (part.From place start) Idle legal held = absurd (cc)
-has_part p e (part.From place start) (Act q s) legal held = same_has p q place (both_true (same_place q place) (nat_le start s) held).0 (legal_place p e q s legal)
+has_part : (p : Instance) (e : Element) (part : Part) (c : Choice) → is_legal p e c ≡ true → in_part part c ≡ true → StartFits part → HasPart p part
+has_part p e part.Idle c legal held fits = tt
+has_part p e (part.Upto place start) Idle legal held fits = absurd (cc)
+has_part p e (part.Upto place start) (Act q s) legal held fits = (same_has p q place (both_true (same_place q place) (nat_le s start) held).0 (legal_place p e q s legal), fits)
+has_part p e (part.From place start) Idle legal held fits = absurd (cc)
+has_part p e (part.From place start) (Act q s) legal held fits = (same_has p q place (both_true (same_place q place) (nat_le start s) held).0 (legal_place p e q s legal), fits)
 
 some_choice : (cs : List Choice) → cs ≢ [] → (c : Choice) × Contains cs c
 some_choice [] some = absurd (some refl)
 some_choice (c ∷ cs) some = (c, contains_here c cs)
 
-pub split_named : (p : Instance) (s : Sets) (x : Element) (part : Part) → AreLegal p s → IsSplit p s x part → HasStep p (Decide x part)
-split_named p s x part legal split =
+pub split_named : (p : Instance) (s : Sets) (x : Element) (part : Part) → AreLegal p s → IsSplit p s x part → StartFits part → HasStep p (Decide x part)
+split_named p s x part legal split fits =
     let one = some_choice (filter (in_part part) (s x)) split.some_inside in
     let held = filter_contains (in_part part) (s x) one.0 one.1 in
-    (split.element, has_part p x part one.0 (legal x split.element one.0 held.0) held.1)
+    (split.element, has_part p x part one.0 (legal x split.element one.0 held.0) held.1 fits)
 
-pub cut_named : (p : Instance) (s : Sets) (x : Element) (part : Part) (reason : Reason) → AreLegal p s → CutHolds p s x part reason → HasStep p (Cut x part reason)
-cut_named p s x part reason legal holds =
-    (holds.exists, has_part p x part holds.held.0 (legal x holds.exists holds.held.0 holds.held.1) holds.held.2, has_reason p None (keeping x (in_part part) s) reason holds.refuted)
+pub cut_named : (p : Instance) → IsInstance p → (s : Sets) (x : Element) (part : Part) (reason : Reason) → AreLegal p s → CutHolds p s x part reason → StartFits part → HasStep p (Cut x part reason)
+cut_named p sound s x part reason legal holds fits =
+    (holds.exists, has_part p x part holds.held.0 (legal x holds.exists holds.held.0 holds.held.1) holds.held.2 fits, named_reason p sound reason holds.refuted.named)

@@ -2,6 +2,7 @@
 use mathlib.Core.Path.{fun_ext}
 use Rattle.std.proofs.Common.{◌≡◌, ℕ, ◌+◌, ◌-◌, Bool, List, [], ◌∷◌, ◌++◌, take, drop, length, refl, sym, ap, subst, ◌∙◌, arith, inr, Option, Some}
 use Rattle.std.specs.Prelude.{replicate}
+use Rattle.std.proofs.lemmas.List.Elements.{All-cons, All-nil}
 use Rattle.std.proofs.lemmas.List.{drop-replicate, length-replicate, take-replicate}
 use Rattle.sums.specs.Sums.{sum_to}
 use Rattle.sums.proofs.Lists.{copies_at}
@@ -24,7 +25,7 @@ use Rattle.trees.specs.declared.steps.Step.TheVariants.{Fail}
 use Rattle.trees.specs.Trees.{fail_leaf}
 use Rattle.trees.specs.Proving.{Proves}
 use Rattle.trees.proofs.Public.{staying_proves}
-use Rattle.cert_text.specs.Spelling.{end_line, step_line}
+use Rattle.cert_text.specs.Spelling.{HasStep, end_line, step_line}
 use Rattle.prop_core.specs.Propagators.{Meaning}
 use Rattle.search.specs.declared.found.Found.{Found}
 use Rattle.search.specs.declared.found.Found.TheVariants.{Optimal}
@@ -100,6 +101,7 @@ stayed_tree p budget plan stays = record {
   lean = tt;
   searched = inr (refl, stays.idle, stays.valid_plan.valid);
   within = omega arith;
+  writable = All-cons (HasStep p) (Fail Bound) [] tt (All-nil (HasStep p));
 }
 
 pub stayed_shown : {B : Type 0} (m : B → Meaning) (p : Instance) (budget : ℕ) (tells : Bool) (old : List ℕ) (new : Option (List ℕ)) (xs : List B) (found : Found) → IsStayed p tells old new found → IsShown m p budget tells old new xs xs found

@@ -1,6 +1,7 @@
 -- One more step of a search.
 use Rattle.std.proofs.Common.{◌≡◌, ℕ, ◌+◌, ◌<◌, ◌≤◌, Bool, true, false, ◌||◌, List, [], ◌∷◌, ◌++◌, refl, sym, ap, subst, ◌∙◌, append-nil, arith, Option, Some, None}
 use Rattle.std.specs.Prelude.{IfSome}
+use Rattle.std.proofs.lemmas.List.Elements.{All-push}
 use Rattle.sums.specs.Least.{lower, lowest}
 use Rattle.catalogue.specs.Instance.{Instance}
 use Rattle.slices.specs.Plans.{choices_of}
@@ -18,6 +19,8 @@ use Rattle.trees.specs.Goals.{decisions, has_left, left_set}
 use Rattle.trees.specs.Proving.{IsCut, IsOnePlan, IsSplit}
 use Rattle.trees.specs.Searching.{IsUndecided, plan_costs, plan_set}
 use Rattle.trees.proofs.Public.{decisions_append, gathered_push, has_left_append, leads_push, lowest_push, plan_at_last, plan_costs_append}
+use Rattle.cert_text.specs.Spelling.{HasReason, HasStep}
+use Rattle.cert_text.specs.Texts.{IsNumber}
 use Rattle.search.specs.declared.counts.Best.{Best}
 use Rattle.search.specs.declared.counts.Counts.{Counts}
 use Rattle.search.specs.Underway.{IsCheapest, IsPlanOfCost, Underway, cost_kept, leaves_along, left_along}
@@ -35,16 +38,17 @@ module _ (p : Instance) (budget : ℕ) (k l : Counts) (e : List Step) (s : Sets)
   left_next : left_along p (e ++ step ∷ []) ≡ left_along p e ++ left_set s step
   left_next = gathered_push left_set (FoundAt p) e [] (start_sets p ∷ []) s rest step u.leads
 
-  step_on : FoundAt p e s step → l.spent ≡ k.spent + decisions (step ∷ []) → l.spent ≤ budget → (has_left (step ∷ []) ≡ true → l.spent ≡ budget) →
+  step_on : FoundAt p e s step → HasStep p step → l.spent ≡ k.spent + decisions (step ∷ []) → l.spent ≤ budget → (has_left (step ∷ []) ≡ true → l.spent ≡ budget) →
       IsCheapest p l.best (plan_costs e ++ plan_costs (step ∷ [])) (leaves_along p e ++ plan_set s step) → l.least ≡ lowest (least_cost p) (left_along p e ++ left_set s step) →
       Underway p budget l (e ++ step ∷ []) (children s step ++ rest)
-  step_on found spent within left_last best least = record {
+  step_on found named spent within left_last best least = record {
     leads = leads_push (FoundAt p) e (start_sets p ∷ []) s rest step u.leads found;
     spent = omega (arith, spent, u.spent, decisions_append e (step ∷ []));
     within = within;
     used_up = λ some. used (has_left (step ∷ [])) refl (sym (has_left_append e (step ∷ [])) ∙ some);
     best = subst (λ costs. IsCheapest p l.best costs (leaves_along p (e ++ step ∷ []))) (sym (plan_costs_append e (step ∷ []))) (subst (IsCheapest p l.best (plan_costs e ++ plan_costs (step ∷ []))) (sym leaves_next) best);
     least = least ∙ ap (lowest (least_cost p)) (sym left_next);
+    writable = All-push (HasStep p) e step u.writable named;
   }
     where
       used : (b : Bool) → has_left (step ∷ []) ≡ b → (has_left e || has_left (step ∷ [])) ≡ true → l.spent ≡ budget
@@ -52,11 +56,11 @@ module _ (p : Instance) (budget : ℕ) (k l : Counts) (e : List Step) (s : Sets)
       used false is some = let before : k.spent ≡ budget = u.used_up (last_or (has_left e) (has_left (step ∷ [])) some is) in omega (arith, before, spent, within)
 
   -- a step that names no plan and leaves nothing
-  quiet_step : FoundAt p e s step → decisions (step ∷ []) ≡ 0 → has_left (step ∷ []) ≡ false → plan_costs (step ∷ []) ≡ [] → plan_set s step ≡ [] → left_set s step ≡ [] → l ≡ k →
+  quiet_step : FoundAt p e s step → HasStep p step → decisions (step ∷ []) ≡ 0 → has_left (step ∷ []) ≡ false → plan_costs (step ∷ []) ≡ [] → plan_set s step ≡ [] → left_set s step ≡ [] → l ≡ k →
       Underway p budget l (e ++ step ∷ []) (children s step ++ rest)
-  quiet_step found none not_left no_cost no_plan no_left same =
+  quiet_step found named none not_left no_cost no_plan no_left same =
       let spent : l.spent ≡ k.spent = ap (λ (c : Counts). c.spent) same in
-      step_on found (omega (arith, spent, none)) (omega (arith, spent, u.within)) (λ some. absurd (cc))
+      step_on found named (omega (arith, spent, none)) (omega (arith, spent, u.within)) (λ some. absurd (cc))
       (subst (λ (c : Counts). IsCheapest p c.best (plan_costs e ++ plan_costs (step ∷ [])) (leaves_along p e ++ plan_set s step)) (sym same)
       (subst (λ costs. IsCheapest p k.best (plan_costs e ++ costs) (leaves_along p e ++ plan_set s step)) (sym no_cost)
       (subst (λ leaves. IsCheapest p k.best (plan_costs e ++ []) (leaves_along p e ++ leaves)) (sym no_plan)
@@ -67,32 +71,32 @@ module _ (p : Instance) (budget : ℕ) (k l : Counts) (e : List Step) (s : Sets)
 -- ---- each step
 
 module _ (p : Instance) (budget : ℕ) (k : Counts) (e : List Step) (s : Sets) (rest : List Sets) (u : Underway p budget k e (s ∷ rest)) where
-  pub step_fail : (reason : Reason) → IsFailed p e s reason → Underway p budget k (e ++ Fail reason ∷ []) rest
-  step_fail reason found = quiet_step p budget k k e s rest (Fail reason) u found refl refl refl refl refl refl
+  pub step_fail : (reason : Reason) → IsFailed p e s reason → HasReason p reason → Underway p budget k (e ++ Fail reason ∷ []) rest
+  step_fail reason found named = quiet_step p budget k k e s rest (Fail reason) u found named refl refl refl refl refl refl
 
-  pub step_cut : (x : Element) (part : Part) (reason : Reason) → IsCut p None s x part reason → Underway p budget k (e ++ Cut x part reason ∷ []) (outside x part s ∷ rest)
-  step_cut x part reason found = quiet_step p budget k k e s rest (Cut x part reason) u found refl refl refl refl refl refl
+  pub step_cut : (x : Element) (part : Part) (reason : Reason) → IsCut p None s x part reason → HasStep p (Cut x part reason) → Underway p budget k (e ++ Cut x part reason ∷ []) (outside x part s ∷ rest)
+  step_cut x part reason found named = quiet_step p budget k k e s rest (Cut x part reason) u found named refl refl refl refl refl refl
 
-  pub step_decide : (l : Counts) (x : Element) (part : Part) → IsSplit p s x part → IsUndecided p e s → k.spent < budget → l.spent ≡ k.spent + 1 → l.best ≡ k.best → l.least ≡ k.least →
+  pub step_decide : (l : Counts) (x : Element) (part : Part) → IsSplit p s x part → HasStep p (Decide x part) → IsUndecided p e s → k.spent < budget → l.spent ≡ k.spent + 1 → l.best ≡ k.best → l.least ≡ k.least →
       Underway p budget l (e ++ Decide x part ∷ []) (inside x part s ∷ outside x part s ∷ rest)
-  step_decide l x part split undecided room spent best least =
-      step_on p budget k l e s rest (Decide x part) u (record { split = split; undecided = undecided }) spent (omega arith) (λ some. absurd (cc))
+  step_decide l x part split named undecided room spent best least =
+      step_on p budget k l e s rest (Decide x part) u (record { split = split; undecided = undecided }) named spent (omega arith) (λ some. absurd (cc))
       (subst (λ costs. IsCheapest p l.best costs (leaves_along p e ++ [])) (sym (append-nil (plan_costs e)))
       (subst (IsCheapest p l.best (plan_costs e)) (sym (append-nil (leaves_along p e))) (subst (λ b. IsCheapest p b (plan_costs e) (leaves_along p e)) (sym best) u.best)))
       (least ∙ u.least ∙ ap (lowest (least_cost p)) (sym (append-nil (left_along p e))))
 
   pub step_left : (l : Counts) (sum : ℕ) → IsUndecided p e s → k.spent ≡ budget → l.spent ≡ k.spent → l.best ≡ k.best → l.least ≡ Some (lower sum k.least) → sum ≡ least_cost p s → Underway p budget l (e ++ Left ∷ []) rest
   step_left l sum undecided full spent best least sum_is =
-      step_on p budget k l e s rest Left u undecided (omega (arith, spent)) (omega (arith, spent, full)) (λ _. spent ∙ full)
+      step_on p budget k l e s rest Left u undecided tt (omega (arith, spent)) (omega (arith, spent, full)) (λ _. spent ∙ full)
       (subst (λ costs. IsCheapest p l.best costs (leaves_along p e ++ [])) (sym (append-nil (plan_costs e)))
       (subst (IsCheapest p l.best (plan_costs e)) (sym (append-nil (leaves_along p e))) (subst (λ b. IsCheapest p b (plan_costs e) (leaves_along p e)) (sym best) u.best)))
       (least ∙ ap (λ n. Some (lower n k.least)) sum_is ∙ ap (λ o. Some (lower (least_cost p s) o)) u.least ∙ sym (lowest_push (least_cost p) (left_along p e) s))
 
   -- a plan that is cheaper than the one that was kept
-  pub step_plan : (l : Counts) (best : Best) → IsOnePlan p s best.cost → IsOnly s (choices_of best.plan) → IsPlanOfCost p best → IfSome (cost_kept k.best) (λ known. best.cost < known) →
+  pub step_plan : (l : Counts) (best : Best) → IsOnePlan p s best.cost → IsNumber best.cost → IsOnly s (choices_of best.plan) → IsPlanOfCost p best → IfSome (cost_kept k.best) (λ known. best.cost < known) →
       l.spent ≡ k.spent → l.best ≡ Some best → l.least ≡ k.least → Underway p budget l (e ++ Plan best.cost ∷ []) rest
-  step_plan l best one only of_cost cheaper spent best_is least =
-      step_on p budget k l e s rest (Plan best.cost) u one (omega (arith, spent)) (omega (arith, spent, u.within)) (λ some. absurd (cc))
+  step_plan l best one number only of_cost cheaper spent best_is least =
+      step_on p budget k l e s rest (Plan best.cost) u one number (omega (arith, spent)) (omega (arith, spent, u.within)) (λ some. absurd (cc))
       (subst (λ b. IsCheapest p b (plan_costs e ++ best.cost ∷ []) (leaves_along p e ++ s ∷ [])) (sym best_is) (record {
         cheapest = ap (λ n. Some n) (lowest_here (cost_kept k.best) cheaper) ∙ ap (λ o. Some (lower best.cost o)) u.best.cheapest ∙ sym (lowest_push (λ cost. cost) (plan_costs e) best.cost);
         met = plan_at_last (choices_of best.plan) (leaves_along p e) s only;

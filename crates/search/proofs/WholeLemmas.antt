@@ -1,6 +1,7 @@
 -- The whole search: what it shows.
 use Rattle.std.proofs.Common.{◌≡◌, ℕ, ◌+◌, ◌≤◌, Bool, List, [], ◌∷◌, ◌++◌, length, refl, sym, ap, subst, ◌∙◌, arith, Option, Some, IsTrue}
 use Rattle.std.specs.Prelude.{IfSome}
+use Rattle.std.proofs.lemmas.List.Elements.{All-nil}
 use Rattle.std.specs.Io.{StartsWith}
 use Rattle.cluster.specs.declared.ids.Element.{Element}
 use Rattle.catalogue.specs.Instance.{Instance, IsElement, IsInstance}
@@ -11,7 +12,7 @@ use Rattle.reasons.specs.Start.{start_sets}
 use Rattle.trees.specs.declared.steps.Goal.{Goal}
 use Rattle.trees.specs.declared.steps.Step.{Step}
 use Rattle.trees.specs.declared.steps.Step.TheVariants.{Fail}
-use Rattle.cert_text.specs.Spelling.{end_line}
+use Rattle.cert_text.specs.Spelling.{HasStep, end_line}
 use Rattle.prop_core.specs.Lists.{Pairs, given_sum}
 use Rattle.prop_core.specs.Propagators.{Meaning, SameRule}
 use Rattle.prop_core.proofs.Public.{Rise-trans}
@@ -35,6 +36,7 @@ underway_start p budget = record {
   used_up = λ some. absurd (cc);
   best = record { cheapest = refl; met = refl; plan = tt };
   least = refl;
+  writable = All-nil (HasStep p);
 }
 
 module _ {B : Type 0} (m : B → Meaning) (p : Instance) (budget : ℕ) (tells : Bool) where
@@ -44,7 +46,7 @@ module _ {B : Type 0} (m : B → Meaning) (p : Instance) (budget : ℕ) (tells :
     more = Fail (Empty x) ∷ [];
     text = text;
     given = rise_rule m xs ys same;
-    runs = λ e u. step_fail p budget k e s [] u (Empty x) (record { met = λ is. absurd (cc); refuted = λ _. record { named = there; says = none } });
+    runs = λ e u. step_fail p budget k e s [] u (Empty x) (record { met = λ is. absurd (cc); refuted = λ _. record { named = there; says = none } }) there;
   }
 
   -- from all legal choices, after the propagators were posted

@@ -1,5 +1,5 @@
 -- What a search answers, and the tree that shows it.
-use Rattle.std.specs.Prelude.{◌≡◌, ℕ, ◌+◌, ◌<◌, ◌≤◌, Option, Some, None, IfSome}
+use Rattle.std.specs.Prelude.{◌≡◌, ℕ, ◌+◌, ◌<◌, ◌≤◌, Option, Some, None, IfSome, All}
 use Rattle.catalogue.specs.Instance.{Instance}
 use Rattle.slices.specs.Costs.{cost_of, IsInfeasible, IsOptimal}
 use Rattle.slices.specs.Elements.{machine_count, node_count}
@@ -13,6 +13,7 @@ use Rattle.trees.specs.Trees.{Tree, steps_of}
 use Rattle.trees.specs.Goals.{decisions}
 use Rattle.trees.specs.Searching.{IsLean, WasSearched}
 use Rattle.trees.specs.Certificates.{IsCertificate, NoneUndercuts, least_of}
+use Rattle.cert_text.specs.Spelling.{HasStep}
 use Rattle.search.specs.declared.found.Found.{Found}
 use Rattle.search.specs.declared.found.Found.TheVariants.{Optimal, Infeasible, Undecided}
 
@@ -39,14 +40,15 @@ least_in (Optimal plan) = None
 least_in Infeasible = None
 least_in (Undecided best least) = Some least
 
--- the tree proves all legal choices for the plan that is answered, and shows the goal and the least; it is lean, was searched, and has no
--- more decisions than the budget
+-- the tree proves all legal choices for the plan that is answered, and shows the goal and the least; it is lean, was searched, has no more
+-- decisions than the budget, and each of its steps can be written
 pub record IsTreeOf (p : Instance) (budget : ℕ) (found : Found) (t : Tree) : Type 0 where
   pub certificate : IsCertificate p (choices_in (plan_in found)) (goal_in p budget found) t
   pub least : least_in found ≡ least_of p (choices_in (plan_in found)) t
   pub lean : IsLean p (start_sets p) t
   pub searched : WasSearched p (choices_in (plan_in found)) (start_sets p) t
   pub within : decisions (steps_of t) ≤ budget
+  pub writable : All (HasStep p) (steps_of t)
 
 -- ---- what is so of all plans
 

@@ -1,5 +1,5 @@
 -- A search that is under way: the steps so far, what is open, and what is kept beside them.
-use Rattle.std.specs.Prelude.{◌≡◌, ℕ, ◌≤◌, true, List, [], ◌∷◌, Option, Some, None, IfSome}
+use Rattle.std.specs.Prelude.{◌≡◌, ℕ, ◌≤◌, true, List, [], ◌∷◌, Option, Some, None, IfSome, All}
 use Rattle.catalogue.specs.Instance.{Instance}
 use Rattle.sums.specs.Least.{lower, lowest}
 use Rattle.slices.specs.Costs.{cost_of}
@@ -12,6 +12,7 @@ use Rattle.trees.specs.Trees.{Leads, gathered_along}
 use Rattle.trees.specs.Finding.{FoundAt}
 use Rattle.trees.specs.Goals.{decisions, has_left, left_set}
 use Rattle.trees.specs.Searching.{IsPlanFound, plan_costs, plan_set}
+use Rattle.cert_text.specs.Spelling.{HasStep}
 use Rattle.search.specs.declared.counts.Best.{Best}
 use Rattle.search.specs.declared.counts.Counts.{Counts}
 use Rattle.search.specs.declared.found.Found.{Found}
@@ -47,7 +48,7 @@ leaves_along p steps = gathered_along plan_set (start_sets p ∷ []) steps
 abbrev pub left_along : Instance → List Step → List Sets
 left_along p steps = gathered_along left_set (start_sets p ∷ []) steps
 
--- the steps lead from all legal choices to the sets that are open, and what is kept is as they say
+-- the steps lead from all legal choices to the sets that are open, what is kept is as they say, and each can be written
 pub record Underway (p : Instance) (budget : ℕ) (k : Counts) (steps : List Step) (now : List Sets) : Type 0 where
   pub leads : Leads (FoundAt p) [] (start_sets p ∷ []) steps now
   pub spent : k.spent ≡ decisions steps
@@ -55,6 +56,7 @@ pub record Underway (p : Instance) (budget : ℕ) (k : Counts) (steps : List Ste
   pub used_up : has_left steps ≡ true → k.spent ≡ budget
   pub best : IsCheapest p k.best (plan_costs steps) (leaves_along p steps)
   pub least : k.least ≡ lowest (least_cost p) (left_along p steps)
+  pub writable : All (HasStep p) steps
 
 -- the answer once nothing is open
 abbrev pub found_of : Option Best → Option ℕ → Found

@@ -1,4 +1,4 @@
-use Rattle.std.proofs.Common.{◌≡◌, Option, Some, None, IfNone, IfSome}
+use Rattle.std.proofs.Common.{Option, Some, None, IfNone, IfSome}
 use Rattle.std.specs.List.{filter}
 use Rattle.cluster.specs.declared.choices.Choice.{Choice}
 use Rattle.domains.specs.Choices.{choices}

@@ -2,11 +2,8 @@ use Rattle.std.proofs.Common.{◌≡◌, length, refl, Some, sym, ◌∙◌}
 use Rattle.std.specs.Prelude.{slice_get}
 use Rattle.std.proofs.lemmas.Option.{slice_get_read}
 use Rattle.domains.specs.Sets.{sets}
-use Rattle.closing.proofs.LocalLemmas.{constraint_is_local, last_look}
+use Rattle.closing.proofs.LocalLemmas.{last_look}
 use Rattle.closing.proofs.watch.look_at_constraint.Goals as goal
-
-pub look-requires-clause-local : goal.look-requires-clause-local
-look-requires-clause-local c = constraint_is_local c.args.p.now.given c.args.c
 
 pub returns-else-is_continuous : goal.returns-else-is_continuous
 returns-else-is_continuous c =

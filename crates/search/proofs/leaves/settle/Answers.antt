@@ -1,4 +1,4 @@
-use Rattle.std.proofs.Common.{◌∙◌, ap, refl}
+use Rattle.std.proofs.Common.{◌∙◌, ap, refl, rules}
 use Rattle.plan_io.specs.Files.{bytes_of}
 use Rattle.trees.specs.declared.steps.Step.TheVariants.{Left, Plan}
 use Rattle.search.proofs.LeafLemmas.{leaf_left, leaf_plan}
@@ -16,7 +16,7 @@ returns-then-is_fixed-clause-front g c = leaves_lined _ _ _ _ (Plan c.sum-sum.re
 
 pub returns-then-is_fixed-clause-settled : goal.returns-then-is_fixed-clause-settled
 returns-then-is_fixed-clause-settled g c =
-    leaf_plan _ _ _ _ _ _ _ _ c.sum-sum.result (c.sum-sum.ensures ∙ c.requires.ground.top) c.requires.clear c.args.p.now.sound c.in_ok-plan.plan c.in_ok-plan.ensures.plan (rw c.region-then-is_fixed.ensures at c.in_ok-plan.ensures.only) refl
+    leaf_plan _ _ _ _ _ _ _ _ c.sum-sum.result (c.sum-sum.ensures ∙ c.requires.ground.top) c.requires.clear c.args.p.now.sound (search rules) c.in_ok-plan.plan c.in_ok-plan.ensures.plan (rw c.region-then-is_fixed.ensures at c.in_ok-plan.ensures.only) refl
     (λ t. text_line _ _ _ (Plan c.sum-sum.result) (ap bytes_of (c.in_ok-step.ensures.grown t)))
 
 pub returns-in_err-step-2-clause-front : goal.returns-in_err-step-2-clause-front

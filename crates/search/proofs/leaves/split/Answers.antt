@@ -1,4 +1,4 @@
-use Rattle.std.proofs.Common.{◌∙◌, ap, refl}
+use Rattle.std.proofs.Common.{◌∙◌, ap, refl, rules}
 use Rattle.plan_io.specs.Files.{bytes_of}
 use Rattle.domains.specs.Sets.{sets}
 use Rattle.trail.specs.Logs.{Marked}
@@ -12,7 +12,7 @@ use Rattle.search.proofs.WorkLemmas.{rule_trans}
 use Rattle.search.proofs.leaves.split.Goals as goal
 
 pub step-requires-clause-step : goal.step-requires-clause-step
-step-requires-clause-step g c = split_named _ _ c.choose-element.result.0 c.choose-element.result.1 c.requires.ground.trail.region.legal (rw c.region.ensures at c.choose-element.ensures)
+step-requires-clause-step g c = split_named _ _ c.choose-element.result.0 c.choose-element.result.1 c.requires.ground.trail.region.legal (rw c.region.ensures at c.choose-element.ensures) (search rules)
 
 pub returns-in_err-step-clause-front : goal.returns-in_err-step-clause-front
 returns-in_err-step-clause-front g c = leaves_line _ _ _ _ (Decide c.choose-element.result.0 c.choose-element.result.1) c.step.ensures.cut c.step.ensures.stays
@@ -42,6 +42,6 @@ returns-clause-split g c =
       region = same_sets _ _ (λ e. n.sets e ∙ ap (λ (v : Marked). inside c.choose-element.result.0 c.choose-element.result.1 (sets v.region) e) m.trail);
       marks = n.marks ∙ ap (λ (v : Marked). v.marks) m.trail;
       spent = refl;
-      works = λ budget room. split_works _ _ _ c.args.counts.now _ _ _ _ _ _ c.args.ground.now.trail.region c.choose-element.result.0 c.choose-element.result.1 c.requires.ground.trail.region.sized c.requires.clear c.requires.free s refl
+      works = λ budget room. split_works _ _ _ c.args.counts.now _ _ _ _ _ _ c.args.ground.now.trail.region c.choose-element.result.0 c.choose-element.result.1 c.requires.ground.trail.region.sized c.requires.clear c.requires.free s (split_named _ _ c.choose-element.result.0 c.choose-element.result.1 c.requires.ground.trail.region.legal s (search rules)) refl
           (λ t. text_line _ _ _ (Decide c.choose-element.result.0 c.choose-element.result.1) (ap bytes_of (c.in_ok-step.ensures.grown t))) m.same n.same budget room;
     }

@@ -1,4 +1,4 @@
-use Rattle.std.proofs.Common.{[], ◌∷◌, ap}
+use Rattle.std.proofs.Common.{[], ◌∷◌, ap, rules}
 use Rattle.plan_io.specs.Files.{bytes_of}
 use Rattle.trees.specs.declared.steps.Step.TheVariants.{Cut}
 use Rattle.search.proofs.NamedLemmas.{cut_named}
@@ -6,7 +6,7 @@ use Rattle.search.proofs.TextLemmas.{leaves_line, leaves_lined, leaves_then, tex
 use Rattle.search.proofs.looks.cut.Goals as goal
 
 pub step-requires-clause-step : goal.step-requires-clause-step
-step-requires-clause-step g c = cut_named _ _ c.args.element c.args.part c.args.reason c.requires.ground.trail.region.legal c.requires.holds
+step-requires-clause-step g c = cut_named _ c.args.p.now.sound _ c.args.element c.args.part c.args.reason c.requires.ground.trail.region.legal c.requires.holds (search rules)
 
 pub returns-in_err-step-clause-front : goal.returns-in_err-step-clause-front
 returns-in_err-step-clause-front g c = leaves_line _ _ _ _ (Cut c.args.element c.args.part c.args.reason) c.step.ensures.cut c.step.ensures.stays

@@ -1,9 +1,10 @@
-use Rattle.std.proofs.Common.{◌∙◌, ap}
+use Rattle.std.proofs.Common.{◌∙◌, ap, rules}
 use Rattle.domains.specs.Sets.{sets}
 use Rattle.plan_io.specs.Files.{bytes_of}
 use Rattle.prop_core.proofs.Public.{all_asked}
 use Rattle.trees.proofs.Public.{same_sets}
 use Rattle.search.proofs.LookLemmas.{asked_told, look_bound, look_clear, look_cut, look_empty, look_fail}
+use Rattle.search.proofs.NamedLemmas.{cut_named}
 use Rattle.search.proofs.RegionLemmas.{fewer_left}
 use Rattle.search.proofs.WorkLemmas.{rise_none, works_none}
 use Rattle.search.proofs.looks.look_once.Goals as goal
@@ -33,7 +34,7 @@ pub returns-in_ok-fail-in-Fail-clause-works : goal.returns-in_ok-fail-in-Fail-cl
 returns-in_ok-fail-in-Fail-clause-works g c =
     let s = rw c.in-Fail.is at c.in_ok-ask_all.ensures.given in
     let f = rw (c.in-Fail.is, c.region.ensures) at c.in_ok-ask_all.ensures.answer in
-    look_fail _ _ _ c.args.counts.now _ _ _ _ _ c.in-Fail.reason f (λ t. ap bytes_of (c.in_ok-fail-in-Fail.ensures.written t)) s
+    look_fail _ _ _ c.args.counts.now _ _ _ _ _ c.args.p.now.sound c.in-Fail.reason f (λ t. ap bytes_of (c.in_ok-fail-in-Fail.ensures.written t)) s
 
 pub cut-requires-clause-follow : goal.cut-requires-clause-follow
 cut-requires-clause-follow g c = all_asked _ _ _ _ _ c.requires.follow (rw c.region.ensures at c.in_ok-ask_all.ensures.asked)
@@ -45,7 +46,8 @@ returns-then-not-is_left-clause-works g c =
     let a = rw c.region.ensures at c.in_ok-ask_all.ensures.asked in
     let s = rw c.in-Cut.is at c.in_ok-ask_all.ensures.given in
     let w = rw c.if-not-is_left.true at c.in_ok-is_left-in-Cut.ensures.written in
-    look_empty _ _ _ c.args.counts.now _ _ _ _ _ c.in-Cut.element c.in-Cut.part c.in-Cut.reason _ h (same_sets _ _ done.sets) (done.none c.if-not-is_left.true) w (asked_told _ _ _ _ _ _ a s done.same)
+    let named = cut_named _ c.args.p.now.sound _ c.in-Cut.element c.in-Cut.part c.in-Cut.reason c.requires.ground.trail.region.legal h (search rules) in
+    look_empty _ _ _ c.args.counts.now _ _ _ _ _ c.in-Cut.element c.in-Cut.part c.in-Cut.reason _ h named (same_sets _ _ done.sets) (done.none c.if-not-is_left.true) w (asked_told _ _ _ _ _ _ a s done.same)
 
 pub returns-else-not-is_left-clause-smaller : goal.returns-else-not-is_left-clause-smaller
 returns-else-not-is_left-clause-smaller g c =
@@ -60,4 +62,5 @@ returns-else-not-is_left-clause-works g c =
     let a = rw c.region.ensures at c.in_ok-ask_all.ensures.asked in
     let s = rw c.in-Cut.is at c.in_ok-ask_all.ensures.given in
     let w = rw c.if-not-is_left.false at c.in_ok-is_left-in-Cut.ensures.written in
-    look_cut _ _ _ c.args.counts.now _ _ _ _ _ c.in-Cut.element c.in-Cut.part c.in-Cut.reason _ h (same_sets _ _ done.sets) w (asked_told _ _ _ _ _ _ a s done.same)
+    let named = cut_named _ c.args.p.now.sound _ c.in-Cut.element c.in-Cut.part c.in-Cut.reason c.requires.ground.trail.region.legal h (search rules) in
+    look_cut _ _ _ c.args.counts.now _ _ _ _ _ c.in-Cut.element c.in-Cut.part c.in-Cut.reason _ h named (same_sets _ _ done.sets) w (asked_told _ _ _ _ _ _ a s done.same)
