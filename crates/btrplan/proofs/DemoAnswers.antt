@@ -50,12 +50,12 @@ said_yes seed p found before after checked line said result same is good text st
   said = said;
   check_is = is;
   yes = λ _. record { printed = ap (λ (o : Outside). o.printed ++ line) same ∙ ap (λ l. before.printed ++ l) text; status = status_is; files = ap (λ (o : Outside). o.files) same };
-  other = λ no. absurd (no good);
+  other = λ bad. absurd (bad good);
 }
 
 -- anything else
 pub said_other : (seed : ℕ) (p : Instance) (found : Found) (before checked : Outside) (said : Status) → IsChecked demo_plan demo_certificate false p before checked said → said ≢ status.Good → IsConcluded seed p found before checked said
-said_other seed p found before checked said is no = record { checked = checked; said = said; check_is = is; yes = λ good. absurd (no good); other = λ _. (refl, refl) }
+said_other seed p found before checked said is bad = record { checked = checked; said = said; check_is = is; yes = λ good. absurd (bad good); other = λ _. (refl, refl) }
 
 -- a fault of the check
 pub said_fault : (seed : ℕ) (p : Instance) (found : Found) (before after : Outside) (f : Fault) → Ends (IsChecked demo_plan demo_certificate false p before) after (Err f) → Ends (IsConcluded seed p found before) after (Err f)

@@ -4,6 +4,7 @@ ghost use Rattle.std.specs.Prelude.{◌≡◌, ◌≢◌, ℕ, false, List, Opti
 ghost use Rattle.std.specs.Prelude.{IsTrue, IfErr, IfOk, IfSome, string_bytes};
 ghost use Rattle.slices.specs.Plans.{IsPlanOf};
 ghost use Rattle.prop_core.specs.Lists.{Covered};
+ghost use Rattle.search.specs.declared.found.Found.{Found as AnyFound};
 ghost use Rattle.search.specs.Answers.{plan_in};
 ghost use Rattle.btrplan.specs.Words.{demo};
 ghost use Rattle.btrplan.specs.Answer.{Outside, outside};
@@ -118,6 +119,17 @@ fn check_found<D: Desk>(
     conclude(alloc, p, found, seed, checked)
 }
 
+// whether it was found that there is no plan
+fn is_infeasible(found: &Found) -> bool
+    ensures yes { IsTrue result → found.now ≡ AnyFound.Infeasible }
+    ensures no { result ≡ false → found.now ≢ AnyFound.Infeasible }
+{
+    match found {
+        Found::Infeasible => true,
+        Found::Optimal(_) | Found::Undecided { .. } => false,
+    }
+}
+
 /// Plans the problem of a seed, and checks what was found, if it is not that there is no plan.
 #[tactic(auto, using(crate::proofs::DemoAnswers::files_apart, crate::proofs::DemoAnswers::none_there, crate::proofs::DemoAnswers::checked_then, crate::proofs::Ends::refused_write), unfolding(crate::specs::Endings::Ends))]
 fn plan_and_check<D: Desk>(
@@ -149,7 +161,7 @@ fn plan_and_check<D: Desk>(
         DEMO_PLAN,
         DEMO_CERTIFICATE,
     )?;
-    if matches!(found, Found::Infeasible) {
+    if is_infeasible(&found) {
         let line = found_line(alloc, p, &found)?;
         return Ok(Ending {
             line: Some(line),
