@@ -1,5 +1,5 @@
 -- What the propagator of the tests answers, and what their searches answer.
-use Rattle.std.proofs.Common.{◌≡◌, ◌≢◌, ℕ, true, List, [], ◌∷◌, Option, Some, None, IfSome, refl}
+use Rattle.std.proofs.Common.{◌≢◌, ℕ, true, List, [], ◌∷◌, Some, None, IfSome, refl}
 use Rattle.std.specs.List.{Contains, filter}
 use Rattle.cluster.specs.declared.choices.Choice.{Choice}
 use Rattle.cluster.specs.declared.ids.Element.{Element}
@@ -34,6 +34,6 @@ cut_of p s x part reason there may some refuted =
 
 pub plan_of_answer : (p : Instance) (budget : ℕ) (found : Found) → IsTrueOf p budget found → IfSome (plan_in found) (IsPlanOf p)
 plan_of_answer p budget (Optimal plan) is = is.0
-plan_of_answer p budget Infeasible is = grind
-plan_of_answer p budget (Undecided None least) is = grind
+plan_of_answer p budget Infeasible is = tt
+plan_of_answer p budget (Undecided None least) is = tt
 plan_of_answer p budget (Undecided (Some plan) least) is = is.best_is.whole
