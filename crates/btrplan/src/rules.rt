@@ -1,4 +1,4 @@
-//! The rules and the brancher that the program hands in.
+//! The rules that the program hands in, and the brancher.
 
 ghost use Rattle.btrplan.specs.Commands.{MayRun};
 ghost use Rattle.btrplan.specs.Words.{asked};
@@ -14,13 +14,14 @@ use prop_core::propagator::Propagator;
 use rule_load::rule::load_rule;
 use std::alloc::Global;
 
-/// Runs with the five rules and the brancher, where there is memory for them.
+/// Runs with the five rules and a brancher, where there is memory for the rules.
 fn run_boxed<D: Desk, I: Source, O: Sink>(
     alloc: Global,
     words: &[String],
     desk: &mut D,
     input: &mut I,
     out: &mut O,
+    brancher: Box<dyn Brancher>,
 ) -> Result<Status, Memory>
     requires names { MayRun D.reads D.writes (asked words.now) }
 {
@@ -31,11 +32,27 @@ fn run_boxed<D: Desk, I: Source, O: Sink>(
     rules.push(Box::new(alloc, PairRule::new(alloc))?)?;
     rules.push(Box::new(alloc, SetRule::new(alloc))?)?;
     rules.push(Box::new(alloc, GroupRule::new(alloc))?)?;
-    let brancher: Box<dyn Brancher> = Box::new(alloc, StayFirst::new())?;
     Ok(run(alloc, words, desk, input, out, rules, brancher))
 }
 
-/// Runs with the five rules and the brancher; `Memory` where there is no memory for them.
+/// Runs with the five rules and a brancher; `Memory` where there is no memory for the rules.
+pub fn run_with<D: Desk, I: Source, O: Sink>(
+    alloc: Global,
+    words: &[String],
+    desk: &mut D,
+    input: &mut I,
+    out: &mut O,
+    brancher: Box<dyn Brancher>,
+) -> Status
+    requires names { MayRun D.reads D.writes (asked words.now) }
+{
+    match run_boxed(alloc, words, desk, input, out, brancher) {
+        Ok(status) => status,
+        Err(Memory) => Status::Memory,
+    }
+}
+
+/// Runs with the five rules and the brancher of the program; `Memory` where there is no memory for them.
 pub fn run_by_rules<D: Desk, I: Source, O: Sink>(
     alloc: Global,
     words: &[String],
@@ -45,8 +62,9 @@ pub fn run_by_rules<D: Desk, I: Source, O: Sink>(
 ) -> Status
     requires names { MayRun D.reads D.writes (asked words.now) }
 {
-    match run_boxed(alloc, words, desk, input, out) {
-        Ok(status) => status,
-        Err(Memory) => Status::Memory,
-    }
+    let Ok(brancher) = Box::new(alloc, StayFirst::new()) else {
+        return Status::Memory;
+    };
+    let brancher: Box<dyn Brancher> = brancher;
+    run_with(alloc, words, desk, input, out, brancher)
 }

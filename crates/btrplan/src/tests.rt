@@ -1,5 +1,7 @@
-use crate::rules::run_by_rules;
+use crate::rules::{run_by_rules, run_with};
 use crate::status::Status;
+use branching::brancher::Brancher;
+use branching::least_start::LeastStart;
 use plan_io::{DeskMem, SinkMem, SourceMem};
 use std::alloc::Global;
 use std::process::Abort;
@@ -79,6 +81,19 @@ fn runs_on(
     let words = words(alloc, line)?;
     let mut input = SourceMem::new(Vec::new(alloc), Vec::new(alloc));
     Ok(run_by_rules(alloc, &words, desk, &mut input, out))
+}
+
+/// Runs the words of a line as `runs_on` does, but with the brancher that takes the least start.
+fn runs_by_least_start(
+    alloc: Global,
+    line: &str,
+    desk: &mut DeskMem,
+    out: &mut SinkMem,
+) -> Result<Status, Fail> {
+    let words = words(alloc, line)?;
+    let mut input = SourceMem::new(Vec::new(alloc), Vec::new(alloc));
+    let brancher: Box<dyn Brancher> = Box::new(alloc, LeastStart)?;
+    Ok(run_with(alloc, &words, desk, &mut input, out, brancher))
 }
 
 /// Runs what is given, and sees what is left.

@@ -4,11 +4,18 @@ use crate::tests::instances::{
     NO_TIME, OFFLINE, OVERBOOKED, OVERLOADED, RAISED, SHARED_ALWAYS, SHARED_AT_THE_END, SWAP,
     TURNS, UNFENCED,
 };
-use crate::tests::{Given, Left, OLD_CERTIFICATE, OLD_PLAN, runs, runs_on};
+use crate::tests::{Given, Left, OLD_CERTIFICATE, OLD_PLAN, runs, runs_by_least_start, runs_on};
 use plan_io::{DeskMem, SinkMem};
 use std::alloc::Global;
 use std::process::Abort;
 use std::test::Fail;
+
+/// Which brancher plans: that of the program, or the one that takes the least start.
+#[derive(Clone, Copy)]
+enum By {
+    StayFirst,
+    LeastStart,
+}
 
 /// The words of a plan, and its instance.
 type Asked<'a> = (&'a str, &'a [u8]);
@@ -59,23 +66,39 @@ fn plans<'a>(
     runs(rt, alloc, given, left, at)
 }
 
-/// Plans an instance and checks the certificate strictly, on the same desk and sink, and sees the status
-/// of the plan and what is printed by both.
-fn plans_and_checks(
+/// Plans an instance with one of the branchers and checks the certificate strictly, on the same desk and
+/// sink, and sees the status of the plan and what is printed by both.
+fn plans_and_checks_by(
     rt: &impl Abort,
     alloc: Global,
     (line, instance): Asked<'_>,
     (status, printed): (Status, &[u8]),
+    by: By,
 ) -> Result<(), Fail> {
     let mut desk = DeskMem::new(Vec::new(alloc));
     desk.put("i", instance)?;
     let mut out = SinkMem::new(Vec::new(alloc));
-    let planned = runs_on(alloc, line, &mut desk, &mut out)?;
+    let planned = match by {
+        By::StayFirst => runs_on(alloc, line, &mut desk, &mut out)?,
+        By::LeastStart => runs_by_least_start(alloc, line, &mut desk, &mut out)?,
+    };
     let checked = runs_on(alloc, "check i p c strict", &mut desk, &mut out)?;
     assert_eq!(rt; out.written(), printed);
     assert_eq!(rt; (planned, checked), (status, Status::Good));
     assert_eq!(rt; desk.get("i"), Some(instance));
     Ok(())
+}
+
+/// Plans an instance and checks the certificate strictly, with the one brancher and then with the other,
+/// and sees the same of both.
+fn plans_and_checks(
+    rt: &impl Abort,
+    alloc: Global,
+    asked: Asked<'_>,
+    left: (Status, &[u8]),
+) -> Result<(), Fail> {
+    plans_and_checks_by(rt, alloc, asked, left, By::StayFirst)?;
+    plans_and_checks_by(rt, alloc, asked, left, By::LeastStart)
 }
 
 #[test]
@@ -160,12 +183,31 @@ fn no_plan(rt: HostRuntime) -> Result<(), Fail> {
 #[test]
 fn budgets(rt: HostRuntime) -> Result<(), Fail> {
     let alloc = rt.alloc();
-    let table: [(&str, &[u8], Status, &[u8]); 6] = [
+    let table: [(&str, &[u8], Status, &[u8]); 9] = [
         (
             "plan i p c budget 0",
             BANNED,
             Status::Undecided,
             b"undecided least 3\nyes undecided 0 least 3\n",
+        ),
+        (
+            "plan i p c budget 1",
+            BANNED,
+            Status::Good,
+            b"optimal 3\nyes optimal 3\n",
+        ),
+        // as many decisions as there are valid plans, and one more
+        (
+            "plan i p c budget 16",
+            BANNED,
+            Status::Good,
+            b"optimal 3\nyes optimal 3\n",
+        ),
+        (
+            "plan i p c budget 17",
+            BANNED,
+            Status::Good,
+            b"optimal 3\nyes optimal 3\n",
         ),
         (
             "plan i p c budget 0",
