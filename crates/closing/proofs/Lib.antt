@@ -1,6 +1,7 @@
 pub mod Public
 mod ClosedLemmas
 mod EndLemmas
+mod EverLemmas
 mod GroupLemmas
 mod LocalLemmas
 mod MemberLemmas

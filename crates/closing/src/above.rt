@@ -50,9 +50,9 @@ impl Test for HoldsAbove<'_> {
     }
 }
 
-// no choice of a machine holds more
+/// The most that a machine holds under any choice, on any nodes.
 #[tactic(auto, using(crate::proofs::MostLemmas::amount_most, crate::proofs::MostLemmas::presence_most, crate::proofs::MostLemmas::image_most))]
-fn most_held(p: &Problem, v: VmId, weight: Weight) -> u64
+pub fn most_held(p: &Problem, v: VmId, weight: Weight) -> u64
     requires machine { IsElement p.now.given (Element.Vm v) }
     requires weight { IsWeight p.now.given weight }
     ensures most { (set : Nodes) (t : ℕ) (c : AnyChoice) → held_at p.now.given v.0 weight set t c ≤ result }

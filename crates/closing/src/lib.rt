@@ -8,6 +8,7 @@ mod constraint;
 mod counts;
 mod each;
 mod ends;
+mod ever;
 mod groups;
 mod hosts;
 mod loads;

@@ -35,8 +35,8 @@ pub enum Stands {
     On(Option<NodeId>, Option<NodeId>),
 }
 
-// a choice of a domain, if there is one
-fn some_choice(domain: &Domain) -> Option<Choice>
+/// A choice of a domain, if there is one.
+pub fn some_choice(domain: &Domain) -> Option<Choice>
     ensures none { IfNone result (choices domain.now ≡ []) }
     ensures some { IfSome result (Contains (choices domain.now)) }
 {

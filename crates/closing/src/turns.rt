@@ -52,6 +52,10 @@ fn next_of_element(g: &Region, e: Element, after: Instant, best: u64) -> u64
     ensures less { result ≤ best }
     ensures past { StartsPast (sets g.now e) after result }
 {
+    // nothing is sooner than the instant after
+    if best == u64::from(after) + 1 {
+        return best;
+    }
     next_of_rows(after, best, g.domain(e).rows())
 }
 

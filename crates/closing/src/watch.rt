@@ -10,6 +10,7 @@ ghost use Rattle.closing.specs.Looks.{IsFound, IsLook, broken_at};
 ghost use Rattle.closing.specs.Watches.{IsLocal, SeesOnly, Watch};
 
 use crate::constraint::{constraint_found, members};
+use crate::ever::is_never_broken;
 use crate::loads::load_found;
 use crate::look::Look;
 use crate::turns::{next_turn, next_turn_of};
@@ -172,7 +173,11 @@ fn look_always(p: &Problem, g: &Region, c: u32) -> Look
     requires constraint { c < length p.now.given.constraints }
     ensures { IsLook (constraint_watch p.now.given c) p.now.given (sets g.now) result }
 {
-    match members(p, &p.constraints()[c as usize]) {
+    let constraint = &p.constraints()[c as usize];
+    if is_never_broken(p, g, constraint) {
+        return Look::Clean;
+    }
+    match members(p, constraint) {
         None => look(&OneConstraint(c), p, g),
         Some(machines) => look_among(&OneConstraint(c), p, g, machines),
     }

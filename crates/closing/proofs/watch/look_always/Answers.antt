@@ -1,6 +1,8 @@
 use Rattle.std.proofs.Common.{◌≡◌, length, refl, Some}
 use Rattle.std.specs.Prelude.{slice_get}
 use Rattle.std.proofs.lemmas.Option.{slice_get_read}
+use Rattle.domains.specs.Sets.{sets}
+use Rattle.closing.proofs.EverLemmas.{never_broken}
 use Rattle.closing.proofs.LocalLemmas.{constraint_is_local}
 use Rattle.closing.proofs.watch.look_always.Goals as goal
 
@@ -14,3 +16,8 @@ pub look_among-requires-clause-sees : goal.look_among-requires-clause-sees
 look_among-requires-clause-sees c =
     let read : slice_get c.constraints.result.now c.args.c ≡ Some c.index-constraints-c.result = slice_get_read c.constraints.result.now (length c.constraints.result.now) c.args.c c.index-constraints-c.result refl (rw c.constraints.ensures.constraints c.requires.constraint) c.index-constraints-c.is in
     rw (rw c.constraints.ensures.constraints at read) c.in-Some.ensures.sees
+
+pub returns-then-is_never_broken : goal.returns-then-is_never_broken
+returns-then-is_never_broken c =
+    let read : slice_get c.constraints.result.now c.args.c ≡ Some c.index-constraints-c.result = slice_get_read c.constraints.result.now (length c.constraints.result.now) c.args.c c.index-constraints-c.result refl (rw c.constraints.ensures.constraints c.requires.constraint) c.index-constraints-c.is in
+    never_broken c.args.p.now.given (sets c.args.g.now) c.args.c c.index-constraints-c.result (rw c.constraints.ensures.constraints at read) (c.is_never_broken.ensures c.if-is_never_broken.true)
