@@ -5,5 +5,6 @@ mod nodes;
 mod pairs;
 mod places;
 pub mod rules;
+mod suggest;
 pub mod watcher;
 mod witnesses;

@@ -23,7 +23,10 @@ use domains::view::View;
 use reasons::reason::{Reason, ReasonKind};
 use rule_frame::index::{ConstraintIndex, mark_looking};
 use rule_frame::marks::Marks;
+use rule_frame::suggestion::Suggestion;
 use rule_frame::watcher::Watcher;
+use crate::suggest::suggest_pairs;
+use memory::Memory;
 
 /// The kinds of reasons that a rule covers.
 pub trait Kinds: Drop {
@@ -133,6 +136,21 @@ impl<S: Kinds> Watcher<ConstraintIndex> for ConstraintWatcher<S> {
         match node_of(p, i) {
             None => constraint_reason(p, view, i as u32, t),
             Some(n) => usable_reason(p, view, n, t),
+        }
+    }
+
+    fn suggest(
+        &self,
+        _k: &ConstraintIndex,
+        p: &Problem,
+        g: &Region,
+        i: usize,
+        found: &Suggestion,
+        them: &mut Vec<Suggestion>,
+    ) -> Result<(), Memory> {
+        match node_of(p, i) {
+            None => suggest_pairs(p, g, i as u32, found, them),
+            Some(_) => Ok(()),
         }
     }
 

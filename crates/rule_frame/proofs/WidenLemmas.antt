@@ -1,6 +1,6 @@
 -- Parts that a reason takes away.
 use Rattle.std.proofs.Common.{◌≡◌, ℕ, Bool, true, false, [], ◌∷◌, cond, IsTrue, List, None, refl, sym, subst}
-use Rattle.std.specs.List.{filter}
+use Rattle.std.specs.List.{Contains, filter}
 use Rattle.cluster.specs.declared.choices.Choice.{Choice}
 use Rattle.cluster.specs.declared.choices.Choice.TheVariants.{Idle as Stay, Act}
 use Rattle.cluster.specs.declared.choices.Place.{Place}
@@ -11,6 +11,7 @@ use Rattle.domains.specs.declared.parts.Part.TheVariants.{Idle, Upto, From}
 use Rattle.domains.specs.declared.parts.Row.{Row}
 use Rattle.domains.specs.Parts.{in_part}
 use Rattle.domains.specs.Sets.{RegionView, Sets, domain_at, setting, sets}
+use Rattle.domains.proofs.Public.{contains_here, filter_contains}
 use Rattle.reasons.specs.Closed.{IsEnd}
 use Rattle.reasons.specs.declared.reason.Reason.{Reason}
 use Rattle.reasons.specs.Reasons.{Refutes}
@@ -26,6 +27,14 @@ passes test (d ∷ cs) c rest e = at (test d) refl (λ f. passes test cs c rest 
     at : (b : Bool) → test d ≡ b → (filter test cs ≡ c ∷ rest → IsTrue (test c)) → cond b (d ∷ filter test cs) (filter test cs) ≡ c ∷ rest → IsTrue (test c)
     at true is later f = let same : d ≡ c = cc in subst (λ y. IsTrue (test y)) same is
     at false is later f = later f
+
+-- where a test leaves some, one of them passes it
+pub some_inside : (test : Choice → Bool) (cs : List Choice) → ¬ (filter test cs ≡ []) → (c : Choice) × Contains cs c × IsTrue (test c)
+some_inside test cs some = at (filter test cs) refl
+  where
+    at : (xs : List Choice) → filter test cs ≡ xs → (c : Choice) × Contains cs c × IsTrue (test c)
+    at [] e = absurd (some e)
+    at (x ∷ xs) e = let held = filter_contains test cs x (subst (λ ys. Contains ys x) (sym e) (contains_here x xs)) in (x, held.0, held.1)
 
 -- the part of one end alone
 pub end_holds : (p : Instance) (s : Sets) (x : Element) (c : Choice) (part : Part) (r : Reason) → IsElement p x → IsEnd (s x) c → filter (in_part part) (s x) ≡ c ∷ [] → FailHolds p (setting x c s) r → CutHolds p s x part r

@@ -7,6 +7,7 @@ pub mod marks;
 pub mod no_cache;
 mod number_lists;
 pub mod rule;
+pub mod suggestion;
 #[cfg(test)]
 mod tests;
 pub mod watcher;

@@ -3,10 +3,12 @@ ghost use Rattle.std.specs.Prelude.{◌≡◌, ◌<◌, ◌≤◌};
 ghost use Rattle.domains.specs.Sets.{sets};
 ghost use Rattle.prop_core.specs.Propagators.{IsRegionOf, counted};
 ghost use Rattle.rule_frame.specs.Asked.{IsAskedOf};
+ghost use Rattle.rule_frame.specs.Caches.{IsCacheFor};
 ghost use Rattle.rule_frame.specs.Rules.{AnswerHolds, meaning_of};
 
 use crate::keeper::Keeper;
 use crate::marks::Marks;
+use crate::suggestion::{Suggestion, take_one};
 use crate::watcher::{Asked, Watcher, ask, tell};
 use crate::widen::widen;
 use catalogue::problem::Problem;
@@ -29,6 +31,7 @@ fn answer<K: Keeper, W: Watcher<K>>(w: &W, p: &Problem, g: &Region, asked: Asked
 {
     match asked {
         Asked::Quiet => Answer::Quiet,
+        Asked::Refuted(reason) => Answer::Fail(reason),
         Asked::Failed(i, t) => {
             let view = View {
                 region: g,
@@ -48,6 +51,34 @@ fn answer<K: Keeper, W: Watcher<K>>(w: &W, p: &Problem, g: &Region, asked: Asked
     }
 }
 
+// has the watcher suggest more cuts like one that was found
+fn suggest<K: Keeper, W: Watcher<K>>(
+    w: &W,
+    k: &K,
+    p: &Problem,
+    g: &Region,
+    asked: Asked,
+    answer: Answer,
+    suggestions: &mut Vec<Suggestion>,
+) -> Result<(), Memory>
+    requires region { IsRegionOf p.now.given g.now }
+    requires right { IsCacheFor (K.cache k.now) p.now.given (sets g.now) }
+    requires asked { IsAskedOf (W.watch w.now p.now.given) p.now.given (sets g.now) (W.count_of w.now p.now.given) asked }
+{
+    let Asked::Cuts(i, ..) = asked else {
+        return Ok(());
+    };
+    let Answer::Cut(element, part, reason) = answer else {
+        return Ok(());
+    };
+    let found = Suggestion {
+        element,
+        part,
+        reason,
+    };
+    w.suggest(k, p, g, i, &found, suggestions)
+}
+
 // the count after an answer
 fn count(given: u64, answer: Answer) -> u64
     ensures { result ≡ counted given answer }
@@ -64,6 +95,7 @@ pub struct Rule<W, K> {
     watcher: W,
     keeper: K,
     marks: Marks,
+    suggestions: Vec<Suggestion>,
     given: u64,
 }
 
@@ -76,6 +108,7 @@ impl<K: Keeper, W: Watcher<K>> Rule<W, K> {
             watcher,
             keeper,
             marks: Marks::new(alloc),
+            suggestions: Vec::new(alloc),
             given: 0,
         }
     }
@@ -106,6 +139,7 @@ impl<K: Keeper, W: Watcher<K> + Drop> Propagator for Rule<W, K> {
     }
 
     fn post(&mut self, p: &Problem, g: &Region) -> Result<(), Memory> {
+        self.suggestions.clear();
         self.keeper.post(p, g)?;
         self.marks.reset(self.watcher.count(p))
     }
@@ -144,13 +178,28 @@ impl<K: Keeper, W: Watcher<K> + Drop> Propagator for Rule<W, K> {
     }
 
     fn back(&mut self) {
+        self.suggestions.clear();
         self.keeper.back();
         self.marks.back()
     }
 
     fn propagate(&mut self, p: &Problem, g: &Region) -> Result<Answer, Memory> {
+        if let Some(it) = take_one(&mut self.suggestions, p, g) {
+            let found = Answer::Cut(it.element, it.part, it.reason);
+            self.given = count(self.given, found);
+            return Ok(found);
+        }
         let asked = ask(&self.watcher, &self.keeper, p, g, &mut self.marks);
         let found = answer(&self.watcher, p, g, asked);
+        suggest(
+            &self.watcher,
+            &self.keeper,
+            p,
+            g,
+            asked,
+            found,
+            &mut self.suggestions,
+        )?;
         self.given = count(self.given, found);
         Ok(found)
     }

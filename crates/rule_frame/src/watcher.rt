@@ -1,5 +1,5 @@
 //! Watches of a rule, which are looked at again where a change weighs on them.
-ghost use Rattle.std.specs.Prelude.{◌≡◌, ◌<◌, ◌≤◌, None, length};
+ghost use Rattle.std.specs.Prelude.{◌≡◌, ◌<◌, ◌≤◌, IfSome, None, length};
 ghost use Rattle.domains.specs.Choices.{choices};
 ghost use Rattle.domains.specs.Sets.{domain_at, sets};
 ghost use Rattle.domains.specs.Undo.{domain_before};
@@ -13,6 +13,7 @@ ghost use Rattle.rule_frame.specs.Changes.{AreClean, IsDisturbed, IsKept};
 
 use crate::keeper::Keeper;
 use crate::marks::Marks;
+use crate::suggestion::Suggestion;
 use catalogue::problem::Problem;
 use closing::look::Look;
 use cluster::choices::{Choice, Instant};
@@ -22,6 +23,7 @@ use domains::parts::Change;
 use domains::region::Region;
 use domains::undo::Before;
 use domains::view::View;
+use memory::Memory;
 use reasons::reason::{Reason, ReasonKind};
 
 /// What asking the watches finds.
@@ -33,6 +35,8 @@ pub enum Asked {
     Failed(usize, Instant),
     /// It is broken at the instant with the element set to that end of its choices.
     Cuts(usize, Element, Choice, Instant),
+    /// The reason refutes the region.
+    Refuted(Reason),
 }
 
 /// The watches of a rule, by their numbers, looked at with the help of what is kept beside them.
@@ -76,6 +80,14 @@ pub trait Watcher<K: Keeper> {
         requires count { length marks.old.top ≡ count_of self.now p.now.given }
         ensures { IsDisturbed (watch self.now p.now.given) p.now.given change.element (choices (domain_before before kept.now (domain_at g.now change.element))) (sets g.now change.element) marks.old marks.new };
 
+    /// A reason that refutes the region, where one is seen before a look at a watch: one that takes many
+    /// elements together, say, of which each alone may still be where it is. None need be seen.
+    fn refuted(&self, k: &K, p: &Problem, g: &Region, i: usize) -> Option<Reason>
+        requires region { IsRegionOf p.now.given g.now }
+        requires right { IsCacheFor (K.cache k.now) p.now.given (sets g.now) }
+        requires watch { i < count_of self.now p.now.given }
+        ensures { IfSome result (FailHolds p.now.given (sets g.now)) };
+
     /// A look at one watch at all instants.
     fn look(&self, k: &K, p: &Problem, g: &Region, i: usize) -> Look
         requires region { IsRegionOf p.now.given g.now }
@@ -90,6 +102,21 @@ pub trait Watcher<K: Keeper> {
         requires within { t ≤ p.now.given.horizon }
         requires broken { broken_at (watch self.now p.now.given i) p.now.given t (sure p.now.given (seen view.now.region.now view.now.lens) t) }
         ensures { FailHolds p.now.given (seen view.now.region.now view.now.lens) result };
+
+    /// Puts cuts into a list that are worth a try after one was found by a look at a watch: what they are looked
+    /// at for is left to the caller, who looks at them exactly.
+    fn suggest(
+        &self,
+        k: &K,
+        p: &Problem,
+        g: &Region,
+        i: usize,
+        found: &Suggestion,
+        them: &mut Vec<Suggestion>,
+    ) -> Result<(), Memory>
+        requires region { IsRegionOf p.now.given g.now }
+        requires right { IsCacheFor (K.cache k.now) p.now.given (sets g.now) }
+        requires watch { i < count_of self.now p.now.given };
 
     ghost local: { (w : Self) (p : Instance) (i : ℕ) → IsLocal (watch w p i) };
 
@@ -134,6 +161,9 @@ pub fn ask<K: Keeper, W: Watcher<K>>(
 {
     for i in 0..marks.count() {
         if marks.is_set(i) {
+            if let Some(reason) = w.refuted(k, p, g, i) {
+                return Asked::Refuted(reason);
+            }
             match w.look(k, p, g, i) {
                 Look::Clean => marks.put(i, false),
                 Look::Fail(t) => return Asked::Failed(i, t),

@@ -3,6 +3,7 @@ pub mod MarkLemmas
 pub mod RoomLemmas
 pub mod SetLemmas
 pub mod SettleLemmas
-pub mod StillLemmas
+pub mod StayLemmas
+mod StillLemmas
 pub mod TotalLemmas
 pub mod UseLemmas

@@ -1,5 +1,5 @@
 -- Marks.
-use Rattle.std.proofs.Common.{◌≡◌, ◌≢◌, ℕ, ◌+◌, ◌<◌, false, List, length, sym, subst, ◌∙◌, arith}
+use Rattle.std.proofs.Common.{◌≡◌, ◌≢◌, ℕ, ◌+◌, ◌<◌, Bool, true, false, List, length, refl, sym, subst, ◌∙◌, arith}
 use Rattle.cluster.specs.declared.choices.Choice.{Choice}
 use Rattle.cluster.specs.declared.ids.Element.{Element}
 use Rattle.cluster.specs.declared.ids.Element.TheVariants.{Vm, Node as TheNode}
@@ -15,9 +15,10 @@ use Rattle.rule_frame.specs.Changes.{IsDisturbed, IsStill}
 use Rattle.rule_frame.specs.Levels.{Levels}
 use Rattle.standing.specs.declared.numbers.Standing.{Standing}
 use Rattle.standing.specs.Standings.{IsStanding, comes_by, never}
-use Rattle.rule_load.specs.Marking.{AreSpared}
+use Rattle.rule_load.specs.Marking.{AreSpared, StaysAsBefore}
 use Rattle.rule_load.specs.Quiet.{one_at}
 use Rattle.rule_load.specs.Watched.{watch_at}
+use Rattle.rule_load.proofs.StayLemmas.{stays_still}
 use Rattle.rule_load.proofs.StillLemmas.{machine_still, node_still}
 
 pub weaker : (P Q : ℕ → Type 0) (m n : Levels) → ((k : ℕ) → P k → Q k) → AreSpared P m n → AreSpared Q m n
@@ -40,6 +41,16 @@ machine_spared p v old now k m n o short fewer is host come =
     weaker (λ i. (hosted_in (state_of p v.0) (one i) ≡ false) × ((t : ℕ) → comes_by i t k.come ≡ false)) (λ i. IsStill p (load_scope (one i)) (Vm v) old now) m o
     (λ i x. machine_still p v.0 i old now k short fewer is x.0 x.1)
     (both (λ i. hosted_in (state_of p v.0) (one i) ≡ false) (λ i. (t : ℕ) → comes_by i t k.come ≡ false) m n o host come)
+
+-- where the node that all its choices go to is marked alone, and nothing has changed at its host
+pub stays_spared : (p : Instance) (v : VmId) (old now : List Choice) (k : Standing) (m n : Levels) → p.horizon < never → AreFewer now old → IsStanding p v.0 now k → StaysAsBefore p v.0 old now k.leave →
+    AreSpared (λ i. (t : ℕ) → comes_by i t k.come ≡ false) m n → AreSpared (λ i. IsStill p (load_scope (one i)) (Vm v) old now) m n
+stays_spared p v old now k m n short fewer is stays come =
+    weaker (λ i. (t : ℕ) → comes_by i t k.come ≡ false) (λ i. IsStill p (load_scope (one i)) (Vm v) old now) m n (λ i x. by i x (hosted_in (state_of p v.0) (one i)) refl) come
+  where
+    by : (i : ℕ) → ((t : ℕ) → comes_by i t k.come ≡ false) → (b : Bool) → hosted_in (state_of p v.0) (one i) ≡ b → IsStill p (load_scope (one i)) (Vm v) old now
+    by i x true e = stays_still p v.0 i old now k short fewer is stays (stays.away i e)
+    by i x false e = machine_still p v.0 i old now k short fewer is e x
 
 -- where a node is marked
 pub node_spared : (p : Instance) (x : NodeId) (old now : List Choice) (m n : Levels) → AreSpared (λ i. i ≢ x.0) m n → AreSpared (λ i. IsStill p (load_scope (one i)) (TheNode x) old now) m n

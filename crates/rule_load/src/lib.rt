@@ -12,6 +12,7 @@ mod room;
 pub mod rule;
 mod settle;
 pub mod standings;
+mod suggest;
 mod total_look;
 mod total_uses;
 mod turns;

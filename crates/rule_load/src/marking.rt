@@ -1,28 +1,37 @@
 //! The watches on which a change weighs.
-ghost use Rattle.std.specs.Prelude.{◌≡◌, ◌≢◌, ℕ, ◌+◌, ◌<◌, false, List, length};
+ghost use Rattle.std.specs.Prelude.{◌≡◌, ◌≢◌, ℕ, ◌+◌, ◌<◌, true, false, IsTrue, length};
+ghost use Rattle.std.specs.List.{Contains};
+ghost use Rattle.sums.specs.Least.{least};
 ghost use Rattle.cluster.specs.declared.choices.Choice.{Choice as AnyChoice};
 ghost use Rattle.catalogue.specs.Instance.{IsElement};
-ghost use Rattle.slices.specs.Elements.{node_count, state_of};
+ghost use Rattle.slices.specs.Elements.{node_count, state_of, vm};
 ghost use Rattle.slices.specs.Stages.{one};
+ghost use Rattle.domains.specs.Choices.{choices};
 ghost use Rattle.domains.specs.Laws.{AreFewer};
-ghost use Rattle.domains.specs.Sets.{sets};
-ghost use Rattle.relax.specs.Areas.{hosted_in};
+ghost use Rattle.domains.specs.Sets.{HasElement, domain_at, sets};
+ghost use Rattle.domains.specs.Undo.{domain_before};
+ghost use Rattle.relax.specs.Areas.{IsSized, goes_in, hosted_in};
 ghost use Rattle.closing.specs.Kinds.{load_scope};
 ghost use Rattle.rule_frame.specs.Caches.{IsCacheFor};
 ghost use Rattle.rule_frame.specs.Changes.{IsDisturbed, IsStill};
-ghost use Rattle.standing.specs.Standings.{comes_by};
+ghost use Rattle.standing.specs.Standings.{comes_by, leave_of};
 ghost use Rattle.rule_load.specs.Kept.{cache_of};
-ghost use Rattle.rule_load.specs.Marking.{AreSpared};
+ghost use Rattle.rule_load.specs.Marking.{AreSpared, StaysAsBefore};
 ghost use Rattle.rule_load.specs.Watched.{watch_at};
 
 use crate::nodes::node_total;
 use crate::standings::Standings;
 use catalogue::problem::Problem;
+use cluster::choices::Place;
 use cluster::ids::{Element, VmId};
 use cluster::states::State;
+use domains::domain::Domain;
+use domains::measure::lowest_lost;
+use domains::parts::{Change, Part, Side};
 use domains::region::Region;
+use domains::undo::Before;
 use rule_frame::marks::Marks;
-use standing::numbers::Arrival;
+use standing::numbers::{Arrival, Leaving};
 
 // marks a watch, if there is one of this number
 fn mark_one(marks: &mut Marks, i: usize)
@@ -62,27 +71,120 @@ fn mark_arrival(come: Option<Arrival>, marks: &mut Marks)
     }
 }
 
-// marks for a machine its host and the one node that all its choices go to
-fn mark_machine(k: &Standings, p: &Problem, g: &Region, v: VmId, marks: &mut Marks)
-    requires right { IsCacheFor (cache_of k.now.table) p.now.given (sets g.now) }
-    requires machine { IsElement p.now.given (Element.Vm v) }
-    ensures { (old : List AnyChoice) → AreFewer (sets g.now (Element.Vm v)) old → AreSpared (λ i. IsStill p.now.given (load_scope (one i)) (Element.Vm v) old (sets g.now (Element.Vm v))) marks.old marks.new }
+// whether no choice of a machine acts at its host
+#[tactic(auto, using(crate::proofs::StayLemmas::none_at))]
+fn acts_elsewhere(g: &Region, v: VmId, state: State) -> bool
+    requires machine { HasElement g.now (vm v.0) }
+    ensures { IsTrue result → (n : ℕ) → hosted_in state (one n) ≡ true → (c : AnyChoice) → Contains (sets g.now (vm v.0)) c → goes_in c (one n) ≡ false }
 {
-    mark_host(state(p, v), marks);
-    mark_arrival(k.of(p, g, v).come, marks);
+    match state {
+        State::Running(h) | State::Sleeping(h) => g.leaves_none(Change {
+            element: Element::Vm(v),
+            part: Part::From(Place::At(h), 0),
+            side: Side::Inside,
+        }),
+        State::Init | State::Ready | State::Gone => true,
+    }
 }
 
-/// Marks the load of all nodes together, and of a machine that of its host and of the one node that all its choices
-/// now go to, of a node its own.
-pub(crate) fn mark_disturbed(k: &Standings, p: &Problem, g: &Region, x: Element, marks: &mut Marks)
+// whether a machine surely kept its host as long before it lost some choices: what was lost keeps it longer
+#[tactic(auto, using(crate::proofs::StayLemmas::least_was, crate::proofs::StayLemmas::least_was_so))]
+fn kept_as_long(
+    p: &Problem,
+    v: VmId,
+    domain: &Domain,
+    before: Before,
+    _kept: &Domain,
+    leave: u64,
+) -> bool
+    requires machine { IsElement p.now.given (Element.Vm v) }
+    requires fewer { AreFewer (choices domain.now) (choices (domain_before before _kept.now domain.now)) }
+    requires stays { Contains (choices domain.now) AnyChoice.Idle }
+    requires leave { leave ≡ least (leave_of p.now.given v.0) (choices domain.now) }
+    ensures { IsTrue result → leave ≡ least (leave_of p.now.given v.0) (choices (domain_before before _kept.now domain.now)) }
+{
+    let leaving = Leaving {
+        problem: p,
+        machine: v,
+    };
+    match before {
+        Before::Kept => false,
+        Before::Lost(lost) => match lowest_lost(lost, &leaving) {
+            None => true,
+            Some(first) => leave < first,
+        },
+    }
+}
+
+// whether a machine may stay, as long as before, and acts nowhere but away from its host: then nothing has changed there
+#[tactic(auto, using(relax::proofs::Public::idle_in))]
+fn stays_as_before(
+    p: &Problem,
+    g: &Region,
+    v: VmId,
+    before: Before,
+    kept: &Domain,
+    leave: u64,
+) -> bool
+    requires region { IsSized p.now.given g.now }
+    requires machine { IsElement p.now.given (Element.Vm v) }
+    requires fewer { AreFewer (sets g.now (vm v.0)) (choices (domain_before before kept.now (domain_at g.now (vm v.0)))) }
+    requires leave { leave ≡ least (leave_of p.now.given v.0) (sets g.now (vm v.0)) }
+    ensures { IsTrue result → StaysAsBefore p.now.given v.0 (choices (domain_before before kept.now (domain_at g.now (vm v.0)))) (sets g.now (vm v.0)) leave }
+{
+    let domain = g.domain(Element::Vm(v));
+    if !domain.idle() || !acts_elsewhere(g, v, state(p, v)) {
+        return false;
+    }
+    kept_as_long(p, v, domain, before, kept, leave)
+}
+
+// marks for a machine its host, but where nothing has changed there, and the one node that all its choices go to
+fn mark_machine(
+    k: &Standings,
+    p: &Problem,
+    g: &Region,
+    v: VmId,
+    before: Before,
+    kept: &Domain,
+    marks: &mut Marks,
+)
+    requires region { IsSized p.now.given g.now }
+    requires right { IsCacheFor (cache_of k.now.table) p.now.given (sets g.now) }
+    requires machine { IsElement p.now.given (Element.Vm v) }
+    requires fewer { AreFewer (sets g.now (vm v.0)) (choices (domain_before before kept.now (domain_at g.now (vm v.0)))) }
+    ensures { AreSpared (λ i. IsStill p.now.given (load_scope (one i)) (vm v.0) (choices (domain_before before kept.now (domain_at g.now (vm v.0)))) (sets g.now (vm v.0))) marks.old marks.new }
+{
+    let now = k.of(p, g, v);
+    if stays_as_before(p, g, v, before, kept, now.leave) {
+        mark_arrival(now.come, marks);
+        return;
+    }
+    mark_host(state(p, v), marks);
+    mark_arrival(now.come, marks);
+}
+
+/// Marks the load of all nodes together, and of a machine that of its host, but where nothing has changed there, and
+/// of the one node that all its choices now go to, of a node its own.
+pub(crate) fn mark_disturbed(
+    k: &Standings,
+    p: &Problem,
+    g: &Region,
+    x: Element,
+    before: Before,
+    kept: &Domain,
+    marks: &mut Marks,
+)
+    requires region { IsSized p.now.given g.now }
     requires right { IsCacheFor (cache_of k.now.table) p.now.given (sets g.now) }
     requires element { IsElement p.now.given x }
     requires count { length marks.old.top ≡ node_count p.now.given + 1 }
-    ensures { (old : List AnyChoice) → AreFewer (sets g.now x) old → IsDisturbed (watch_at p.now.given) p.now.given x old (sets g.now x) marks.old marks.new }
+    requires fewer { AreFewer (sets g.now x) (choices (domain_before before kept.now (domain_at g.now x))) }
+    ensures { IsDisturbed (watch_at p.now.given) p.now.given x (choices (domain_before before kept.now (domain_at g.now x))) (sets g.now x) marks.old marks.new }
 {
     mark_one(marks, node_total(p));
     match x {
-        Element::Vm(v) => mark_machine(k, p, g, v, marks),
+        Element::Vm(v) => mark_machine(k, p, g, v, before, kept, marks),
         Element::Node(n) => mark_one(marks, n.0 as usize),
     }
 }

@@ -10,6 +10,7 @@ use crate::node_look::node_look;
 use crate::nodes::{node_at, node_total};
 use crate::reason::load_reason;
 use crate::standings::Standings;
+use crate::suggest::suggest_on;
 use crate::total_look::total_look;
 use catalogue::problem::Problem;
 use closing::look::Look;
@@ -19,8 +20,10 @@ use domains::parts::Change;
 use domains::region::Region;
 use domains::undo::Before;
 use domains::view::View;
+use memory::Memory;
 use reasons::reason::{Reason, ReasonKind};
 use rule_frame::marks::Marks;
+use rule_frame::suggestion::Suggestion;
 use rule_frame::watcher::Watcher;
 
 /// Watch i is the load of node i, and the last one that of all nodes together.
@@ -48,11 +51,15 @@ impl Watcher<Standings> for Loads {
         p: &Problem,
         g: &Region,
         change: Change,
-        _before: Before,
-        _kept: &Domain,
+        before: Before,
+        kept: &Domain,
         marks: &mut Marks,
     ) {
-        mark_disturbed(k, p, g, change.element, marks);
+        mark_disturbed(k, p, g, change.element, before, kept, marks);
+    }
+
+    fn refuted(&self, _k: &Standings, _p: &Problem, _g: &Region, _i: usize) -> Option<Reason> {
+        None
     }
 
     fn look(&self, k: &Standings, p: &Problem, g: &Region, i: usize) -> Look {
@@ -64,6 +71,21 @@ impl Watcher<Standings> for Loads {
 
     fn reason(&self, p: &Problem, view: &View, i: usize, t: Instant) -> Reason {
         load_reason(p, view, i, t)
+    }
+
+    fn suggest(
+        &self,
+        k: &Standings,
+        p: &Problem,
+        g: &Region,
+        i: usize,
+        found: &Suggestion,
+        them: &mut Vec<Suggestion>,
+    ) -> Result<(), Memory> {
+        match node_at(p, i) {
+            None => Ok(()),
+            Some(n) => suggest_on(p, g, k.all(p, g), n, found, them),
+        }
     }
 
     ghost local = { λ w p i. load_is_local p (nodes_at p i) };

@@ -7,8 +7,7 @@ use Rattle.domains.specs.Undo.{domain_before}
 use Rattle.domains.proofs.Public.{filter_is_fewer}
 use Rattle.rule_load.proofs.watcher.LoadsWatcherStandings.disturb.Goals as goal
 
-pub returns : goal.returns
-returns c =
-    c.mark_disturbed.ensures (choices (domain_before c.args._before c.args._kept.now (domain_at c.args.g.now c.args.change.element)))
-    (λ d h. filter_is_fewer (on_side c.args.change.side c.args.change.part) (choices (domain_before c.args._before c.args._kept.now (domain_at c.args.g.now c.args.change.element))) d
-    (subst (λ cs. Contains cs d) c.requires.narrowed.left h))
+pub mark_disturbed-requires-clause-fewer : goal.mark_disturbed-requires-clause-fewer
+mark_disturbed-requires-clause-fewer c =
+    λ d h. filter_is_fewer (on_side c.args.change.side c.args.change.part) (choices (domain_before c.args.before c.args.kept.now (domain_at c.args.g.now c.args.change.element))) d
+    (subst (λ cs. Contains cs d) c.requires.narrowed.left h)

@@ -1,0 +1,89 @@
+//! Cuts that are worth a try: they are looked at exactly before they are answered.
+ghost use Rattle.std.specs.Prelude.{◌≡◌, IfSome, IsTrue};
+ghost use Rattle.std.specs.List.{Contains};
+ghost use Rattle.cluster.specs.declared.choices.Choice.{Choice as AnyChoice};
+ghost use Rattle.catalogue.specs.Instance.{IsElement};
+ghost use Rattle.domains.specs.Parts.{in_part};
+ghost use Rattle.domains.specs.Sets.{sets};
+ghost use Rattle.prop_core.specs.Propagators.{CutHolds, IsRegionOf, MayAnswer};
+
+use catalogue::problem::Problem;
+use cluster::ids::Element;
+use domains::parts::{Change, Part, Side};
+use domains::region::Region;
+use reasons::reason::Reason;
+use relax::refutes::refutes_inside;
+
+/// A cut that may hold: a part of an element's choices, and why they may be taken away.
+#[derive(Clone, Copy)]
+pub struct Suggestion {
+    pub element: Element,
+    pub part: Part,
+    pub reason: Reason,
+}
+
+// whether an element is one of the problem
+fn is_element(p: &Problem, e: Element) -> bool
+    ensures { IsTrue result → IsElement p.now.given e }
+{
+    match e {
+        Element::Vm(v) => (v.0 as usize) < p.cluster().machines().len(),
+        Element::Node(n) => (n.0 as usize) < p.cluster().nodes().len(),
+    }
+}
+
+// whether a propagator may answer with a reason
+fn may_answer(reason: Reason) -> bool
+    ensures { IsTrue result → MayAnswer reason }
+{
+    match reason {
+        Reason::Empty(_) | Reason::Bound => false,
+        Reason::Load(..)
+        | Reason::Pair(..)
+        | Reason::Place(..)
+        | Reason::Group(..)
+        | Reason::SetLoad(..)
+        | Reason::Power(..)
+        | Reason::Usable(..)
+        | Reason::Hall(..) => true,
+    }
+}
+
+// whether an element has a choice in a part
+#[tactic(auto, using(crate::proofs::WidenLemmas::some_inside))]
+fn has_any(p: &Problem, g: &Region, element: Element, part: Part) -> bool
+    requires region { IsRegionOf p.now.given g.now }
+    requires element { IsElement p.now.given element }
+    ensures { IsTrue result → (c : AnyChoice) × Contains (sets g.now element) c × IsTrue (in_part part c) }
+{
+    let inside = Change {
+        element,
+        part,
+        side: Side::Inside,
+    };
+    !g.leaves_none(inside)
+}
+
+// whether it holds in a region
+fn holds(p: &Problem, g: &Region, it: Suggestion) -> bool
+    requires { IsRegionOf p.now.given g.now }
+    ensures { IsTrue result → CutHolds p.now.given (sets g.now) it.element it.part it.reason }
+{
+    may_answer(it.reason)
+        && is_element(p, it.element)
+        && has_any(p, g, it.element, it.part)
+        && refutes_inside(p, None, g, it.element, it.part, &it.reason)
+}
+
+/// The last of these that holds in a region. It and those after it are gone.
+pub fn take_one(them: &mut Vec<Suggestion>, p: &Problem, g: &Region) -> Option<Suggestion>
+    requires { IsRegionOf p.now.given g.now }
+    ensures { IfSome result (λ it. CutHolds p.now.given (sets g.now) it.element it.part it.reason) }
+{
+    while let Some(it) = them.pop() {
+        if holds(p, g, it) {
+            return Some(it);
+        }
+    }
+    None
+}
