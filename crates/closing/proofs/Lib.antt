@@ -1,4 +1,5 @@
 pub mod Public
+mod ApartLemmas
 mod ClosedLemmas
 mod EndLemmas
 mod EverLemmas

@@ -146,7 +146,7 @@ module _ (p : Instance) (s : Sets) (t : ℕ) where
 
   -- ---- pairs
 
-  pub shared_free : (v w : ℕ) (a b : Stands) → ((n : ℕ) → has_node_of a n ≡ (sure p s t).present v (one n)) → ((n : ℕ) → has_node_of b n ≡ (sure p s t).present w (one n)) → ((n : ℕ) → n < node_count p → IsTrue (has_node_of a n) → has_node_of b n ≡ false) → FailAtEnds (IsOn p w (has_node_of a) t) (s (vm w)) → FailAtEnds (IsOn p v (has_node_of b) t) (s (vm v)) → IsFreeOf (ShareNode p v w) p s t
+  pub shared_free : (v w : ℕ) (a b : Nodes) → ((n : ℕ) → a n ≡ (sure p s t).present v (one n)) → ((n : ℕ) → b n ≡ (sure p s t).present w (one n)) → ((n : ℕ) → n < node_count p → IsTrue (a n) → b n ≡ false) → FailAtEnds (IsOn p w a t) (s (vm w)) → FailAtEnds (IsOn p v b t) (s (vm v)) → IsFreeOf (ShareNode p v w) p s t
   shared_free v w a b stands_v stands_w apart fail_w fail_v = record { base = base; ends = at }
     where
       base : ¬ ShareNode p v w (sure p s t)

@@ -35,6 +35,10 @@ first-choice d climbs h = end_is_choice (choices d) (Act (row_at d 0).place (row
 pub row_choice : (d : DomainView) (rows : List Row) → rows ≡ d.rows → Climbs 0 rows → 0 < length rows → Contains (choices d) (Act (slice_index_or rows 0 no_row).place (slice_index_or rows 0 no_row).lo)
 row_choice d rows same climbs h = rw same (first-choice d (rw same at climbs) (rw same at h))
 
+-- and an end
+pub row_end : (d : DomainView) (rows : List Row) → rows ≡ d.rows → Climbs 0 rows → 0 < length rows → (c : Choice) × IsEnd (choices d) c
+row_end d rows same climbs h = (Act (row_at d 0).place (row_at d 0).lo, (ends_of_rows d (rw same at climbs) (Act (row_at d 0).place (row_at d 0).lo)).1 (0, rw same at h, refl, inl refl))
+
 -- ---- who has no choice stands everywhere; else where one choice has it, and all others
 
 pub empty_stands : (p : Instance) (s : Sets) (v t n : ℕ) → s (vm v) ≡ [] → true ≡ (sure p s t).present v (one n)

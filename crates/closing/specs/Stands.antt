@@ -11,7 +11,9 @@ use Rattle.slices.specs.Snapshots.{Snapshot, present_at}
 use Rattle.slices.specs.Stages.{Nodes, one}
 use Rattle.domains.specs.Sets.{Sets, setting}
 use Rattle.reasons.specs.Reasons.{IsGroup, IsPlace}
+use Rattle.reasons.specs.Closed.{IsEnd}
 use Rattle.reasons.specs.Sure.{sure}
+use Rattle.closing.specs.Parts.{FailAtEnds}
 use Rattle.closing.specs.declared.stands.Stands.{Stands}
 use Rattle.closing.specs.declared.stands.Stands.TheVariants.{Everywhere, On}
 
@@ -47,6 +49,15 @@ IsPlacedBadly p k v s = (n : ℕ) × (n < node_count p) × IsPlace p s k v n
 -- two different machines are on one node
 abbrev pub ShareNode : Instance → ℕ → ℕ → Snapshot → Type 0
 ShareNode p v w s = (v ≢ w) × (n : ℕ) × (n < node_count p) × IsTrue (s.present v (one n)) × IsTrue (s.present w (one n))
+
+-- machine w has a choice, and is under no end of its choices on a node where v surely is
+pub record StaysClear (p : Instance) (s : Sets) (t v w : ℕ) : Type 0 where
+  pub some : (c : Choice) × IsEnd (s (vm w)) c
+  pub ends : FailAtEnds (IsOn p w (λ n. (sure p s t).present v (one n)) t) (s (vm w))
+
+-- so it is for each machine of one list and each other machine of another one
+pub record AreApart (p : Instance) (s : Sets) (t : ℕ) (vs ws : List VmId) : Type 0 where
+  pub each : (v w : ℕ) → IsMember vs v → IsMember ws w → v ≢ w → StaysClear p s t v w
 
 -- a machine of a list meets a condition
 abbrev pub IsAnyOf : List VmId → (ℕ → Snapshot → Type 0) → Snapshot → Type 0

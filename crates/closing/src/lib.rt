@@ -2,6 +2,7 @@
 #![tactic(auto)]
 
 mod above;
+mod apart;
 mod capacities;
 pub mod closed;
 mod constraint;

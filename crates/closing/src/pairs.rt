@@ -9,6 +9,7 @@ ghost use Rattle.relax.specs.Areas.{IsSized};
 ghost use Rattle.closing.specs.Looks.{IsFound};
 ghost use Rattle.closing.specs.Stands.{IsAnyOf, MeetsOtherPart, MeetsStranger, ShareNode};
 
+use crate::apart::{are_apart, are_parts_apart};
 use crate::counts::machines_of;
 use crate::each::{OfMachine, found_in};
 use crate::look::Look;
@@ -80,6 +81,9 @@ pub fn spread_found(p: &Problem, g: &Region, machines: &[VmId], t: Instant) -> L
     requires machines { list_all (λ x. nat_lt x.0 (machine_count p.now.given)) machines.now ≡ true }
     ensures { IsFound (IsAnyOf machines.now (λ v. IsAnyOf machines.now (ShareNode p.now.given v))) p.now.given (sets g.now) t result }
 {
+    if are_apart(p, g, machines, machines, t) {
+        return Look::Clean;
+    }
     found_in(&BesideAny { machines }, p, g, machines, t)
 }
 
@@ -133,6 +137,9 @@ pub fn split_found(p: &Problem, g: &Region, parts: &[Vms], t: Instant) -> Look
     requires machines { list_all (list_all (λ x. nat_lt x.0 (machine_count p.now.given))) parts.now ≡ true }
     ensures { IsFound (λ s. (i : ℕ) × (i < length parts.now) × IsAnyOf (slice_index_or parts.now i []) (MeetsOtherPart p.now.given parts.now i) s) p.now.given (sets g.now) t result }
 {
+    if are_parts_apart(p, g, parts, t) {
+        return Look::Clean;
+    }
     for i in 0..parts.len() {
         match found_in(&OtherPart { parts, part: i }, p, g, parts[i].items(), t) {
             Look::Clean => {}

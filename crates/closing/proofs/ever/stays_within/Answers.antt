@@ -1,5 +1,3 @@
-use Rattle.std.proofs.Common.{arith}
-use Rattle.std.proofs.lemmas.Bool.Decides.{nat_tests}
 use Rattle.domains.specs.Sets.{sets}
 use Rattle.relax.specs.Areas.{nodes_of}
 use Rattle.closing.proofs.EverLemmas.{within}

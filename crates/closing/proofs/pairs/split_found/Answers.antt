@@ -3,6 +3,7 @@ use Rattle.domains.specs.Sets.{sets}
 use Rattle.reasons.specs.Sure.{sure}
 use Rattle.closing.specs.Looks.{IsFreeOf, IsMetWith}
 use Rattle.closing.specs.Stands.{IsAnyOf, MeetsOtherPart}
+use Rattle.closing.proofs.ApartLemmas.{split_free}
 use Rattle.closing.proofs.PairLemmas.{is_part, part_more, parts_free, parts_met}
 use Rattle.closing.proofs.pairs.split_found.Goals as goal
 
@@ -35,3 +36,6 @@ loop-i-preserved c =
 
 pub returns : goal.returns
 returns c = parts_free c.args.p.now.given (sets c.args.g.now) c.args.t c.args.parts.now (λ k l. c.loop-i.invariant k (omega (arith, l)))
+
+pub returns-then-are_parts_apart : goal.returns-then-are_parts_apart
+returns-then-are_parts_apart c = split_free c.args.p.now.given (sets c.args.g.now) c.args.t c.args.parts.now (c.are_parts_apart.ensures c.if-are_parts_apart.true)

@@ -1,0 +1,66 @@
+-- Machines that keep others off the nodes where they stand.
+use Rattle.std.proofs.Common.{◌≡◌, ◌≢◌, inl, inr, ℕ, ◌+◌, ◌<◌, Bool, true, false, IsTrue, List, [], length, get_or, slice_index_or, refl, sym, subst, ◌∙◌, arith}
+use Rattle.std.proofs.lemmas.Bool.{cases_eq}
+use Rattle.std.proofs.lemmas.List.{get_or_default}
+use Rattle.cluster.specs.declared.ids.VmId.{VmId}
+use Rattle.catalogue.specs.Instance.{Instance}
+use Rattle.slices.specs.Elements.{node_count, vm}
+use Rattle.slices.specs.Holds.{IsMember}
+use Rattle.slices.specs.Snapshots.{present_at}
+use Rattle.slices.specs.Stages.{one}
+use Rattle.domains.specs.Sets.{Sets, surely}
+use Rattle.domains.proofs.Public.{surely_each}
+use Rattle.reasons.specs.Sure.{sure}
+use Rattle.reasons.proofs.Public.{end_is_choice}
+use Rattle.closing.specs.declared.stands.Stands.{Stands}
+use Rattle.closing.specs.Looks.{IsFreeOf}
+use Rattle.closing.specs.Parts.{FailAtEnds}
+use Rattle.closing.specs.Stands.{AreApart, IsAnyOf, IsOn, MeetsOtherPart, ShareNode, StaysClear, has_node_of}
+use Rattle.closing.proofs.MemberLemmas.{any_free}
+use Rattle.closing.proofs.PairLemmas.{others_free, parts_free}
+use Rattle.closing.proofs.RuleLemmas.{never_met}
+use Rattle.closing.proofs.SettingLemmas.{shared_free}
+
+-- what holds of the first machines of a list holds of one more
+pub next_member : (vs : List VmId) (i : ℕ) (e : VmId) (P : ℕ → Type 0) → i < length vs → ((k : ℕ) (d : VmId) → k < i → P (get_or vs k d).0) → P (get_or vs i e).0 → (k : ℕ) (d : VmId) → k < i + 1 → P (get_or vs k d).0
+next_member vs i e P low before here k d h =
+    elim (cases_eq k i) [ inl same ↦ rw same (subst (λ (x : VmId). P x.0) (get_or_default vs i e d low) here) | inr other ↦ before k d (omega (arith, h, other)) ]
+
+module _ (p : Instance) (s : Sets) (t : ℕ) where
+  -- so it is for each part
+  pub next_part : (vs : List VmId) (parts : List (List VmId)) (part j : ℕ) → ((k : ℕ) → k < j → part ≢ k → AreApart p s t vs (slice_index_or parts k [])) → (part ≢ j → AreApart p s t vs (slice_index_or parts j [])) → (k : ℕ) → k < j + 1 → part ≢ k → AreApart p s t vs (slice_index_or parts k [])
+  next_part vs parts part j before here k h ne = elim (cases_eq k j) [ inl same ↦ rw same (here (λ e. ne (e ∙ sym same))) | inr other ↦ before k (omega (arith, h, other)) ne ]
+
+  pub next_parts : (parts : List (List VmId)) (i : ℕ) → ((k j : ℕ) → k < i → j < length parts → k ≢ j → AreApart p s t (slice_index_or parts k []) (slice_index_or parts j [])) → ((j : ℕ) → j < length parts → i ≢ j → AreApart p s t (slice_index_or parts i []) (slice_index_or parts j [])) → (k j : ℕ) → k < i + 1 → j < length parts → k ≢ j → AreApart p s t (slice_index_or parts k []) (slice_index_or parts j [])
+  next_parts parts i before here k j h l ne = elim (cases_eq k i) [ inl same ↦ rw same (here j l (λ e. ne (same ∙ e))) | inr other ↦ before k j (omega (arith, h, other)) l ne ]
+
+  -- where a machine stands is told by the nodes where it surely is
+  pub clear_by : (v w : ℕ) (a : Stands) → ((n : ℕ) → has_node_of a n ≡ (sure p s t).present v (one n)) → FailAtEnds (IsOn p w (has_node_of a) t) (s (vm w)) → FailAtEnds (IsOn p w (λ n. (sure p s t).present v (one n)) t) (s (vm w))
+  clear_by v w a stands fail = record { ends = λ c end h. fail.ends c end (h.0, h.1, stands h.0 ∙ h.2, h.3) }
+
+  -- one that has a choice is not surely where it is under no end of its choices
+  off-node : (v w : ℕ) → StaysClear p s t v w → (n : ℕ) → n < node_count p → IsTrue ((sure p s t).present v (one n)) → (sure p s t).present w (one n) ≡ false
+  unfolding sure
+  off-node v w clear n low there = by (surely (present_at p w (one n) t) (s (vm w))) refl
+    where
+      by : (b : Bool) → surely (present_at p w (one n) t) (s (vm w)) ≡ b → b ≡ false
+      by false e = refl
+      by true e = absurd (clear.ends.ends clear.some.0 clear.some.1 (n, low, there, surely_each (present_at p w (one n) t) (s (vm w)) clear.some.0 (end_is_choice (s (vm w)) clear.some.0 clear.some.1) e))
+
+  clear_free : (v w : ℕ) → StaysClear p s t v w → StaysClear p s t w v → IsFreeOf (ShareNode p v w) p s t
+  clear_free v w first second = shared_free p s t v w (λ n. (sure p s t).present v (one n)) (λ n. (sure p s t).present w (one n)) (λ n. refl) (λ n. refl) (off-node v w first) first.ends second.ends
+
+  pair_free : (vs ws : List VmId) → AreApart p s t vs ws → AreApart p s t ws vs → (v w : ℕ) → IsMember vs v → IsMember ws w → IsFreeOf (ShareNode p v w) p s t
+  pair_free vs ws first second v w here there =
+      elim (cases_eq v w) [
+        | inl same ↦ never_met (ShareNode p v w) p s t (λ b x. x.0 same)
+        | inr other ↦ clear_free v w (first.each v w here there other) (second.each w v there here (λ e. other (sym e)))
+      ]
+
+  pub spread_free : (vs : List VmId) → AreApart p s t vs vs → IsFreeOf (IsAnyOf vs (λ v. IsAnyOf vs (ShareNode p v))) p s t
+  spread_free vs apart = any_free (λ v. IsAnyOf vs (ShareNode p v)) p s t vs (λ v here. any_free (ShareNode p v) p s t vs (λ w there. pair_free vs vs apart apart v w here there))
+
+  pub split_free : (parts : List (List VmId)) → ((i j : ℕ) → i < length parts → j < length parts → i ≢ j → AreApart p s t (slice_index_or parts i []) (slice_index_or parts j [])) → IsFreeOf (λ b. (i : ℕ) × (i < length parts) × IsAnyOf (slice_index_or parts i []) (MeetsOtherPart p parts i) b) p s t
+  split_free parts apart =
+      parts_free p s t parts (λ i l. any_free (MeetsOtherPart p parts i) p s t (slice_index_or parts i []) (λ v here. others_free p s t parts i v (λ j k ne. any_free (ShareNode p v) p s t (slice_index_or parts j []) (λ w there.
+      pair_free (slice_index_or parts i []) (slice_index_or parts j []) (apart i j l k ne) (apart j i k l (λ e. ne (sym e))) v w here there))))
