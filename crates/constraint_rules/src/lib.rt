@@ -1,6 +1,7 @@
 //! The rules of constraints: machines kept apart, places, whole groups, and amounts on nodes.
 #![tactic(auto)]
 
+mod hall;
 mod nodes;
 mod pairs;
 mod places;

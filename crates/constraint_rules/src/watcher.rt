@@ -7,7 +7,9 @@ ghost use Rattle.closing.specs.Looks.{IsLook};
 ghost use Rattle.constraint_rules.specs.Watches.{kept_watch, watch_at, watch_count};
 ghost use Rattle.constraint_rules.specs.Quiet.{kinds_are_quiet, watches_are_local};
 
+use crate::hall::hall_reason;
 use crate::nodes::mark_nodes;
+use crate::suggest::suggest_pairs;
 use crate::witnesses::{constraint_reason, usable_reason};
 use catalogue::problem::Problem;
 use closing::look::Look;
@@ -20,13 +22,12 @@ use domains::parts::Change;
 use domains::region::Region;
 use domains::undo::Before;
 use domains::view::View;
+use memory::Memory;
 use reasons::reason::{Reason, ReasonKind};
 use rule_frame::index::{ConstraintIndex, mark_looking};
 use rule_frame::marks::Marks;
 use rule_frame::suggestion::Suggestion;
 use rule_frame::watcher::Watcher;
-use crate::suggest::suggest_pairs;
-use memory::Memory;
 
 /// The kinds of reasons that a rule covers.
 pub trait Kinds: Drop {
@@ -122,6 +123,16 @@ impl<S: Kinds> Watcher<ConstraintIndex> for ConstraintWatcher<S> {
         mark_looking(k, p, change.element, marks);
         if self.kinds.covers(ReasonKind::Usable) {
             mark_nodes(p, g, change, marks);
+        }
+    }
+
+    fn refuted(&self, _k: &ConstraintIndex, p: &Problem, g: &Region, i: usize) -> Option<Reason> {
+        if !self.kinds.covers(ReasonKind::Pair) {
+            return None;
+        }
+        match node_of(p, i) {
+            None => hall_reason(p, g, i as u32),
+            Some(_) => None,
         }
     }
 
