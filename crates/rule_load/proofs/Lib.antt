@@ -1,3 +1,4 @@
+pub mod FixedLemmas
 pub mod FreeLemmas
 pub mod MarkLemmas
 pub mod RoomLemmas

@@ -1,14 +1,12 @@
 -- A change of a machine that may stay does not weigh on its host, where it surely keeps that as long as before.
-use Rattle.std.proofs.Common.{◌≡◌, ◌⊎◌, inl, inr, ℕ, ◌+◌, ◌<◌, ◌≤◌, ◌==◌, ◌&&◌, Bool, true, false, nat_lt, nat_le, cond, Option, Some, None, min, unwrap_or, IsTrue, List, [], ◌∷◌, refl, sym, ap, subst, ◌∙◌, arith}
+use Rattle.std.proofs.Common.{◌≡◌, inr, ℕ, ◌<◌, ◌≤◌, ◌&&◌, Bool, true, false, nat_lt, cond, Option, Some, None, min, unwrap_or, List, [], ◌∷◌, refl, sym, ap, subst, ◌∙◌, arith}
 use Rattle.std.proofs.lemmas.Bool.{false≢true}
-use Rattle.std.proofs.lemmas.Bool.Decides.{Decides-eqb, nat_tests}
+use Rattle.std.proofs.lemmas.Bool.Decides.{nat_tests}
 use Rattle.std.specs.List.{Contains, filter}
 use Rattle.cluster.specs.declared.choices.Choice.{Choice}
 use Rattle.cluster.specs.declared.choices.Choice.TheVariants.{Idle, Act}
 use Rattle.cluster.specs.declared.choices.Place.TheVariants.{Nowhere, At}
 use Rattle.cluster.specs.declared.ids.NodeId.{NodeId}
-use Rattle.cluster.specs.declared.states.State.{State}
-use Rattle.cluster.specs.declared.states.State.TheVariants.{Init, Ready, Running, Sleeping, Gone}
 use Rattle.catalogue.specs.Instance.{Instance}
 use Rattle.sums.specs.Least.{least, lowest}
 use Rattle.slices.specs.declared.slice.Weight.TheVariants.{Amount}
@@ -21,16 +19,14 @@ use Rattle.domains.specs.Choices.{DomainView, choices}
 use Rattle.domains.specs.Laws.{AreFewer}
 use Rattle.domains.specs.Measures.{lower_option}
 use Rattle.domains.specs.Parts.{in_part}
-use Rattle.domains.specs.Sets.{surely}
 use Rattle.domains.specs.Undo.{lost_choices, restored}
 use Rattle.domains.proofs.Public.{contains_filter, lowest_before, surely_each}
-use Rattle.reasons.specs.Closed.{IsEnd}
 use Rattle.reasons.proofs.Public.{end_is_choice}
 use Rattle.relax.specs.Areas.{goes_in, hosted_in}
 use Rattle.closing.specs.Kinds.{load_scope}
-use Rattle.rule_frame.specs.Changes.{IsLess, IsMachineLess, IsStill}
+use Rattle.rule_frame.specs.Changes.{IsMachineLess, IsStill}
 use Rattle.standing.specs.declared.numbers.Standing.{Standing}
-use Rattle.standing.specs.Standings.{IsStanding, base, comes_by, gain, has_come, have_come, kept_use, leave_of, never}
+use Rattle.standing.specs.Standings.{IsStanding, base, comes_by, has_come, have_come, leave_of, never}
 use Rattle.standing.proofs.Public.{kept_law}
 use Rattle.rule_load.specs.Marking.{StaysAsBefore}
 use Rattle.rule_load.proofs.StillLemmas.{choice_stands, arrival_of}

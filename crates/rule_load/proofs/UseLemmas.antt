@@ -1,8 +1,9 @@
 -- What one machine uses of a node at the most during a period.
-use Rattle.std.proofs.Common.{◌≡◌, ℕ, ◌+◌, ◌-◌, ◌<◌, ◌≤◌, ◌==◌, Bool, true, false, ◌&&◌, nat_lt, nat_le, cond, Option, Some, None, List, [], ◌∷◌, refl, ap, subst, ◌∙◌, arith}
+use Rattle.std.proofs.Common.{◌≡◌, inl, inr, ℕ, ◌+◌, ◌-◌, ◌<◌, ◌≤◌, ◌==◌, Bool, true, false, ◌&&◌, nat_lt, nat_le, cond, Option, Some, None, List, [], ◌∷◌, length, refl, ap, subst, ◌∙◌, arith}
 use Rattle.std.specs.Prelude.{slice_index_or}
 use Rattle.std.specs.List.{Contains, filter}
-use Rattle.std.proofs.lemmas.Bool.{false≢true}
+use Rattle.std.proofs.lemmas.Bool.{cases_eq, false≢true}
+use Rattle.std.proofs.lemmas.List.{get_or_default}
 use Rattle.std.proofs.lemmas.Bool.Decides.{Decides-eqb, nat_tests}
 use Rattle.sums.specs.Least.{least}
 use Rattle.cluster.specs.declared.choices.Choice.{Choice}
@@ -180,3 +181,22 @@ demand-brought p v cs n r by = record {
 pub fits_ever : (p : Instance) (v : ℕ) (cs : List Choice) (r n : ℕ) (x : Period) (here demand bound : ℕ) → x.to < never → here ≡ cond (hosted_in (state_of p v) (one n)) (base p v (Amount r)) 0 → demand ≡ demand_of p v r → here + demand ≤ bound → IsMost p v cs r (one n) x bound
 fits_ever p v cs r n x here demand bound short is all fits =
     fits_now p v cs r n x here (demand_of p v r) bound short (some_left p v cs n r x.from here is) (demand-brought p v cs n r x.to) (omega (arith, all, fits))
+
+-- what any machine has and brings is spare
+pub fits_at_once : (p : Instance) (v : ℕ) (cs : List Choice) (r n : ℕ) (x : Period) (most spare kept : ℕ) → x.to < never → base p v (Amount r) + demand_of p v r ≤ most → most ≤ spare → IsMost p v cs r (one n) x (spare + kept)
+fits_at_once p v cs r n x most spare kept short uses fits =
+    fits_ever p v cs r n x (cond (hosted_in (state_of p v) (one n)) (base p v (Amount r)) 0) (demand_of p v r) (spare + kept) short refl refl (omega (arith, at (hosted_in (state_of p v) (one n)), uses, fits))
+  where
+    at : (b : Bool) → cond b (base p v (Amount r)) 0 ≤ base p v (Amount r)
+    at true = omega arith
+    at false = omega arith
+
+-- what fits of the first machines fits of one more
+pub fits_next : (p : Instance) (s : Sets) (ks : List Standing) (r n : ℕ) (x : Period) (spare i : ℕ) (d : Standing) → i < length ks →
+    ((v : ℕ) → v < i → IsMost p v (s (vm v)) r (one n) x (spare + most_kept p v (Amount r) n x (slice_index_or ks v no_standing))) → IsMost p i (s (vm i)) r (one n) x (spare + most_kept p i (Amount r) n x (slice_index_or ks i d)) →
+    (v : ℕ) → v < i + 1 → IsMost p v (s (vm v)) r (one n) x (spare + most_kept p v (Amount r) n x (slice_index_or ks v no_standing))
+fits_next p s ks r n x spare i d low before here v h =
+    elim (cases_eq v i) [
+      | inl same ↦ rw same (subst (λ k. IsMost p i (s (vm i)) r (one n) x (spare + most_kept p i (Amount r) n x k)) (get_or_default ks i d no_standing low) here)
+      | inr other ↦ before v (omega (arith, h, other))
+    ]

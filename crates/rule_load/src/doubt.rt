@@ -10,8 +10,10 @@ ghost use Rattle.reasons.specs.Reasons.{IsOverload};
 ghost use Rattle.relax.specs.Areas.{IsSized};
 ghost use Rattle.closing.specs.Kinds.{IsOverloaded};
 ghost use Rattle.standing.specs.Tables.{AreStanding, no_standing};
+ghost use Rattle.rule_load.specs.Fixed.{IsFixed};
 ghost use Rattle.rule_load.specs.Periods.{IsFreeDuring, MachinesFit, most_kept};
 
+use crate::fixed::Fixed;
 use crate::nodes::resource_total;
 use crate::period::Period;
 use crate::room::{node_fits, room_of};
@@ -98,6 +100,7 @@ fn of_machine(p: &Problem, g: &Region, v: VmId, n: NodeId, r: u8, x: Period) -> 
 // the case of a machine that may use more of a node than is spare
 fn machine_doubt(
     p: &Problem,
+    f: &Fixed,
     g: &Region,
     ks: &[Standing],
     n: NodeId,
@@ -105,6 +108,7 @@ fn machine_doubt(
     x: Period,
     spare: u64,
 ) -> Option<Doubt>
+    requires fixed { IsFixed p.now.given f.now }
     requires region { IsSized p.now.given g.now }
     requires right { AreStanding p.now.given (sets g.now) ks.now }
     requires resource { r < length p.now.given.resources }
@@ -112,9 +116,13 @@ fn machine_doubt(
     requires small { spare ≤ max_capacity }
     ensures { IfNone result (MachinesFit p.now.given (sets g.now) r (one n.0) x (λ v. most_kept p.now.given v (AmountOf r) n.0 x (slice_index_or ks.now v no_standing)) spare) }
 {
+    // what any of them has and brings is spare
+    if f.most(p, r) <= spare {
+        return None;
+    }
     for i in 0..p.cluster().machines().len() {
         let v = VmId(i as u32);
-        if !machine_fits(p, g, v, ks[i], n, r, x, spare) {
+        if !machine_fits(p, f, g, v, ks[i], n, r, x, spare) {
             return Some(of_machine(p, g, v, n, r, x));
         }
     }
@@ -145,12 +153,14 @@ fn of_node(p: &Problem, g: &Region, n: NodeId, x: Period) -> Doubt
 // the case of a resource of which a node may lack some
 fn resource_doubt(
     p: &Problem,
+    f: &Fixed,
     g: &Region,
     ks: &[Standing],
     n: NodeId,
     r: u8,
     x: Period,
 ) -> Option<Doubt>
+    requires fixed { IsFixed p.now.given f.now }
     requires region { IsSized p.now.given g.now }
     requires right { AreStanding p.now.given (sets g.now) ks.now }
     requires node { n.0 < node_count p.now.given }
@@ -158,12 +168,12 @@ fn resource_doubt(
     requires period { x.to ≤ p.now.given.horizon }
     ensures { IfNone result (IsFreeDuring (λ b. IsOverload p.now.given b r (one n.0)) p.now.given (sets g.now) x) }
 {
-    let used = most_used(p, ks, n, r, x);
+    let used = most_used(p, f, ks, n, r, x);
     let room = room_of(p, g, n, r, x);
     if used > room {
         return Some(Doubt::Whole(x.from));
     }
-    if let Some(doubt) = machine_doubt(p, g, ks, n, r, x, room - used) {
+    if let Some(doubt) = machine_doubt(p, f, g, ks, n, r, x, room - used) {
         return Some(doubt);
     }
     if node_fits(p, g, n, x, used) {
@@ -176,11 +186,13 @@ fn resource_doubt(
 /// A case in which a node may be overloaded during a period, if there is one.
 pub(crate) fn load_doubt(
     p: &Problem,
+    f: &Fixed,
     g: &Region,
     ks: &[Standing],
     n: NodeId,
     x: Period,
 ) -> Option<Doubt>
+    requires fixed { IsFixed p.now.given f.now }
     requires region { IsSized p.now.given g.now }
     requires right { AreStanding p.now.given (sets g.now) ks.now }
     requires node { n.0 < node_count p.now.given }
@@ -188,7 +200,7 @@ pub(crate) fn load_doubt(
     ensures { IfNone result (IsFreeDuring (IsOverloaded p.now.given (one n.0)) p.now.given (sets g.now) x) }
 {
     for r in 0..resource_total(p) {
-        if let Some(doubt) = resource_doubt(p, g, ks, n, r as u8, x) {
+        if let Some(doubt) = resource_doubt(p, f, g, ks, n, r as u8, x) {
             return Some(doubt);
         }
     }

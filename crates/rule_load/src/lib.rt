@@ -2,6 +2,7 @@
 #![tactic(auto)]
 
 mod doubt;
+pub mod fixed;
 mod marking;
 mod measures;
 mod node_look;

@@ -5,9 +5,11 @@ ghost use Rattle.domains.specs.Sets.{sets};
 ghost use Rattle.relax.specs.Areas.{IsSized};
 ghost use Rattle.closing.specs.Looks.{IsLook};
 ghost use Rattle.closing.specs.Kinds.{load_watch};
+ghost use Rattle.rule_load.specs.Fixed.{IsFixed};
 ghost use Rattle.standing.specs.Tables.{AreStanding};
 
 use crate::doubt::{Doubt, load_doubt};
+use crate::fixed::Fixed;
 use crate::period::Period;
 use crate::settle::confirmed;
 use crate::turns::next_change;
@@ -19,7 +21,8 @@ use domains::region::Region;
 use standing::numbers::Standing;
 
 // whether it is seen that a node is never overloaded, with the most that is ever used at once
-fn is_never_overloaded(p: &Problem, g: &Region, ks: &[Standing], n: NodeId) -> bool
+fn is_never_overloaded(p: &Problem, f: &Fixed, g: &Region, ks: &[Standing], n: NodeId) -> bool
+    requires fixed { IsFixed p.now.given f.now }
     requires region { IsSized p.now.given g.now }
     requires right { AreStanding p.now.given (sets g.now) ks.now }
     requires node { n.0 < node_count p.now.given }
@@ -29,14 +32,15 @@ fn is_never_overloaded(p: &Problem, g: &Region, ks: &[Standing], n: NodeId) -> b
         from: 0,
         to: p.horizon(),
     };
-    match load_doubt(p, g, ks, n, x) {
+    match load_doubt(p, f, g, ks, n, x) {
         None => true,
         Some(_) => false,
     }
 }
 
 // the first case in which a node may be overloaded
-fn first_doubt(p: &Problem, g: &Region, ks: &[Standing], n: NodeId) -> Option<Doubt>
+fn first_doubt(p: &Problem, f: &Fixed, g: &Region, ks: &[Standing], n: NodeId) -> Option<Doubt>
+    requires fixed { IsFixed p.now.given f.now }
     requires region { IsSized p.now.given g.now }
     requires right { AreStanding p.now.given (sets g.now) ks.now }
     requires node { n.0 < node_count p.now.given }
@@ -44,12 +48,12 @@ fn first_doubt(p: &Problem, g: &Region, ks: &[Standing], n: NodeId) -> Option<Do
 {
     let mut from = 0u64;
     'periods: while from <= u64::from(p.horizon()) {
-        let next = next_change(p, g, ks, n, from);
+        let next = next_change(p, f, g, ks, n, from);
         let x = Period {
             from: from as u32,
             to: (next - 1) as u32,
         };
-        if let Some(doubt) = load_doubt(p, g, ks, n, x) {
+        if let Some(doubt) = load_doubt(p, f, g, ks, n, x) {
             return Some(doubt);
         }
         from = next;
@@ -59,16 +63,17 @@ fn first_doubt(p: &Problem, g: &Region, ks: &[Standing], n: NodeId) -> Option<Do
 
 /// A look at the load of a node. No row of a machine is read but of those that may be too much; a case that may
 /// be one is looked at exactly, and where it is none, the node is looked at in full.
-pub(crate) fn node_look(p: &Problem, g: &Region, ks: &[Standing], n: NodeId) -> Look
+pub(crate) fn node_look(p: &Problem, f: &Fixed, g: &Region, ks: &[Standing], n: NodeId) -> Look
+    requires fixed { IsFixed p.now.given f.now }
     requires region { IsSized p.now.given g.now }
     requires right { AreStanding p.now.given (sets g.now) ks.now }
     requires node { n.0 < node_count p.now.given }
     ensures { IsLook (load_watch p.now.given n.0) p.now.given (sets g.now) result }
 {
-    if is_never_overloaded(p, g, ks, n) {
+    if is_never_overloaded(p, f, g, ks, n) {
         return Look::Clean;
     }
-    match first_doubt(p, g, ks, n) {
+    match first_doubt(p, f, g, ks, n) {
         None => Look::Clean,
         Some(doubt) => match confirmed(p, g, n, doubt) {
             Some(look) => look,

@@ -3,7 +3,9 @@ ghost use Rattle.std.specs.Prelude.{◌≡◌, ◌+◌, ◌<◌, ◌≤◌, leng
 ghost use Rattle.catalogue.specs.Instance.{IsElement};
 ghost use Rattle.slices.specs.Elements.{machine_count, node_count};
 ghost use Rattle.relax.specs.Areas.{IsSized};
+ghost use Rattle.rule_load.specs.Fixed.{IsFixed};
 
+use crate::fixed::Fixed;
 use catalogue::problem::Problem;
 use cluster::choices::{Choice, Instant};
 use cluster::ids::{Element, NodeId, VmId};
@@ -11,7 +13,6 @@ use domains::parts::Row;
 use domains::region::Region;
 use relax::measures::end;
 use standing::numbers::Standing;
-use standing::uses::is_host;
 
 // the sooner of what is found and an instant, if that is later than `after`
 fn sooner(after: u64, best: u64, at: u64) -> u64
@@ -23,14 +24,23 @@ fn sooner(after: u64, best: u64, at: u64) -> u64
 }
 
 // the first instant of these at which a machine surely leaves a node or comes to it
-fn next_of_machine(p: &Problem, v: VmId, k: Standing, n: NodeId, after: u64, best: u64) -> u64
+fn next_of_machine(
+    p: &Problem,
+    f: &Fixed,
+    v: VmId,
+    k: Standing,
+    n: NodeId,
+    after: u64,
+    best: u64,
+) -> u64
+    requires fixed { IsFixed p.now.given f.now }
     requires machine { IsElement p.now.given (Element.Vm v) }
     requires later { after < best }
     ensures later { after < result }
     ensures less { result ≤ best }
 {
     let mut next = best;
-    if is_host(p, v, n) {
+    if f.is_host(p, v, n) {
         next = sooner(after, next, k.leave);
     }
     match k.come {
@@ -70,7 +80,15 @@ fn act(row: Row, start: Instant) -> Choice {
 }
 
 /// The first instant after one at which what is sure of a node changes, or the one after the horizon.
-pub(crate) fn next_change(p: &Problem, g: &Region, ks: &[Standing], n: NodeId, after: u64) -> u64
+pub(crate) fn next_change(
+    p: &Problem,
+    f: &Fixed,
+    g: &Region,
+    ks: &[Standing],
+    n: NodeId,
+    after: u64,
+) -> u64
+    requires fixed { IsFixed p.now.given f.now }
     requires region { IsSized p.now.given g.now }
     requires count { length ks.now ≡ machine_count p.now.given }
     requires node { n.0 < node_count p.now.given }
@@ -81,7 +99,7 @@ pub(crate) fn next_change(p: &Problem, g: &Region, ks: &[Standing], n: NodeId, a
     let e = Element::Node(n);
     let mut next = u64::from(p.horizon()) + 1;
     for i in 0..p.cluster().machines().len() {
-        next = next_of_machine(p, VmId(i as u32), ks[i], n, after, next);
+        next = next_of_machine(p, f, VmId(i as u32), ks[i], n, after, next);
     }
     next_of_rows(p, e, g.domain(e).rows(), after, next)
 }

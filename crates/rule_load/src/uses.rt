@@ -11,9 +11,11 @@ ghost use Rattle.domains.specs.Sets.{sets};
 ghost use Rattle.relax.specs.Areas.{IsSized, hosted_in};
 ghost use Rattle.standing.specs.Standings.{base as the_base};
 ghost use Rattle.standing.specs.Tables.{no_standing};
+ghost use Rattle.rule_load.specs.Fixed.{IsFixed};
 ghost use Rattle.rule_load.specs.Parts.{HasLeft, IsMostBrought, IsMostLeft};
 ghost use Rattle.rule_load.specs.Periods.{IsMost, most_kept as the_most_kept};
 
+use crate::fixed::Fixed;
 use crate::measures::LeftOver;
 use crate::period::Period;
 use catalogue::problem::Problem;
@@ -24,17 +26,18 @@ use domains::region::Region;
 use domains::view::{Lens, View, lowest_seen};
 use slices::slice::Weight;
 use standing::numbers::{NEVER, Standing};
-use standing::uses::{base, comes_by, gain, is_host};
+use standing::uses::{base, comes_by, gain};
 
 // what a machine with these numbers surely uses at the most
-fn most_kept(p: &Problem, v: VmId, n: NodeId, r: u8, x: Period, k: Standing) -> u64
+fn most_kept(p: &Problem, f: &Fixed, v: VmId, n: NodeId, r: u8, x: Period, k: Standing) -> u64
+    requires fixed { IsFixed p.now.given f.now }
     requires machine { IsElement p.now.given (Element.Vm v) }
     requires resource { r < length p.now.given.resources }
     ensures most { result ≡ the_most_kept p.now.given v.0 (AmountOf r) n.0 x k }
     ensures small { result ≤ 2 * max_amount }
 {
     let weight = Weight::Amount(r);
-    let kept = if is_host(p, v, n) && u64::from(x.from) < k.leave {
+    let kept = if f.is_host(p, v, n) && u64::from(x.from) < k.leave {
         base(p, v, weight)
     } else {
         0
@@ -48,7 +51,8 @@ fn most_kept(p: &Problem, v: VmId, n: NodeId, r: u8, x: Period, k: Standing) -> 
 }
 
 /// What the machines with these numbers surely use of a node at the most.
-pub(crate) fn most_used(p: &Problem, ks: &[Standing], n: NodeId, r: u8, x: Period) -> u64
+pub(crate) fn most_used(p: &Problem, f: &Fixed, ks: &[Standing], n: NodeId, r: u8, x: Period) -> u64
+    requires fixed { IsFixed p.now.given f.now }
     requires count { length ks.now ≡ machine_count p.now.given }
     requires resource { r < length p.now.given.resources }
     ensures sum { result ≡ sum_to (machine_count p.now.given) (λ v. the_most_kept p.now.given v (AmountOf r) n.0 x (slice_index_or ks.now v no_standing)) }
@@ -56,19 +60,20 @@ pub(crate) fn most_used(p: &Problem, ks: &[Standing], n: NodeId, r: u8, x: Perio
 {
     let mut total = 0;
     for i in 0..p.cluster().machines().len() {
-        total += most_kept(p, VmId(i as u32), n, r, x, ks[i]);
+        total += most_kept(p, f, VmId(i as u32), n, r, x, ks[i]);
     }
     total
 }
 
 // what a machine has at present on a node
-fn most_here(p: &Problem, v: VmId, n: NodeId, r: u8) -> u64
+fn most_here(p: &Problem, f: &Fixed, v: VmId, n: NodeId, r: u8) -> u64
+    requires fixed { IsFixed p.now.given f.now }
     requires machine { IsElement p.now.given (Element.Vm v) }
     requires resource { r < length p.now.given.resources }
     ensures here { result ≡ (if hosted_in (state_of p.now.given v.0) (one n.0) then the_base p.now.given v.0 (AmountOf r) else 0) }
     ensures small { result ≤ max_amount }
 {
-    if is_host(p, v, n) {
+    if f.is_host(p, v, n) {
         base(p, v, Weight::Amount(r))
     } else {
         0
@@ -96,14 +101,15 @@ pub(crate) fn has_left(p: &Problem, g: &Region, v: VmId, by: Instant) -> bool
 
 // the most that is left of what a machine has at present on a node, from an instant on
 #[tactic(auto, using(crate::proofs::UseLemmas::none_left, crate::proofs::UseLemmas::some_left))]
-fn most_left(p: &Problem, g: &Region, v: VmId, n: NodeId, r: u8, from: Instant) -> u64
+fn most_left(p: &Problem, f: &Fixed, g: &Region, v: VmId, n: NodeId, r: u8, from: Instant) -> u64
+    requires fixed { IsFixed p.now.given f.now }
     requires region { IsSized p.now.given g.now }
     requires machine { IsElement p.now.given (Element.Vm v) }
     requires resource { r < length p.now.given.resources }
     ensures most { IsMostLeft p.now.given v.0 (sets g.now (vm v.0)) n.0 r from result }
     ensures small { result ≤ max_amount }
 {
-    let here = most_here(p, v, n, r);
+    let here = most_here(p, f, v, n, r);
     if here > 0 && has_left(p, g, v, from) {
         return 0;
     }
@@ -136,6 +142,7 @@ pub(crate) fn most_brought(p: &Problem, g: &Region, v: VmId, n: NodeId, r: u8, b
 #[tactic(auto, using(crate::proofs::UseLemmas::fits_ever))]
 pub(crate) fn machine_fits(
     p: &Problem,
+    f: &Fixed,
     g: &Region,
     v: VmId,
     k: Standing,
@@ -144,6 +151,7 @@ pub(crate) fn machine_fits(
     x: Period,
     spare: u64,
 ) -> bool
+    requires fixed { IsFixed p.now.given f.now }
     requires region { IsSized p.now.given g.now }
     requires machine { IsElement p.now.given (Element.Vm v) }
     requires resource { r < length p.now.given.resources }
@@ -151,13 +159,13 @@ pub(crate) fn machine_fits(
     requires small { spare ≤ max_capacity }
     ensures { IsTrue result → IsMost p.now.given v.0 (sets g.now (vm v.0)) r (one n.0) x (spare + the_most_kept p.now.given v.0 (AmountOf r) n.0 x k) }
 {
-    let ever = most_here(p, v, n, r) + p.demand(v, r);
+    let ever = most_here(p, f, v, n, r) + p.demand(v, r);
     if ever <= spare {
         return true;
     }
-    let bound = spare + most_kept(p, v, n, r, x, k);
+    let bound = spare + most_kept(p, f, v, n, r, x, k);
     if ever <= bound {
         return true;
     }
-    most_left(p, g, v, n, r, x.from) + most_brought(p, g, v, n, r, x.to) <= bound
+    most_left(p, f, g, v, n, r, x.from) + most_brought(p, g, v, n, r, x.to) <= bound
 }

@@ -1,0 +1,141 @@
+//! What no change of a region changes: the hosts of machines, and the most that any of them uses.
+ghost use Rattle.std.specs.Prelude.{◌≡◌, ℕ, ◌+◌, ◌<◌, ◌≤◌, [], IfOk, length};
+ghost use Rattle.cluster.specs.Limits.{max_amount};
+ghost use Rattle.catalogue.specs.Instance.{Instance, IsElement};
+ghost use Rattle.catalogue.specs.Values.{demand_of};
+ghost use Rattle.slices.specs.Elements.{machine_count, state_of};
+ghost use Rattle.slices.specs.Stages.{one};
+ghost use Rattle.slices.specs.declared.slice.Weight.TheVariants.{Amount as AmountOf};
+ghost use Rattle.relax.specs.Areas.{hosted_in};
+ghost use Rattle.standing.specs.Standings.{base as the_base};
+ghost use Rattle.rule_load.specs.Fixed.{AreHosts, AreMostUses, HostIs, IsFixed, IsMostUse};
+
+use crate::nodes::resource_total;
+use catalogue::problem::Problem;
+use cluster::ids::{Element, NodeId, VmId};
+use cluster::states::State;
+use memory::Memory;
+use slices::slice::Weight;
+use standing::uses::base;
+use std::alloc::Global;
+use std::marker::Model;
+
+/// The host of each machine, if it has one, and by resource the most that any machine has and brings.
+#[derive(Drop)]
+pub struct Fixed {
+    hosts: Vec<Option<NodeId>>,
+    most: Vec<u64>,
+}
+
+impl Model for Fixed {
+    ghost use Rattle.rule_load.specs.Fixed.{FixedView};
+
+    ghost Value = { FixedView };
+
+    ghost view = { λ m. record { hosts = m.hosts.items; most = m.most.items } };
+}
+
+// the host of a machine in a state
+fn host_in(state: State) -> Option<NodeId>
+    ensures { (n : ℕ) → HostIs result n (hosted_in state (one n)) }
+{
+    match state {
+        State::Running(h) | State::Sleeping(h) => Some(h),
+        State::Init | State::Ready | State::Gone => None,
+    }
+}
+
+// the host of a machine
+fn host_of(p: &Problem, v: VmId) -> Option<NodeId>
+    requires { IsElement p.now.given (Element.Vm v) }
+    ensures { (n : ℕ) → HostIs result n (hosted_in (state_of p.now.given v.0) (one n)) }
+{
+    host_in(p.cluster().machines()[v.0 as usize].state)
+}
+
+// the hosts of all machines
+fn hosts_of(alloc: Global, p: &Problem) -> Result<Vec<Option<NodeId>>, Memory>
+    ensures { IfOk result (λ xs. AreHosts p.now.given (machine_count p.now.given) xs.items) }
+{
+    let count = p.cluster().machines().len();
+    let mut hosts = Vec::with_capacity(alloc, count)?;
+    for i in 0..count {
+        hosts.push(host_of(p, VmId(i as u32)))?;
+    }
+    Ok(hosts)
+}
+
+// the most that any machine has and brings of a resource
+fn most_of(p: &Problem, r: u8) -> u64
+    requires { r < length p.now.given.resources }
+    ensures { IsMostUse p.now.given r (machine_count p.now.given) result }
+{
+    let mut most = 0u64;
+    for i in 0..p.cluster().machines().len() {
+        let v = VmId(i as u32);
+        most = most.max(base(p, v, Weight::Amount(r)) + p.demand(v, r));
+    }
+    most
+}
+
+// of each resource
+fn most_uses(alloc: Global, p: &Problem) -> Result<Vec<u64>, Memory>
+    ensures { IfOk result (λ xs. AreMostUses p.now.given (length p.now.given.resources) xs.items) }
+{
+    let count = resource_total(p);
+    let mut most = Vec::with_capacity(alloc, count)?;
+    for r in 0..count {
+        most.push(most_of(p, r as u8))?;
+    }
+    Ok(most)
+}
+
+impl Fixed {
+    /// Of no machine and no resource. It takes no memory.
+    pub fn none(alloc: Global) -> Fixed
+        ensures { result ≡ record { hosts = []; most = [] } }
+    {
+        Fixed {
+            hosts: Vec::new(alloc),
+            most: Vec::new(alloc),
+        }
+    }
+
+    /// Of the machines of a problem. The only error is want of memory.
+    pub fn of(alloc: Global, p: &Problem) -> Result<Fixed, Memory>
+        ensures { IfOk result (IsFixed p.now.given) }
+    {
+        let hosts = hosts_of(alloc, p)?;
+        let most = most_uses(alloc, p)?;
+        Ok(Fixed { hosts, most })
+    }
+
+    /// Whether a machine has its host at a node.
+    #[tactic(auto, using(crate::proofs::FixedLemmas::host_tells))]
+    pub fn is_host(&self, _p: &Problem, v: VmId, n: NodeId) -> bool
+        requires fixed { IsFixed _p.now.given self.now }
+        requires machine { IsElement _p.now.given (Element.Vm v) }
+        ensures { result ≡ hosted_in (state_of _p.now.given v.0) (one n.0) }
+    {
+        is_this(self.hosts[v.0 as usize], n)
+    }
+
+    /// The most that any machine has and brings of a resource.
+    pub fn most(&self, _p: &Problem, r: u8) -> u64
+        requires fixed { IsFixed _p.now.given self.now }
+        requires resource { r < length _p.now.given.resources }
+        ensures { IsMostUse _p.now.given r (machine_count _p.now.given) result }
+    {
+        self.most[r as usize]
+    }
+}
+
+// whether a node, if there is one, is this one
+fn is_this(node: Option<NodeId>, n: NodeId) -> bool
+    ensures { HostIs node n.0 result }
+{
+    match node {
+        None => false,
+        Some(m) => m.0 == n.0,
+    }
+}
