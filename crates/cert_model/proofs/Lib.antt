@@ -2,7 +2,6 @@
 pub mod Public
 pub mod EndLemmas
 pub mod CountLemmas
-pub mod LoadLemmas
 pub mod LeanLemmas
 pub mod PlanLemmas
 pub mod WholeLemmas

@@ -3,7 +3,6 @@ ghost use Rattle.std.specs.Prelude.{◌≡◌, ◌↔◌, [], false, filter, IfO
 ghost use Rattle.catalogue.specs.Instance.{IsElement};
 ghost use Rattle.domains.specs.Parts.{on_side};
 ghost use Rattle.domains.specs.Sets.{HasElement, sets};
-ghost use Rattle.domains.specs.Views.{seen};
 ghost use Rattle.reasons.specs.Reasons.{Refutes};
 ghost use Rattle.reasons.specs.Sure.{least_cost};
 ghost use Rattle.trees.specs.Trees.{inside};
@@ -12,7 +11,6 @@ ghost use Rattle.relax.specs.Areas.{AreLegal, IsSized};
 ghost use Rattle.cert_model.specs.Walks.{IsFault, PartHolds, PlanHolds, ReasonHolds};
 
 use crate::ends::sum_seen;
-use crate::loads::is_overload;
 use crate::why::Why;
 use catalogue::problem::Problem;
 use cluster::ids::Element;
@@ -22,7 +20,6 @@ use domains::view::{Lens, View};
 use judge::judge;
 use memory::Memory;
 use reasons::reason::Reason;
-use relax::named::is_named;
 use relax::plan::plan_of;
 use relax::refutes::refutes_seen;
 use std::alloc::Global;
@@ -133,7 +130,7 @@ fn refutes_all(p: &Problem, bound: Option<u64>, g: &Region, sum: u64, reason: &R
         region: g,
         lens: Lens::Whole,
     };
-    refutes(p, bound, Some(u128::from(sum)), &view, reason)
+    refutes_seen(p, bound, Some(u128::from(sum)), &view, reason)
 }
 
 // whether a reason refutes what is inside a part; the sum there is asked for by one reason alone
@@ -161,35 +158,7 @@ fn refutes_inside(
         region: g,
         lens: Lens::Inside(x, part),
     };
-    refutes(p, bound, least, &view, reason)
-}
-
-// whether a reason refutes what is seen of the region; the sum of the least ends there is added up where it is
-// not handed in, and a load is looked at here, which is quicker
-fn refutes(
-    p: &Problem,
-    bound: Option<u64>,
-    least: Option<u128>,
-    view: &View,
-    reason: &Reason,
-) -> bool
-    requires region { IsSized p.now.given view.now.region.now }
-    requires least { IfSome least (λ n. n ≡ least_cost p.now.given (seen view.now.region.now view.now.lens)) }
-    ensures yes { IsTrue result → Refutes p.now.given bound (seen view.now.region.now view.now.lens) reason.now }
-    ensures no { result ≡ false → ¬ Refutes p.now.given bound (seen view.now.region.now view.now.lens) reason.now }
-{
-    match reason {
-        Reason::Load(t, r, set) => is_named(p, reason) && is_overload(p, view, *r, set, *t),
-        Reason::Empty(_)
-        | Reason::Bound
-        | Reason::Pair(_, _, _, _, _)
-        | Reason::Place(_, _, _, _)
-        | Reason::Group(_, _)
-        | Reason::SetLoad(_, _)
-        | Reason::Power(_, _)
-        | Reason::Usable(_, _, _)
-        | Reason::Hall(_, _, _) => refutes_seen(p, bound, least, view, reason),
-    }
+    refutes_seen(p, bound, least, &view, reason)
 }
 
 // whether a plan that a step names is there

@@ -7,7 +7,6 @@ mod ends;
 mod frontier;
 pub mod laws;
 mod lean;
-mod loads;
 #[cfg(test)]
 mod tests;
 pub mod walk;

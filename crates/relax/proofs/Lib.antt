@@ -5,5 +5,6 @@ mod FloorLemmas
 mod LeastLemmas
 mod MemberLemmas
 mod MoveLemmas
+mod OneNodeLemmas
 mod PlanLemmas
 mod StartLemmas

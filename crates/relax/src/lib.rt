@@ -11,6 +11,7 @@ pub mod laws;
 pub mod measures;
 pub mod moves;
 pub mod named;
+mod one_node;
 pub mod plan;
 pub mod refutes;
 pub mod start;

@@ -19,7 +19,7 @@ use Rattle.slices.specs.Stages.{one}
 use Rattle.domains.specs.Choices.{Climbs, DomainView, choices}
 use Rattle.domains.specs.declared.parts.Row.{Row}
 use Rattle.relax.specs.Areas.{goes_in}
-use Rattle.relax.proofs.Public.{start_in}
+use Rattle.relax.proofs.AwayLemmas.{start_in}
 
 -- sets of the same words have the same nodes
 pub same_nodes : (a b : NodeSet) → a.words ≡ b.words → has_node a ≡ has_node b
@@ -32,13 +32,6 @@ first_out d rows x n true climbs same some told out = absurd (false≢true out)
 first_out d rows x n false climbs same some told out =
     let there = start_in d 0 x climbs (subst (λ rs. 0 < length rs) same (omega (arith, some))) in
     (_, there, sym (subst (λ rs. false ≡ goes_in (Act (slice_index_or rs 0 x).place (slice_index_or rs 0 x).lo) (one n)) same (told (slice_index_or rows 0 x).lo)))
-
--- what holds from a number on holds with one more
-pub each_next : (from n : ℕ) (P : ℕ → Type 0) → ((v : ℕ) → from ≤ v → v < n → P v) → P n → (v : ℕ) → from ≤ v → v < n + 1 → P v
-each_next from n P each next v low high = elim (cases_eq v n) [
-  | inl same ↦ rw same next
-  | inr other ↦ each v low (omega (arith, high))
-]
 
 -- terms of 0 add nothing
 pub sum_of_more : (a b : ℕ) (f : ℕ → ℕ) → a ≤ b → ((k : ℕ) → a ≤ k → k < b → f k ≡ 0) → sum_to b f ≡ sum_to a f

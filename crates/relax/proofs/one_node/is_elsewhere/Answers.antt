@@ -4,8 +4,8 @@ use Rattle.slices.specs.Elements.{vm}
 use Rattle.slices.specs.Stages.{one}
 use Rattle.domains.specs.Choices.{choices}
 use Rattle.domains.specs.Sets.{sets}
-use Rattle.relax.proofs.Public.{away_least}
-use Rattle.cert_model.proofs.loads.is_elsewhere.Goals as goal
+use Rattle.relax.proofs.AwayLemmas.{away_least}
+use Rattle.relax.proofs.one_node.is_elsewhere.Goals as goal
 
 pub returns : goal.returns
 returns c =

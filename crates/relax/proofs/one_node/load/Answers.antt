@@ -1,8 +1,8 @@
-use Rattle.std.proofs.Common.{◌≡◌, ◌∙◌, sym, arith}
+use Rattle.std.proofs.Common.{sym, arith}
 use Rattle.slices.specs.declared.slice.Weight.TheVariants.{Amount}
 use Rattle.reasons.specs.Sure.{sure}
-use Rattle.cert_model.proofs.LoadLemmas.{sum_of_more, sum_of_next}
-use Rattle.cert_model.proofs.loads.load.Goals as goal
+use Rattle.relax.proofs.OneNodeLemmas.{sum_of_more, sum_of_next}
+use Rattle.relax.proofs.one_node.load.Goals as goal
 
 pub loop-i-init : goal.loop-i-init
 unfolding sure

@@ -6,7 +6,7 @@ use Rattle.slices.specs.Limits.{max_held}
 use Rattle.slices.specs.Stages.{one}
 use Rattle.domains.specs.Views.{seen}
 use Rattle.reasons.specs.Sure.{sure}
-use Rattle.cert_model.proofs.loads.load.Given as goal
+use Rattle.relax.proofs.one_node.load.Given as goal
 
 abbrev pub invariant-loop-i : goal.invariant-loop-i
 invariant-loop-i l = record {

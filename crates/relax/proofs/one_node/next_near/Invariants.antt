@@ -5,7 +5,7 @@ use Rattle.slices.specs.Elements.{vm}
 use Rattle.slices.specs.Snapshots.{held_at}
 use Rattle.slices.specs.Stages.{one}
 use Rattle.domains.specs.Views.{seen}
-use Rattle.cert_model.proofs.loads.next_near.Given as goal
+use Rattle.relax.proofs.one_node.next_near.Given as goal
 
 abbrev pub invariant-loop-i : goal.invariant-loop-i
 invariant-loop-i l = (v : ℕ) → l.from ≤ v → v < l.i → (w : Weight) (t : ℕ) → least (held_at l.p.given v w (one l.n.0) t) (seen l.view.region.now l.view.lens (vm v)) ≡ 0

@@ -2,8 +2,8 @@ use Rattle.std.proofs.Common.{◌∙◌, ◌<◌, rules}
 use Rattle.std.proofs.lemmas.Bool.Decides.{Decides-eqb}
 use Rattle.std.proofs.lemmas.Slice.Eq.{slice_eq-Decides}
 use Rattle.slices.specs.Elements.{node_count}
-use Rattle.cert_model.proofs.LoadLemmas.{same_nodes}
-use Rattle.cert_model.proofs.loads.only_node.Goals as goal
+use Rattle.relax.proofs.OneNodeLemmas.{same_nodes}
+use Rattle.relax.proofs.one_node.only_node.Goals as goal
 
 pub returns-then-eq : goal.returns-then-eq
 returns-then-eq c =

@@ -1,23 +1,23 @@
-//! Reasons of loads. Of most machines it is told at once that they surely have nothing on a node.
-ghost use Rattle.std.specs.Prelude.{◌≡◌, ◌≢◌, ◌↔◌, ℕ, ◌<◌, ◌≤◌, false, length, IfSome, IsTrue};
+//! The load and the room of one node. Of most machines it is told at once that they surely have nothing there.
+ghost use Rattle.std.specs.Prelude.{◌≡◌, ◌≢◌, ℕ, ◌<◌, ◌≤◌, false, length, IfSome, IsTrue};
 ghost use Rattle.std.specs.List.{Contains};
 ghost use Rattle.cluster.specs.Sets.{has_node};
 ghost use Rattle.cluster.specs.declared.choices.Choice.{Choice as AnyChoice};
 ghost use Rattle.sums.specs.Least.{least};
 ghost use Rattle.catalogue.specs.Instance.{IsElement};
-ghost use Rattle.slices.specs.Elements.{machine_count, node_count, state_of, vm};
-ghost use Rattle.slices.specs.Limits.{max_held};
+ghost use Rattle.slices.specs.Elements.{machine_count, node_count, vm};
 ghost use Rattle.slices.specs.Snapshots.{held_at, load as load_of, room as room_of};
 ghost use Rattle.slices.specs.Stages.{one};
 ghost use Rattle.slices.specs.declared.slice.Weight.{Weight as AnyWeight};
-ghost use Rattle.slices.specs.declared.slice.Weight.TheVariants.{Amount as AmountOf};
 ghost use Rattle.domains.specs.Choices.{Climbs, choices};
 ghost use Rattle.domains.specs.Sets.{RegionView, sets};
 ghost use Rattle.domains.specs.Views.{seen};
-ghost use Rattle.reasons.specs.Reasons.{IsOverload};
 ghost use Rattle.reasons.specs.Sure.{sure};
 ghost use Rattle.relax.specs.Areas.{IsSized, goes_in, hosted_in};
 
+use crate::area::Area;
+use crate::measures::state;
+use crate::sure::{least_held, may_be_usable};
 use catalogue::problem::Problem;
 use cluster::choices::{Instant, Place};
 use cluster::ids::{Element, NodeId, VmId};
@@ -25,15 +25,12 @@ use cluster::sets::NodeSet;
 use cluster::states::State;
 use domains::domain::Domain;
 use domains::view::{Lens, View};
-use relax::amounts;
-use relax::area::Area;
-use relax::sure::{least_held, may_be_usable};
 use slices::slice::Weight;
 
 // ---- sets of one node
 
 // the set of one node
-fn one_node(p: &Problem, n: NodeId) -> NodeSet
+fn set_of(p: &Problem, n: NodeId) -> NodeSet
     requires { n.0 < node_count p.now.given }
     ensures { (m : ℕ) → has_node result m ≡ one n.0 m }
 {
@@ -47,11 +44,11 @@ fn node_set(p: &Problem, n: NodeId) -> NodeSet
     requires { n.0 < node_count p.now.given }
     ensures { has_node result ≡ one n.0 }
 {
-    one_node(p, n)
+    set_of(p, n)
 }
 
-// the node of a set that has one alone; None where it has more, or none
-fn only_node(p: &Problem, set: &NodeSet) -> Option<NodeId>
+/// The node of a set that has one alone; None where it has more, or none.
+pub(crate) fn only_node(p: &Problem, set: &NodeSet) -> Option<NodeId>
     ensures { IfSome result (λ n. (n.0 < node_count p.now.given) × (has_node set.now ≡ one n.0)) }
 {
     for i in 0..p.cluster().nodes().len() {
@@ -68,14 +65,6 @@ fn only_node(p: &Problem, set: &NodeSet) -> Option<NodeId>
 }
 
 // ---- one machine
-
-// the state of a machine at present
-fn state(p: &Problem, v: VmId) -> State
-    requires { IsElement p.now.given (Element.Vm v) }
-    ensures { result ≡ state_of p.now.given v.0 }
-{
-    p.cluster().machines()[v.0 as usize].state
-}
 
 // whether a machine in a state has its host at a node
 fn is_hosted(state: State, n: NodeId) -> bool
@@ -169,8 +158,8 @@ fn next_near(p: &Problem, view: &View, x: Option<VmId>, n: NodeId, from: usize) 
 
 // ---- one node
 
-// the sum of the least uses of a resource on a node
-fn load(p: &Problem, view: &View, r: u8, n: NodeId, t: Instant) -> u64
+/// The sum of the least uses of a resource on a node.
+pub(crate) fn load(p: &Problem, view: &View, r: u8, n: NodeId, t: Instant) -> u64
     requires region { IsSized p.now.given view.now.region.now }
     requires resource { r < length p.now.given.resources }
     ensures { result ≡ load_of p.now.given (sure p.now.given (seen view.now.region.now view.now.lens) t) r (one n.0) }
@@ -187,9 +176,9 @@ fn load(p: &Problem, view: &View, r: u8, n: NodeId, t: Instant) -> u64
     total
 }
 
-// the capacity of a node for a resource, 0 where it cannot be usable
-#[tactic(auto, using(crate::proofs::LoadLemmas::room_of_one))]
-fn room(p: &Problem, view: &View, r: u8, n: NodeId, t: Instant) -> u64
+/// The capacity of a node for a resource, 0 where it cannot be usable.
+#[tactic(auto, using(crate::proofs::OneNodeLemmas::room_of_one))]
+pub(crate) fn room(p: &Problem, view: &View, r: u8, n: NodeId, t: Instant) -> u64
     requires region { IsSized p.now.given view.now.region.now }
     requires resource { r < length p.now.given.resources }
     requires node { n.0 < node_count p.now.given }
@@ -199,18 +188,5 @@ fn room(p: &Problem, view: &View, r: u8, n: NodeId, t: Instant) -> u64
         p.capacity(n, r)
     } else {
         0
-    }
-}
-
-/// Whether the least uses of a resource on the nodes of a set exceed the capacities of those of them
-/// that may be usable.
-pub(crate) fn is_overload(p: &Problem, view: &View, r: u8, set: &NodeSet, t: Instant) -> bool
-    requires region { IsSized p.now.given view.now.region.now }
-    requires resource { r < length p.now.given.resources }
-    ensures { IsTrue result ↔ IsOverload p.now.given (sure p.now.given (seen view.now.region.now view.now.lens) t) r (has_node set.now) }
-{
-    match only_node(p, set) {
-        None => amounts::is_overload(p, view, r, set, t),
-        Some(n) => room(p, view, r, n, t) < load(p, view, r, n, t),
     }
 }
