@@ -31,7 +31,7 @@ const STAYS: (&[u8], &[u8]) = (
 
 /// The files that are written of `APART`.
 const NEVER_APART: (&[u8], &[u8]) = (
-    b"btrplan certificate 1\nfail pair 1 20 v0 v1 n0\nend infeasible\n",
+    b"btrplan certificate 1\nfail hall 1 20 *\nend infeasible\n",
     b"null\n",
 );
 
@@ -305,7 +305,7 @@ fn each_failing_call(rt: HostRuntime) -> Result<(), Fail> {
         ),
         (
             ("plan i p c", APART),
-            &[0, 22, 46],
+            &[0, 22, 39],
             [6, 7, 8],
             Status::Negative,
             b"infeasible\n",
