@@ -1,13 +1,14 @@
 #!/usr/bin/env python3
 """Plans families of instances, checks the certificates, and prints a table of what it took.
 
-    bench/families.py [--strict] [WORD..]     the instances whose names begin with a WORD, or all
+    bench/families.py [--strict] [--limit SECONDS] [WORD..]     the instances whose names begin with a WORD, or all
 
 Each row is an instance with its sizes and seed. It says the answer, the decisions and the cuts of the certificate and
 its bytes, the processor seconds (user and system) of `plan` and of `check`, with `--strict` also of a strict check, and
 the peak of the resident memory of `plan`. All numbers of an instance come from `random.Random(seed)`. The program is
-built first where that is due. A row that takes more than ten minutes is given up.
+built first where that is due. A call that takes longer than the limit, ten minutes without one, is given up.
 """
+import argparse
 import json
 import os
 import random
@@ -18,7 +19,7 @@ import tempfile
 
 TOP = os.path.dirname(os.path.dirname(os.path.realpath(__file__)))
 PROGRAM = os.path.join(TOP, "crates", "btrplan", "out", "btrplan")
-LIMIT = 600
+LIMIT = 600.0
 RESOURCES = ("cpu", "mem")
 MOVES = {"migrate": {"base": 2, "per": 1, "resource": "mem"}, "node_boot": {"base": 4}, "node_shutdown": {"base": 2}}
 
@@ -174,11 +175,11 @@ ROWS = [
 ]
 
 
-def seconds(words):
-    """Runs the program: its last line, processor seconds, and megabytes of memory at most."""
+def seconds(words, limit):
+    """Runs the program: its last line, and processor seconds."""
     before = resource.getrusage(resource.RUSAGE_CHILDREN)
     try:
-        ran = subprocess.run([PROGRAM, *words], capture_output=True, text=True, timeout=LIMIT)
+        ran = subprocess.run([PROGRAM, *words], capture_output=True, text=True, timeout=limit)
         line = (ran.stdout.strip().splitlines() or [f"status {ran.returncode}"])[-1]
     except subprocess.TimeoutExpired:
         line = "given up"
@@ -204,17 +205,17 @@ def counted(path):
     return counts["decide"], counts["cut"], os.path.getsize(path)
 
 
-def measured(room, given, is_strict):
+def measured(room, given, is_strict, limit):
     paths = [os.path.join(room, it) for it in ("instance.json", "plan.json", "certificate.txt")]
     with open(paths[0], "w", encoding="utf-8") as it:
         json.dump(given, it)
-    line, planned = seconds(["plan", *paths])
+    line, planned = seconds(["plan", *paths], limit)
     if line == "given up":
         return [line, "", "", "", f"{planned:.2f}", "", "", ""]
-    verdict, checked = seconds(["check", *paths])
+    verdict, checked = seconds(["check", *paths], limit)
     strict = ""
     if is_strict:
-        told, took = seconds(["check", *paths, "strict"])
+        told, took = seconds(["check", *paths, "strict"], limit)
         strict = f"{took:.2f}" if told.startswith("yes") else told
     if not verdict.startswith("yes"):
         line = f"{line}, but check: {verdict}"
@@ -224,15 +225,20 @@ def measured(room, given, is_strict):
 
 
 def main():
-    words = [it for it in sys.argv[1:] if not it.startswith("-")]
+    given = argparse.ArgumentParser(description="Plans families of instances, and prints a table of what it took.")
+    given.add_argument("--strict", action="store_true", help="check each certificate strictly too")
+    given.add_argument("--limit", type=float, default=LIMIT, help="seconds after which a call is given up")
+    given.add_argument("words", nargs="*", help="how the names of the instances begin that are planned")
+    given = given.parse_args()
     subprocess.run([os.path.join(TOP, "btrplan")], stdout=subprocess.DEVNULL, check=False)
     print("| instance | answer | decisions | cuts | bytes | plan s | check s | strict s | MB |")
     print("|---|---|---|---|---|---|---|---|---|")
     with tempfile.TemporaryDirectory() as room:
         for make, *sizes in ROWS:
             name = " ".join([make.__name__.replace("_", "-"), *map(str, sizes)])
-            if not words or any(name.startswith(it) for it in words):
-                print(f"| {name} | {' | '.join(measured(room, make(*sizes), '--strict' in sys.argv))} |", flush=True)
+            if not given.words or any(name.startswith(it) for it in given.words):
+                row = measured(room, make(*sizes), given.strict, given.limit)
+                print(f"| {name} | {' | '.join(row)} |", flush=True)
     return 0
 
 
