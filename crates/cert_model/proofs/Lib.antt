@@ -6,3 +6,4 @@ pub mod LeanLemmas
 pub mod PlanLemmas
 pub mod WholeLemmas
 pub mod StandLemmas
+pub mod WeighedLemmas

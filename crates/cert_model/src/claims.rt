@@ -3,6 +3,7 @@ ghost use Rattle.std.specs.Prelude.{◌≡◌, ◌↔◌, [], false, filter, IfO
 ghost use Rattle.catalogue.specs.Instance.{IsElement};
 ghost use Rattle.domains.specs.Parts.{on_side};
 ghost use Rattle.domains.specs.Sets.{HasElement, sets};
+ghost use Rattle.domains.specs.Views.{seen};
 ghost use Rattle.reasons.specs.Reasons.{Refutes};
 ghost use Rattle.reasons.specs.Sure.{least_cost};
 ghost use Rattle.trees.specs.Trees.{inside};
@@ -11,6 +12,8 @@ ghost use Rattle.relax.specs.Areas.{AreLegal, IsSized};
 ghost use Rattle.cert_model.specs.Walks.{IsFault, PartHolds, PlanHolds, ReasonHolds};
 
 use crate::ends::sum_seen;
+use crate::nearby::Nearby;
+use crate::weighed::is_seen;
 use crate::why::Why;
 use catalogue::problem::Problem;
 use cluster::ids::Element;
@@ -29,6 +32,7 @@ use trees::steps::Step;
 pub fn fault(
     alloc: Global,
     p: &Problem,
+    nearby: &Nearby,
     bound: Option<u64>,
     g: &Region,
     sum: u64,
@@ -43,7 +47,7 @@ pub fn fault(
     if !part_holds(p, g, step) {
         return Ok(Some(Why::Part));
     }
-    if !reason_holds(p, bound, g, sum, step) {
+    if !reason_holds(p, nearby, bound, g, sum, step) {
         return Ok(Some(Why::Reason));
     }
     if !plan_holds(alloc, p, bound, g, sum, step)? {
@@ -104,7 +108,14 @@ fn leaves_none(g: &Region, element: Element, part: Part, side: Side) -> bool
 }
 
 // whether the reason of a step refutes
-fn reason_holds(p: &Problem, bound: Option<u64>, g: &Region, sum: u64, step: &Step) -> bool
+fn reason_holds(
+    p: &Problem,
+    nearby: &Nearby,
+    bound: Option<u64>,
+    g: &Region,
+    sum: u64,
+    step: &Step,
+) -> bool
     requires region { IsSized p.now.given g.now }
     requires legal { AreLegal p.now.given (sets g.now) }
     requires sum { sum ≡ least_cost p.now.given (sets g.now) }
@@ -113,14 +124,41 @@ fn reason_holds(p: &Problem, bound: Option<u64>, g: &Region, sum: u64, step: &St
     ensures no { result ≡ false → ¬ ReasonHolds p.now.given bound (sets g.now) step.now }
 {
     match step {
-        Step::Fail(reason) => refutes_all(p, bound, g, sum, reason),
-        Step::Cut(x, part, reason) => refutes_inside(p, bound, g, sum, *x, *part, reason),
+        Step::Fail(reason) => refutes_all(p, nearby, bound, g, sum, reason),
+        Step::Cut(x, part, reason) => refutes_inside(p, nearby, bound, g, sum, *x, *part, reason),
         Step::Decide(_, _) | Step::Plan(_) | Step::Left => true,
     }
 }
 
+// whether a reason refutes what is seen of the region; the machines near a node are asked first
+fn is_refuted(
+    p: &Problem,
+    nearby: &Nearby,
+    bound: Option<u64>,
+    least: Option<u128>,
+    view: &View,
+    reason: &Reason,
+) -> bool
+    requires region { IsSized p.now.given view.now.region.now }
+    requires least { IfSome least (λ n. n ≡ least_cost p.now.given (seen view.now.region.now view.now.lens)) }
+    ensures yes { IsTrue result → Refutes p.now.given bound (seen view.now.region.now view.now.lens) reason.now }
+    ensures no { result ≡ false → ¬ Refutes p.now.given bound (seen view.now.region.now view.now.lens) reason.now }
+{
+    if is_seen(p, nearby, view, reason) {
+        return true;
+    }
+    refutes_seen(p, bound, least, view, reason)
+}
+
 // whether a reason refutes the region, whose least ends have that sum
-fn refutes_all(p: &Problem, bound: Option<u64>, g: &Region, sum: u64, reason: &Reason) -> bool
+fn refutes_all(
+    p: &Problem,
+    nearby: &Nearby,
+    bound: Option<u64>,
+    g: &Region,
+    sum: u64,
+    reason: &Reason,
+) -> bool
     requires region { IsSized p.now.given g.now }
     requires sum { sum ≡ least_cost p.now.given (sets g.now) }
     ensures yes { IsTrue result → Refutes p.now.given bound (sets g.now) reason.now }
@@ -130,12 +168,13 @@ fn refutes_all(p: &Problem, bound: Option<u64>, g: &Region, sum: u64, reason: &R
         region: g,
         lens: Lens::Whole,
     };
-    refutes_seen(p, bound, Some(u128::from(sum)), &view, reason)
+    is_refuted(p, nearby, bound, Some(u128::from(sum)), &view, reason)
 }
 
 // whether a reason refutes what is inside a part; the sum there is asked for by one reason alone
 fn refutes_inside(
     p: &Problem,
+    nearby: &Nearby,
     bound: Option<u64>,
     g: &Region,
     sum: u64,
@@ -158,7 +197,7 @@ fn refutes_inside(
         region: g,
         lens: Lens::Inside(x, part),
     };
-    refutes_seen(p, bound, least, &view, reason)
+    is_refuted(p, nearby, bound, least, &view, reason)
 }
 
 // whether a plan that a step names is there

@@ -4,6 +4,7 @@ ghost use Rattle.domains.specs.Sets.{HasElement, sets};
 ghost use Rattle.trees.specs.Trees.{inside, outside};
 ghost use Rattle.cert_model.specs.Frontiers.{AreSame, AreSameSize, IsEntered, IsKept, later_sets, later_sums, open_sets, open_sums};
 
+use crate::nearby::Nearby;
 use cluster::ids::Element;
 use domains::parts::{Change, Part, Side};
 use domains::region::Region;
@@ -43,11 +44,13 @@ pub struct Frontier {
     pub sum: u64,
     /// One for each mark.
     pub outers: Vec<Outer>,
+    /// Which machines to look at first where a load is asked for.
+    pub nearby: Nearby,
 }
 
 impl Frontier {
     /// The region is due, and nothing else is open.
-    pub fn new(alloc: Global, region: Region, sum: u64) -> Frontier
+    pub fn new(alloc: Global, region: Region, sum: u64, nearby: Nearby) -> Frontier
         ensures trail { result.trail ≡ record { region = region; marks = [] } }
         ensures due { result.due ≡ Due.Whole }
         ensures sum { result.sum ≡ sum }
@@ -58,6 +61,7 @@ impl Frontier {
             due: Due::Whole,
             sum,
             outers: Vec::new(alloc),
+            nearby,
         }
     }
 
@@ -72,6 +76,7 @@ impl Frontier {
     {
         if let Due::Outside(x, part) = self.due {
             self.trail.apply(to_side(x, part, Side::Outside))?;
+            self.nearby.tell(x, self.trail.region().domain(x));
             self.due = Due::Whole;
         }
         Ok(())
@@ -107,6 +112,8 @@ impl Frontier {
         ensures err { OnErr result (AreSame self.old self.new) }
     {
         self.trail.apply(to_side(element, part, Side::Outside))?;
+        self.nearby
+            .tell(element, self.trail.region().domain(element));
         self.sum = sum;
         Ok(())
     }
@@ -132,6 +139,8 @@ impl Frontier {
             self.trail.back();
             return Err(Memory);
         }
+        self.nearby
+            .tell(outer.element, self.trail.region().domain(outer.element));
         self.sum = inner_sum;
         Ok(())
     }

@@ -7,7 +7,9 @@ mod ends;
 mod frontier;
 pub mod laws;
 mod lean;
+mod nearby;
 #[cfg(test)]
 mod tests;
 pub mod walk;
+mod weighed;
 pub mod why;

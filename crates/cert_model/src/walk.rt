@@ -19,6 +19,7 @@ use crate::counts::{cheaper, counted, goal_shown, is_same_goal, least_with, lowe
 use crate::ends::{sum_of, sum_seen};
 use crate::frontier::{Due, Frontier, Outer};
 use crate::lean::is_lean;
+use crate::nearby::Nearby;
 use crate::why::Why;
 use catalogue::problem::Problem;
 use domains::parts::Side;
@@ -84,8 +85,9 @@ impl Walk {
         };
         let region = start_region(alloc, p)?;
         let sum = sum_of(p, &region);
+        let nearby = Nearby::of(alloc, p)?;
         Ok(Walk {
-            frontier: Frontier::new(alloc, region, sum),
+            frontier: Frontier::new(alloc, region, sum, nearby),
             decisions: 0,
             cheapest: None,
             least_left: None,
@@ -179,7 +181,15 @@ fn refusal(
 {
     let alloc = *frontier.outers.allocator();
     let region = frontier.trail.region();
-    if let Some(why) = fault(alloc, p, bound, region, frontier.sum, step)? {
+    if let Some(why) = fault(
+        alloc,
+        p,
+        &frontier.nearby,
+        bound,
+        region,
+        frontier.sum,
+        step,
+    )? {
         return Ok(Some(why));
     }
     if !strict {

@@ -1,7 +1,7 @@
 -- Closed sets, by watches.
-use Rattle.std.proofs.Common.{◌≡◌, inl, inr, ℕ, zero, suc, ◌+◌, ◌<◌, ◌≤◌, Bool, ◌||◌, ◌==◌, List, [], ◌∷◌, length, Option, Some, None, IsTrue, refl, arith}
+use Rattle.std.proofs.Common.{◌≡◌, ◌≢◌, inl, inr, ℕ, zero, suc, ◌+◌, ◌<◌, Bool, ◌||◌, ◌==◌, List, [], ◌∷◌, length, Option, Some, None, IsTrue, refl, arith}
 use Rattle.std.specs.Prelude.{slice_get}
-use Rattle.std.proofs.lemmas.Bool.{cases_eq, cases_lt}
+use Rattle.std.proofs.lemmas.Bool.{cases_lt}
 use Rattle.cluster.specs.declared.choices.Choice.{Choice}
 use Rattle.cluster.specs.declared.ids.Element.{Element}
 use Rattle.cluster.specs.declared.ids.Element.TheVariants.{Vm, Node as TheNode}
@@ -18,10 +18,12 @@ use Rattle.reasons.specs.declared.reason.ReasonKind.TheVariants.{Empty, Bound, L
 use Rattle.reasons.specs.Reasons.{IsGroup, IsPower, IsSetLoad}
 use Rattle.reasons.specs.Sure.{sure}
 use Rattle.reasons.proofs.Public.{closed_by_kinds, quiet_is_free}
-use Rattle.reasons.specs.Quiet.{AreOf, IsTurn}
 use Rattle.closing.specs.Kinds.{HasPair, HasPlace, IsBroken, IsNeeded, IsOverloaded, constraint_watch, load_watch, total_load_watch, usable_watch, watch_of}
 use Rattle.closing.specs.Laws.{AreClean, AreCleanAt, ClosedByWatches}
-use Rattle.closing.proofs.LocalLemmas.{constraint_is_local, load_is_local, turns_are_enough, usable_is_local}
+use Rattle.closing.specs.declared.look.Look.TheVariants.{Clean, Fail, Cut}
+use Rattle.closing.specs.declared.look.Look.{Look}
+use Rattle.closing.specs.Looks.{IsClean, IsLook}
+use Rattle.closing.specs.Watches.{Watch}
 
 -- no watch is broken in a snapshot
 record AreUnbroken (p : Instance) (b : Snapshot) (last : Bool) : Type 0 where
@@ -114,29 +116,37 @@ none_closed p s machines nodes = record { some = λ e x. absurd (no_one e x); en
 pub some_element : (p : Instance) → 0 < machine_count p + node_count p → (e : Element) × IsElement p e
 some_element p h = elim (cases_lt 0 (machine_count p)) [ inl m ↦ (vm 0, m) | inr none ↦ (node 0, omega (arith, h, none)) ]
 
--- ---- instants
+-- ---- by the watches
 
--- clean up to an instant and at it, and no turn up to the next
-pub clean_more : (p : Instance) (s : Sets) (at next : ℕ) → ((t : ℕ) → t < at → IsTurn p s t → AreCleanAt p s t) → AreCleanAt p s at → ((t : ℕ) → at < t → t < next → ¬ IsTurn p s t) → (t : ℕ) → t < next → IsTurn p s t → AreCleanAt p s t
-clean_more p s at next before here none t l turn =
-    elim (cases_lt t at) [
-      | inl early ↦ before t early turn
-      | inr late ↦
-          elim (cases_eq t at) [
-            | inl same ↦ rw same here
-            | inr ne ↦ absurd (none t (omega (arith, late, ne)) l turn)
-          ]
-    ]
-
--- clean at each turn is clean at each instant
-pub all_clean : (p : Instance) (s : Sets) → AreOf p s → ((t : ℕ) → t ≤ p.horizon → IsTurn p s t → AreCleanAt p s t) → AreClean p s
-all_clean p s of clean = record {
+-- clean at each instant is that each watch is clean
+pub all_clean : (p : Instance) (s : Sets) → ((n : ℕ) → n < node_count p → IsClean (load_watch p n) p s) → ((n : ℕ) → n < node_count p → IsClean (usable_watch p n) p s) → ((c : ℕ) → c < length p.constraints → IsClean (constraint_watch p c) p s) → IsClean (total_load_watch p) p s → AreClean p s
+all_clean p s loads usable constraints total = record {
   at = λ t l. record {
-    nodes = record {
-      loads = λ n h. turns_are_enough (load_watch p n) p s (load_is_local p (one n)) of (λ u m turn. (clean u m turn).nodes.loads n h) t l;
-      usable = λ n h. turns_are_enough (usable_watch p n) p s (usable_is_local p n) of (λ u m turn. (clean u m turn).nodes.usable n h) t l;
-    };
-    total = turns_are_enough (total_load_watch p) p s (load_is_local p (all_nodes p)) of (λ u m turn. (clean u m turn).total) t l;
-    constraints = record { each = λ k h. turns_are_enough (constraint_watch p k) p s (constraint_is_local p k) of (λ u m turn. (clean u m turn).constraints.each k h) t l };
+    nodes = record { loads = λ n h. loads n h t l; usable = λ n h. usable n h t l };
+    total = total t l;
+    constraints = record { each = λ k h. constraints k h t l };
   };
 }
+
+module _ (p : Instance) (s : Sets) (clean : AreClean p s) where
+  pub clean_load : (n : ℕ) → n < node_count p → IsClean (load_watch p n) p s
+  clean_load n h t l = (clean.at t l).nodes.loads n h
+
+  pub clean_usable : (n : ℕ) → n < node_count p → IsClean (usable_watch p n) p s
+  clean_usable n h t l = (clean.at t l).nodes.usable n h
+
+  pub clean_constraint : (c : ℕ) → c < length p.constraints → IsClean (constraint_watch p c) p s
+  clean_constraint c h t l = (clean.at t l).constraints.each c h
+
+  pub clean_total : IsClean (total_load_watch p) p s
+  clean_total t l = (clean.at t l).total
+
+-- what a look says that finds nothing
+pub clean_by : (w : Watch) (p : Instance) (s : Sets) (look : Look) → look ≡ Clean → IsLook w p s look → IsClean w p s
+clean_by w p s look is h = rw is at h
+
+-- where a look finds something, the watch is not clean
+pub found : (w : Watch) (p : Instance) (s : Sets) (look : Look) → look ≢ Clean → IsLook w p s look → ¬ IsClean w p s
+found w p s Clean ne h clean = ne refl
+found w p s (Fail t) ne h clean = (clean t h.0).base h.1
+found w p s (Cut e c t) ne h clean = (clean t h.0).ends e c h.1.element h.1.is_end h.1.is_met

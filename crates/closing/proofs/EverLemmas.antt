@@ -1,13 +1,7 @@
 -- What stays within an amount at every instant.
-use Rattle.std.proofs.Common.{◌≡◌, inl, inr, ℕ, suc, ◌+◌, ◌<◌, ◌≤◌, ◌-◌, Bool, nat_le, IsTrue, Some, [], refl, arith}
+use Rattle.std.proofs.Common.{◌≡◌, inl, inr, ℕ, ◌+◌, ◌<◌, ◌≤◌, ◌-◌, Bool, Some, arith}
 use Rattle.std.specs.Prelude.{slice_get}
-use Rattle.std.proofs.lemmas.Bool.Decides.{nat_tests}
-use Rattle.std.specs.List.{Contains}
-use Rattle.sums.specs.Sums.{sum_to}
 use Rattle.cluster.specs.declared.choices.Choice.{Choice}
-use Rattle.cluster.specs.declared.choices.Choice.TheVariants.{Idle}
-use Rattle.cluster.specs.declared.states.State.{State}
-use Rattle.cluster.specs.declared.states.State.TheVariants.{Init, Ready, Running, Sleeping, Gone}
 use Rattle.cluster.specs.declared.sets.NodeSet.{NodeSet}
 use Rattle.cluster.specs.Sets.{has_node}
 use Rattle.catalogue.specs.declared.constraint.Constraint.{Constraint}
@@ -15,64 +9,28 @@ use Rattle.catalogue.specs.declared.constraint.Constraint.TheVariants.{ResourceC
 use Rattle.catalogue.specs.Instance.{Instance}
 use Rattle.slices.specs.declared.slice.Weight.{Weight}
 use Rattle.slices.specs.declared.slice.Weight.TheVariants.{Amount, Presence}
-use Rattle.slices.specs.declared.stage.Stage.{Stage}
-use Rattle.slices.specs.Elements.{machine_count, state_of, vm}
-use Rattle.slices.specs.Snapshots.{Snapshot, held_at, held_by, load, presences, stage_at}
-use Rattle.slices.specs.Stages.{Nodes, idle_slices, slices_of, weigh}
+use Rattle.slices.specs.Elements.{vm}
+use Rattle.slices.specs.Snapshots.{Snapshot, held_at, load, presences}
+use Rattle.slices.specs.Stages.{Nodes}
 use Rattle.domains.specs.Sets.{Sets}
-use Rattle.domains.proofs.Public.{least_of_each}
+use Rattle.reasons.specs.Closed.{IsEnd}
 use Rattle.reasons.specs.Sure.{sure}
 use Rattle.closing.specs.Kinds.{IsBroken, constraint_watch}
 use Rattle.closing.specs.Looks.{IsClean, IsFreeOf}
-use Rattle.closing.specs.Parts.{IsMostSure, IsSpared, StaysWithin}
+use Rattle.closing.specs.Most.{StaysWithin}
+use Rattle.closing.specs.Parts.{IsSpared}
 use Rattle.closing.proofs.SettingLemmas.{presences_free, uses_free}
 
-idle-held : (p : Instance) (v : ℕ) (w : Weight) (set : Nodes) (g h : Stage) → held_by p v w set Idle g ≡ held_by p v w set Idle h
-unfolding held_by slices_of
-idle-held p v w set g h = at (state_of p v)
-  where
-    at : (s : State) → weigh p v w (idle_slices s).source g set + weigh p v w (idle_slices s).target g set + weigh p v w (idle_slices s).image g set ≡ weigh p v w (idle_slices s).source h set + weigh p v w (idle_slices s).target h set + weigh p v w (idle_slices s).image h set
-    at Init = refl
-    at Ready = refl
-    at (Running n) = refl
-    at (Sleeping n) = refl
-    at Gone = refl
-
--- a machine that stays holds the same at each instant
-pub idle_always : (p : Instance) (v : ℕ) (w : Weight) (set : Nodes) (t u : ℕ) → held_at p v w set t Idle ≡ held_at p v w set u Idle
-unfolding held_at
-idle_always p v w set t u = idle-held p v w set (stage_at p (vm v) Idle t) (stage_at p (vm v) Idle u)
-
--- what is surely held is no more than what is held under one choice
-pub most_of_one : (p : Instance) (s : Sets) (w : Weight) (set : Nodes) (v most : ℕ) (c : Choice) → Contains (s (vm v)) c → ((t : ℕ) → held_at p v w set t c ≤ most) → IsMostSure p s w set v most
-unfolding sure
-most_of_one p s w set v most c there less = record { each = λ t. omega (arith, least_of_each (held_at p v w set t) (s (vm v)) c there, less t) }
-
-pub most_of_none : (p : Instance) (s : Sets) (w : Weight) (set : Nodes) (v : ℕ) → s (vm v) ≡ [] → IsMostSure p s w set v 0
-unfolding sure
-most_of_none p s w set v none = record { each = λ t. rw none (omega arith) }
-
--- one term more
-pub sum_more : (i total term : ℕ) (f : ℕ → ℕ) → sum_to i f ≤ total → f i ≤ term → sum_to (i + 1) f ≤ total + term
-sum_more i total term f before here = let next : i + 1 ≡ suc i = omega arith in rw next (omega (arith, before, here))
-
--- what all surely hold and the most of one, together within the amount
-pub within : (p : Instance) (s : Sets) (w : Weight) (set : Nodes) (total most amount : ℕ) → IsTrue (nat_le (total + most) amount) → ((t : ℕ) → sum_to (machine_count p) (λ k. (sure p s t).held k w set) ≤ total) → ((v t : ℕ) (c : Choice) → v < machine_count p → held_at p v w set t c ≤ most) → StaysWithin p s w set amount
-within p s w set total most amount fits all one = record {
-  base = λ t. grind (arith, nat_tests, fits, all t);
-  each = λ v t c h. grind (arith, nat_tests, fits, all t, one v t c h);
-}
-
-spared : (p : Instance) (s : Sets) (w : Weight) (set : Nodes) (t amount sum : ℕ) (v : ℕ) → ((c : Choice) → sum + held_at p v w set t c ≤ amount) → IsSpared p s w set t (amount - sum) v
-spared p s w set t amount sum v each = record { ends = λ c end above. omega (arith, each c, above) }
+spared : (p : Instance) (s : Sets) (w : Weight) (set : Nodes) (t amount sum : ℕ) (v : ℕ) → ((c : Choice) → IsEnd (s (vm v)) c → sum + held_at p v w set t c ≤ amount + (sure p s t).held v w set) → IsSpared p s w set t (amount - sum) v
+spared p s w set t amount sum v each = record { ends = λ c end above. omega (arith, each c end, above) }
 
 pub uses_within : (p : Instance) (s : Sets) (r : ℕ) (set : Nodes) (amount : ℕ) → StaysWithin p s (Amount r) set amount → (t : ℕ) → IsFreeOf (λ b. amount < load p b r set) p s t
 uses_within p s r set amount stays t =
-    uses_free p s set t amount (amount - load p (sure p s t) r set) r (omega (arith, stays.base t)) (λ v h. spared p s (Amount r) set t amount (load p (sure p s t) r set) v (λ c. stays.each v t c h))
+    uses_free p s set t amount (amount - load p (sure p s t) r set) r (omega (arith, stays.base t)) (λ v h. spared p s (Amount r) set t amount (load p (sure p s t) r set) v (λ c end. stays.each v t c h end))
 
 pub presences_within : (p : Instance) (s : Sets) (set : Nodes) (amount : ℕ) → StaysWithin p s Presence set amount → (t : ℕ) → IsFreeOf (λ b. amount < presences p b set) p s t
 presences_within p s set amount stays t =
-    presences_free p s set t amount (amount - presences p (sure p s t) set) (omega (arith, stays.base t)) (λ v h. spared p s Presence set t amount (presences p (sure p s t) set) v (λ c. stays.each v t c h))
+    presences_free p s set t amount (amount - presences p (sure p s t) set) (omega (arith, stays.base t)) (λ v h. spared p s Presence set t amount (presences p (sure p s t) set) v (λ c end. stays.each v t c h end))
 
 -- a constraint that is broken at no instant is clean
 pub never_broken : (p : Instance) (s : Sets) (c : ℕ) (k : Constraint) → slice_get p.constraints c ≡ Some k → ((t : ℕ) → IsFreeOf (λ b. IsBroken p b k) p s t) → IsClean (constraint_watch p c) p s

@@ -12,5 +12,6 @@ mod RuleLemmas
 mod SettingLemmas
 mod SomeLemmas
 mod StandLemmas
+mod SteadyLemmas
 mod SumLemmas
 mod UsableLemmas

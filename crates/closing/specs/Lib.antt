@@ -4,5 +4,6 @@ pub mod Kinds
 pub mod Looks
 -- what the laws and the code say beside it
 pub mod Laws
+pub mod Most
 pub mod Parts
 pub mod Stands

@@ -7,8 +7,7 @@ use Rattle.catalogue.specs.Instance.{Instance}
 use Rattle.catalogue.specs.Values.{capacity_of}
 use Rattle.slices.specs.declared.slice.Weight.{Weight}
 use Rattle.slices.specs.declared.slice.Weight.TheVariants.{Image, Presence}
-use Rattle.sums.specs.Sums.{sum_to}
-use Rattle.slices.specs.Elements.{machine_count, node, state_of, vm}
+use Rattle.slices.specs.Elements.{node, state_of, vm}
 use Rattle.slices.specs.Snapshots.{held_at, powered_at, usable_at}
 use Rattle.slices.specs.Starts.{start_of}
 use Rattle.slices.specs.Stages.{Nodes, one}
@@ -82,15 +81,6 @@ IsSpared p s w set t spare v = FailAtEnds (HoldsAbove p v w set t (most_of p s v
 -- the end does
 abbrev pub IsAbove : Instance → Sets → Weight → Nodes → ℕ → ℕ → ℕ → Choice → Type 0
 IsAbove p s w set t spare v = IsEndThat (HoldsAbove p v w set t (most_of p s v w set t spare)) (s (vm v))
-
--- a machine surely holds no more on the set, at any instant
-pub record IsMostSure (p : Instance) (s : Sets) (w : Weight) (set : Nodes) (v most : ℕ) : Type 0 where
-  pub each : (t : ℕ) → (sure p s t).held v w set ≤ most
-
--- at every instant what all machines surely hold on the set, and what any one holds under any choice, are no more than an amount together
-pub record StaysWithin (p : Instance) (s : Sets) (w : Weight) (set : Nodes) (amount : ℕ) : Type 0 where
-  pub base : (t : ℕ) → sum_to (machine_count p) (λ k. (sure p s t).held k w set) ≤ amount
-  pub each : (v t : ℕ) (c : Choice) → v < machine_count p → sum_to (machine_count p) (λ k. (sure p s t).held k w set) + held_at p v w set t c ≤ amount
 
 -- under the choice the node is not usable
 abbrev pub IsNotUsable : Instance → ℕ → ℕ → Choice → Type 0

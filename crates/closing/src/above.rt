@@ -12,6 +12,7 @@ ghost use Rattle.closing.specs.Parts.{HoldsAbove as IsHeldAbove, IsAbove, IsSpar
 
 use crate::counts::machines_of;
 use crate::ends::{Test, end_that};
+use crate::most::{most_ever, most_of};
 use catalogue::problem::Problem;
 use cluster::choices::{Choice, Instant};
 use cluster::ids::{Element, VmId};
@@ -50,21 +51,6 @@ impl Test for HoldsAbove<'_> {
     }
 }
 
-/// The most that a machine holds under any choice, on any nodes.
-#[tactic(auto, using(crate::proofs::MostLemmas::amount_most, crate::proofs::MostLemmas::presence_most, crate::proofs::MostLemmas::image_most))]
-pub fn most_held(p: &Problem, v: VmId, weight: Weight) -> u64
-    requires machine { IsElement p.now.given (Element.Vm v) }
-    requires weight { IsWeight p.now.given weight }
-    ensures most { (set : Nodes) (t : ℕ) (c : AnyChoice) → held_at p.now.given v.0 weight set t c ≤ result }
-    ensures small { result ≤ 3 * max_amount }
-{
-    match weight {
-        Weight::Amount(r) => 3 * p.demand(v, r),
-        Weight::Presence => 2,
-        Weight::Image => 1,
-    }
-}
-
 // an end of a machine's choices under which it holds more than its least and what is spare
 fn end_above(
     p: &Problem,
@@ -81,7 +67,10 @@ fn end_above(
     ensures none { IfNone result (IsSpared p.now.given (sets g.now) weight (nodes_of p.now.given area.now) t spare v.0) }
     ensures some { IfSome result (IsAbove p.now.given (sets g.now) weight (nodes_of p.now.given area.now) t spare v.0) }
 {
-    let most = most_held(p, v, weight);
+    if most_ever(p, v, weight, area) <= spare {
+        return None;
+    }
+    let most = most_of(p, g, v, weight, area);
     if most <= spare {
         return None;
     }

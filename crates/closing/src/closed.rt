@@ -5,14 +5,14 @@ ghost use Rattle.slices.specs.Elements.{machine_count, node, node_count, vm};
 ghost use Rattle.domains.specs.Sets.{HasElement, sets};
 ghost use Rattle.reasons.specs.Closed.{HaveChoices, IsClosed};
 ghost use Rattle.relax.specs.Areas.{IsSized};
-ghost use Rattle.closing.specs.Laws.{AreClean, AreCleanAt, AreConstraintsCleanAt, AreNodesCleanAt, IsCleanAt};
+ghost use Rattle.closing.specs.Kinds.{constraint_watch, load_watch, total_load_watch, usable_watch};
+ghost use Rattle.closing.specs.Laws.{AreClean};
+ghost use Rattle.closing.specs.Looks.{IsClean};
 
 use crate::counts::{machines_of, nodes_of};
 use crate::look::Look;
-use crate::turns::next_turn;
-use crate::watch::{NodeLoad, NodeUsable, OneConstraint, TotalLoad, Watched};
+use crate::watch::{look_at_constraint, look_at_load, look_at_total_load, look_at_usable};
 use catalogue::problem::Problem;
-use cluster::choices::Instant;
 use cluster::ids::{Element, NodeId, VmId};
 use domains::region::Region;
 
@@ -35,34 +35,40 @@ fn have_choices(p: &Problem, g: &Region) -> bool
     true
 }
 
-// whether one thing is clean at an instant
-fn is_clean<W: Watched>(watched: &W, p: &Problem, g: &Region, t: Instant) -> bool
-    requires region { IsSized p.now.given g.now }
-    requires ready { W.ready watched.now p.now.given }
-    requires within { t ≤ p.now.given.horizon }
-    ensures yes { IsTrue result → IsCleanAt (W.watch watched.now p.now.given) p.now.given (sets g.now) t }
-    ensures no { result ≡ false → ¬ IsCleanAt (W.watch watched.now p.now.given) p.now.given (sets g.now) t }
+// whether a look says that all is clean
+fn is_clean(look: Look) -> bool
+    ensures yes { IsTrue result → look ≡ Look.Clean }
+    ensures no { result ≡ false → look ≢ Look.Clean }
 {
-    match watched.found(p, g, t) {
+    match look {
         Look::Clean => true,
         Look::Fail(_) => false,
         Look::Cut(_, _, _) => false,
     }
 }
 
-// whether all nodes are
-fn are_nodes_clean(p: &Problem, g: &Region, t: Instant) -> bool
+// whether the load of each node is
+fn are_loads_clean(p: &Problem, g: &Region) -> bool
     requires region { IsSized p.now.given g.now }
-    requires within { t ≤ p.now.given.horizon }
-    ensures yes { IsTrue result → AreNodesCleanAt p.now.given (sets g.now) t }
-    ensures no { result ≡ false → ¬ AreNodesCleanAt p.now.given (sets g.now) t }
+    ensures yes { IsTrue result → (n : ℕ) → n < node_count p.now.given → IsClean (load_watch p.now.given n) p.now.given (sets g.now) }
+    ensures no { result ≡ false → ¬ AreClean p.now.given (sets g.now) }
 {
     for i in 0..nodes_of(p) {
-        let n = NodeId(i as u32);
-        if !is_clean(&NodeLoad(n), p, g, t) {
+        if !is_clean(look_at_load(p, g, NodeId(i as u32))) {
             return false;
         }
-        if !is_clean(&NodeUsable(n), p, g, t) {
+    }
+    true
+}
+
+// whether each node is usable where it is needed
+fn are_usable_clean(p: &Problem, g: &Region) -> bool
+    requires region { IsSized p.now.given g.now }
+    ensures yes { IsTrue result → (n : ℕ) → n < node_count p.now.given → IsClean (usable_watch p.now.given n) p.now.given (sets g.now) }
+    ensures no { result ≡ false → ¬ AreClean p.now.given (sets g.now) }
+{
+    for i in 0..nodes_of(p) {
+        if !is_clean(look_at_usable(p, g, NodeId(i as u32))) {
             return false;
         }
     }
@@ -70,28 +76,26 @@ fn are_nodes_clean(p: &Problem, g: &Region, t: Instant) -> bool
 }
 
 // whether all constraints are
-fn are_constraints_clean(p: &Problem, g: &Region, t: Instant) -> bool
+fn are_constraints_clean(p: &Problem, g: &Region) -> bool
     requires region { IsSized p.now.given g.now }
-    requires within { t ≤ p.now.given.horizon }
-    ensures yes { IsTrue result → AreConstraintsCleanAt p.now.given (sets g.now) t }
-    ensures no { result ≡ false → ¬ AreConstraintsCleanAt p.now.given (sets g.now) t }
+    ensures yes { IsTrue result → (c : ℕ) → c < length p.now.given.constraints → IsClean (constraint_watch p.now.given c) p.now.given (sets g.now) }
+    ensures no { result ≡ false → ¬ AreClean p.now.given (sets g.now) }
 {
     for c in 0..p.constraints().len() {
-        if !is_clean(&OneConstraint(c as u32), p, g, t) {
+        if !is_clean(look_at_constraint(p, g, c as u32)) {
             return false;
         }
     }
     true
 }
 
-// whether all is
-fn are_clean(p: &Problem, g: &Region, t: Instant) -> bool
+// whether the load of all nodes together is
+fn is_total_clean(p: &Problem, g: &Region) -> bool
     requires region { IsSized p.now.given g.now }
-    requires within { t ≤ p.now.given.horizon }
-    ensures yes { IsTrue result → AreCleanAt p.now.given (sets g.now) t }
-    ensures no { result ≡ false → ¬ AreCleanAt p.now.given (sets g.now) t }
+    ensures yes { IsTrue result → IsClean (total_load_watch p.now.given) p.now.given (sets g.now) }
+    ensures no { result ≡ false → ¬ AreClean p.now.given (sets g.now) }
 {
-    are_nodes_clean(p, g, t) && is_clean(&TotalLoad, p, g, t) && are_constraints_clean(p, g, t)
+    is_clean(look_at_total_load(p, g))
 }
 
 // whether all is clean at each instant
@@ -100,14 +104,16 @@ fn are_always_clean(p: &Problem, g: &Region) -> bool
     ensures yes { IsTrue result → AreClean p.now.given (sets g.now) }
     ensures no { result ≡ false → ¬ AreClean p.now.given (sets g.now) }
 {
-    let mut at = 0u64;
-    'instants: while at <= u64::from(p.horizon()) {
-        if !are_clean(p, g, at as u32) {
-            return false;
-        }
-        at = next_turn(p, g, at as u32);
+    if !are_loads_clean(p, g) {
+        return false;
     }
-    true
+    if !are_usable_clean(p, g) {
+        return false;
+    }
+    if !are_constraints_clean(p, g) {
+        return false;
+    }
+    is_total_clean(p, g)
 }
 
 /// Whether each element has a choice, and with any one element set to an end of its choices no standard

@@ -14,9 +14,11 @@ mod groups;
 mod hosts;
 mod loads;
 pub mod look;
+mod most;
 mod pairs;
 mod places;
 mod stands;
+mod steady;
 #[cfg(test)]
 mod tests;
 mod turns;

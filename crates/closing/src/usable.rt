@@ -10,6 +10,7 @@ ghost use Rattle.reasons.specs.Sure.{sure};
 ghost use Rattle.relax.specs.Areas.{IsSized};
 ghost use Rattle.closing.specs.Kinds.{IsNeeded};
 ghost use Rattle.closing.specs.Looks.{IsFound, IsFreeOf};
+ghost use Rattle.closing.specs.Most.{StaysUsable};
 ghost use Rattle.closing.specs.Parts.{FailAtEnds, IsEndThat, IsNotUsable, NoneAmong, StandsUnder};
 
 use crate::counts::machines_of;
@@ -210,7 +211,8 @@ fn can_only_stay(domain: &Domain) -> bool
 pub fn stays_usable(p: &Problem, g: &Region, n: NodeId) -> bool
     requires region { IsSized p.now.given g.now }
     requires node { n.0 < node_count p.now.given }
-    ensures { IsTrue result → (t : ℕ) → IsFreeOf (IsNeeded p.now.given n.0) p.now.given (sets g.now) t }
+    ensures free { IsTrue result → (t : ℕ) → IsFreeOf (IsNeeded p.now.given n.0) p.now.given (sets g.now) t }
+    ensures steady { IsTrue result → StaysUsable p.now.given (sets g.now) n.0 }
 {
     can_only_stay(g.domain(Element::Node(n))) && usable(p, n, Choice::Idle, 0)
 }

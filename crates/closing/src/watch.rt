@@ -13,6 +13,7 @@ use crate::constraint::{constraint_found, members};
 use crate::ever::is_never_broken;
 use crate::loads::load_found;
 use crate::look::Look;
+use crate::steady::is_never_overloaded;
 use crate::turns::{next_turn, next_turn_of};
 use crate::usable::{stays_usable, usable_found};
 use catalogue::problem::Problem;
@@ -139,6 +140,9 @@ pub fn look_at_load(p: &Problem, g: &Region, n: NodeId) -> Look
     requires node { n.0 < node_count p.now.given }
     ensures { IsLook (load_watch p.now.given n.0) p.now.given (sets g.now) result }
 {
+    if is_never_overloaded(p, g, &Area::One(n)) {
+        return Look::Clean;
+    }
     look(&NodeLoad(n), p, g)
 }
 
@@ -147,6 +151,9 @@ pub fn look_at_total_load(p: &Problem, g: &Region) -> Look
     requires region { IsSized p.now.given g.now }
     ensures { IsLook (total_load_watch p.now.given) p.now.given (sets g.now) result }
 {
+    if is_never_overloaded(p, g, &Area::All) {
+        return Look::Clean;
+    }
     look(&TotalLoad, p, g)
 }
 

@@ -1,0 +1,10 @@
+use Rattle.cluster.specs.Sets.{has_node}
+use Rattle.domains.specs.Views.{seen}
+use Rattle.reasons.specs.Sure.{sure}
+use Rattle.cert_model.proofs.WeighedLemmas.{weighed_over}
+use Rattle.cert_model.proofs.weighed.is_over.Goals as goal
+
+pub returns : goal.returns
+returns c =
+    λ over.
+    weighed_over c.args.p.now.given (sure c.args.p.now.given (seen c.args.view.now.region.now c.args.view.now.lens) c.args.t) c.args.r (has_node c.args.set.now) c.listed-sum.result c.room.result c.listed-sum.ensures c.room.ensures over

@@ -1,0 +1,8 @@
+use Rattle.domains.specs.Views.{seen}
+use Rattle.reasons.specs.Sure.{sure}
+use Rattle.relax.specs.Areas.{nodes_of}
+use Rattle.cert_model.specs.Weighed.{IsWeighed}
+use Rattle.cert_model.proofs.weighed.listed.Given as goal
+
+abbrev pub invariant-loop-i : goal.invariant-loop-i
+invariant-loop-i l = IsWeighed l.p.given (sure l.p.given (seen l.view.region.now l.view.lens) l.t) l.r (nodes_of l.p.given l.area) l.sum

@@ -1,0 +1,11 @@
+use Rattle.std.proofs.Common.{arith}
+use Rattle.domains.specs.Views.{seen}
+use Rattle.reasons.specs.Sure.{sure}
+use Rattle.relax.specs.Areas.{nodes_of}
+use Rattle.cert_model.proofs.WeighedLemmas.{weighed_more}
+use Rattle.cert_model.proofs.weighed.with.Goals as goal
+
+pub returns : goal.returns
+returns c =
+    weighed_more c.args.p.now.given (sure c.args.p.now.given (seen c.args.view.now.region.now c.args.view.now.lens) c.args.t) c.args.r (nodes_of c.args.p.now.given c.args.area.now) c.args.sum c.args.v c.least_held.result c.requires.sum
+    (omega (arith, c.if-i-sum.false)) (omega arith) c.least_held.ensures.held c.least_held.ensures.small

@@ -1,0 +1,108 @@
+//! Whether some machines alone use too much of the nodes of a set.
+ghost use Rattle.std.specs.Prelude.{◌≡◌, ℕ, ◌<◌, length, IsTrue, Option as AnyOption};
+ghost use Rattle.cluster.specs.Sets.{has_node};
+ghost use Rattle.slices.specs.Elements.{machine_count};
+ghost use Rattle.domains.specs.Views.{seen};
+ghost use Rattle.reasons.specs.Reasons.{IsOverload, Refutes};
+ghost use Rattle.reasons.specs.Sure.{sure};
+ghost use Rattle.relax.specs.Areas.{IsSized, nodes_of};
+ghost use Rattle.cert_model.specs.Weighed.{IsWeighed};
+
+use crate::nearby::Nearby;
+use catalogue::problem::Problem;
+use cluster::choices::Instant;
+use cluster::ids::{Element, VmId};
+use cluster::sets::NodeSet;
+use domains::view::{Lens, View};
+use reasons::reason::Reason;
+use relax::area::Area;
+use relax::named::is_named;
+use relax::sure::least_held;
+use relax::totals::room;
+use slices::slice::Weight;
+
+/// What some of the machines before a number surely use together.
+#[derive(Clone, Copy)]
+pub struct Weighed {
+    pub next: usize,
+    pub total: u64,
+}
+
+// how many machines there are
+fn machine_total(p: &Problem) -> usize
+    ensures { result ≡ machine_count p.now.given }
+{
+    p.cluster().machines().len()
+}
+
+// the number of the machine of which a lens may not show all choices; past all machines where there is none
+fn narrowed(p: &Problem, lens: Lens) -> u32 {
+    match lens {
+        Lens::Inside(Element::Vm(v), _) => v.0,
+        Lens::Inside(Element::Node(_), _) => machine_total(p) as u32,
+        Lens::Whole | Lens::Outside(_, _) | Lens::Set(_, _) => machine_total(p) as u32,
+    }
+}
+
+// with a machine more, if there is such a one and it is not before the number
+fn with(p: &Problem, view: &View, r: u8, area: &Area, t: Instant, sum: Weighed, v: u32) -> Weighed
+    requires region { IsSized p.now.given view.now.region.now }
+    requires resource { r < length p.now.given.resources }
+    requires sum { IsWeighed p.now.given (sure p.now.given (seen view.now.region.now view.now.lens) t) r (nodes_of p.now.given area.now) sum }
+    ensures { IsWeighed p.now.given (sure p.now.given (seen view.now.region.now view.now.lens) t) r (nodes_of p.now.given area.now) result }
+{
+    let i = v as usize;
+    if i < sum.next || i >= machine_total(p) {
+        return sum;
+    }
+    Weighed {
+        next: i + 1,
+        total: sum.total + least_held(p, view, VmId(v), Weight::Amount(r), area, t),
+    }
+}
+
+// what the machines of a list and one other use; those out of order are left out
+fn listed(
+    p: &Problem,
+    view: &View,
+    r: u8,
+    area: &Area,
+    t: Instant,
+    list: &[u32],
+    other: u32,
+) -> Weighed
+    requires region { IsSized p.now.given view.now.region.now }
+    requires resource { r < length p.now.given.resources }
+    ensures { IsWeighed p.now.given (sure p.now.given (seen view.now.region.now view.now.lens) t) r (nodes_of p.now.given area.now) result }
+{
+    let mut sum = Weighed { next: 0, total: 0 };
+    for i in 0..list.len() {
+        if other < list[i] {
+            sum = with(p, view, r, area, t, sum, other);
+        }
+        sum = with(p, view, r, area, t, sum, list[i]);
+    }
+    with(p, view, r, area, t, sum, other)
+}
+
+// whether they use more than there is room for
+fn is_over(p: &Problem, view: &View, r: u8, set: &NodeSet, t: Instant, list: &[u32]) -> bool
+    requires region { IsSized p.now.given view.now.region.now }
+    requires resource { r < length p.now.given.resources }
+    ensures { IsTrue result → IsOverload p.now.given (sure p.now.given (seen view.now.region.now view.now.lens) t) r (has_node set.now) }
+{
+    let area = Area::In(*set);
+    let sum = listed(p, view, r, &area, t, list, narrowed(p, view.lens));
+    room(p, view, r, &area, t) < sum.total
+}
+
+/// Whether it is seen by the machines near the first node of a load that its reason refutes.
+pub fn is_seen(p: &Problem, nearby: &Nearby, view: &View, reason: &Reason) -> bool
+    requires region { IsSized p.now.given view.now.region.now }
+    ensures { IsTrue result → (bound : AnyOption ℕ) → Refutes p.now.given bound (seen view.now.region.now view.now.lens) reason.now }
+{
+    let Reason::Load(t, r, set) = reason else {
+        return false;
+    };
+    is_named(p, reason) && is_over(p, view, *r, set, *t, nearby.of_first(p, set))
+}

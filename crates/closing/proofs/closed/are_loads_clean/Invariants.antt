@@ -1,0 +1,8 @@
+use Rattle.std.proofs.Common.{ℕ, ◌<◌}
+use Rattle.domains.specs.Sets.{sets}
+use Rattle.closing.specs.Kinds.{load_watch}
+use Rattle.closing.specs.Looks.{IsClean}
+use Rattle.closing.proofs.closed.are_loads_clean.Given as goal
+
+abbrev pub invariant-loop-i : goal.invariant-loop-i
+invariant-loop-i l = (k : ℕ) → k < l.i → IsClean (load_watch l.p.given k) l.p.given (sets l.g)

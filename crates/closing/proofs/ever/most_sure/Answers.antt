@@ -1,7 +1,0 @@
-use Rattle.domains.specs.Sets.{sets}
-use Rattle.relax.specs.Areas.{nodes_of}
-use Rattle.closing.proofs.EverLemmas.{most_of_one}
-use Rattle.closing.proofs.ever.most_sure.Goals as goal
-
-pub returns-in-Some-clause-most : goal.returns-in-Some-clause-most
-returns-in-Some-clause-most c = most_of_one c.args.p.now.given (sets c.args.g.now) c.args.weight (nodes_of c.args.p.now.given c.args.area.now) c.args.v.0 c.most_under.result c.in-Some.c (rw c.domain.ensures.domain at c.in-Some.ensures.some) c.most_under.ensures.most
