@@ -8,9 +8,10 @@ ghost use Rattle.trees.specs.Proving.{IsSplit};
 
 use crate::brancher::Brancher;
 use crate::forced::forced;
-use crate::known::{Size, big_machines, size_of};
+use crate::known::{Orders, Size, size_of};
 use crate::open::first_open;
-use crate::rank::rank_of;
+use crate::passed::Passed;
+use crate::picks::{fewest_places, least_start, next_stayer, open_at, soonest_of};
 use crate::split::{by_least_end, by_place};
 use catalogue::problem::Problem;
 use cluster::ids::Element;
@@ -37,7 +38,11 @@ use slices::plan::{Plan, cost};
 pub struct StayFirst {
     best: Option<u64>,
     size: Option<Size>,
-    big: MachineSet,
+    orders: Orders,
+    // how far no element of `orders.stayers` may stay
+    passed: Passed,
+    // the number of an element that was the second that is not fixed
+    second: usize,
 }
 
 impl StayFirst {
@@ -49,7 +54,9 @@ impl StayFirst {
         StayFirst {
             best: None,
             size: None,
-            big: MachineSet::new(),
+            orders: Orders::new(),
+            passed: Passed::new(),
+            second: 0,
         }
     }
 
@@ -59,12 +66,31 @@ impl StayFirst {
         if self.size != Some(size) {
             self.best = None;
             self.size = Some(size);
-            self.big = big_machines(p);
+            self.orders.work_out(p);
+            self.passed.clear();
         }
     }
 
+    // whether no element after the first that is not fixed is not fixed either
+    fn is_alone(&mut self, p: &Problem, g: &Region, first: Element) -> bool
+        requires sized { IsSized p.now.given g.now }
+        requires open { IsUnfixed g.now first }
+    {
+        let from = p.cluster().number(first) + 1;
+        if self.second >= from && is_open(p, g, self.second) {
+            return false;
+        }
+        for x in from..p.cluster().element_count() {
+            if is_open(p, g, x) {
+                self.second = x;
+                return false;
+            }
+        }
+        true
+    }
+
     // the element that is split, where it is not the only one
-    fn next(&self, p: &Problem, g: &Region, first: Element) -> Element
+    fn next(&self, p: &Problem, g: &Region, first: Element, place: usize) -> Element
         requires sized { IsSized p.now.given g.now }
         requires open { IsUnfixed g.now first }
         ensures { IsUnfixed g.now result }
@@ -74,61 +100,63 @@ impl StayFirst {
                 return x;
             }
         }
-        least_ranked(p, g, &self.big, first)
+        let stayer = open_at(p, g, &self.orders.stayers, place);
+        if let Some(Element::Node(n)) = stayer {
+            return Element::Node(n);
+        }
+        if let Some(x) = soonest_of(p, g, &self.orders.machines, self.orders.big) {
+            return x;
+        }
+        if let Some(x) = stayer {
+            return x;
+        }
+        if let Some(x) = fewest_places(p, g, &self.orders.machines, self.orders.big) {
+            return x;
+        }
+        least_start(p, g, first)
     }
 }
 
 impl Brancher for StayFirst {
     fn choose(&mut self, p: &Problem, g: &Region) -> (Element, Part) {
         self.meet(p);
+        let place = next_stayer(p, g, &self.orders.stayers, self.passed.place());
+        self.passed.go_deeper(place);
         let first = first_open(g);
-        if is_alone(p, g, first) {
+        if self.is_alone(p, g, first) {
             return (first, by_least_end(p, first, g.domain(first)));
         }
-        let x = self.next(p, g, first);
+        let x = self.next(p, g, first, place);
         (x, by_place(p, x, g.domain(x)))
     }
 
     fn met_plan(&mut self, p: &Problem, plan: &Plan) {
         self.meet(p);
         self.best = Some(cost(p, plan));
+        self.passed.go_back();
     }
 
-    fn failed(&mut self, _p: &Problem, _element: Option<Element>, _reason: &Reason) {}
+    fn failed(&mut self, _p: &Problem, element: Option<Element>, reason: &Reason) {
+        if is_end(element, reason) {
+            self.passed.go_back();
+        }
+    }
 }
 
-// whether no element after the first that is not fixed is not fixed either
-fn is_alone(p: &Problem, g: &Region, first: Element) -> bool
-    requires sized { IsSized p.now.given g.now }
-    requires open { IsUnfixed g.now first }
-{
-    for x in p.cluster().number(first) + 1..p.cluster().element_count() {
-        if !g.domain(p.cluster().element(x)).is_one() {
-            return false;
-        }
+// whether a failure ends the work on its region
+fn is_end(element: Option<Element>, reason: &Reason) -> bool {
+    match element {
+        None => true,
+        Some(_) => match reason {
+            Reason::Empty(_) => true,
+            _ => false,
+        },
     }
-    true
 }
 
-// of the elements that are not fixed the one with the least rank; of several the first
-fn least_ranked(p: &Problem, g: &Region, big: &MachineSet, first: Element) -> Element
-    requires sized { IsSized p.now.given g.now }
-    requires open { IsUnfixed g.now first }
-    ensures { IsUnfixed g.now result }
+// whether the element of a number is one of the problem and not fixed
+fn is_open(p: &Problem, g: &Region, x: usize) -> bool
+    requires { IsSized p.now.given g.now }
 {
-    let mut best = first;
-    let mut least = rank_of(p, big, first, g.domain(first));
-    for x in p.cluster().number(first) + 1..p.cluster().element_count() {
-        let e = p.cluster().element(x);
-        let domain = g.domain(e);
-        if domain.is_one() {
-            continue;
-        }
-        let here = rank_of(p, big, e, domain);
-        if here < least {
-            best = e;
-            least = here;
-        }
-    }
-    best
+    x < p.cluster().element_count() && !g.domain(p.cluster().element(x)).is_one()
 }
