@@ -4,6 +4,5 @@ mod AskLemmas
 mod ChangeLemmas
 mod EndLemmas
 mod IndexLemmas
-mod ListLemmas
 mod TellLemmas
 mod WidenLemmas

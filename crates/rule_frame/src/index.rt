@@ -12,7 +12,6 @@ ghost use Rattle.rule_frame.specs.Indexes.{AreLooking, AreMarked, IsAdded, IsInd
 
 use crate::keeper::Keeper;
 use crate::marks::Marks;
-use crate::number_lists::NumberLists;
 use catalogue::constraint::Constraint;
 use catalogue::lists::Vms;
 use catalogue::problem::Problem;
@@ -23,6 +22,7 @@ use domains::parts::Change;
 use domains::region::Region;
 use domains::undo::Before;
 use memory::Memory;
+use near::number_lists::NumberLists;
 use std::alloc::Global;
 use std::default::MadeWith;
 use std::marker::Model;

@@ -5,7 +5,6 @@ pub mod index;
 pub mod keeper;
 pub mod marks;
 pub mod no_cache;
-mod number_lists;
 pub mod rule;
 pub mod suggestion;
 #[cfg(test)]

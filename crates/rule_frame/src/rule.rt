@@ -24,8 +24,9 @@ use std::alloc::Global;
 use std::default::MadeWith;
 
 // the answer for what asking the watches found, with a part as wide as is seen
-fn answer<K: Keeper, W: Watcher<K>>(w: &W, p: &Problem, g: &Region, asked: Asked) -> Answer
+fn answer<K: Keeper, W: Watcher<K>>(w: &W, k: &K, p: &Problem, g: &Region, asked: Asked) -> Answer
     requires region { IsRegionOf p.now.given g.now }
+    requires right { IsCacheFor (K.cache k.now) p.now.given (sets g.now) }
     requires asked { IsAskedOf (W.watch w.now p.now.given) p.now.given (sets g.now) (W.count_of w.now p.now.given) asked }
     ensures { AnswerHolds (W.kinds w.now) p.now.given (sets g.now) result }
 {
@@ -37,15 +38,15 @@ fn answer<K: Keeper, W: Watcher<K>>(w: &W, p: &Problem, g: &Region, asked: Asked
                 region: g,
                 lens: Lens::Whole,
             };
-            Answer::Fail(w.reason(p, &view, i, t))
+            Answer::Fail(w.reason(k, p, &view, i, t))
         }
         Asked::Cuts(i, e, c, t) => {
             let view = View {
                 region: g,
                 lens: Lens::Set(e, c),
             };
-            let reason = w.reason(p, &view, i, t);
-            let (part, reason) = widen(p, g, e, c, t, reason);
+            let reason = w.reason(k, p, &view, i, t);
+            let (part, reason) = widen(w, k, p, g, e, c, t, reason);
             Answer::Cut(e, part, reason)
         }
     }
@@ -184,13 +185,13 @@ impl<K: Keeper, W: Watcher<K> + Drop> Propagator for Rule<W, K> {
     }
 
     fn propagate(&mut self, p: &Problem, g: &Region) -> Result<Answer, Memory> {
-        if let Some(it) = take_one(&mut self.suggestions, p, g) {
+        if let Some(it) = take_one(&mut self.suggestions, &self.watcher, &self.keeper, p, g) {
             let found = Answer::Cut(it.element, it.part, it.reason);
             self.given = count(self.given, found);
             return Ok(found);
         }
         let asked = ask(&self.watcher, &self.keeper, p, g, &mut self.marks);
-        let found = answer(&self.watcher, p, g, asked);
+        let found = answer(&self.watcher, &self.keeper, p, g, asked);
         suggest(
             &self.watcher,
             &self.keeper,

@@ -6,13 +6,15 @@ ghost use Rattle.catalogue.specs.Instance.{IsElement};
 ghost use Rattle.domains.specs.Parts.{in_part};
 ghost use Rattle.domains.specs.Sets.{sets};
 ghost use Rattle.prop_core.specs.Propagators.{CutHolds, IsRegionOf, MayAnswer};
+ghost use Rattle.rule_frame.specs.Caches.{IsCacheFor};
 
+use crate::keeper::Keeper;
+use crate::watcher::Watcher;
 use catalogue::problem::Problem;
 use cluster::ids::Element;
 use domains::parts::{Change, Part, Side};
 use domains::region::Region;
 use reasons::reason::Reason;
-use relax::refutes::refutes_inside;
 
 /// A cut that may hold: a part of an element's choices, and why they may be taken away.
 #[derive(Clone, Copy)]
@@ -65,23 +67,31 @@ fn has_any(p: &Problem, g: &Region, element: Element, part: Part) -> bool
 }
 
 // whether it holds in a region
-fn holds(p: &Problem, g: &Region, it: Suggestion) -> bool
-    requires { IsRegionOf p.now.given g.now }
+fn holds<K: Keeper, W: Watcher<K>>(w: &W, k: &K, p: &Problem, g: &Region, it: Suggestion) -> bool
+    requires region { IsRegionOf p.now.given g.now }
+    requires right { IsCacheFor (K.cache k.now) p.now.given (sets g.now) }
     ensures { IsTrue result → CutHolds p.now.given (sets g.now) it.element it.part it.reason }
 {
     may_answer(it.reason)
         && is_element(p, it.element)
         && has_any(p, g, it.element, it.part)
-        && refutes_inside(p, None, g, it.element, it.part, &it.reason)
+        && w.refutes(k, p, g, it.element, it.part, &it.reason)
 }
 
 /// The last of these that holds in a region. It and those after it are gone.
-pub fn take_one(them: &mut Vec<Suggestion>, p: &Problem, g: &Region) -> Option<Suggestion>
-    requires { IsRegionOf p.now.given g.now }
+pub fn take_one<K: Keeper, W: Watcher<K>>(
+    them: &mut Vec<Suggestion>,
+    w: &W,
+    k: &K,
+    p: &Problem,
+    g: &Region,
+) -> Option<Suggestion>
+    requires region { IsRegionOf p.now.given g.now }
+    requires right { IsCacheFor (K.cache k.now) p.now.given (sets g.now) }
     ensures { IfSome result (λ it. CutHolds p.now.given (sets g.now) it.element it.part it.reason) }
 {
     while let Some(it) = them.pop() {
-        if holds(p, g, it) {
+        if holds(w, k, p, g, it) {
             return Some(it);
         }
     }

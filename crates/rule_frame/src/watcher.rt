@@ -1,12 +1,14 @@
 //! Watches of a rule, which are looked at again where a change weighs on them.
-ghost use Rattle.std.specs.Prelude.{◌≡◌, ◌<◌, ◌≤◌, IfSome, None, length};
+ghost use Rattle.std.specs.Prelude.{◌≡◌, ◌<◌, ◌≤◌, IfSome, IsTrue, None, length};
+ghost use Rattle.catalogue.specs.Instance.{IsElement};
 ghost use Rattle.domains.specs.Choices.{choices};
-ghost use Rattle.domains.specs.Sets.{domain_at, sets};
+ghost use Rattle.domains.specs.Parts.{in_part};
+ghost use Rattle.domains.specs.Sets.{domain_at, keeping, sets};
 ghost use Rattle.domains.specs.Undo.{domain_before};
 ghost use Rattle.domains.specs.Views.{seen};
 ghost use Rattle.reasons.specs.Sure.{sure};
 ghost use Rattle.closing.specs.Looks.{IsLook, broken_at};
-ghost use Rattle.prop_core.specs.Propagators.{FailHolds, IsNarrowed, IsRegionOf, sets_before};
+ghost use Rattle.prop_core.specs.Propagators.{FailHolds, IsNarrowed, IsRegionOf, MayAnswer, sets_before};
 ghost use Rattle.rule_frame.specs.Asked.{IsAskedOf};
 ghost use Rattle.rule_frame.specs.Caches.{IsCacheFor};
 ghost use Rattle.rule_frame.specs.Changes.{AreClean, IsDisturbed, IsKept};
@@ -19,7 +21,7 @@ use closing::look::Look;
 use cluster::choices::{Choice, Instant};
 use cluster::ids::Element;
 use domains::domain::Domain;
-use domains::parts::Change;
+use domains::parts::{Change, Part};
 use domains::region::Region;
 use domains::undo::Before;
 use domains::view::View;
@@ -96,12 +98,29 @@ pub trait Watcher<K: Keeper> {
         ensures { IsLook (watch self.now p.now.given i) p.now.given (sets g.now) result };
 
     /// The reason why a watch is broken at an instant, in what is seen of a region.
-    fn reason(&self, p: &Problem, view: &View, i: usize, t: Instant) -> Reason
+    fn reason(&self, k: &K, p: &Problem, view: &View, i: usize, t: Instant) -> Reason
         requires region { IsRegionOf p.now.given view.now.region.now }
+        requires right { IsCacheFor (K.cache k.now) p.now.given (sets view.now.region.now) }
         requires watch { i < count_of self.now p.now.given }
         requires within { t ≤ p.now.given.horizon }
         requires broken { broken_at (watch self.now p.now.given i) p.now.given t (sure p.now.given (seen view.now.region.now view.now.lens) t) }
         ensures { FailHolds p.now.given (seen view.now.region.now view.now.lens) result };
+
+    /// Whether it is seen that a reason refutes the region with what is inside a part of an element's choices.
+    fn refutes(
+        &self,
+        k: &K,
+        p: &Problem,
+        g: &Region,
+        e: Element,
+        part: Part,
+        reason: &Reason,
+    ) -> bool
+        requires region { IsRegionOf p.now.given g.now }
+        requires right { IsCacheFor (K.cache k.now) p.now.given (sets g.now) }
+        requires element { IsElement p.now.given e }
+        requires may { MayAnswer reason.now }
+        ensures { IsTrue result → FailHolds p.now.given (keeping e (in_part part) (sets g.now)) reason.now };
 
     /// Puts cuts into a list that are worth a try after one was found by a look at a watch: what they are looked
     /// at for is left to the caller, who looks at them exactly.

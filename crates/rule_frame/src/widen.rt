@@ -6,9 +6,11 @@ ghost use Rattle.domains.specs.Choices.{choices};
 ghost use Rattle.domains.specs.Parts.{in_part};
 ghost use Rattle.domains.specs.Sets.{keeping, setting, sets};
 ghost use Rattle.reasons.specs.Closed.{IsEnd};
-ghost use Rattle.relax.specs.Areas.{IsSized};
-ghost use Rattle.prop_core.specs.Propagators.{CutHolds, FailHolds, MayAnswer};
+ghost use Rattle.prop_core.specs.Propagators.{CutHolds, FailHolds, IsRegionOf, MayAnswer};
+ghost use Rattle.rule_frame.specs.Caches.{IsCacheFor};
 
+use crate::keeper::Keeper;
+use crate::watcher::Watcher;
 use catalogue::problem::Problem;
 use cluster::choices::{Choice, Instant, Place};
 use cluster::ids::Element;
@@ -16,7 +18,6 @@ use domains::domain::Domain;
 use domains::parts::{Part, Row};
 use domains::region::Region;
 use reasons::reason::Reason;
-use relax::refutes::refutes_inside;
 
 // the row that an end of the choices is of: its first start, or its last
 fn row_of_end(d: &Domain, place: Place, start: Instant) -> Row
@@ -60,7 +61,9 @@ fn at_instant(reason: Reason, t: Instant) -> Reason
 }
 
 // a reason that refutes the region inside a part: the one handed in, at an instant or at its own
-fn refuting(
+fn refuting<K: Keeper, W: Watcher<K>>(
+    w: &W,
+    k: &K,
     p: &Problem,
     g: &Region,
     e: Element,
@@ -68,22 +71,26 @@ fn refuting(
     t: Instant,
     reason: Reason,
 ) -> Option<Reason>
-    requires region { IsSized p.now.given g.now }
+    requires region { IsRegionOf p.now.given g.now }
+    requires right { IsCacheFor (K.cache k.now) p.now.given (sets g.now) }
+    requires element { IsElement p.now.given e }
     requires may { MayAnswer reason }
     ensures { IfSome result (FailHolds p.now.given (keeping e (in_part part) (sets g.now))) }
 {
     let moved = at_instant(reason, t);
-    if refutes_inside(p, None, g, e, part, &moved) {
+    if w.refutes(k, p, g, e, part, &moved) {
         return Some(moved);
     }
-    if refutes_inside(p, None, g, e, part, &reason) {
+    if w.refutes(k, p, g, e, part, &reason) {
         return Some(reason);
     }
     None
 }
 
 // as many of the starts from the first one on as the reason takes away, up to the last one of the row
-fn from_the_first(
+fn from_the_first<K: Keeper, W: Watcher<K>>(
+    w: &W,
+    k: &K,
     p: &Problem,
     g: &Region,
     e: Element,
@@ -91,7 +98,9 @@ fn from_the_first(
     t: Instant,
     reason: Reason,
 ) -> (Part, Reason)
-    requires region { IsSized p.now.given g.now }
+    requires region { IsRegionOf p.now.given g.now }
+    requires right { IsCacheFor (K.cache k.now) p.now.given (sets g.now) }
+    requires element { IsElement p.now.given e }
     requires holds { CutHolds p.now.given (sets g.now) e (Part.Upto row.place row.lo) reason }
     ensures { CutHolds p.now.given (sets g.now) e result.0 result.1 }
 {
@@ -101,7 +110,16 @@ fn from_the_first(
     let mut top = row.hi;
     'halves: while best < top {
         let middle = best + (top - best).div_ceil(2);
-        match refuting(p, g, e, Part::Upto(place, middle), t.max(middle), reason) {
+        match refuting(
+            w,
+            k,
+            p,
+            g,
+            e,
+            Part::Upto(place, middle),
+            t.max(middle),
+            reason,
+        ) {
             Some(r) => {
                 best = middle;
                 found = r;
@@ -113,7 +131,9 @@ fn from_the_first(
 }
 
 // as many of the starts up to the last one as the reason takes away, from the first one of the row on
-fn up_to_the_last(
+fn up_to_the_last<K: Keeper, W: Watcher<K>>(
+    w: &W,
+    k: &K,
     p: &Problem,
     g: &Region,
     e: Element,
@@ -121,7 +141,9 @@ fn up_to_the_last(
     t: Instant,
     reason: Reason,
 ) -> (Part, Reason)
-    requires region { IsSized p.now.given g.now }
+    requires region { IsRegionOf p.now.given g.now }
+    requires right { IsCacheFor (K.cache k.now) p.now.given (sets g.now) }
+    requires element { IsElement p.now.given e }
     requires holds { CutHolds p.now.given (sets g.now) e (Part.From row.place row.hi) reason }
     ensures { CutHolds p.now.given (sets g.now) e result.0 result.1 }
 {
@@ -131,7 +153,16 @@ fn up_to_the_last(
     let mut low = row.lo;
     'halves: while low < best {
         let middle = low + (best - low) / 2;
-        match refuting(p, g, e, Part::From(place, middle), t.max(middle), reason) {
+        match refuting(
+            w,
+            k,
+            p,
+            g,
+            e,
+            Part::From(place, middle),
+            t.max(middle),
+            reason,
+        ) {
             Some(r) => {
                 best = middle;
                 found = r;
@@ -143,7 +174,9 @@ fn up_to_the_last(
 }
 
 // the widest part that is seen for an end of a row: the whole row, or what halving finds
-fn widened_row(
+fn widened_row<K: Keeper, W: Watcher<K>>(
+    w: &W,
+    k: &K,
     p: &Problem,
     g: &Region,
     e: Element,
@@ -152,7 +185,8 @@ fn widened_row(
     t: Instant,
     reason: Reason,
 ) -> (Part, Reason)
-    requires region { IsSized p.now.given g.now }
+    requires region { IsRegionOf p.now.given g.now }
+    requires right { IsCacheFor (K.cache k.now) p.now.given (sets g.now) }
     requires element { IsElement p.now.given e }
     requires is_end { IsEnd (sets g.now e) (AnyChoice.Act place start) }
     requires refuted { FailHolds p.now.given (setting e (AnyChoice.Act place start) (sets g.now)) reason }
@@ -160,13 +194,13 @@ fn widened_row(
 {
     let row = row_of_end(g.domain(e), place, start);
     let whole = Part::Upto(place, row.hi);
-    if let Some(r) = refuting(p, g, e, whole, p.horizon(), reason) {
+    if let Some(r) = refuting(w, k, p, g, e, whole, p.horizon(), reason) {
         return (whole, r);
     }
     if row.lo == start {
-        from_the_first(p, g, e, row, t, reason)
+        from_the_first(w, k, p, g, e, row, t, reason)
     } else {
-        up_to_the_last(p, g, e, row, t, reason)
+        up_to_the_last(w, k, p, g, e, row, t, reason)
     }
 }
 
@@ -175,7 +209,9 @@ fn widened_row(
 ///
 /// Of a row as much is taken as is seen to be refuted, by the reason at its own instant or at a later one:
 /// the whole row, or what halving finds from that end on.
-pub fn widen(
+pub fn widen<K: Keeper, W: Watcher<K>>(
+    w: &W,
+    k: &K,
     p: &Problem,
     g: &Region,
     e: Element,
@@ -183,7 +219,8 @@ pub fn widen(
     t: Instant,
     reason: Reason,
 ) -> (Part, Reason)
-    requires region { IsSized p.now.given g.now }
+    requires region { IsRegionOf p.now.given g.now }
+    requires right { IsCacheFor (K.cache k.now) p.now.given (sets g.now) }
     requires element { IsElement p.now.given e }
     requires is_end { IsEnd (sets g.now e) end }
     requires refuted { FailHolds p.now.given (setting e end (sets g.now)) reason }
@@ -191,6 +228,6 @@ pub fn widen(
 {
     match end {
         Choice::Idle => (Part::Idle, reason),
-        Choice::Act { place, start } => widened_row(p, g, e, place, start, t, reason),
+        Choice::Act { place, start } => widened_row(w, k, p, g, e, place, start, t, reason),
     }
 }

@@ -1,7 +1,11 @@
 -- Hosts, and the most that is used, by lists.
-use Rattle.std.proofs.Common.{◌≡◌, inl, inr, ℕ, ◌+◌, ◌≤◌, Bool, List, [], ◌∷◌, ◌++◌, Option, Some, None, sym, ◌∙◌, arith}
+use Rattle.std.proofs.Common.{◌≡◌, inl, inr, ℕ, ◌+◌, ◌<◌, ◌≤◌, Bool, List, [], ◌∷◌, ◌++◌, Option, Some, None, Vec, get_or, refl, sym, ap, subst, ◌∙◌, arith}
+use Rattle.std.specs.List.Sorted.{IsNonDecreasingBy, IsPermutation}
+use Rattle.std.specs.declared.alloc.Global.{Global}
 use Rattle.std.proofs.lemmas.Bool.{cases_eq}
-use Rattle.std.proofs.lemmas.List.{length-append}
+use Rattle.std.proofs.lemmas.List.{get_or-map, length-append, length-map, map-append}
+use Rattle.std.proofs.lemmas.List.Elements.{All-nil, All-push, All-weaker, Contains-append_left, Contains-push}
+use Rattle.std.proofs.lemmas.List.Sorted.{All-permutation, Contains-permutation}
 use Rattle.cluster.specs.declared.ids.NodeId.{NodeId}
 use Rattle.catalogue.specs.Instance.{Instance}
 use Rattle.catalogue.specs.Values.{demand_of}
@@ -11,7 +15,8 @@ use Rattle.slices.specs.Stages.{one}
 use Rattle.relax.specs.Areas.{hosted_in}
 use Rattle.standing.specs.Standings.{base}
 use Rattle.standing.proofs.Public.{each_push}
-use Rattle.rule_load.specs.Fixed.{AreHosts, AreMostUses, HostIs, IsMostUse}
+use Rattle.rule_load.specs.declared.fixed.MostUse.{MostUse}
+use Rattle.rule_load.specs.Fixed.{AreHosts, AreMostUses, AreOrders, AreUses, HostIs, IsMostUse, IsOrder, lists_of, most_use}
 
 -- both tell whether the node is the host
 pub host_tells : (h : Option NodeId) (n : ℕ) (a b : Bool) → HostIs h n a → HostIs h n b → a ≡ b
@@ -34,3 +39,37 @@ pub most_more : (p : Instance) (r n most new : ℕ) → IsMostUse p r n most →
 most_more p r n most new is less here = record {
   each = λ v h. elim (cases_eq v n) [ inl same ↦ rw same here | inr other ↦ omega (arith, is.each v (omega (arith, h, other)), less) ];
 }
+
+-- ---- the machines by what they use at the most
+
+pub uses_next : (p : Instance) (r n : ℕ) (xs : List MostUse) → AreUses p r n xs → AreUses p r (n + 1) (xs ++ most_use p r n ∷ [])
+uses_next p r n xs uses = record {
+  each = λ v h. elim (cases_eq v n) [ inl same ↦ rw same (Contains-push xs (most_use p r n)) | inr other ↦ Contains-append_left xs (most_use p r n ∷ []) (most_use p r v) (uses.each v (omega (arith, h, other))) ];
+  machines = All-push (λ (x : MostUse). x.machine.0 < n + 1) xs (most_use p r n) (All-weaker (λ (x : MostUse). x.machine.0 < n) (λ (x : MostUse). x.machine.0 < n + 1) (λ x h. omega (arith, h)) xs uses.machines) (omega arith);
+}
+
+pub no_uses : (p : Instance) (r : ℕ) → AreUses p r 0 []
+no_uses p r = record { each = λ v h. absurd (omega (arith, h)); machines = All-nil (λ (x : MostUse). x.machine.0 < 0) }
+
+-- in another order
+pub uses_ordered : (p : Instance) (r : ℕ) (xs ys : List MostUse) → AreUses p r (machine_count p) xs → IsPermutation xs ys → IsNonDecreasingBy (λ (x : MostUse). x.most) ys → IsOrder p r ys
+uses_ordered p r xs ys uses moved climbs = record {
+  uses = record {
+    each = λ v h. Contains-permutation xs ys (most_use p r v) moved (uses.each v h);
+    machines = All-permutation (λ (x : MostUse). x.machine.0 < machine_count p) xs ys moved uses.machines;
+  };
+  climbs = climbs;
+}
+
+pub orders_push : (p : Instance) (n : ℕ) (xs : List (Vec MostUse Global)) (x : Vec MostUse Global) → AreOrders p n (lists_of xs) → IsOrder p n x.items → AreOrders p (n + 1) (lists_of (xs ++ x ∷ []))
+orders_push p n xs x orders is = rw (map-append (λ (x : Vec MostUse Global). x.items) xs (x ∷ [])) (record {
+  count = omega (arith, length-append (lists_of xs) (x.items ∷ []), orders.count);
+  each = each_push (λ r o. IsOrder p r o) [] n (lists_of xs) x.items orders.count orders.each is;
+})
+
+pub no_orders : (p : Instance) → AreOrders p 0 []
+no_orders p = record { count = refl; each = λ r h. absurd (omega (arith, h)) }
+
+pub order_at : (p : Instance) (n r : ℕ) (xs : List (Vec MostUse Global)) (x : Vec MostUse Global) → r < n → AreOrders p n (lists_of xs) → get_or xs r x ≡ x → IsOrder p r x.items
+order_at p n r xs x low orders is =
+    subst (λ o. IsOrder p r o) (get_or-map (λ (x : Vec MostUse Global). x.items) xs r x [] (omega (arith, low, orders.count, length-map xs (λ (x : Vec MostUse Global). x.items))) ∙ ap (λ (x : Vec MostUse Global). x.items) is) (orders.each r low)

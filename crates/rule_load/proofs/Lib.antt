@@ -1,6 +1,9 @@
+pub mod DoubtLemmas
 pub mod FixedLemmas
 pub mod FreeLemmas
+pub mod KeptLemmas
 pub mod MarkLemmas
+pub mod OverLemmas
 pub mod RoomLemmas
 pub mod SetLemmas
 pub mod SettleLemmas

@@ -1,5 +1,5 @@
 -- Which room a node has during a period.
-use Rattle.std.proofs.Common.{◌≡◌, ℕ, suc, ◌+◌, ◌<◌, ◌≤◌, ◌==◌, ◌&&◌, ◌||◌, Bool, true, false, not, nat_le, nat_lt, cond, List, [], ◌∷◌, refl, sym, subst, arith}
+use Rattle.std.proofs.Common.{◌≡◌, ℕ, suc, ◌+◌, ◌<◌, ◌≤◌, ◌==◌, ◌&&◌, ◌||◌, Bool, true, false, not, nat_le, nat_lt, cond, List, [], ◌∷◌, length, refl, sym, subst, arith}
 use Rattle.std.specs.List.{Contains}
 use Rattle.std.proofs.lemmas.Bool.{false≢true, lt-ltb}
 use Rattle.std.proofs.lemmas.Bool.Decides.{Decides-eqb, nat_tests}
@@ -14,6 +14,8 @@ use Rattle.slices.specs.Actions.{action_duration}
 use Rattle.slices.specs.Elements.{node, node_count}
 use Rattle.slices.specs.Snapshots.{Snapshot, room, stage_at, usable_at}
 use Rattle.slices.specs.Stages.{one}
+use Rattle.domains.specs.Choices.{DomainView, choices}
+use Rattle.domains.specs.declared.parts.Row.{Row}
 use Rattle.domains.specs.Sets.{Sets, may, setting, surely}
 use Rattle.domains.proofs.Public.{contains_here, surely_each}
 use Rattle.reasons.specs.Closed.{all_nodes}
@@ -159,3 +161,13 @@ module _ (p : Instance) (s : Sets) (x : Period) (t : ℕ) (h : IsDuring x t) whe
 
   pub steady-fits : (r m : ℕ) (c : Choice) → Contains (s (node m)) c → steady-sum r ≤ room p (sure p (setting (node m) c s) t) r (all_nodes p)
   steady-fits r m c i = room-of-steady r (setting (node m) c s) (λ n e. set-steady m n c i e)
+
+-- ---- a node that can only stay as it is
+
+pub stays_steady : (p : Instance) (s : Sets) (n : ℕ) (d : DomainView) (rows : List Row) → s (node n) ≡ choices d → is_online p.nodes n ≡ true → d.idle ≡ true → rows ≡ d.rows → length rows ≡ 0 → (x : Period) → is_steady p s x n ≡ true
+unfolding usable_at stage_at
+stays_steady p s n d rows is on idle same none x = let only : choices d ≡ Idle ∷ [] = rw (idle, sym same, empty rows none) refl in rw (is, only, on) refl
+  where
+    empty : (xs : List Row) → length xs ≡ 0 → xs ≡ []
+    empty [] e = refl
+    empty (y ∷ ys) e = absurd (omega (arith, e))

@@ -1,6 +1,7 @@
 -- Sets of nodes.
-use Rattle.std.proofs.Common.{◌≡◌, ℕ, ◌<◌, ◌≤◌, false, refl, ◌∙◌, arith}
+use Rattle.std.proofs.Common.{◌≡◌, ℕ, ◌<◌, ◌≤◌, false, refl, ap, ◌∙◌, arith}
 use Rattle.std.proofs.lemmas.Bool.Decides.{Decides-eqb, nat_tests}
+use Rattle.cluster.specs.Bits.{has_bit}
 use Rattle.cluster.specs.declared.sets.NodeSet.{NodeSet}
 use Rattle.cluster.specs.Sets.{has_node}
 use Rattle.catalogue.specs.Instance.{Instance}
@@ -17,3 +18,8 @@ one_listed p set n low each = record {
   where
     off : (m : ℕ) → node_count p ≤ m → one n m ≡ false
     off m past = grind (arith, nat_tests, past, low)
+
+-- sets of the same words have the same nodes
+pub same_nodes : (a b : NodeSet) → a.words ≡ b.words → has_node a ≡ has_node b
+unfolding has_node
+same_nodes a b same = ap (λ words n. has_bit words n) same

@@ -1,5 +1,5 @@
 -- What one machine uses of a node at the most during a period.
-use Rattle.std.proofs.Common.{◌≡◌, inl, inr, ℕ, ◌+◌, ◌-◌, ◌<◌, ◌≤◌, ◌==◌, Bool, true, false, ◌&&◌, nat_lt, nat_le, cond, Option, Some, None, List, [], ◌∷◌, length, refl, ap, subst, ◌∙◌, arith}
+use Rattle.std.proofs.Common.{◌≡◌, inl, inr, ℕ, ◌+◌, ◌-◌, ◌<◌, ◌≤◌, ◌==◌, Bool, true, false, ◌&&◌, nat_lt, nat_le, cond, Option, Some, None, List, [], ◌∷◌, ◌++◌, length, refl, sym, ap, subst, ◌∙◌, arith}
 use Rattle.std.specs.Prelude.{slice_index_or}
 use Rattle.std.specs.List.{Contains, filter}
 use Rattle.std.proofs.lemmas.Bool.{cases_eq, false≢true}
@@ -22,6 +22,8 @@ use Rattle.slices.specs.Snapshots.{held_at}
 use Rattle.slices.specs.Stages.{one}
 use Rattle.domains.specs.declared.parts.Part.TheVariants.{Upto}
 use Rattle.domains.specs.declared.parts.Side.TheVariants.{Inside}
+use Rattle.domains.specs.Choices.{DomainView, choices}
+use Rattle.domains.specs.declared.parts.Row.{Row}
 use Rattle.domains.specs.Parts.{in_part, on_side}
 use Rattle.domains.specs.Sets.{Sets}
 use Rattle.domains.proofs.Public.{contains_filter, least_of_each}
@@ -153,6 +155,18 @@ unless false k f = omega arith
 
 pub none_brought : (p : Instance) (v : ℕ) (cs : List Choice) (n : NodeId) (r by : ℕ) → filter (on_side Inside (Upto (At n) by)) cs ≡ [] → IsMostBrought p v cs n.0 r by 0
 none_brought p v cs n r by none = record { each = λ c t i l. unless (has_come n.0 t c) (gain p v (Amount r) n.0) (not-come n cs c t by none i l) }
+
+-- Idle alone goes nowhere
+pub no_rows_brought : (p : Instance) (v : ℕ) (d : DomainView) (rows : List Row) → rows ≡ d.rows → length rows < 1 → (n r by : ℕ) → IsMostBrought p v (choices d) n r by 0
+no_rows_brought p v d rows same none n r by = none_brought p v (choices d) (record { 0 = n }) r by (rw (sym same, empty rows none) (at d.idle))
+  where
+    empty : (xs : List Row) → length xs < 1 → xs ≡ []
+    empty [] h = refl
+    empty (y ∷ ys) h = absurd (omega (arith, h))
+
+    at : (b : Bool) → filter (on_side Inside (Upto (At (record { 0 = n })) by)) (cond b (Idle ∷ []) [] ++ []) ≡ []
+    at true = refl
+    at false = refl
 
 pub some_brought : (p : Instance) (v : ℕ) (cs : List Choice) (n r by : ℕ) → IsMostBrought p v cs n r by (gain p v (Amount r) n)
 some_brought p v cs n r by = record { each = λ c t i l. most (has_come n t c) (gain p v (Amount r) n) }

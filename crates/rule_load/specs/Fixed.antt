@@ -1,5 +1,8 @@
 -- What no change of a region changes.
-use Rattle.std.specs.Prelude.{◌≡◌, ℕ, ◌+◌, ◌<◌, ◌≤◌, Bool, false, List, length, Option, Some, None, slice_index_or}
+use Rattle.std.specs.Prelude.{◌≡◌, ℕ, ◌+◌, ◌<◌, ◌≤◌, Bool, false, List, [], length, map, Option, Some, None, Vec, slice_index_or}
+use Rattle.std.specs.List.{All, Contains}
+use Rattle.std.specs.List.Sorted.{IsNonDecreasingBy}
+use Rattle.std.specs.declared.alloc.Global.{Global}
 use Rattle.cluster.specs.declared.ids.NodeId.{NodeId}
 use Rattle.catalogue.specs.Instance.{Instance}
 use Rattle.catalogue.specs.Values.{demand_of}
@@ -8,11 +11,14 @@ use Rattle.slices.specs.Elements.{machine_count, state_of}
 use Rattle.slices.specs.Stages.{one}
 use Rattle.relax.specs.Areas.{hosted_in}
 use Rattle.standing.specs.Standings.{base}
+use Rattle.rule_load.specs.declared.fixed.MostUse.{MostUse}
 
--- what a contract sees of it: the host of each machine, and by resource the most that any machine has and brings
+-- what a contract sees of it: the host of each machine, and by resource the most that any machine has and brings, and the machines
+-- by what each does
 pub record FixedView : Type 0 where
   pub hosts : List (Option NodeId)
   pub most : List ℕ
+  pub orders : List (List MostUse)
 
 -- whether node n is the host, if there is one
 abbrev pub HostIs : Option NodeId → ℕ → Bool → Type 0
@@ -33,6 +39,30 @@ pub record AreMostUses (p : Instance) (many : ℕ) (xs : List ℕ) : Type 0 wher
   pub count : length xs ≡ many
   pub each : (r : ℕ) → r < many → IsMostUse p r (machine_count p) (slice_index_or xs r 0)
 
+-- the most that machine v uses of resource r on one node: what it has and what it brings
+abbrev pub most_use : Instance → ℕ → ℕ → MostUse
+most_use p r v = record { most = base p v (Amount r) + demand_of p v r; machine = record { 0 = v } }
+
+-- the first machines are in the list, and no other
+pub record AreUses (p : Instance) (r many : ℕ) (xs : List MostUse) : Type 0 where
+  pub each : (v : ℕ) → v < many → Contains xs (most_use p r v)
+  pub machines : All (λ x. x.machine.0 < many) xs
+
+-- all machines are, the one that uses the least first
+pub record IsOrder (p : Instance) (r : ℕ) (xs : List MostUse) : Type 0 where
+  pub uses : AreUses p r (machine_count p) xs
+  pub climbs : IsNonDecreasingBy (λ x. x.most) xs
+
+-- so it is of the first resources
+pub record AreOrders (p : Instance) (many : ℕ) (xs : List (List MostUse)) : Type 0 where
+  pub count : length xs ≡ many
+  pub each : (r : ℕ) → r < many → IsOrder p r (slice_index_or xs r [])
+
+-- the lists behind vectors
+abbrev pub lists_of : List (Vec MostUse Global) → List (List MostUse)
+lists_of xs = map (λ (x : Vec MostUse Global). x.items) xs
+
 pub record IsFixed (p : Instance) (x : FixedView) : Type 0 where
   pub hosts : AreHosts p (machine_count p) x.hosts
   pub most : AreMostUses p (length p.resources) x.most
+  pub orders : AreOrders p (length p.resources) x.orders

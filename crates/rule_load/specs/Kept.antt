@@ -1,20 +1,63 @@
--- What is kept beside the rule: where each machine surely stands, with levels.
-use Rattle.std.specs.Prelude.{ℕ, List, [], ◌∷◌, ◌++◌, length, slice_index_or}
+-- What is kept beside the rule: where each machine surely stands, with levels, and the machines near each node.
+use Rattle.std.specs.Prelude.{◌≡◌, ℕ, ◌<◌, true, List, [], ◌∷◌, ◌++◌, length, slice_index_or}
+use Rattle.std.specs.List.{Contains}
+use Rattle.cluster.specs.declared.ids.Element.{Element}
+use Rattle.cluster.specs.declared.ids.Element.TheVariants.{Vm, Node as TheNode}
 use Rattle.catalogue.specs.Instance.{Instance}
+use Rattle.slices.specs.Elements.{machine_count, node_count, state_of, vm}
+use Rattle.slices.specs.Stages.{one}
 use Rattle.domains.specs.Sets.{Sets}
+use Rattle.relax.specs.Areas.{hosted_in}
+use Rattle.near.specs.Near.{AreMachines, IsNear, list_at}
 use Rattle.rule_frame.specs.Caches.{Cache}
 use Rattle.standing.specs.declared.numbers.Standing.{Standing}
-use Rattle.standing.specs.Tables.{AreStanding, Tables}
+use Rattle.standing.specs.Standings.{comes_by, have_come}
+use Rattle.standing.specs.Tables.{AreStanding, Tables, no_standing}
 use Rattle.rule_load.specs.Fixed.{FixedView, IsFixed}
 
 -- the numbers of a level
 abbrev pub numbers_at : Tables → ℕ → List Standing
 numbers_at m k = slice_index_or (m.older ++ m.top ∷ []) k []
 
--- those of a level are right for the sets, and what does not change is for the instance
-pub record AreKept (p : Instance) (s : Sets) (m : Tables) (x : FixedView) (k : ℕ) : Type 0 where
+-- each machine of which all choices have come to a node is in the list of the node
+pub record HaveCome (p : Instance) (s : Sets) (xs : List (List ℕ)) : Type 0 where
+  pub come : (n v t : ℕ) → n < node_count p → v < machine_count p → have_come n t (s (vm v)) ≡ true → Contains (list_at xs n) v
+
+-- the numbers of a level are right for the sets, what does not change is for the instance, and of each node the machines near it are listed
+pub record AreKept (p : Instance) (s : Sets) (m : Tables) (x : FixedView) (xs : List (List ℕ)) (k : ℕ) : Type 0 where
   pub standing : AreStanding p s (numbers_at m k)
   pub fixed : IsFixed p x
+  pub near : IsNear p xs
+  pub come : HaveCome p s xs
 
-abbrev pub cache_of : Tables → FixedView → Cache
-cache_of m x = record { right = λ p k s. AreKept p s m x k; level = length m.older }
+abbrev pub cache_of : Tables → FixedView → List (List ℕ) → Cache
+cache_of m x xs = record { right = λ p k s. AreKept p s m x xs k; level = length m.older }
+
+-- ---- what node n needs of it
+
+-- each machine that it hosts, or of which all choices have come there, is in the list, once
+pub record AreNearAt (p : Instance) (s : Sets) (n : ℕ) (xs : List ℕ) : Type 0 where
+  pub machines : AreMachines p xs
+  pub hosted : (v : ℕ) → v < machine_count p → hosted_in (state_of p v) (one n) ≡ true → Contains xs v
+  pub come : (v t : ℕ) → v < machine_count p → have_come n t (s (vm v)) ≡ true → Contains xs v
+
+pub record AreKeptAt (p : Instance) (s : Sets) (n : ℕ) (x : FixedView) (ks : List Standing) (xs : List ℕ) : Type 0 where
+  pub fixed : IsFixed p x
+  pub standing : AreStanding p s ks
+  pub near : AreNearAt p s n xs
+
+-- ---- one machine more
+
+-- nothing is gone, and what was near for an instance of so many machines still is
+pub record Grows (count : ℕ) (xs ys : List (List ℕ)) : Type 0 where
+  pub kept : (n v : ℕ) → Contains (list_at xs n) v → Contains (list_at ys n) v
+  pub near : (p : Instance) → machine_count p ≡ count → IsNear p xs → IsNear p ys
+
+-- machine v, which has these numbers, is in the list of the node that it comes to, if there is one
+pub record IsListedBy (p : Instance) (v : ℕ) (k : Standing) (xs : List (List ℕ)) : Type 0 where
+  pub there : (n t : ℕ) → n < node_count p → comes_by n t k.come ≡ true → Contains (list_at xs n) v
+
+-- so it is of an element, if it is a machine
+abbrev pub IsListedFor : Instance → Element → List Standing → List (List ℕ) → Type 0
+IsListedFor p (Vm v) ks xs = IsListedBy p v.0 (slice_index_or ks v.0 no_standing) xs
+IsListedFor p (TheNode n) ks xs = Unit {0}

@@ -9,11 +9,11 @@ ghost use Rattle.domains.specs.Sets.{sets};
 ghost use Rattle.reasons.specs.Reasons.{IsOverload};
 ghost use Rattle.relax.specs.Areas.{IsSized};
 ghost use Rattle.closing.specs.Kinds.{IsOverloaded};
-ghost use Rattle.standing.specs.Tables.{AreStanding, no_standing};
-ghost use Rattle.rule_load.specs.Fixed.{IsFixed};
+ghost use Rattle.standing.specs.Tables.{no_standing};
+ghost use Rattle.rule_load.specs.Kept.{AreKeptAt};
 ghost use Rattle.rule_load.specs.Periods.{IsFreeDuring, MachinesFit, most_kept};
 
-use crate::fixed::Fixed;
+use crate::kept::Kept;
 use crate::nodes::resource_total;
 use crate::period::Period;
 use crate::room::{node_fits, room_of};
@@ -25,7 +25,7 @@ use domains::domain::Domain;
 use domains::measure::Measure;
 use domains::parts::Row;
 use domains::region::Region;
-use standing::numbers::{Leaving, Standing};
+use standing::numbers::Leaving;
 
 /// A case in which nodes may be overloaded, which is to be looked at.
 #[derive(Clone, Copy)]
@@ -100,29 +100,30 @@ fn of_machine(p: &Problem, g: &Region, v: VmId, n: NodeId, r: u8, x: Period) -> 
 // the case of a machine that may use more of a node than is spare
 fn machine_doubt(
     p: &Problem,
-    f: &Fixed,
     g: &Region,
-    ks: &[Standing],
+    kept: Kept<'_>,
     n: NodeId,
     r: u8,
     x: Period,
     spare: u64,
 ) -> Option<Doubt>
-    requires fixed { IsFixed p.now.given f.now }
     requires region { IsSized p.now.given g.now }
-    requires right { AreStanding p.now.given (sets g.now) ks.now }
+    requires kept { AreKeptAt p.now.given (sets g.now) n.0 kept.fixed.now kept.standings.now kept.near.now }
     requires resource { r < length p.now.given.resources }
     requires period { x.to ≤ p.now.given.horizon }
     requires small { spare ≤ max_capacity }
-    ensures { IfNone result (MachinesFit p.now.given (sets g.now) r (one n.0) x (λ v. most_kept p.now.given v (AmountOf r) n.0 x (slice_index_or ks.now v no_standing)) spare) }
+    ensures { IfNone result (MachinesFit p.now.given (sets g.now) r (one n.0) x (λ v. most_kept p.now.given v (AmountOf r) n.0 x (slice_index_or kept.entry.standings.now v no_standing)) spare) }
 {
-    // what any of them has and brings is spare
-    if f.most(p, r) <= spare {
-        return None;
-    }
-    for i in 0..p.cluster().machines().len() {
-        let v = VmId(i as u32);
-        if !machine_fits(p, f, g, v, ks[i], n, r, x, spare) {
+    let order = kept.fixed.order(p, r);
+    // what each before it has and brings is spare
+    let first = order.partition_point(|x| x.most <= spare);
+    // the one that uses the most comes first: more of its choices are too much
+    let mut k = order.len();
+    'machines: while first < k {
+        k -= 1;
+        let v = order[k].machine;
+        let standing = kept.standings[v.0 as usize];
+        if !machine_fits(p, kept.fixed, g, v, standing, n, r, x, spare) {
             return Some(of_machine(p, g, v, n, r, x));
         }
     }
@@ -153,27 +154,25 @@ fn of_node(p: &Problem, g: &Region, n: NodeId, x: Period) -> Doubt
 // the case of a resource of which a node may lack some
 fn resource_doubt(
     p: &Problem,
-    f: &Fixed,
     g: &Region,
-    ks: &[Standing],
+    kept: Kept<'_>,
     n: NodeId,
     r: u8,
     x: Period,
 ) -> Option<Doubt>
-    requires fixed { IsFixed p.now.given f.now }
     requires region { IsSized p.now.given g.now }
-    requires right { AreStanding p.now.given (sets g.now) ks.now }
+    requires kept { AreKeptAt p.now.given (sets g.now) n.0 kept.fixed.now kept.standings.now kept.near.now }
     requires node { n.0 < node_count p.now.given }
     requires resource { r < length p.now.given.resources }
     requires period { x.to ≤ p.now.given.horizon }
     ensures { IfNone result (IsFreeDuring (λ b. IsOverload p.now.given b r (one n.0)) p.now.given (sets g.now) x) }
 {
-    let used = most_used(p, f, ks, n, r, x);
+    let used = most_used(p, g, kept, n, r, x);
     let room = room_of(p, g, n, r, x);
     if used > room {
         return Some(Doubt::Whole(x.from));
     }
-    if let Some(doubt) = machine_doubt(p, f, g, ks, n, r, x, room - used) {
+    if let Some(doubt) = machine_doubt(p, g, kept, n, r, x, room - used) {
         return Some(doubt);
     }
     if node_fits(p, g, n, x, used) {
@@ -186,21 +185,19 @@ fn resource_doubt(
 /// A case in which a node may be overloaded during a period, if there is one.
 pub(crate) fn load_doubt(
     p: &Problem,
-    f: &Fixed,
     g: &Region,
-    ks: &[Standing],
+    kept: Kept<'_>,
     n: NodeId,
     x: Period,
 ) -> Option<Doubt>
-    requires fixed { IsFixed p.now.given f.now }
     requires region { IsSized p.now.given g.now }
-    requires right { AreStanding p.now.given (sets g.now) ks.now }
+    requires kept { AreKeptAt p.now.given (sets g.now) n.0 kept.fixed.now kept.standings.now kept.near.now }
     requires node { n.0 < node_count p.now.given }
     requires period { x.to ≤ p.now.given.horizon }
     ensures { IfNone result (IsFreeDuring (IsOverloaded p.now.given (one n.0)) p.now.given (sets g.now) x) }
 {
     for r in 0..resource_total(p) {
-        if let Some(doubt) = resource_doubt(p, f, g, ks, n, r as u8, x) {
+        if let Some(doubt) = resource_doubt(p, g, kept, n, r as u8, x) {
             return Some(doubt);
         }
     }

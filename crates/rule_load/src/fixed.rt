@@ -8,7 +8,7 @@ ghost use Rattle.slices.specs.Stages.{one};
 ghost use Rattle.slices.specs.declared.slice.Weight.TheVariants.{Amount as AmountOf};
 ghost use Rattle.relax.specs.Areas.{hosted_in};
 ghost use Rattle.standing.specs.Standings.{base as the_base};
-ghost use Rattle.rule_load.specs.Fixed.{AreHosts, AreMostUses, HostIs, IsFixed, IsMostUse};
+ghost use Rattle.rule_load.specs.Fixed.{AreHosts, AreMostUses, AreOrders, AreUses, HostIs, IsFixed, IsMostUse, IsOrder, lists_of};
 
 use crate::nodes::resource_total;
 use catalogue::problem::Problem;
@@ -25,14 +25,25 @@ use std::marker::Model;
 pub struct Fixed {
     hosts: Vec<Option<NodeId>>,
     most: Vec<u64>,
+    orders: Vec<Vec<MostUse>>,
+}
+
+/// The most that a machine uses of a resource on one node: what it has and what it brings.
+#[derive(Clone, Copy)]
+pub struct MostUse {
+    pub most: u64,
+    pub machine: VmId,
 }
 
 impl Model for Fixed {
+    ghost use Rattle.std.specs.Prelude.{Vec, map};
+    ghost use Rattle.std.specs.declared.alloc.Global.{Global};
     ghost use Rattle.rule_load.specs.Fixed.{FixedView};
+    ghost use Rattle.rule_load.specs.declared.fixed.MostUse.{MostUse};
 
     ghost Value = { FixedView };
 
-    ghost view = { λ m. record { hosts = m.hosts.items; most = m.most.items } };
+    ghost view = { λ m. record { hosts = m.hosts.items; most = m.most.items; orders = map (λ (o : Vec MostUse Global). o.items) m.orders.items } };
 }
 
 // the host of a machine in a state
@@ -90,14 +101,52 @@ fn most_uses(alloc: Global, p: &Problem) -> Result<Vec<u64>, Memory>
     Ok(most)
 }
 
+// the machines by what they use of a resource at the most, the least first
+fn order_of(alloc: Global, p: &Problem, r: u8) -> Result<Vec<MostUse>, Memory>
+    requires { r < length p.now.given.resources }
+    ensures { IfOk result (λ xs. IsOrder p.now.given r xs.items) }
+{
+    let mut order = uses_of(alloc, p, r)?;
+    order.sort_unstable_by_key(|x| x.most);
+    Ok(order)
+}
+
+// of each machine what it uses of a resource at the most
+fn uses_of(alloc: Global, p: &Problem, r: u8) -> Result<Vec<MostUse>, Memory>
+    requires { r < length p.now.given.resources }
+    ensures { IfOk result (λ xs. AreUses p.now.given r (machine_count p.now.given) xs.items) }
+{
+    let count = p.cluster().machines().len();
+    let mut order = Vec::with_capacity(alloc, count)?;
+    for i in 0..count {
+        let machine = VmId(i as u32);
+        let most = base(p, machine, Weight::Amount(r)) + p.demand(machine, r);
+        order.push(MostUse { most, machine })?;
+    }
+    Ok(order)
+}
+
+// of each resource the machines in that order
+fn orders_of(alloc: Global, p: &Problem) -> Result<Vec<Vec<MostUse>>, Memory>
+    ensures { IfOk result (λ xs. AreOrders p.now.given (length p.now.given.resources) (lists_of xs.items)) }
+{
+    let count = resource_total(p);
+    let mut orders = Vec::with_capacity(alloc, count)?;
+    for r in 0..count {
+        orders.push(order_of(alloc, p, r as u8)?)?;
+    }
+    Ok(orders)
+}
+
 impl Fixed {
     /// Of no machine and no resource. It takes no memory.
     pub fn none(alloc: Global) -> Fixed
-        ensures { result ≡ record { hosts = []; most = [] } }
+        ensures { result ≡ record { hosts = []; most = []; orders = [] } }
     {
         Fixed {
             hosts: Vec::new(alloc),
             most: Vec::new(alloc),
+            orders: Vec::new(alloc),
         }
     }
 
@@ -107,7 +156,12 @@ impl Fixed {
     {
         let hosts = hosts_of(alloc, p)?;
         let most = most_uses(alloc, p)?;
-        Ok(Fixed { hosts, most })
+        let orders = orders_of(alloc, p)?;
+        Ok(Fixed {
+            hosts,
+            most,
+            orders,
+        })
     }
 
     /// Whether a machine has its host at a node.
@@ -118,6 +172,15 @@ impl Fixed {
         ensures { result ≡ hosted_in (state_of _p.now.given v.0) (one n.0) }
     {
         is_this(self.hosts[v.0 as usize], n)
+    }
+
+    /// The machines by what they use of a resource at the most, the least first.
+    pub fn order(&self, _p: &Problem, r: u8) -> &[MostUse]
+        requires fixed { IsFixed _p.now.given self.now }
+        requires resource { r < length _p.now.given.resources }
+        ensures { IsOrder _p.now.given r result.now }
+    {
+        &self.orders[r as usize]
     }
 
     /// The most that any machine has and brings of a resource.

@@ -3,12 +3,15 @@
 
 mod doubt;
 pub mod fixed;
+mod kept;
 mod marking;
 mod measures;
 mod node_look;
 mod nodes;
+mod over;
 pub mod period;
 mod reason;
+mod refuting;
 mod room;
 pub mod rule;
 mod settle;

@@ -5,11 +5,10 @@ ghost use Rattle.domains.specs.Sets.{sets};
 ghost use Rattle.relax.specs.Areas.{IsSized};
 ghost use Rattle.closing.specs.Looks.{IsLook};
 ghost use Rattle.closing.specs.Kinds.{load_watch};
-ghost use Rattle.rule_load.specs.Fixed.{IsFixed};
-ghost use Rattle.standing.specs.Tables.{AreStanding};
+ghost use Rattle.rule_load.specs.Kept.{AreKeptAt};
 
 use crate::doubt::{Doubt, load_doubt};
-use crate::fixed::Fixed;
+use crate::kept::Kept;
 use crate::period::Period;
 use crate::settle::confirmed;
 use crate::turns::next_change;
@@ -18,13 +17,11 @@ use closing::look::Look;
 use closing::watch::look_at_load;
 use cluster::ids::NodeId;
 use domains::region::Region;
-use standing::numbers::Standing;
 
 // whether it is seen that a node is never overloaded, with the most that is ever used at once
-fn is_never_overloaded(p: &Problem, f: &Fixed, g: &Region, ks: &[Standing], n: NodeId) -> bool
-    requires fixed { IsFixed p.now.given f.now }
+fn is_never_overloaded(p: &Problem, g: &Region, kept: Kept<'_>, n: NodeId) -> bool
     requires region { IsSized p.now.given g.now }
-    requires right { AreStanding p.now.given (sets g.now) ks.now }
+    requires kept { AreKeptAt p.now.given (sets g.now) n.0 kept.fixed.now kept.standings.now kept.near.now }
     requires node { n.0 < node_count p.now.given }
     ensures { IsTrue result → IsLook (load_watch p.now.given n.0) p.now.given (sets g.now) Look.Clean }
 {
@@ -32,28 +29,27 @@ fn is_never_overloaded(p: &Problem, f: &Fixed, g: &Region, ks: &[Standing], n: N
         from: 0,
         to: p.horizon(),
     };
-    match load_doubt(p, f, g, ks, n, x) {
+    match load_doubt(p, g, kept, n, x) {
         None => true,
         Some(_) => false,
     }
 }
 
 // the first case in which a node may be overloaded
-fn first_doubt(p: &Problem, f: &Fixed, g: &Region, ks: &[Standing], n: NodeId) -> Option<Doubt>
-    requires fixed { IsFixed p.now.given f.now }
+fn first_doubt(p: &Problem, g: &Region, kept: Kept<'_>, n: NodeId) -> Option<Doubt>
     requires region { IsSized p.now.given g.now }
-    requires right { AreStanding p.now.given (sets g.now) ks.now }
+    requires kept { AreKeptAt p.now.given (sets g.now) n.0 kept.fixed.now kept.standings.now kept.near.now }
     requires node { n.0 < node_count p.now.given }
     ensures { IfNone result (IsLook (load_watch p.now.given n.0) p.now.given (sets g.now) Look.Clean) }
 {
     let mut from = 0u64;
     'periods: while from <= u64::from(p.horizon()) {
-        let next = next_change(p, f, g, ks, n, from);
+        let next = next_change(p, g, kept, n, from);
         let x = Period {
             from: from as u32,
             to: (next - 1) as u32,
         };
-        if let Some(doubt) = load_doubt(p, f, g, ks, n, x) {
+        if let Some(doubt) = load_doubt(p, g, kept, n, x) {
             return Some(doubt);
         }
         from = next;
@@ -63,19 +59,18 @@ fn first_doubt(p: &Problem, f: &Fixed, g: &Region, ks: &[Standing], n: NodeId) -
 
 /// A look at the load of a node. No row of a machine is read but of those that may be too much; a case that may
 /// be one is looked at exactly, and where it is none, the node is looked at in full.
-pub(crate) fn node_look(p: &Problem, f: &Fixed, g: &Region, ks: &[Standing], n: NodeId) -> Look
-    requires fixed { IsFixed p.now.given f.now }
+pub(crate) fn node_look(p: &Problem, g: &Region, kept: Kept<'_>, n: NodeId) -> Look
     requires region { IsSized p.now.given g.now }
-    requires right { AreStanding p.now.given (sets g.now) ks.now }
+    requires kept { AreKeptAt p.now.given (sets g.now) n.0 kept.fixed.now kept.standings.now kept.near.now }
     requires node { n.0 < node_count p.now.given }
     ensures { IsLook (load_watch p.now.given n.0) p.now.given (sets g.now) result }
 {
-    if is_never_overloaded(p, f, g, ks, n) {
+    if is_never_overloaded(p, g, kept, n) {
         return Look::Clean;
     }
-    match first_doubt(p, f, g, ks, n) {
+    match first_doubt(p, g, kept, n) {
         None => Look::Clean,
-        Some(doubt) => match confirmed(p, g, n, doubt) {
+        Some(doubt) => match confirmed(p, g, kept, n, doubt) {
             Some(look) => look,
             None => look_at_load(p, g, n),
         },

@@ -2,15 +2,20 @@
 ghost use Rattle.std.specs.Prelude.{◌+◌, ◌<◌, ◌≤◌, IfNone, IfSome, length};
 ghost use Rattle.cluster.specs.Sets.{has_node};
 ghost use Rattle.slices.specs.Elements.{node_count};
+ghost use Rattle.domains.specs.Sets.{sets};
 ghost use Rattle.domains.specs.Views.{seen};
 ghost use Rattle.reasons.specs.Reasons.{IsOverload};
 ghost use Rattle.reasons.specs.Sure.{sure};
 ghost use Rattle.relax.specs.Areas.{IsSized};
 ghost use Rattle.closing.specs.Kinds.{IsOverloaded};
 ghost use Rattle.prop_core.specs.Propagators.{FailHolds};
+ghost use Rattle.rule_frame.specs.Caches.{IsCacheFor};
+ghost use Rattle.rule_load.specs.Kept.{cache_of};
 ghost use Rattle.rule_load.specs.Watched.{nodes_at};
 
-use crate::nodes::watched_nodes;
+use crate::nodes::{node_at, watched_nodes};
+use crate::over::overloaded_at;
+use crate::standings::Standings;
 use catalogue::problem::Problem;
 use cluster::choices::Instant;
 use cluster::sets::NodeSet;
@@ -33,15 +38,31 @@ pub(crate) fn overloaded(p: &Problem, view: &View, set: &NodeSet, t: Instant) ->
 }
 
 /// The reason why the watch of a number is broken: the first resource that its nodes lack.
-pub(crate) fn load_reason(p: &Problem, view: &View, i: usize, t: Instant) -> Reason
+pub(crate) fn load_reason(k: &Standings, p: &Problem, view: &View, i: usize, t: Instant) -> Reason
     requires region { IsSized p.now.given view.now.region.now }
+    requires right { IsCacheFor (cache_of k.now.table k.now.fixed k.now.near) p.now.given (sets view.now.region.now) }
     requires watch { i < node_count p.now.given + 1 }
     requires within { t ≤ p.now.given.horizon }
     requires broken { IsOverloaded p.now.given (nodes_at p.now.given i) (sure p.now.given (seen view.now.region.now view.now.lens) t) }
     ensures { FailHolds p.now.given (seen view.now.region.now view.now.lens) result }
 {
     let set = watched_nodes(p, i);
+    if let Some(r) = lacking_near(k, p, view, i, t) {
+        return Reason::Load(t, r, set);
+    }
     // a resource is found, as the watch is broken
     let r = overloaded(p, view, &set, t).unwrap_or(0);
     Reason::Load(t, r, set)
+}
+
+// the first resource that the node of a watch, if it is one node, is seen to lack by the machines near it
+fn lacking_near(k: &Standings, p: &Problem, view: &View, i: usize, t: Instant) -> Option<u8>
+    requires region { IsSized p.now.given view.now.region.now }
+    requires right { IsCacheFor (cache_of k.now.table k.now.fixed k.now.near) p.now.given (sets view.now.region.now) }
+    requires watch { i < node_count p.now.given + 1 }
+    requires within { t ≤ p.now.given.horizon }
+    ensures { IfSome result (λ r. (r < length p.now.given.resources) × IsOverload p.now.given (sure p.now.given (seen view.now.region.now view.now.lens) t) r (nodes_at p.now.given i)) }
+{
+    let n = node_at(p, i)?;
+    overloaded_at(p, view, k.at(p, view.region, n), n, t)
 }

@@ -1,6 +1,7 @@
 //! Which room a node has during a period.
-ghost use Rattle.std.specs.Prelude.{◌≡◌, ℕ, ◌*◌, ◌<◌, ◌≤◌, length, IsTrue, if◌then◌else◌};
+ghost use Rattle.std.specs.Prelude.{◌≡◌, ℕ, ◌*◌, ◌<◌, ◌≤◌, length, IsTrue, true, if◌then◌else◌};
 ghost use Rattle.cluster.specs.Limits.{max_nodes};
+ghost use Rattle.cluster.specs.Inventory.{is_online as the_is_online};
 ghost use Rattle.sums.specs.Sums.{sum_to};
 ghost use Rattle.catalogue.specs.Limits.{max_capacity};
 ghost use Rattle.catalogue.specs.Values.{capacity_of};
@@ -12,6 +13,7 @@ ghost use Rattle.domains.specs.Sets.{sets, surely};
 ghost use Rattle.relax.specs.Areas.{IsSized};
 ghost use Rattle.rule_load.specs.Periods.{HasRoom, NodesFit};
 ghost use Rattle.rule_load.specs.Totals.{is_steady as the_is_steady};
+ghost use Rattle.rule_load.specs.declared.period.Period.{Period as AnyPeriod};
 
 use crate::measures::IsUsable;
 use crate::period::Period;
@@ -84,6 +86,31 @@ pub(crate) fn node_fits(p: &Problem, g: &Region, n: NodeId, x: Period, used: u64
     is_surely_usable(p, g, n, x.from) && is_surely_usable(p, g, n, x.to)
 }
 
+// whether a node is online
+fn is_online(p: &Problem, n: NodeId) -> bool
+    requires { n.0 < node_count p.now.given }
+    ensures { result ≡ the_is_online p.now.given.nodes n.0 }
+{
+    p.cluster().nodes()[n.0 as usize].online
+}
+
+// whether a node is online and can only stay as it is, so that it is usable at all times
+#[tactic(auto, using(crate::proofs::RoomLemmas::stays_steady))]
+fn stays_online(p: &Problem, g: &Region, n: NodeId) -> bool
+    requires region { IsSized p.now.given g.now }
+    requires node { n.0 < node_count p.now.given }
+    ensures { IsTrue result → (x : AnyPeriod) → the_is_steady p.now.given (sets g.now) x n.0 ≡ true }
+{
+    let domain = g.domain(Element::Node(n));
+    if !is_online(p, n) || !domain.idle() {
+        return false;
+    }
+    match domain.rows() {
+        [] => true,
+        [_, ..] => false,
+    }
+}
+
 /// Whether a node is usable at both ends of a period under each of its choices, of which there is one.
 #[tactic(auto, unfolding(reasons::specs::Sure::sure))]
 fn is_steady(p: &Problem, g: &Region, n: NodeId, x: Period) -> bool
@@ -91,6 +118,9 @@ fn is_steady(p: &Problem, g: &Region, n: NodeId, x: Period) -> bool
     requires node { n.0 < node_count p.now.given }
     ensures { result ≡ the_is_steady p.now.given (sets g.now) x n.0 }
 {
+    if stays_online(p, g, n) {
+        return true;
+    }
     let view = View {
         region: g,
         lens: Lens::Whole,

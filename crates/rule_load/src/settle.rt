@@ -1,5 +1,5 @@
 //! Cases in which nodes may be overloaded, looked at one by one.
-ghost use Rattle.std.specs.Prelude.{◌≡◌, ◌⊎◌, ℕ, ◌<◌, length, slice_index_or, IfSome, IsTrue};
+ghost use Rattle.std.specs.Prelude.{◌≡◌, ◌⊎◌, ℕ, ◌<◌, ◌≤◌, length, slice_index_or, IfSome, IsTrue};
 ghost use Rattle.catalogue.specs.Instance.{IsElement};
 ghost use Rattle.slices.specs.Elements.{node_count};
 ghost use Rattle.slices.specs.Stages.{one};
@@ -11,10 +11,12 @@ ghost use Rattle.reasons.specs.Sure.{sure};
 ghost use Rattle.relax.specs.Areas.{IsSized};
 ghost use Rattle.closing.specs.Kinds.{IsOverloaded, load_watch};
 ghost use Rattle.closing.specs.Looks.{IsLook};
+ghost use Rattle.rule_load.specs.Kept.{AreKeptAt};
 
 use crate::doubt::Doubt;
-use crate::nodes::{node_set, node_total};
-use crate::reason::overloaded;
+use crate::kept::Kept;
+use crate::nodes::node_total;
+use crate::over::overloaded_at;
 use catalogue::problem::Problem;
 use closing::look::Look;
 use cluster::choices::{Choice, Instant, Place};
@@ -61,21 +63,23 @@ fn is_element(p: &Problem, e: Element) -> bool
 }
 
 // whether a node is overloaded in what is seen of a region
-fn is_broken(p: &Problem, view: &View, n: NodeId, t: Instant) -> bool
+fn is_broken(p: &Problem, view: &View, kept: Kept<'_>, n: NodeId, t: Instant) -> bool
     requires region { IsSized p.now.given view.now.region.now }
+    requires kept { AreKeptAt p.now.given (sets view.now.region.now) n.0 kept.fixed.now kept.standings.now kept.near.now }
+    requires within { t ≤ p.now.given.horizon }
     requires node { n.0 < node_count p.now.given }
     ensures { IsTrue result → IsOverloaded p.now.given (one n.0) (sure p.now.given (seen view.now.region.now view.now.lens) t) }
 {
-    let set = node_set(p, n);
-    match overloaded(p, view, &set, t) {
+    match overloaded_at(p, view, kept, n, t) {
         None => false,
         Some(_) => true,
     }
 }
 
 // the region at an instant, where the node is overloaded
-fn whole(p: &Problem, g: &Region, n: NodeId, t: Instant) -> Option<Look>
+fn whole(p: &Problem, g: &Region, kept: Kept<'_>, n: NodeId, t: Instant) -> Option<Look>
     requires region { IsSized p.now.given g.now }
+    requires kept { AreKeptAt p.now.given (sets g.now) n.0 kept.fixed.now kept.standings.now kept.near.now }
     requires node { n.0 < node_count p.now.given }
     ensures { IfSome result (IsLook (load_watch p.now.given n.0) p.now.given (sets g.now)) }
 {
@@ -86,7 +90,7 @@ fn whole(p: &Problem, g: &Region, n: NodeId, t: Instant) -> Option<Look>
         region: g,
         lens: Lens::Whole,
     };
-    if is_broken(p, &view, n, t) {
+    if is_broken(p, &view, kept, n, t) {
         Some(Look::Fail(t))
     } else {
         None
@@ -95,8 +99,17 @@ fn whole(p: &Problem, g: &Region, n: NodeId, t: Instant) -> Option<Look>
 
 // an element set to an end of its choices, where the node is overloaded
 #[tactic(auto, using(crate::proofs::SettleLemmas::cut_is_look))]
-fn set(p: &Problem, g: &Region, n: NodeId, e: Element, c: Choice, t: Instant) -> Option<Look>
+fn set(
+    p: &Problem,
+    g: &Region,
+    kept: Kept<'_>,
+    n: NodeId,
+    e: Element,
+    c: Choice,
+    t: Instant,
+) -> Option<Look>
     requires region { IsSized p.now.given g.now }
+    requires kept { AreKeptAt p.now.given (sets g.now) n.0 kept.fixed.now kept.standings.now kept.near.now }
     requires node { n.0 < node_count p.now.given }
     ensures { IfSome result (IsLook (load_watch p.now.given n.0) p.now.given (sets g.now)) }
 {
@@ -113,7 +126,7 @@ fn set(p: &Problem, g: &Region, n: NodeId, e: Element, c: Choice, t: Instant) ->
         region: g,
         lens: Lens::Set(e, c),
     };
-    if is_broken(p, &view, n, t) {
+    if is_broken(p, &view, kept, n, t) {
         Some(Look::Cut(e, c, t))
     } else {
         None
@@ -121,13 +134,20 @@ fn set(p: &Problem, g: &Region, n: NodeId, e: Element, c: Choice, t: Instant) ->
 }
 
 /// What the case is, if it is one.
-pub(crate) fn confirmed(p: &Problem, g: &Region, n: NodeId, doubt: Doubt) -> Option<Look>
+pub(crate) fn confirmed(
+    p: &Problem,
+    g: &Region,
+    kept: Kept<'_>,
+    n: NodeId,
+    doubt: Doubt,
+) -> Option<Look>
     requires region { IsSized p.now.given g.now }
+    requires kept { AreKeptAt p.now.given (sets g.now) n.0 kept.fixed.now kept.standings.now kept.near.now }
     requires node { n.0 < node_count p.now.given }
     ensures { IfSome result (IsLook (load_watch p.now.given n.0) p.now.given (sets g.now)) }
 {
     match doubt {
-        Doubt::Whole(t) => whole(p, g, n, t),
-        Doubt::Set(e, c, t) => set(p, g, n, e, c, t),
+        Doubt::Whole(t) => whole(p, g, kept, n, t),
+        Doubt::Set(e, c, t) => set(p, g, kept, n, e, c, t),
     }
 }

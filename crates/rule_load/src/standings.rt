@@ -1,30 +1,37 @@
 //! Where machines surely stand, kept beside the rule.
-ghost use Rattle.std.specs.Prelude.{◌≡◌, ◌<◌, OnErr, OnOk, [], length};
+ghost use Rattle.std.specs.Prelude.{◌≡◌, ℕ, ◌<◌, OnErr, OnOk, [], length, slice_index_or};
 ghost use Rattle.catalogue.specs.Instance.{IsElement};
+ghost use Rattle.slices.specs.Elements.{machine_count, node_count};
 ghost use Rattle.domains.specs.Sets.{sets};
+ghost use Rattle.near.specs.Near.{IsNear};
 ghost use Rattle.rule_frame.specs.Caches.{IsCacheFor};
 ghost use Rattle.rule_load.specs.Fixed.{IsFixed};
 ghost use Rattle.standing.specs.Standings.{IsStanding};
-ghost use Rattle.standing.specs.Tables.{AreStanding};
+ghost use Rattle.standing.specs.Tables.{AreStanding, no_standing};
+ghost use Rattle.rule_load.specs.Kept.{AreKeptAt, Grows, IsListedBy, IsListedFor};
 
 use crate::fixed::Fixed;
+use crate::kept::Kept;
 use catalogue::problem::Problem;
-use cluster::ids::{Element, VmId};
+use cluster::ids::{Element, NodeId, VmId};
 use domains::domain::Domain;
 use domains::parts::Change;
 use domains::region::Region;
 use domains::undo::Before;
 use memory::Memory;
+use near::near::Near;
 use rule_frame::keeper::Keeper;
 use standing::numbers::Standing;
 use standing::table::Table;
 use std::alloc::Global;
 
-/// Keeps for each machine until when it surely stands on its host, and where it surely comes to.
+/// Keeps for each machine until when it surely stands on its host, and where it surely comes to; and for each node the
+/// machines near it, of which none is taken away.
 #[derive(Drop)]
 pub struct Standings {
     table: Table,
     fixed: Fixed,
+    near: Near,
     alloc: Global,
 }
 
@@ -36,13 +43,14 @@ impl Standings {
         Standings {
             table: Table::new(alloc),
             fixed: Fixed::none(alloc),
+            near: Near::none(alloc),
             alloc,
         }
     }
 
     /// Where a machine surely stands in the region of which this was told last.
     pub fn of(&self, p: &Problem, _g: &Region, v: VmId) -> Standing
-        requires right { IsCacheFor (cache_of self.now.table self.now.fixed) p.now.given (sets _g.now) }
+        requires right { IsCacheFor (cache_of self.now.table self.now.fixed self.now.near) p.now.given (sets _g.now) }
         requires machine { IsElement p.now.given (Element.Vm v) }
         ensures { IsStanding p.now.given v.0 (sets _g.now (Element.Vm v)) result }
     {
@@ -51,15 +59,79 @@ impl Standings {
 
     /// What no change of a region changes.
     pub fn fixed(&self, p: &Problem, _g: &Region) -> &Fixed
-        requires { IsCacheFor (cache_of self.now.table self.now.fixed) p.now.given (sets _g.now) }
+        requires { IsCacheFor (cache_of self.now.table self.now.fixed self.now.near) p.now.given (sets _g.now) }
         ensures { IsFixed p.now.given result.now }
     {
         &self.fixed
     }
 
+    // puts a machine near the node that all its choices go to, if there is one
+    #[tactic(auto, using(crate::proofs::KeptLemmas::none_listed, crate::proofs::KeptLemmas::put_listed, crate::proofs::KeptLemmas::grows_put, crate::proofs::KeptLemmas::grows_not))]
+    fn put_near(&mut self, _p: &Problem, v: VmId) -> Result<(), Memory>
+        requires near { IsNear _p.now.given self.old.near }
+        requires machine { v.0 < machine_count _p.now.given }
+        requires number { v.0 < length self.old.table.top }
+        ensures table { self.new.table ≡ self.old.table }
+        ensures fixed { self.new.fixed ≡ self.old.fixed }
+        ensures near { OnOk result (IsNear _p.now.given self.new.near) }
+        ensures grows { OnOk result (Grows (machine_count _p.now.given) self.old.near self.new.near) }
+        ensures there { OnOk result (IsListedBy _p.now.given v.0 (slice_index_or self.old.table.top v.0 no_standing) self.new.near) }
+    {
+        if let Some(a) = self.table.get(v).come {
+            self.near.put(a.node, v)?;
+        }
+        Ok(())
+    }
+
+    // puts each machine near the node that all its choices go to
+    fn put_all(&mut self, p: &Problem) -> Result<(), Memory>
+        requires near { IsNear p.now.given self.old.near }
+        requires count { length self.old.table.top ≡ machine_count p.now.given }
+        ensures table { self.new.table ≡ self.old.table }
+        ensures fixed { self.new.fixed ≡ self.old.fixed }
+        ensures near { OnOk result (IsNear p.now.given self.new.near) }
+        ensures there { OnOk result ((v : ℕ) → v < machine_count p.now.given → IsListedBy p.now.given v (slice_index_or self.old.table.top v no_standing) self.new.near) }
+    {
+        for i in 0..p.cluster().machines().len() {
+            self.put_near(p, VmId(i as u32))?;
+        }
+        Ok(())
+    }
+
+    // puts an element near the node that all its choices go to, if it is a machine and there is one
+    fn put_changed(&mut self, p: &Problem, e: Element) -> Result<(), Memory>
+        requires near { IsNear p.now.given self.old.near }
+        requires element { IsElement p.now.given e }
+        requires count { length self.old.table.top ≡ machine_count p.now.given }
+        ensures table { self.new.table ≡ self.old.table }
+        ensures fixed { self.new.fixed ≡ self.old.fixed }
+        ensures near { OnOk result (IsNear p.now.given self.new.near) }
+        ensures grows { OnOk result (Grows (machine_count p.now.given) self.old.near self.new.near) }
+        ensures there { OnOk result (IsListedFor p.now.given e self.old.table.top self.new.near) }
+    {
+        match e {
+            Element::Vm(v) => self.put_near(p, v),
+            Element::Node(_) => Ok(()),
+        }
+    }
+
+    /// What is kept, as far as a node needs it.
+    #[tactic(auto, using(crate::proofs::KeptLemmas::kept_at))]
+    pub(crate) fn at(&self, p: &Problem, _g: &Region, n: NodeId) -> Kept<'_>
+        requires right { IsCacheFor (cache_of self.now.table self.now.fixed self.now.near) p.now.given (sets _g.now) }
+        requires node { n.0 < node_count p.now.given }
+        ensures { AreKeptAt p.now.given (sets _g.now) n.0 result.fixed.now result.standings.now result.near.now }
+    {
+        Kept {
+            fixed: &self.fixed,
+            standings: self.table.standings(),
+            near: self.near.at(p, n),
+        }
+    }
+
     /// Where each machine surely stands in the region of which this was told last.
     pub fn all(&self, p: &Problem, _g: &Region) -> &[Standing]
-        requires { IsCacheFor (cache_of self.now.table self.now.fixed) p.now.given (sets _g.now) }
+        requires { IsCacheFor (cache_of self.now.table self.now.fixed self.now.near) p.now.given (sets _g.now) }
         ensures { AreStanding p.now.given (sets _g.now) result.now }
     {
         self.table.standings()
@@ -69,11 +141,13 @@ impl Standings {
 impl Keeper for Standings {
     ghost use Rattle.rule_load.specs.Kept.{cache_of};
 
-    ghost cache = { λ k. cache_of k.table k.fixed };
+    ghost cache = { λ k. cache_of k.table k.fixed k.near };
 
     fn post(&mut self, p: &Problem, g: &Region) -> Result<(), Memory> {
         self.fixed = Fixed::of(self.alloc, p)?;
-        self.table.post(p, g)
+        self.near = Near::of(self.alloc, p)?;
+        self.table.post(p, g)?;
+        self.put_all(p)
     }
 
     fn told(
@@ -84,7 +158,9 @@ impl Keeper for Standings {
         before: Before,
         kept: &Domain,
     ) -> Result<(), Memory> {
-        self.table.told(p, g, change, before, kept)
+        self.table.told(p, g, change, before, kept)?;
+        self.put_changed(p, change.element)?;
+        Ok(())
     }
 
     fn mark(&mut self) -> Result<(), Memory> {

@@ -7,8 +7,10 @@ ghost use Rattle.relax.specs.Areas.{IsSized};
 ghost use Rattle.closing.specs.Kinds.{IsOverloaded, total_load_watch};
 ghost use Rattle.closing.specs.Looks.{IsLook};
 ghost use Rattle.standing.specs.Tables.{AreStanding};
+ghost use Rattle.rule_load.specs.Fixed.{IsFixed};
 ghost use Rattle.rule_load.specs.Periods.{IsFreeDuring};
 
+use crate::fixed::Fixed;
 use crate::nodes::resource_total;
 use crate::period::Period;
 use crate::room::steady_room;
@@ -21,8 +23,9 @@ use domains::region::Region;
 use standing::numbers::Standing;
 
 // whether it is seen that of a resource enough is there during a period
-fn has_enough(p: &Problem, g: &Region, ks: &[Standing], r: u8, x: Period) -> bool
+fn has_enough(p: &Problem, f: &Fixed, g: &Region, ks: &[Standing], r: u8, x: Period) -> bool
     requires region { IsSized p.now.given g.now }
+    requires fixed { IsFixed p.now.given f.now }
     requires right { AreStanding p.now.given (sets g.now) ks.now }
     requires resource { r < length p.now.given.resources }
     requires period { x.to ≤ p.now.given.horizon }
@@ -30,18 +33,19 @@ fn has_enough(p: &Problem, g: &Region, ks: &[Standing], r: u8, x: Period) -> boo
 {
     let used = most_total(p, g, ks, r, x);
     let room = steady_room(p, g, r, x);
-    used <= room && machines_fit(p, g, ks, r, x, room - used)
+    used <= room && machines_fit(p, f, g, ks, r, x, room - used)
 }
 
 // whether it is of each resource
-fn is_free(p: &Problem, g: &Region, ks: &[Standing], x: Period) -> bool
+fn is_free(p: &Problem, f: &Fixed, g: &Region, ks: &[Standing], x: Period) -> bool
     requires region { IsSized p.now.given g.now }
+    requires fixed { IsFixed p.now.given f.now }
     requires right { AreStanding p.now.given (sets g.now) ks.now }
     requires period { x.to ≤ p.now.given.horizon }
     ensures { IsTrue result → IsFreeDuring (IsOverloaded p.now.given (all_nodes p.now.given)) p.now.given (sets g.now) x }
 {
     for r in 0..resource_total(p) {
-        if !has_enough(p, g, ks, r as u8, x) {
+        if !has_enough(p, f, g, ks, r as u8, x) {
             return false;
         }
     }
@@ -49,8 +53,9 @@ fn is_free(p: &Problem, g: &Region, ks: &[Standing], x: Period) -> bool
 }
 
 // whether it is at all times taken together
-fn is_always_free(p: &Problem, g: &Region, ks: &[Standing]) -> bool
+fn is_always_free(p: &Problem, f: &Fixed, g: &Region, ks: &[Standing]) -> bool
     requires region { IsSized p.now.given g.now }
+    requires fixed { IsFixed p.now.given f.now }
     requires right { AreStanding p.now.given (sets g.now) ks.now }
     ensures { IsTrue result → IsLook (total_load_watch p.now.given) p.now.given (sets g.now) Look.Clean }
 {
@@ -58,12 +63,13 @@ fn is_always_free(p: &Problem, g: &Region, ks: &[Standing]) -> bool
         from: 0,
         to: p.horizon(),
     };
-    is_free(p, g, ks, x)
+    is_free(p, f, g, ks, x)
 }
 
 // whether it is from each change to the next
-fn is_free_by_periods(p: &Problem, g: &Region, ks: &[Standing]) -> bool
+fn is_free_by_periods(p: &Problem, f: &Fixed, g: &Region, ks: &[Standing]) -> bool
     requires region { IsSized p.now.given g.now }
+    requires fixed { IsFixed p.now.given f.now }
     requires right { AreStanding p.now.given (sets g.now) ks.now }
     ensures { IsTrue result → IsLook (total_load_watch p.now.given) p.now.given (sets g.now) Look.Clean }
 {
@@ -74,7 +80,7 @@ fn is_free_by_periods(p: &Problem, g: &Region, ks: &[Standing]) -> bool
             from: from as u32,
             to: (next - 1) as u32,
         };
-        if !is_free(p, g, ks, x) {
+        if !is_free(p, f, g, ks, x) {
             return false;
         }
         from = next;
@@ -84,15 +90,16 @@ fn is_free_by_periods(p: &Problem, g: &Region, ks: &[Standing]) -> bool
 
 /// A look at the load of all nodes together. Where it is not seen by where machines surely stand that it is clean,
 /// it is looked at in full.
-pub(crate) fn total_look(p: &Problem, g: &Region, ks: &[Standing]) -> Look
+pub(crate) fn total_look(p: &Problem, f: &Fixed, g: &Region, ks: &[Standing]) -> Look
     requires region { IsSized p.now.given g.now }
+    requires fixed { IsFixed p.now.given f.now }
     requires right { AreStanding p.now.given (sets g.now) ks.now }
     ensures { IsLook (total_load_watch p.now.given) p.now.given (sets g.now) result }
 {
-    if is_always_free(p, g, ks) {
+    if is_always_free(p, f, g, ks) {
         return Look::Clean;
     }
-    if is_free_by_periods(p, g, ks) {
+    if is_free_by_periods(p, f, g, ks) {
         return Look::Clean;
     }
     look_at_total_load(p, g)

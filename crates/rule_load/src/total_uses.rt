@@ -9,10 +9,12 @@ ghost use Rattle.domains.specs.Sets.{domain_at, sets};
 ghost use Rattle.reasons.specs.Closed.{all_nodes};
 ghost use Rattle.relax.specs.Areas.{IsSized};
 ghost use Rattle.standing.specs.Tables.{AreStanding, no_standing};
+ghost use Rattle.rule_load.specs.Fixed.{IsFixed};
 ghost use Rattle.rule_load.specs.Parts.{StartsAfter};
 ghost use Rattle.rule_load.specs.Periods.{IsMost, MachinesFit};
 ghost use Rattle.rule_load.specs.Totals.{comes_after as the_comes_after, most_anywhere as the_most_anywhere};
 
+use crate::fixed::Fixed;
 use crate::measures::Start;
 use crate::period::Period;
 use crate::uses::has_left;
@@ -110,12 +112,14 @@ fn is_below(p: &Problem, g: &Region, v: VmId, r: u8, x: Period, bound: u64) -> b
 /// itself.
 pub(crate) fn machines_fit(
     p: &Problem,
+    f: &Fixed,
     g: &Region,
     ks: &[Standing],
     r: u8,
     x: Period,
     spare: u64,
 ) -> bool
+    requires fixed { IsFixed p.now.given f.now }
     requires region { IsSized p.now.given g.now }
     requires count { length ks.now ≡ machine_count p.now.given }
     requires resource { r < length p.now.given.resources }
@@ -123,6 +127,10 @@ pub(crate) fn machines_fit(
     requires small { spare ≤ max_nodes * max_capacity }
     ensures { IsTrue result → MachinesFit p.now.given (sets g.now) r (all_nodes p.now.given) x (λ v. the_most_anywhere p.now.given v r x (domain_at g.now (vm v)).idle (slice_index_or ks.now v no_standing)) spare }
 {
+    // what any of them has and brings is spare
+    if f.most(p, r) <= spare {
+        return true;
+    }
     for i in 0..p.cluster().machines().len() {
         let v = VmId(i as u32);
         let idle = g.domain(Element::Vm(v)).idle();

@@ -3,9 +3,12 @@ ghost use Rattle.std.specs.Prelude.{◌≡◌, ◌+◌, ◌<◌, ◌≤◌, leng
 ghost use Rattle.catalogue.specs.Instance.{IsElement};
 ghost use Rattle.slices.specs.Elements.{machine_count, node_count};
 ghost use Rattle.relax.specs.Areas.{IsSized};
+ghost use Rattle.domains.specs.Sets.{sets};
 ghost use Rattle.rule_load.specs.Fixed.{IsFixed};
+ghost use Rattle.rule_load.specs.Kept.{AreKeptAt};
 
 use crate::fixed::Fixed;
+use crate::kept::Kept;
 use catalogue::problem::Problem;
 use cluster::choices::{Choice, Instant};
 use cluster::ids::{Element, NodeId, VmId};
@@ -80,17 +83,9 @@ fn act(row: Row, start: Instant) -> Choice {
 }
 
 /// The first instant after one at which what is sure of a node changes, or the one after the horizon.
-pub(crate) fn next_change(
-    p: &Problem,
-    f: &Fixed,
-    g: &Region,
-    ks: &[Standing],
-    n: NodeId,
-    after: u64,
-) -> u64
-    requires fixed { IsFixed p.now.given f.now }
+pub(crate) fn next_change(p: &Problem, g: &Region, kept: Kept<'_>, n: NodeId, after: u64) -> u64
     requires region { IsSized p.now.given g.now }
-    requires count { length ks.now ≡ machine_count p.now.given }
+    requires kept { AreKeptAt p.now.given (sets g.now) n.0 kept.fixed.now kept.standings.now kept.near.now }
     requires node { n.0 < node_count p.now.given }
     requires within { after ≤ p.now.given.horizon }
     ensures later { after < result }
@@ -98,8 +93,17 @@ pub(crate) fn next_change(
 {
     let e = Element::Node(n);
     let mut next = u64::from(p.horizon()) + 1;
-    for i in 0..p.cluster().machines().len() {
-        next = next_of_machine(p, f, VmId(i as u32), ks[i], n, after, next);
+    for i in 0..kept.near.len() {
+        let v = kept.near[i];
+        next = next_of_machine(
+            p,
+            kept.fixed,
+            VmId(v),
+            kept.standings[v as usize],
+            n,
+            after,
+            next,
+        );
     }
     next_of_rows(p, e, g.domain(e).rows(), after, next)
 }

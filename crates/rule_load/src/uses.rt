@@ -1,5 +1,5 @@
 //! What machines use of a node at the most during a period.
-ghost use Rattle.std.specs.Prelude.{◌≡◌, ◌+◌, ◌*◌, ◌<◌, ◌≤◌, length, slice_index_or, IsTrue, if◌then◌else◌};
+ghost use Rattle.std.specs.Prelude.{◌≡◌, ℕ, ◌+◌, ◌*◌, ◌<◌, ◌≤◌, length, slice_index_or, IsTrue, if◌then◌else◌};
 ghost use Rattle.cluster.specs.Limits.{max_amount, max_machines};
 ghost use Rattle.sums.specs.Sums.{sum_to};
 ghost use Rattle.catalogue.specs.Instance.{IsElement};
@@ -12,10 +12,12 @@ ghost use Rattle.relax.specs.Areas.{IsSized, hosted_in};
 ghost use Rattle.standing.specs.Standings.{base as the_base};
 ghost use Rattle.standing.specs.Tables.{no_standing};
 ghost use Rattle.rule_load.specs.Fixed.{IsFixed};
+ghost use Rattle.rule_load.specs.Kept.{AreKeptAt};
 ghost use Rattle.rule_load.specs.Parts.{HasLeft, IsMostBrought, IsMostLeft};
 ghost use Rattle.rule_load.specs.Periods.{IsMost, most_kept as the_most_kept};
 
 use crate::fixed::Fixed;
+use crate::kept::Kept;
 use crate::measures::LeftOver;
 use crate::period::Period;
 use catalogue::problem::Problem;
@@ -50,17 +52,24 @@ fn most_kept(p: &Problem, f: &Fixed, v: VmId, n: NodeId, r: u8, x: Period, k: St
     kept + come
 }
 
-/// What the machines with these numbers surely use of a node at the most.
-pub(crate) fn most_used(p: &Problem, f: &Fixed, ks: &[Standing], n: NodeId, r: u8, x: Period) -> u64
-    requires fixed { IsFixed p.now.given f.now }
-    requires count { length ks.now ≡ machine_count p.now.given }
+/// What the machines surely use of a node at the most: those near it, since no other does.
+pub(crate) fn most_used(
+    p: &Problem,
+    _g: &Region,
+    kept: Kept<'_>,
+    n: NodeId,
+    r: u8,
+    x: Period,
+) -> u64
+    requires kept { AreKeptAt p.now.given (sets _g.now) n.0 kept.fixed.now kept.standings.now kept.near.now }
     requires resource { r < length p.now.given.resources }
-    ensures sum { result ≡ sum_to (machine_count p.now.given) (λ v. the_most_kept p.now.given v (AmountOf r) n.0 x (slice_index_or ks.now v no_standing)) }
+    ensures sum { result ≡ sum_to (machine_count p.now.given) (λ v. the_most_kept p.now.given v (AmountOf r) n.0 x (slice_index_or kept.entry.standings.now v no_standing)) }
     ensures small { result ≤ max_machines * (2 * max_amount) }
 {
     let mut total = 0;
-    for i in 0..p.cluster().machines().len() {
-        total += most_kept(p, f, VmId(i as u32), n, r, x, ks[i]);
+    for i in 0..kept.near.len() {
+        let v = kept.near[i];
+        total += most_kept(p, kept.fixed, VmId(v), n, r, x, kept.standings[v as usize]);
     }
     total
 }
@@ -116,6 +125,19 @@ fn most_left(p: &Problem, f: &Fixed, g: &Region, v: VmId, n: NodeId, r: u8, from
     here
 }
 
+// whether a machine has no row, and so is never brought anywhere; this tells it of most machines, and reads no row
+#[tactic(auto, using(crate::proofs::UseLemmas::no_rows_brought))]
+fn has_no_row(p: &Problem, g: &Region, v: VmId) -> bool
+    requires region { IsSized p.now.given g.now }
+    requires machine { IsElement p.now.given (Element.Vm v) }
+    ensures { IsTrue result → (n r by : ℕ) → IsMostBrought p.now.given v.0 (sets g.now (vm v.0)) n r by 0 }
+{
+    match g.domain(Element::Vm(v)).rows() {
+        [] => true,
+        [_, ..] => false,
+    }
+}
+
 /// The most that a machine has brought to a node by an instant.
 #[tactic(auto, using(crate::proofs::UseLemmas::none_brought, crate::proofs::UseLemmas::some_brought))]
 pub(crate) fn most_brought(p: &Problem, g: &Region, v: VmId, n: NodeId, r: u8, by: Instant) -> u64
@@ -125,6 +147,9 @@ pub(crate) fn most_brought(p: &Problem, g: &Region, v: VmId, n: NodeId, r: u8, b
     ensures most { IsMostBrought p.now.given v.0 (sets g.now (vm v.0)) n.0 r by result }
     ensures small { result ≤ max_amount }
 {
+    if has_no_row(p, g, v) {
+        return 0;
+    }
     let here = Change {
         element: Element::Vm(v),
         part: Part::Upto(Place::At(n), by),

@@ -9,14 +9,16 @@ use crate::marking::mark_disturbed;
 use crate::node_look::node_look;
 use crate::nodes::{node_at, node_total};
 use crate::reason::load_reason;
+use crate::refuting::refutes_part;
 use crate::standings::Standings;
 use crate::suggest::suggest_on;
 use crate::total_look::total_look;
 use catalogue::problem::Problem;
 use closing::look::Look;
 use cluster::choices::Instant;
+use cluster::ids::Element;
 use domains::domain::Domain;
-use domains::parts::Change;
+use domains::parts::{Change, Part};
 use domains::region::Region;
 use domains::undo::Before;
 use domains::view::View;
@@ -64,13 +66,25 @@ impl Watcher<Standings> for Loads {
 
     fn look(&self, k: &Standings, p: &Problem, g: &Region, i: usize) -> Look {
         match node_at(p, i) {
-            None => total_look(p, g, k.all(p, g)),
-            Some(n) => node_look(p, k.fixed(p, g), g, k.all(p, g), n),
+            None => total_look(p, k.fixed(p, g), g, k.all(p, g)),
+            Some(n) => node_look(p, g, k.at(p, g, n), n),
         }
     }
 
-    fn reason(&self, p: &Problem, view: &View, i: usize, t: Instant) -> Reason {
-        load_reason(p, view, i, t)
+    fn reason(&self, k: &Standings, p: &Problem, view: &View, i: usize, t: Instant) -> Reason {
+        load_reason(k, p, view, i, t)
+    }
+
+    fn refutes(
+        &self,
+        k: &Standings,
+        p: &Problem,
+        g: &Region,
+        e: Element,
+        part: Part,
+        reason: &Reason,
+    ) -> bool {
+        refutes_part(k, p, g, e, part, reason)
     }
 
     fn suggest(

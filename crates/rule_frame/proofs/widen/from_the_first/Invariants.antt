@@ -5,7 +5,7 @@ use Rattle.prop_core.specs.Propagators.{CutHolds}
 use Rattle.rule_frame.proofs.widen.from_the_first.Given as goal
 
 abbrev pub invariant-halves : goal.invariant-halves
-invariant-halves l = CutHolds l.p.given (sets l.g) l.e (Upto l.place l.best) l.found
+invariant-halves g l = CutHolds l.p.given (sets l.g) l.e (Upto l.place l.best) l.found
 
 abbrev pub decreases-halves : goal.decreases-halves
-decreases-halves l = l.top - l.best
+decreases-halves g l = l.top - l.best

@@ -5,7 +5,7 @@ use Rattle.prop_core.specs.Propagators.{CutHolds}
 use Rattle.rule_frame.proofs.widen.up_to_the_last.Given as goal
 
 abbrev pub invariant-halves : goal.invariant-halves
-invariant-halves l = CutHolds l.p.given (sets l.g) l.e (From l.place l.best) l.found
+invariant-halves g l = CutHolds l.p.given (sets l.g) l.e (From l.place l.best) l.found
 
 abbrev pub decreases-halves : goal.decreases-halves
-decreases-halves l = l.best - l.low
+decreases-halves g l = l.best - l.low

@@ -1,22 +1,21 @@
-use Rattle.std.proofs.Common.{◌<◌, rules, slice_index_or, arith}
-use Rattle.slices.specs.Elements.{machine_count, vm}
-use Rattle.slices.specs.declared.slice.Weight.TheVariants.{Amount}
+use Rattle.std.proofs.Common.{◌-◌, leb, leb-true, rules, arith}
+use Rattle.std.proofs.lemmas.List.Sorted.{IsPartitionPoint-from_clause, IsPartitionedBy-leb}
 use Rattle.domains.specs.Sets.{sets}
-use Rattle.standing.specs.Tables.{no_standing}
-use Rattle.rule_load.specs.Periods.{most_kept}
-use Rattle.rule_load.proofs.UseLemmas.{fits_at_once, fits_next}
+use Rattle.rule_load.specs.declared.fixed.MostUse.{MostUse}
+use Rattle.rule_load.proofs.DoubtLemmas.{fits_more, fits_order}
 use Rattle.rule_load.proofs.doubt.machine_doubt.Goals as goal
 
-pub returns-then-most-spare : goal.returns-then-most-spare
-returns-then-most-spare c =
-    record {
-      each = λ v low.
-          fits_at_once c.args.p.now.given v (sets c.args.g.now (vm v)) c.args.r c.args.n.0 c.args.x c.most.result c.args.spare (most_kept c.args.p.now.given v (Amount c.args.r) c.args.n.0 c.args.x (slice_index_or c.args.ks.now v no_standing))
-          (omega (arith, c.args.p.now.sound.horizon, c.requires.period)) (c.most.ensures.each v low) c.if-most-spare.true;
-    }
+pub machines-preserved : goal.machines-preserved
+machines-preserved c = record {
+  most = omega (arith, c.machines.invariant.most);
+  late =
+      fits_more c.args.p.now.given (sets c.args.g.now) c.args.kept.standings.now c.args.r c.args.n.0 c.args.x c.args.spare c.order-order.result.now (c.machines.k - 1) _ _ c.order-order.ensures c.requires.kept.standing.count
+      (omega (arith, c.machines-test.true, c.machines.invariant.most)) (λ j u from to. c.machines.invariant.late j u (omega (arith, from)) to) (c.machine_fits.ensures c.if-not-machine_fits.false);
+}
 
-pub loop-i-preserved : goal.loop-i-preserved
-loop-i-preserved c =
-    let low : c.loop-i.i < machine_count c.args.p.now.given = search (rules, c.loop-i-test.true, c.machines-i-end.ensures.machines, c.cluster.ensures.cluster) in
-    fits_next c.args.p.now.given (sets c.args.g.now) c.args.ks.now c.args.r c.args.n.0 c.args.x c.args.spare c.loop-i.i _ (omega (arith, low, c.requires.right.count)) c.loop-i.invariant
-    (c.machine_fits.ensures c.if-not-machine_fits.false)
+pub returns : goal.returns
+returns c =
+    let parted = IsPartitionedBy-leb (λ (x : MostUse). x.most) c.order-order.result.now c.args.spare c.order-order.ensures.climbs in
+    let point = IsPartitionPoint-from_clause (λ (x : MostUse). leb x.most c.args.spare) _ _ c.partition_point-first.ensures.partitioned parted (λ a r q k. search rules) in
+    fits_order c.args.p.now.given (sets c.args.g.now) c.args.kept.standings.now c.args.r c.args.n.0 c.args.x c.args.spare c.order-order.result.now c.partition_point-first.result
+    (omega (arith, c.args.p.now.sound.horizon, c.requires.period)) c.order-order.ensures (λ k d h. leb-true _ _ (point.0 k d (omega arith) h)) (λ k d from to. c.machines.invariant.late k d (omega (arith, from, c.machines-test.false)) to)

@@ -1,11 +1,14 @@
-use Rattle.std.proofs.Common.{ℕ, ◌+◌, ◌<◌, slice_index_or}
-use Rattle.slices.specs.declared.slice.Weight.TheVariants.{Amount}
-use Rattle.slices.specs.Elements.{vm}
-use Rattle.slices.specs.Stages.{one}
+use Rattle.std.proofs.Common.{ℕ, ◌<◌, ◌≤◌, length, slice_index_or}
 use Rattle.domains.specs.Sets.{sets}
-use Rattle.standing.specs.Tables.{no_standing}
-use Rattle.rule_load.specs.Periods.{IsMost, most_kept}
+use Rattle.rule_load.specs.declared.fixed.MostUse.{MostUse}
+use Rattle.rule_load.proofs.DoubtLemmas.{Fits}
 use Rattle.rule_load.proofs.doubt.machine_doubt.Given as goal
 
-abbrev pub invariant-loop-i : goal.invariant-loop-i
-invariant-loop-i l = (v : ℕ) → v < l.i → IsMost l.p.given v (sets l.g (vm v)) l.r (one l.n.0) l.x (l.spare + most_kept l.p.given v (Amount l.r) l.n.0 l.x (slice_index_or l.ks v no_standing))
+abbrev pub invariant-machines : goal.invariant-machines
+invariant-machines l = record {
+  most : l.k ≤ length l.order;
+  late : (j : ℕ) (u : MostUse) → l.k ≤ j → j < length l.order → Fits l.p.given (sets l.g) l.kept.standings.now l.r l.n.0 l.x l.spare (slice_index_or l.order j u).machine.0;
+}
+
+abbrev pub decreases-machines : goal.decreases-machines
+decreases-machines l = l.k

@@ -1,7 +1,7 @@
 use Rattle.std.proofs.Common.{ℕ, Vec, sym}
 use Rattle.std.specs.declared.alloc.Global.{Global}
-use Rattle.rule_frame.proofs.ListLemmas.{pushed}
-use Rattle.rule_frame.proofs.number_lists.NumberLists.push.Goals as goal
+use Rattle.near.proofs.ListLemmas.{pushed}
+use Rattle.near.proofs.number_lists.NumberLists.push.Goals as goal
 
 pub returns : goal.returns
 returns c =

@@ -1,0 +1,39 @@
+-- The room of one node, and what the machines of a list use of it.
+use Rattle.std.proofs.Common.{◌≡◌, ◌≢◌, ◌⊎◌, inl, inr, ℕ, ◌+◌, ◌<◌, ◌≤◌, ◌==◌, true, false, cond, List, ◌∷◌, refl, arith}
+use Rattle.std.specs.List.{Contains, sum_by}
+use Rattle.std.proofs.lemmas.Bool.{ne_eqb}
+use Rattle.std.proofs.lemmas.Bool.Decides.{Decides-eqb}
+use Rattle.std.proofs.lemmas.List.Sums.{sum_by-cons}
+use Rattle.sums.specs.Sums.{sum_to}
+use Rattle.sums.proofs.Sums.{sum_to-change, sum_to-zero}
+use Rattle.catalogue.specs.Instance.{Instance}
+use Rattle.catalogue.specs.Values.{capacity_of}
+use Rattle.slices.specs.declared.slice.Weight.TheVariants.{Amount}
+use Rattle.slices.specs.Elements.{machine_count, node_count}
+use Rattle.slices.specs.Snapshots.{Snapshot, load, room}
+use Rattle.slices.specs.Stages.{one}
+use Rattle.near.specs.Near.{AreMachines}
+use Rattle.near.proofs.SumLemmas.{either, over_once}
+
+-- of a sum over one node there is one term
+sum-of-one : (count n : ℕ) (f : ℕ → ℕ) → n < count → sum_to count (λ k. cond (one n k) (f k) 0) ≡ f n
+sum-of-one count n f low =
+    let here : cond (one n n) (f n) 0 ≡ f n = let same : (n == n) ≡ true = (Decides-eqb n n).1 refl in rw same refl in
+    let other : (k : ℕ) → k ≢ n → cond (one n k) (f k) 0 ≡ 0 = λ k ne. let off : (k == n) ≡ false = ne_eqb k n ne in rw off refl in
+    omega (arith, sum_to-change count (λ k. cond (one n k) (f k) 0) (λ _. 0) n low other, sum_to-zero count, here)
+
+pub room_of_one : (p : Instance) (s : Snapshot) (r n : ℕ) → n < node_count p → room p s r (one n) ≡ cond (s.usable n) (capacity_of p n r) 0
+room_of_one p s r n low = sum-of-one (node_count p) n (λ k. cond (s.usable k) (capacity_of p k r) 0) low
+
+-- what the machines of a list use is no more than the load, also with one that is not in it
+pub list_alone : (p : Instance) (s : Snapshot) (r n : ℕ) (xs : List ℕ) → AreMachines p xs → sum_by (λ v. s.held v (Amount r) (one n)) xs ≤ load p s r (one n)
+list_alone p s r n xs are = over_once xs (machine_count p) (λ v. s.held v (Amount r) (one n)) are.once are.each
+
+pub list_with : (p : Instance) (s : Snapshot) (r n v : ℕ) (xs : List ℕ) → AreMachines p xs → v < machine_count p → ¬ Contains xs v → s.held v (Amount r) (one n) + sum_by (λ v. s.held v (Amount r) (one n)) xs ≤ load p s r (one n)
+list_with p s r n v xs are low out =
+    let all = over_once (v ∷ xs) (machine_count p) (λ v. s.held v (Amount r) (one n)) (out, are.once) (λ w h. below w (either v xs w h)) in
+    omega (arith, all, sum_by-cons (λ v. s.held v (Amount r) (one n)) v xs)
+  where
+    below : (w : ℕ) → (v ≡ w) ⊎ Contains xs w → w < machine_count p
+    below w (inl same) = omega (arith, low, same)
+    below w (inr there) = are.each w there

@@ -1,0 +1,14 @@
+use Rattle.std.proofs.Common.{◌≡◌, ◌*◌, ◌≤◌, take}
+use Rattle.std.specs.List.{sum_by}
+use Rattle.slices.specs.declared.slice.Weight.TheVariants.{Amount}
+use Rattle.slices.specs.Limits.{max_held}
+use Rattle.slices.specs.Stages.{one}
+use Rattle.domains.specs.Views.{seen}
+use Rattle.reasons.specs.Sure.{sure}
+use Rattle.near.proofs.over.listed.Given as goal
+
+abbrev pub invariant-loop-i : goal.invariant-loop-i
+invariant-loop-i l = record {
+  total : l.total ≡ sum_by (λ v. (sure l.p.given (seen l.view.region.now l.view.lens) l.t).held v (Amount l.r) (one l.n.0)) (take l.i l.machines);
+  small : l.total ≤ l.i * max_held;
+}

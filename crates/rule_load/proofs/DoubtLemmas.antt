@@ -1,0 +1,69 @@
+-- That all machines fit, told in the order of what they use; and what they use on a node, told by those near it.
+use Rattle.std.proofs.Common.{◌≡◌, inl, inr, ℕ, ◌+◌, ◌<◌, ◌≤◌, Bool, true, false, ◌&&◌, nat_lt, cond, List, length, get_or, refl, sym, ap, subst, ◌∙◌, arith}
+use Rattle.std.specs.Prelude.{slice_index_or}
+use Rattle.std.specs.List.{Contains, sum_by}
+use Rattle.std.proofs.lemmas.Bool.{cases_eq, cases_lt}
+use Rattle.std.proofs.lemmas.List.{get_or_default}
+use Rattle.sums.specs.Sums.{sum_to}
+use Rattle.catalogue.specs.Instance.{Instance}
+use Rattle.slices.specs.declared.slice.Weight.{Weight}
+use Rattle.slices.specs.declared.slice.Weight.TheVariants.{Amount}
+use Rattle.slices.specs.Elements.{machine_count, state_of, vm}
+use Rattle.slices.specs.Stages.{one}
+use Rattle.domains.specs.Sets.{Sets}
+use Rattle.near.proofs.Public.{all_over}
+use Rattle.relax.specs.Areas.{hosted_in}
+use Rattle.standing.specs.declared.numbers.Standing.{Standing}
+use Rattle.standing.specs.Standings.{base, comes_by, gain, never}
+use Rattle.standing.specs.Tables.{AreStanding, no_standing}
+use Rattle.rule_load.specs.declared.fixed.MostUse.{MostUse}
+use Rattle.rule_load.specs.declared.period.Period.{Period}
+use Rattle.rule_load.specs.Fixed.{FixedView, IsOrder, most_use}
+use Rattle.rule_load.specs.Kept.{AreKeptAt, AreNearAt}
+use Rattle.rule_load.specs.Periods.{IsMost, MachinesFit, most_kept}
+use Rattle.rule_load.proofs.UseLemmas.{fits_at_once}
+
+-- ---- in the order of what they use
+
+module _ (p : Instance) (s : Sets) (ks : List Standing) (r n : ℕ) (x : Period) (spare : ℕ) where
+  -- machine v uses no more than what is spare and what it surely uses
+  abbrev pub Fits : ℕ → Type 0
+  Fits v = IsMost p v (s (vm v)) r (one n) x (spare + most_kept p v (Amount r) n x (slice_index_or ks v no_standing))
+
+  pub fits_more : (xs : List MostUse) (k : ℕ) (e : MostUse) (d : Standing) → IsOrder p r xs → length ks ≡ machine_count p → k < length xs → ((j : ℕ) (u : MostUse) → k + 1 ≤ j → j < length xs → Fits (get_or xs j u).machine.0) →
+      IsMost p (get_or xs k e).machine.0 (s (vm (get_or xs k e).machine.0)) r (one n) x (spare + most_kept p (get_or xs k e).machine.0 (Amount r) n x (slice_index_or ks (get_or xs k e).machine.0 d)) →
+      (j : ℕ) (u : MostUse) → k ≤ j → j < length xs → Fits (get_or xs j u).machine.0
+  fits_more xs k e d order count low before here j u from to =
+      elim (cases_eq j k) [
+        | inl same ↦ subst (λ (w : MostUse). Fits w.machine.0) (get_or_default xs k e u low ∙ ap (λ i. get_or xs i u) (sym same)) there
+        | inr other ↦ before j u (omega (arith, from, other)) to
+      ]
+    where
+      there : Fits (get_or xs k e).machine.0
+      there = subst (λ (w : Standing). IsMost p (get_or xs k e).machine.0 (s (vm (get_or xs k e).machine.0)) r (one n) x (spare + most_kept p (get_or xs k e).machine.0 (Amount r) n x w)) (get_or_default ks (get_or xs k e).machine.0 d no_standing (omega (arith, count, order.uses.machines k e low))) here
+
+  pub fits_order : (xs : List MostUse) (first : ℕ) → x.to < never → IsOrder p r xs → ((k : ℕ) (d : MostUse) → k < first → (get_or xs k d).most ≤ spare) → ((k : ℕ) (d : MostUse) → first ≤ k → k < length xs → Fits (get_or xs k d).machine.0) → MachinesFit p s r (one n) x (λ v. most_kept p v (Amount r) n x (slice_index_or ks v no_standing)) spare
+  fits_order xs first short order early late = record { each = λ v low. at v (order.uses.each v low) }
+    where
+      at : (v : ℕ) → Contains xs (most_use p r v) → Fits v
+      at v there = elim (cases_lt there.0 first) [
+        | inl before ↦
+            let fits : (most_use p r v).most ≤ spare = subst (λ (u : MostUse). u.most ≤ spare) there.2 (early there.0 (most_use p r v) before) in
+            fits_at_once p v (s (vm v)) r n x (most_use p r v).most spare (most_kept p v (Amount r) n x (slice_index_or ks v no_standing)) short (omega arith) fits
+        | inr past ↦ subst (λ (u : MostUse). Fits u.machine.0) there.2 (late there.0 (most_use p r v) past there.1)
+      ]
+
+-- ---- by those near the node
+
+none-kept : (p : Instance) (s : Sets) (n : ℕ) (ks : List Standing) (xs : List ℕ) (w : Weight) (x : Period) (v : ℕ) → AreStanding p s ks → AreNearAt p s n xs → v < machine_count p → ¬ Contains xs v → most_kept p v w n x (slice_index_or ks v no_standing) ≡ 0
+none-kept p s n ks xs w x v are near low out = by (hosted_in (state_of p v) (one n)) refl (comes_by n x.to (slice_index_or ks v no_standing).come) refl
+  where
+    by : (h : Bool) → hosted_in (state_of p v) (one n) ≡ h → (c : Bool) → comes_by n x.to (slice_index_or ks v no_standing).come ≡ c → cond (h && nat_lt x.from (slice_index_or ks v no_standing).leave) (base p v w) 0 + cond c (gain p v w n) 0 ≡ 0
+    by true hosted c e = absurd (out (near.hosted v low hosted))
+    by false hosted true come = absurd (out (near.come v x.to low (sym ((are.each v low).come n x.to) ∙ come)))
+    by false hosted false e = refl
+
+pub near_sum : (p : Instance) (s : Sets) (n : ℕ) (f : FixedView) (ks : List Standing) (xs : List ℕ) (w : Weight) (x : Period) (total : ℕ) → AreKeptAt p s n f ks xs →
+    total ≡ sum_by (λ v. most_kept p v w n x (slice_index_or ks v no_standing)) xs → total ≡ sum_to (machine_count p) (λ v. most_kept p v w n x (slice_index_or ks v no_standing))
+near_sum p s n f ks xs w x total kept is =
+    is ∙ sym (all_over xs (machine_count p) (λ v. most_kept p v w n x (slice_index_or ks v no_standing)) kept.near.machines.once kept.near.machines.each (λ v low out. none-kept p s n ks xs w x v kept.standing kept.near low out))

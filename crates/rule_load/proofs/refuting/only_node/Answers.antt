@@ -1,0 +1,12 @@
+use Rattle.std.proofs.Common.{◌∙◌, ◌<◌, rules}
+use Rattle.std.proofs.lemmas.Bool.Decides.{Decides-eqb}
+use Rattle.std.proofs.lemmas.Slice.Eq.{slice_eq-Decides}
+use Rattle.slices.specs.Elements.{node_count}
+use Rattle.rule_load.proofs.SetLemmas.{same_nodes}
+use Rattle.rule_load.proofs.refuting.only_node.Goals as goal
+
+pub returns-then-eq : goal.returns-then-eq
+returns-then-eq c =
+    let words = (slice_eq-Decides Decides-eqb c.args.set.now.words c.node_set.result.words c.eq.result c.eq.ensures).0 c.if-eq.true in
+    let low : c.loop-i.i < node_count c.args.p.now.given = search (rules, c.loop-i-test.true, c.node_total-i-end.ensures) in
+    (low, same_nodes c.args.set.now c.node_set.result words ∙ c.node_set.ensures)

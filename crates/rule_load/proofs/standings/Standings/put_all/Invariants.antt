@@ -1,0 +1,13 @@
+use Rattle.std.proofs.Common.{◌≡◌, ℕ, ◌<◌, slice_index_or}
+use Rattle.near.specs.Near.{IsNear}
+use Rattle.standing.specs.Tables.{no_standing}
+use Rattle.rule_load.specs.Kept.{IsListedBy}
+use Rattle.rule_load.proofs.standings.Standings.put_all.Given as goal
+
+abbrev pub invariant-loop-i : goal.invariant-loop-i
+invariant-loop-i l = record {
+  table : l.self.table ≡ l.initial.self.table;
+  fixed : l.self.fixed ≡ l.initial.self.fixed;
+  near : IsNear l.p.given l.self.near;
+  there : (v : ℕ) → v < l.i → IsListedBy l.p.given v (slice_index_or l.self.table.top v no_standing) l.self.near;
+}

@@ -1,0 +1,11 @@
+//! What is kept beside a region, as far as a node needs it.
+use crate::fixed::Fixed;
+use standing::numbers::Standing;
+
+/// What does not change, where each machine surely stands, and the machines near the node.
+#[derive(Clone, Copy)]
+pub(crate) struct Kept<'a> {
+    pub fixed: &'a Fixed,
+    pub standings: &'a [Standing],
+    pub near: &'a [u32],
+}

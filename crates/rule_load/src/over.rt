@@ -1,0 +1,139 @@
+//! Whether a node is overloaded, told by where the machines near it surely stand.
+ghost use Rattle.std.specs.Prelude.{◌≡◌, false, ◌*◌, ◌<◌, ◌≤◌, IfSome, IsTrue, length};
+ghost use Rattle.std.specs.List.{sum_by};
+ghost use Rattle.cluster.specs.Limits.{max_machines};
+ghost use Rattle.catalogue.specs.Instance.{IsElement};
+ghost use Rattle.slices.specs.Elements.{node_count, vm};
+ghost use Rattle.slices.specs.Limits.{max_held};
+ghost use Rattle.slices.specs.Stages.{one};
+ghost use Rattle.slices.specs.declared.slice.Weight.TheVariants.{Amount as AmountOf};
+ghost use Rattle.domains.specs.Sets.{RegionView, sets};
+ghost use Rattle.domains.specs.Views.{seen};
+ghost use Rattle.reasons.specs.Reasons.{IsOverload};
+ghost use Rattle.reasons.specs.Sure.{sure};
+ghost use Rattle.relax.specs.Areas.{IsSized};
+ghost use Rattle.standing.specs.Standings.{kept_use as the_kept_use};
+ghost use Rattle.rule_load.specs.Fixed.{IsFixed};
+ghost use Rattle.rule_load.specs.Kept.{AreKeptAt};
+
+use crate::fixed::Fixed;
+use crate::kept::Kept;
+use crate::nodes::resource_total;
+use catalogue::problem::Problem;
+use cluster::choices::Instant;
+use cluster::ids::{Element, NodeId, VmId};
+use domains::view::{Lens, View};
+use near::over::{beside, narrowed, room_seen};
+use relax::area::Area;
+use relax::sure::least_held;
+use slices::slice::Weight;
+use standing::numbers::Standing;
+use standing::uses::{base, comes_by, gain};
+
+// what a machine with these numbers surely uses of a node
+fn kept_use(p: &Problem, f: &Fixed, v: VmId, k: Standing, r: u8, n: NodeId, t: Instant) -> u64
+    requires fixed { IsFixed p.now.given f.now }
+    requires machine { IsElement p.now.given (Element.Vm v) }
+    requires resource { r < length p.now.given.resources }
+    ensures uses { result ≡ the_kept_use p.now.given v.0 (AmountOf r) n.0 t k }
+    ensures small { result ≤ max_held }
+{
+    let weight = Weight::Amount(r);
+    let kept = if f.is_host(p, v, n) && u64::from(t) < k.leave {
+        base(p, v, weight)
+    } else {
+        0
+    };
+    let come = if comes_by(k.come, n, t) {
+        gain(p, v, weight, n)
+    } else {
+        0
+    };
+    kept + come
+}
+
+// whether a lens may not show all choices of a machine
+fn is_narrowed(lens: Lens, v: VmId) -> bool
+    ensures { result ≡ false → (g : RegionView) → seen g lens (vm v.0) ≡ sets g (vm v.0) }
+{
+    match narrowed(lens) {
+        None => false,
+        Some(x) => x.0 == v.0,
+    }
+}
+
+// what a machine surely uses of a node in what is seen: by its numbers, where all of its choices are seen
+#[tactic(auto, using(crate::proofs::OverLemmas::kept_is_held), unfolding(reasons::specs::Sure::sure))]
+fn use_seen(p: &Problem, view: &View, kept: Kept<'_>, v: VmId, r: u8, n: NodeId, t: Instant) -> u64
+    requires region { IsSized p.now.given view.now.region.now }
+    requires kept { AreKeptAt p.now.given (sets view.now.region.now) n.0 kept.fixed.now kept.standings.now kept.near.now }
+    requires machine { IsElement p.now.given (Element.Vm v) }
+    requires resource { r < length p.now.given.resources }
+    requires within { t ≤ p.now.given.horizon }
+    ensures held { result ≡ (sure p.now.given (seen view.now.region.now view.now.lens) t).held v.0 (AmountOf r) (one n.0) }
+    ensures small { result ≤ max_held }
+{
+    if is_narrowed(view.lens, v) {
+        least_held(p, view, v, Weight::Amount(r), &Area::One(n), t)
+    } else {
+        kept_use(p, kept.fixed, v, kept.standings[v.0 as usize], r, n, t)
+    }
+}
+
+// what those near it do
+fn near_use(p: &Problem, view: &View, kept: Kept<'_>, r: u8, n: NodeId, t: Instant) -> u64
+    requires region { IsSized p.now.given view.now.region.now }
+    requires kept { AreKeptAt p.now.given (sets view.now.region.now) n.0 kept.fixed.now kept.standings.now kept.near.now }
+    requires resource { r < length p.now.given.resources }
+    requires within { t ≤ p.now.given.horizon }
+    ensures sum { result ≡ sum_by (λ v. (sure p.now.given (seen view.now.region.now view.now.lens) t).held v (AmountOf r) (one n.0)) kept.entry.near.now }
+    ensures small { result ≤ max_machines * max_held }
+{
+    let mut total = 0;
+    for i in 0..kept.near.len() {
+        total += use_seen(p, view, kept, VmId(kept.near[i]), r, n, t);
+    }
+    total
+}
+
+/// Whether the machines near a node surely use more of a resource than it has room for.
+pub(crate) fn is_over(
+    p: &Problem,
+    view: &View,
+    kept: Kept<'_>,
+    r: u8,
+    n: NodeId,
+    t: Instant,
+) -> bool
+    requires region { IsSized p.now.given view.now.region.now }
+    requires kept { AreKeptAt p.now.given (sets view.now.region.now) n.0 kept.fixed.now kept.standings.now kept.near.now }
+    requires resource { r < length p.now.given.resources }
+    requires node { n.0 < node_count p.now.given }
+    requires within { t ≤ p.now.given.horizon }
+    ensures { IsTrue result → IsOverload p.now.given (sure p.now.given (seen view.now.region.now view.now.lens) t) r (one n.0) }
+{
+    let used = beside(p, view, kept.near, r, n, t) + near_use(p, view, kept, r, n, t);
+    room_seen(p, view, r, n, t) < used
+}
+
+/// The first resource of which they do.
+pub(crate) fn overloaded_at(
+    p: &Problem,
+    view: &View,
+    kept: Kept<'_>,
+    n: NodeId,
+    t: Instant,
+) -> Option<u8>
+    requires region { IsSized p.now.given view.now.region.now }
+    requires kept { AreKeptAt p.now.given (sets view.now.region.now) n.0 kept.fixed.now kept.standings.now kept.near.now }
+    requires node { n.0 < node_count p.now.given }
+    requires within { t ≤ p.now.given.horizon }
+    ensures { IfSome result (λ r. (r < length p.now.given.resources) × IsOverload p.now.given (sure p.now.given (seen view.now.region.now view.now.lens) t) r (one n.0)) }
+{
+    for r in 0..resource_total(p) {
+        if is_over(p, view, kept, r as u8, n, t) {
+            return Some(r as u8);
+        }
+    }
+    None
+}

@@ -1,0 +1,102 @@
+//! Whether a reason is seen to refute a region with what is inside a part of an element's choices.
+ghost use Rattle.std.specs.Prelude.{◌≡◌, ◌<◌, ◌≤◌, IfSome, IsTrue, length};
+ghost use Rattle.cluster.specs.Sets.{has_node};
+ghost use Rattle.catalogue.specs.Instance.{IsElement};
+ghost use Rattle.slices.specs.Elements.{node_count};
+ghost use Rattle.slices.specs.Stages.{one};
+ghost use Rattle.domains.specs.Parts.{in_part};
+ghost use Rattle.domains.specs.Sets.{keeping, sets};
+ghost use Rattle.reasons.specs.Reasons.{IsOverload};
+ghost use Rattle.reasons.specs.Sure.{sure};
+ghost use Rattle.relax.specs.Areas.{IsSized};
+ghost use Rattle.prop_core.specs.Propagators.{FailHolds, MayAnswer};
+ghost use Rattle.rule_frame.specs.Caches.{IsCacheFor};
+ghost use Rattle.rule_load.specs.Kept.{cache_of};
+
+use crate::nodes::{node_set, node_total, resource_total};
+use crate::over::is_over;
+use crate::standings::Standings;
+use catalogue::problem::Problem;
+use cluster::choices::Instant;
+use cluster::ids::{Element, NodeId};
+use cluster::sets::NodeSet;
+use domains::parts::Part;
+use domains::region::Region;
+use domains::view::{Lens, View};
+use reasons::reason::Reason;
+use relax::refutes::refutes_inside;
+
+// the node of a set that has one alone; None where it has more, or none
+fn only_node(p: &Problem, set: &NodeSet) -> Option<NodeId>
+    ensures { IfSome result (λ n. (n.0 < node_count p.now.given) × (has_node set.now ≡ one n.0)) }
+{
+    for i in 0..node_total(p) {
+        let n = NodeId(i as u32);
+        if set.has(n) {
+            return if *set == node_set(p, n) {
+                Some(n)
+            } else {
+                None
+            };
+        }
+    }
+    None
+}
+
+/// Whether it is seen that a reason does: the load of one node by the machines near it, all others exactly.
+pub(crate) fn refutes_part(
+    k: &Standings,
+    p: &Problem,
+    g: &Region,
+    e: Element,
+    part: Part,
+    reason: &Reason,
+) -> bool
+    requires region { IsSized p.now.given g.now }
+    requires right { IsCacheFor (cache_of k.now.table k.now.fixed k.now.near) p.now.given (sets g.now) }
+    requires element { IsElement p.now.given e }
+    requires may { MayAnswer reason.now }
+    ensures { IsTrue result → FailHolds p.now.given (keeping e (in_part part) (sets g.now)) reason.now }
+{
+    match reason {
+        Reason::Load(t, r, set) => match only_node(p, set) {
+            Some(n) => overloads(k, p, g, e, part, *t, *r, n),
+            None => refutes_inside(p, None, g, e, part, reason),
+        },
+        Reason::Empty(_)
+        | Reason::Bound
+        | Reason::Pair(..)
+        | Reason::Place(..)
+        | Reason::Group(..)
+        | Reason::SetLoad(..)
+        | Reason::Power(..)
+        | Reason::Usable(..)
+        | Reason::Hall(..) => refutes_inside(p, None, g, e, part, reason),
+    }
+}
+
+// whether what is inside a part is seen to overload a node
+fn overloads(
+    k: &Standings,
+    p: &Problem,
+    g: &Region,
+    e: Element,
+    part: Part,
+    t: Instant,
+    r: u8,
+    n: NodeId,
+) -> bool
+    requires region { IsSized p.now.given g.now }
+    requires right { IsCacheFor (cache_of k.now.table k.now.fixed k.now.near) p.now.given (sets g.now) }
+    requires node { n.0 < node_count p.now.given }
+    ensures { IsTrue result → (t ≤ p.now.given.horizon) × (r < length p.now.given.resources) × IsOverload p.now.given (sure p.now.given (keeping e (in_part part) (sets g.now)) t) r (one n.0) }
+{
+    if t > p.horizon() || (r as usize) >= resource_total(p) {
+        return false;
+    }
+    let view = View {
+        region: g,
+        lens: Lens::Inside(e, part),
+    };
+    is_over(p, &view, k.at(p, g, n), r, n, t)
+}
