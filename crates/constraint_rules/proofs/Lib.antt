@@ -1,4 +1,6 @@
 pub mod Public
+mod ApartLemmas
 mod MarkLemmas
 mod NodeLemmas
+mod ShutdownLemmas
 mod WatchLemmas

@@ -3,5 +3,7 @@ pub mod Watches
 pub mod Covers
 -- what the code says beside it
 pub mod Marking
+pub mod Apart
+pub mod Shutdowns
 -- what the trait of watchers asks a proof of
 pub mod Quiet

@@ -1,11 +1,15 @@
 //! The rules of constraints: machines kept apart, places, whole groups, and amounts on nodes.
 #![tactic(auto)]
 
+mod clear;
 mod hall;
 mod nodes;
+mod pair_look;
 mod pairs;
 mod places;
+mod posts;
 pub mod rules;
+mod shutdowns;
 mod suggest;
 pub mod watcher;
 mod witnesses;

@@ -66,7 +66,7 @@ fn hosted(state: State) -> Option<NodeId>
 }
 
 // the host of a machine
-fn host(p: &Problem, v: VmId) -> Option<NodeId>
+pub fn host(p: &Problem, v: VmId) -> Option<NodeId>
     requires { v.0 < machine_count p.now.given }
     ensures none { IfNone result ((set : Nodes) → hosted_in (state_of p.now.given v.0) set ≡ false) }
     ensures some { IfSome result (λ n. (set : Nodes) → hosted_in (state_of p.now.given v.0) set ≡ set n.0) }

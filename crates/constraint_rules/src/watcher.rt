@@ -3,27 +3,32 @@ ghost use Rattle.std.specs.Prelude.{◌≡◌, ◌+◌, ◌-◌, ◌<◌, ◌≤
 ghost use Rattle.slices.specs.Elements.{node_count};
 ghost use Rattle.domains.specs.Sets.{sets};
 ghost use Rattle.prop_core.specs.Propagators.{IsRegionOf};
+ghost use Rattle.relax.specs.Areas.{IsSized};
+ghost use Rattle.closing.specs.Kinds.{usable_watch};
 ghost use Rattle.closing.specs.Looks.{IsLook};
 ghost use Rattle.constraint_rules.specs.Watches.{kept_watch, watch_at, watch_count};
 ghost use Rattle.constraint_rules.specs.Quiet.{kinds_are_quiet, watches_are_local};
 
 use crate::hall::hall_reason;
 use crate::nodes::mark_nodes;
+use crate::pair_look::look_quickly;
+use crate::shutdowns::is_let_go;
 use crate::suggest::suggest_pairs;
 use crate::witnesses::{constraint_reason, usable_reason};
 use catalogue::problem::Problem;
 use closing::look::Look;
-use closing::watch::{look_at_constraint, look_at_usable};
+use closing::watch::look_at_usable;
 use cluster::choices::Instant;
-use cluster::ids::NodeId;
+use cluster::ids::{Element, NodeId};
 use constraint_kinds::reason_kind;
 use domains::domain::Domain;
-use domains::parts::Change;
+use domains::parts::{Change, Part};
 use domains::region::Region;
 use domains::undo::Before;
 use domains::view::View;
 use memory::Memory;
 use reasons::reason::{Reason, ReasonKind};
+use relax::refutes::refutes_inside;
 use rule_frame::index::{ConstraintIndex, mark_looking};
 use rule_frame::marks::Marks;
 use rule_frame::suggestion::Suggestion;
@@ -54,12 +59,24 @@ fn look_at<S: Kinds>(kinds: &S, p: &Problem, g: &Region, c: usize) -> Look
         None => Look::Clean,
         Some(kind) => {
             if kinds.covers(kind) {
-                look_at_constraint(p, g, c as u32)
+                look_quickly(p, g, c as u32)
             } else {
                 Look::Clean
             }
         }
     }
+}
+
+// a look at whether a node is usable where it is needed
+fn look_at_node(p: &Problem, g: &Region, n: NodeId) -> Look
+    requires region { IsSized p.now.given g.now }
+    requires node { n.0 < node_count p.now.given }
+    ensures { IsLook (usable_watch p.now.given n.0) p.now.given (sets g.now) result }
+{
+    if is_let_go(p, g, n) {
+        return Look::Clean;
+    }
+    look_at_usable(p, g, n)
 }
 
 // how many watches there are, where the nodes are watched or not
@@ -139,15 +156,34 @@ impl<S: Kinds> Watcher<ConstraintIndex> for ConstraintWatcher<S> {
     fn look(&self, _k: &ConstraintIndex, p: &Problem, g: &Region, i: usize) -> Look {
         match node_of(p, i) {
             None => look_at(&self.kinds, p, g, i),
-            Some(n) => look_at_usable(p, g, n),
+            Some(n) => look_at_node(p, g, n),
         }
     }
 
-    fn reason(&self, p: &Problem, view: &View, i: usize, t: Instant) -> Reason {
+    fn reason(
+        &self,
+        _k: &ConstraintIndex,
+        p: &Problem,
+        view: &View,
+        i: usize,
+        t: Instant,
+    ) -> Reason {
         match node_of(p, i) {
             None => constraint_reason(p, view, i as u32, t),
             Some(n) => usable_reason(p, view, n, t),
         }
+    }
+
+    fn refutes(
+        &self,
+        _k: &ConstraintIndex,
+        p: &Problem,
+        g: &Region,
+        e: Element,
+        part: Part,
+        reason: &Reason,
+    ) -> bool {
+        refutes_inside(p, None, g, e, part, reason)
     }
 
     fn suggest(

@@ -8,5 +8,5 @@ returns-in-None g c =
 
 pub returns-in-Some : goal.returns-in-Some
 returns-in-Some g c =
-    node_look (g.S.Kinds.kinds c.args.self.now.kinds) c.args.p.now.given c.args.i c.in-Some.n.0 (sets c.args.g.now) c.look_at_usable.result c.in-Some.ensures.some.0
-    c.in-Some.ensures.some.1 c.look_at_usable.ensures
+    node_look (g.S.Kinds.kinds c.args.self.now.kinds) c.args.p.now.given c.args.i c.in-Some.n.0 (sets c.args.g.now) c.look_at_node.result c.in-Some.ensures.some.0
+    c.in-Some.ensures.some.1 c.look_at_node.ensures

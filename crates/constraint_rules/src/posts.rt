@@ -1,0 +1,114 @@
+//! Where a machine may surely be, told for all instants up to the horizon at once.
+ghost use Rattle.std.specs.Prelude.{◌≡◌, ◌≢◌, ℕ, ◌<◌, ◌≤◌, ◌&&◌, nat_lt, [], Some, IfNone, IfSome, IsTrue};
+ghost use Rattle.slices.specs.Elements.{machine_count, state_of};
+ghost use Rattle.slices.specs.Stages.{one};
+ghost use Rattle.domains.specs.Sets.{sets};
+ghost use Rattle.relax.specs.Areas.{IsSized, hosted_in};
+ghost use Rattle.standing.specs.Standings.{comes_by};
+ghost use Rattle.constraint_rules.specs.Apart.{HasPosts, IsAt, KeepsOff};
+
+use crate::nodes::host;
+use catalogue::problem::Problem;
+use cluster::choices::{Instant, Place};
+use cluster::ids::{Element, NodeId, VmId};
+use domains::parts::{Change, Part, Side};
+use domains::region::Region;
+use standing::numbers::{Arrival, standing_of};
+
+/// A node, and the last instant at which a machine may surely be there.
+#[derive(Clone, Copy)]
+pub struct Post {
+    pub node: NodeId,
+    pub last: Instant,
+}
+
+/// The host of a machine, as long as it may surely be there, and the node that it surely comes to: up to the
+/// horizon it surely is nowhere else.
+#[derive(Clone, Copy)]
+pub struct Posts {
+    pub host: Option<Post>,
+    pub come: Option<Post>,
+}
+
+// the last instant before one, or the horizon
+fn last_before(p: &Problem, end: u64) -> Option<Instant>
+    ensures none { IfNone result (end ≡ 0) }
+    ensures some { IfSome result (λ l. (t : ℕ) → t ≤ p.now.given.horizon → t < end → t ≤ l) }
+{
+    let horizon = p.horizon();
+    if end == 0 {
+        None
+    } else if end > u64::from(horizon) {
+        Some(horizon)
+    } else {
+        Some((end - 1) as u32)
+    }
+}
+
+// the host, until a machine leaves it
+fn host_post(p: &Problem, v: VmId, leave: u64) -> Option<Post>
+    requires { v.0 < machine_count p.now.given }
+    ensures { (n t : ℕ) → t ≤ p.now.given.horizon → IsTrue (hosted_in (state_of p.now.given v.0) (one n) && nat_lt t leave) → IsAt result n t }
+{
+    match host(p, v) {
+        None => None,
+        Some(node) => match last_before(p, leave) {
+            None => None,
+            Some(last) => Some(Post { node, last }),
+        },
+    }
+}
+
+// the node that a machine comes to
+fn come_post(p: &Problem, come: Option<Arrival>) -> Option<Post>
+    ensures { (n t : ℕ) → t ≤ p.now.given.horizon → IsTrue (comes_by n t come) → IsAt result n t }
+{
+    match come {
+        None => None,
+        Some(a) => Some(Post {
+            node: a.node,
+            last: p.horizon(),
+        }),
+    }
+}
+
+/// The posts of a machine that has a choice.
+pub fn posts_of(p: &Problem, g: &Region, v: VmId) -> Posts
+    requires region { IsSized p.now.given g.now }
+    requires machine { v.0 < machine_count p.now.given }
+    requires some { sets g.now (Element.Vm v) ≢ [] }
+    ensures { HasPosts p.now.given (sets g.now) v.0 result }
+{
+    let k = standing_of(p, v, g.domain(Element::Vm(v)));
+    Posts {
+        host: host_post(p, v, k.leave),
+        come: come_post(p, k.come),
+    }
+}
+
+/// Whether a machine has its host at a node.
+pub fn is_hosted(p: &Problem, v: VmId, n: NodeId) -> bool
+    requires { v.0 < machine_count p.now.given }
+    ensures { result ≡ hosted_in (state_of p.now.given v.0) (one n.0) }
+{
+    match host(p, v) {
+        None => false,
+        Some(h) => h.0 == n.0,
+    }
+}
+
+/// Whether a machine has another host than the node of a post, and starts there under no choice while it lasts.
+pub fn keeps_off(p: &Problem, g: &Region, w: VmId, post: Post) -> bool
+    requires region { IsSized p.now.given g.now }
+    requires machine { w.0 < machine_count p.now.given }
+    ensures { IsTrue result → KeepsOff p.now.given w.0 (sets g.now (Element.Vm w)) (Some post) }
+{
+    if is_hosted(p, w, post.node) {
+        return false;
+    }
+    g.leaves_none(Change {
+        element: Element::Vm(w),
+        part: Part::Upto(Place::At(post.node), post.last),
+        side: Side::Inside,
+    })
+}
