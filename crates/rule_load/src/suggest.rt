@@ -1,12 +1,18 @@
 //! Cuts that are worth a try after one of a machine at a node was found.
 ghost use Rattle.std.specs.Prelude.{◌<◌, IsTrue, length};
 ghost use Rattle.catalogue.specs.Instance.{IsElement};
-ghost use Rattle.slices.specs.Elements.{machine_count};
+ghost use Rattle.slices.specs.Elements.{machine_count, node_count};
 ghost use Rattle.domains.specs.Sets.{sets};
 ghost use Rattle.relax.specs.Areas.{IsSized};
 ghost use Rattle.standing.specs.Tables.{AreStanding};
+ghost use Rattle.rule_load.specs.Kept.{AreKeptAt};
 
-use crate::nodes::resource_total;
+use crate::kept::Kept;
+use crate::nodes::{node_set, resource_total};
+use crate::period::Period;
+use crate::room::room_of;
+use crate::turns::next_change;
+use crate::uses::most_used;
 use catalogue::problem::Problem;
 use cluster::choices::{Choice, Instant, Place};
 use cluster::ids::{Element, NodeId, VmId};
@@ -19,6 +25,7 @@ use rule_frame::suggestion::Suggestion;
 use slices::slice::Weight;
 use standing::numbers::Standing;
 use standing::uses::{base, is_host};
+use std::alloc::Global;
 
 /// An overload of a node that a machine makes.
 #[derive(Clone, Copy)]
@@ -30,35 +37,107 @@ struct Overload {
     reason: Reason,
 }
 
-// those machines that would bring as much to the node by the same instant
-fn suggest_arrivals(
+/// What is spare of a resource on a node up to an instant, from the one after the entry before it on.
+#[derive(Clone, Copy)]
+struct Spare {
+    until: Instant,
+    amount: u64,
+}
+
+// what is spare of a resource on a node, from each change to the next
+fn spares(
+    alloc: Global,
     p: &Problem,
     g: &Region,
-    over: Overload,
+    kept: Kept<'_>,
+    n: NodeId,
+    r: u8,
+) -> Result<Vec<Spare>, Memory>
+    requires region { IsSized p.now.given g.now }
+    requires kept { AreKeptAt p.now.given (sets g.now) n.0 kept.fixed.now kept.standings.now kept.near.now }
+    requires node { n.0 < node_count p.now.given }
+    requires resource { r < length p.now.given.resources }
+{
+    let mut spares = Vec::new(alloc);
+    let mut from = 0u64;
+    'periods: while from <= u64::from(p.horizon()) {
+        let next = next_change(p, g, kept, n, from);
+        let x = Period {
+            from: from as u32,
+            to: (next - 1) as u32,
+        };
+        let amount = room_of(p, g, n, r, x).saturating_sub(most_used(p, g, kept, n, r, x));
+        spares.push(Spare {
+            until: x.to,
+            amount,
+        })?;
+        from = next;
+    }
+    Ok(spares)
+}
+
+// the last instant up to which an amount is more than is spare
+fn last_without(spares: &[Spare], amount: u64) -> Option<Instant> {
+    for i in 0..spares.len() {
+        let spare = spares[spares.len() - 1 - i];
+        if spare.amount < amount {
+            return Some(spare.until);
+        }
+    }
+    None
+}
+
+// of one machine the starts at the node with which it would be there up to an instant, if it has any
+fn suggest_arrival(
+    p: &Problem,
+    g: &Region,
+    machine: VmId,
+    node: NodeId,
+    r: u8,
+    at: Instant,
     them: &mut Vec<Suggestion>,
 ) -> Result<(), Memory>
     requires region { IsSized p.now.given g.now }
-    requires machine { over.machine.0 < machine_count p.now.given }
-    requires resource { over.resource < length p.now.given.resources }
+    requires machine { IsElement p.now.given (Element.Vm machine) }
+    requires node { node.0 < node_count p.now.given }
 {
-    let brought = p.demand(over.machine, over.resource);
-    let part = Part::Upto(Place::At(over.node), over.at);
-    for i in 0..p.cluster().machines().len() {
-        let element = Element::Vm(VmId(i as u32));
-        if p.demand(VmId(i as u32), over.resource) < brought {
-            continue;
-        }
-        let inside = Change {
+    let element = Element::Vm(machine);
+    let part = Part::Upto(Place::At(node), at);
+    let inside = Change {
+        element,
+        part,
+        side: Side::Inside,
+    };
+    if !g.leaves_none(inside) {
+        them.push(Suggestion {
             element,
             part,
-            side: Side::Inside,
-        };
-        if !g.leaves_none(inside) {
-            them.push(Suggestion {
-                element,
-                part,
-                reason: over.reason,
-            })?;
+            reason: Reason::Load(at, r, node_set(p, node)),
+        })?;
+    }
+    Ok(())
+}
+
+// of each machine the starts at the node with which it would be there while too little of a resource is spare
+fn suggest_arrivals(
+    p: &Problem,
+    g: &Region,
+    kept: Kept<'_>,
+    node: NodeId,
+    r: u8,
+    them: &mut Vec<Suggestion>,
+) -> Result<(), Memory>
+    requires region { IsSized p.now.given g.now }
+    requires kept { AreKeptAt p.now.given (sets g.now) node.0 kept.fixed.now kept.standings.now kept.near.now }
+    requires node { node.0 < node_count p.now.given }
+    requires resource { r < length p.now.given.resources }
+{
+    let spares = spares(*them.allocator(), p, g, kept, node, r)?;
+    let order = kept.fixed.order(p, r);
+    for i in 0..order.len() {
+        let machine = order[i].machine;
+        if let Some(at) = last_without(spares.as_slice(), p.demand(machine, r)) {
+            suggest_arrival(p, g, machine, node, r, at, them)?;
         }
     }
     Ok(())
@@ -142,18 +221,38 @@ fn are_known(p: &Problem, v: VmId, r: u8) -> bool
     (v.0 as usize) < p.cluster().machines().len() && (r as usize) < resource_total(p)
 }
 
-/// Puts cuts into a list that are worth a try after one of a machine was found: of each machine that would use as
-/// much of the node at the same instant.
+// the same of each resource
+fn suggest_all_arrivals(
+    p: &Problem,
+    g: &Region,
+    kept: Kept<'_>,
+    node: NodeId,
+    them: &mut Vec<Suggestion>,
+) -> Result<(), Memory>
+    requires region { IsSized p.now.given g.now }
+    requires kept { AreKeptAt p.now.given (sets g.now) node.0 kept.fixed.now kept.standings.now kept.near.now }
+    requires node { node.0 < node_count p.now.given }
+{
+    for r in 0..resource_total(p) {
+        suggest_arrivals(p, g, kept, node, r as u8, them)?;
+    }
+    Ok(())
+}
+
+/// Puts cuts into a list that are worth a try after one of a machine was found: after an arrival those of all machines
+/// for which there is no room at some time, after a departure those of each machine that would keep as much there at the
+/// same instant.
 pub(crate) fn suggest_on(
     p: &Problem,
     g: &Region,
-    ks: &[Standing],
+    kept: Kept<'_>,
     node: NodeId,
     found: &Suggestion,
     them: &mut Vec<Suggestion>,
 ) -> Result<(), Memory>
     requires region { IsSized p.now.given g.now }
-    requires right { AreStanding p.now.given (sets g.now) ks.now }
+    requires kept { AreKeptAt p.now.given (sets g.now) node.0 kept.fixed.now kept.standings.now kept.near.now }
+    requires node { node.0 < node_count p.now.given }
 {
     let Element::Vm(machine) = found.element else {
         return Ok(());
@@ -172,7 +271,7 @@ pub(crate) fn suggest_on(
         reason: found.reason,
     };
     match found.part {
-        Part::Upto(..) => suggest_arrivals(p, g, over, them),
-        Part::Idle | Part::From(..) => suggest_departures(p, g, ks, over, them),
+        Part::Upto(..) => suggest_all_arrivals(p, g, kept, node, them),
+        Part::Idle | Part::From(..) => suggest_departures(p, g, kept.standings, over, them),
     }
 }

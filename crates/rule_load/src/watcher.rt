@@ -98,7 +98,7 @@ impl Watcher<Standings> for Loads {
     ) -> Result<(), Memory> {
         match node_at(p, i) {
             None => Ok(()),
-            Some(n) => suggest_on(p, g, k.all(p, g), n, found, them),
+            Some(n) => suggest_on(p, g, k.at(p, g, n), n, found, them),
         }
     }
 
