@@ -1,5 +1,7 @@
 -- Until when a machine stays, after some of its choices were lost.
-use Rattle.std.proofs.Common.{◌≡◌, ℕ, ◌<◌, Option, Some, None, unwrap_or, refl, ap, ◌∙◌, arith}
+use Rattle.std.proofs.Common.{◌≡◌, ℕ, ◌<◌, ◌≤◌, max, List, [], ◌∷◌, Option, Some, None, unwrap_or, refl, ap, ◌∙◌, arith}
+use Rattle.std.specs.List.{Contains}
+use Rattle.std.proofs.lemmas.List.Elements.{Contains-append_right}
 use Rattle.sums.specs.Least.{least, lowest}
 use Rattle.cluster.specs.declared.choices.Choice.{Choice}
 use Rattle.domains.specs.declared.undo.Lost.{Lost}
@@ -7,7 +9,7 @@ use Rattle.domains.specs.Choices.{DomainView, choices}
 use Rattle.domains.specs.Laws.{AreFewer}
 use Rattle.domains.specs.Measures.{lower_option}
 use Rattle.domains.specs.Undo.{lost_choices, restored}
-use Rattle.domains.proofs.Public.{lowest_before}
+use Rattle.domains.proofs.Public.{least_of_each, lowest_before}
 
 -- nothing was lost
 pub least_kept : (f : Choice → ℕ) (lost : Lost) (d : DomainView) (old : ℕ) → AreFewer (choices d) (choices (restored lost d)) → old ≡ least f (choices (restored lost d)) → lowest f (lost_choices lost) ≡ None → old ≡ least f (choices d)
@@ -28,3 +30,17 @@ least_stays f lost d old x fewer was some less =
     by : (o : Option ℕ) → old ≡ unwrap_or (lower_option o (Some x)) 0 → old ≡ unwrap_or o 0
     by None e = absurd (omega (arith, e))
     by (Some a) e = omega (arith, e)
+
+-- no choice that is left gives less than the least of all before
+pub floor_before : (f : Choice → ℕ) (lost : Lost) (d : DomainView) (old : ℕ) → AreFewer (choices d) (choices (restored lost d)) → old ≡ least f (choices (restored lost d)) → (c : Choice) → Contains (choices d) c → old ≤ f c
+floor_before f lost d old fewer was c there = omega (arith, was, least_of_each f (choices (restored lost d)) c (fewer c there))
+
+-- values that are raised to a number below which none is are as they were
+lowest-from : (f : Choice → ℕ) (floor : ℕ) (cs : List Choice) → ((c : Choice) → Contains cs c → floor ≤ f c) → lowest (λ c. max floor (f c)) cs ≡ lowest f cs
+lowest-from f floor [] above = refl
+lowest-from f floor (c ∷ cs) above =
+    let here : max floor (f c) ≡ f c = omega (arith, above c (0, omega arith, refl)) in
+    rw (here, lowest-from f floor cs (λ d h. above d (Contains-append_right (c ∷ []) cs d h))) refl
+
+pub least_from : (f : Choice → ℕ) (floor : ℕ) (d : DomainView) (found : Option ℕ) → ((c : Choice) → Contains (choices d) c → floor ≤ f c) → found ≡ lowest (λ c. max floor (f c)) (choices d) → unwrap_or found 0 ≡ least f (choices d)
+least_from f floor d found above is = ap (λ o. unwrap_or o 0) (is ∙ lowest-from f floor (choices d) above)

@@ -1,5 +1,7 @@
 //! The two numbers of a machine.
-ghost use Rattle.std.specs.Prelude.{◌≡◌, ◌≤◌, ℕ, IsTrue};
+ghost use Rattle.std.specs.Prelude.{◌≡◌, ◌≤◌, ℕ, IsTrue, max};
+ghost use Rattle.std.specs.List.{Contains};
+ghost use Rattle.cluster.specs.declared.choices.Choice.{Choice as AnyChoice};
 ghost use Rattle.sums.specs.Least.{least};
 ghost use Rattle.catalogue.specs.Instance.{IsElement};
 ghost use Rattle.slices.specs.Elements.{vm};
@@ -112,6 +114,51 @@ impl Measure for Leaving<'_> {
     }
 }
 
+/// The same, raised to a number below which no choice is that is asked for, so that a search for the least can stop
+/// there.
+#[derive(Drop)]
+struct LeavingFrom<'a> {
+    leaving: Leaving<'a>,
+    floor: u64,
+}
+
+impl Measure for LeavingFrom<'_> {
+    ghost use Rattle.standing.specs.Ends.{leave_at_ends};
+    ghost use Rattle.std.proofs.Common.{arith};
+
+    ghost ready = { λ m. IsElement m.leaving.problem.now.given (vm m.leaving.machine.0) };
+
+    ghost value_of = { λ m c. max m.floor (leave_of m.leaving.problem.now.given m.leaving.machine.0 c) };
+
+    ghost floor_of = { λ m. m.floor };
+
+    ghost least_at_ends = { λ m place lo s hi l u. Prim.omega (arith, leave_at_ends m.leaving.problem.now.given m.leaving.machine.0 place lo s hi l u) };
+
+    ghost above_floor = { λ m c. Prim.omega arith };
+
+    fn value(&self, c: Choice) -> u64 {
+        self.leaving.value(c).max(self.floor)
+    }
+
+    fn floor(&self) -> u64 {
+        self.floor
+    }
+}
+
+// until when each choice keeps the host, where none gives it up before a number: rows are read up to one that does then
+#[tactic(auto, using(crate::proofs::BeforeLemmas::least_from))]
+fn leave_from(p: &Problem, v: VmId, domain: &Domain, floor: u64) -> u64
+    requires machine { IsElement p.now.given (Element.Vm v) }
+    requires floor { (c : AnyChoice) → Contains (choices domain.now) c → floor ≤ leave_of p.now.given v.0 c }
+    ensures { result ≡ least (leave_of p.now.given v.0) (choices domain.now) }
+{
+    let leaving = Leaving {
+        problem: p,
+        machine: v,
+    };
+    lowest(domain, None, &LeavingFrom { leaving, floor }).unwrap_or(0)
+}
+
 // until when each choice of a machine keeps its host
 #[tactic(auto, using(crate::proofs::RowLemmas::all_stay))]
 fn leave(p: &Problem, v: VmId, domain: &Domain) -> u64
@@ -171,7 +218,7 @@ fn leave_after(p: &Problem, v: VmId, domain: &Domain, lost: Lost, old: u64) -> u
         Some(first) => if old < first {
             old
         } else {
-            leave(p, v, domain)
+            leave_from(p, v, domain, old)
         },
     }
 }
