@@ -134,8 +134,8 @@ fn outer_choice(p: &Problem, domain: &Domain, area: &Area) -> Option<Choice>
     }
 }
 
-// the most that a machine surely holds, at any instant: what it holds under one of its choices is enough
-fn most_sure(p: &Problem, g: &Region, v: VmId, weight: Weight, area: &Area) -> u64
+/// The most that a machine surely holds, at any instant: what it holds under one of its choices is enough.
+pub fn most_sure(p: &Problem, g: &Region, v: VmId, weight: Weight, area: &Area) -> u64
     requires region { IsSized p.now.given g.now }
     requires machine { v.0 < machine_count p.now.given }
     requires weight { IsWeight p.now.given weight }

@@ -87,7 +87,8 @@ fn refuting<K: Keeper, W: Watcher<K>>(
     None
 }
 
-// as many of the starts from the first one on as the reason takes away, up to the last one of the row
+// as many of the starts from the first one on as the reason takes away, up to the last one of the row: sought in
+// steps that double while they hold, and from the first that does not by halving
 fn from_the_first<K: Keeper, W: Watcher<K>>(
     w: &W,
     k: &K,
@@ -108,8 +109,10 @@ fn from_the_first<K: Keeper, W: Watcher<K>>(
     let mut best = row.lo;
     let mut found = reason;
     let mut top = row.hi;
-    'halves: while best < top {
-        let middle = best + (top - best).div_ceil(2);
+    let mut step = 1u32;
+    'steps: while best < top {
+        let half = (top - best).div_ceil(2);
+        let middle = best + step.max(1).min(half);
         match refuting(
             w,
             k,
@@ -123,6 +126,7 @@ fn from_the_first<K: Keeper, W: Watcher<K>>(
             Some(r) => {
                 best = middle;
                 found = r;
+                step = step.saturating_mul(2);
             }
             None => top = middle - 1,
         }
@@ -130,7 +134,8 @@ fn from_the_first<K: Keeper, W: Watcher<K>>(
     (Part::Upto(place, best), found)
 }
 
-// as many of the starts up to the last one as the reason takes away, from the first one of the row on
+// as many of the starts up to the last one as the reason takes away, from the first one of the row on, sought in
+// the same way
 fn up_to_the_last<K: Keeper, W: Watcher<K>>(
     w: &W,
     k: &K,
@@ -151,8 +156,10 @@ fn up_to_the_last<K: Keeper, W: Watcher<K>>(
     let mut best = row.hi;
     let mut found = reason;
     let mut low = row.lo;
-    'halves: while low < best {
-        let middle = low + (best - low) / 2;
+    let mut step = 1u32;
+    'steps: while low < best {
+        let half = (best - low).div_ceil(2);
+        let middle = best - step.max(1).min(half);
         match refuting(
             w,
             k,
@@ -166,6 +173,7 @@ fn up_to_the_last<K: Keeper, W: Watcher<K>>(
             Some(r) => {
                 best = middle;
                 found = r;
+                step = step.saturating_mul(2);
             }
             None => low = middle + 1,
         }
@@ -173,7 +181,7 @@ fn up_to_the_last<K: Keeper, W: Watcher<K>>(
     (Part::From(place, best), found)
 }
 
-// the widest part that is seen for an end of a row: the whole row, or what halving finds
+// the widest part that is seen for an end of a row: the whole row, or what is found from that end on
 fn widened_row<K: Keeper, W: Watcher<K>>(
     w: &W,
     k: &K,
@@ -208,7 +216,7 @@ fn widened_row<K: Keeper, W: Watcher<K>>(
 /// one refutes the region with the element set to that end, as is seen at an instant.
 ///
 /// Of a row as much is taken as is seen to be refuted, by the reason at its own instant or at a later one:
-/// the whole row, or what halving finds from that end on.
+/// the whole row, or what is found from that end on.
 pub fn widen<K: Keeper, W: Watcher<K>>(
     w: &W,
     k: &K,

@@ -4,8 +4,8 @@ use Rattle.domains.specs.Sets.{sets}
 use Rattle.prop_core.specs.Propagators.{CutHolds}
 use Rattle.rule_frame.proofs.widen.from_the_first.Given as goal
 
-abbrev pub invariant-halves : goal.invariant-halves
-invariant-halves g l = CutHolds l.p.given (sets l.g) l.e (Upto l.place l.best) l.found
+abbrev pub invariant-steps : goal.invariant-steps
+invariant-steps g l = CutHolds l.p.given (sets l.g) l.e (Upto l.place l.best) l.found
 
-abbrev pub decreases-halves : goal.decreases-halves
-decreases-halves g l = l.top - l.best
+abbrev pub decreases-steps : goal.decreases-steps
+decreases-steps g l = l.top - l.best
