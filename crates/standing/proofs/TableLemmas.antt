@@ -1,29 +1,17 @@
--- What a log tells, and the numbers of all machines after a change of one.
-use Rattle.std.proofs.Common.{◌≡◌, ◌≢◌, inl, inr, ℕ, zero, suc, ◌+◌, ◌<◌, ◌≤◌, ◌==◌, true, false, List, [], ◌∷◌, ◌++◌, length, reverse, get_or, refl, sym, ap, subst, ◌∙◌, arith}
+-- The numbers of all machines after a change of one.
+use Rattle.std.proofs.Common.{◌≡◌, inl, inr, ℕ, zero, suc, ◌+◌, ◌<◌, ◌==◌, true, false, List, [], ◌∷◌, ◌++◌, length, get_or, refl, sym, ap, subst, ◌∙◌, arith}
 use Rattle.std.specs.Prelude.{slice_set, slice_index_or}
 use Rattle.std.proofs.Math.Seq.{get_or-append_seam}
-use Rattle.std.proofs.lemmas.List.{get_or_append_left, length-append, length-reverse, length-set, get_or-set_same, get_or-set_other, reverse-append}
+use Rattle.std.proofs.lemmas.List.{get_or_append_left, length-append, length-set, get_or-set_same, get_or-set_other}
 use Rattle.std.proofs.lemmas.Bool.{cases_eq, ne_eqb}
 use Rattle.std.proofs.lemmas.Bool.Decides.{Decides-eqb}
 use Rattle.cluster.specs.declared.choices.Choice.{Choice}
-use Rattle.cluster.specs.declared.ids.VmId.{VmId}
 use Rattle.catalogue.specs.Instance.{Instance}
 use Rattle.slices.specs.Elements.{machine_count, vm}
 use Rattle.domains.specs.Sets.{Sets}
 use Rattle.standing.specs.declared.numbers.Standing.{Standing}
-use Rattle.standing.specs.declared.table.Entry.{Entry}
-use Rattle.standing.specs.declared.table.Entry.TheVariants.{Mark, Undo}
 use Rattle.standing.specs.Standings.{IsStanding}
-use Rattle.standing.specs.Tables.{AreFirst, AreStanding, IsLog, no_standing, olders, putting}
-
--- ---- the log
-
--- what was there before is there again
-set_back : (top : List Standing) (v : ℕ) (k d : Standing) → slice_set (slice_set top v k) v (slice_index_or top v d) ≡ top
-set_back [] zero k d = refl
-set_back [] (suc v) k d = refl
-set_back (e ∷ es) zero k d = refl
-set_back (e ∷ es) (suc v) k d = ap (λ t. e ∷ t) (set_back es v k d)
+use Rattle.standing.specs.Tables.{AreFirst, AreStanding, no_standing, putting}
 
 -- what is there already changes nothing
 pub set_same : (top : List Standing) (v : ℕ) (k d : Standing) → k ≡ slice_index_or top v d → slice_set top v k ≡ top
@@ -31,28 +19,6 @@ set_same [] zero k d e = refl
 set_same [] (suc v) k d e = refl
 set_same (x ∷ xs) zero k d e = rw e refl
 set_same (x ∷ xs) (suc v) k d e = ap (λ t. x ∷ t) (set_same xs v k d e)
-
--- what one entry means
-pub olders_put : (top : List Standing) (log more : List Entry) (v : VmId) (k old d : Standing) → more ≡ log ++ Undo v old ∷ [] → old ≡ slice_index_or top v.0 d → olders (slice_set top v.0 k) (reverse more) ≡ olders top (reverse log)
-olders_put top log more v k old d push was = rw (push, reverse-append log (Undo v old ∷ []), was) (ap (λ t. olders t (reverse log)) (set_back top v.0 k d))
-
-pub log_put : (top : List Standing) (log more : List Entry) (v : VmId) (k old d : Standing) (marks : ℕ) → more ≡ log ++ Undo v old ∷ [] → old ≡ slice_index_or top v.0 d → marks ≢ 0 → IsLog top (reverse log) marks → IsLog (slice_set top v.0 k) (reverse more) marks
-log_put top log more v k old d marks push was some l = record {
-  count = l.count ∙ ap (λ os. length os) (sym (olders_put top log more v k old d push was));
-  empty = λ none. absurd (some none);
-}
-
-pub reverse_push : (es : List Entry) (e : Entry) → reverse (es ++ e ∷ []) ≡ e ∷ reverse es
-reverse_push es e = reverse-append es (e ∷ [])
-
-marks-few : (top : List Standing) (es : List Entry) → length (olders top es) ≤ length es
-marks-few top [] = omega arith
-marks-few top (Mark ∷ es) = omega (arith, marks-few top es, length-append (olders top es) (top ∷ []))
-marks-few top (Undo v k ∷ es) = omega (arith, marks-few (slice_set top v.0 k) es)
-
--- there are no more marks than entries
-pub few_marks : (top : List Standing) (log : List Entry) (marks : ℕ) → IsLog top (reverse log) marks → marks ≤ length log
-few_marks top log marks l = omega (arith, l.count, marks-few top (reverse log), length-reverse log)
 
 -- ---- one machine's numbers
 

@@ -1,5 +1,5 @@
 -- The numbers of all machines, at the top and at each mark.
-use Rattle.std.specs.Prelude.{◌≡◌, ℕ, ◌<◌, List, [], ◌∷◌, ◌++◌, length, None, slice_index_or, slice_set, if◌then◌else◌}
+use Rattle.std.specs.Prelude.{◌≡◌, ℕ, ◌<◌, List, length, None, slice_index_or, if◌then◌else◌}
 use Rattle.cluster.specs.declared.choices.Choice.{Choice}
 use Rattle.cluster.specs.declared.ids.Element.{Element}
 use Rattle.catalogue.specs.Instance.{Instance}
@@ -8,15 +8,13 @@ use Rattle.domains.specs.declared.undo.Before.{Before}
 use Rattle.domains.specs.Choices.{DomainView, choices}
 use Rattle.domains.specs.Sets.{RegionView, Sets, domain_at, same_element, sets}
 use Rattle.domains.specs.Undo.{domain_before}
+use Rattle.levels.specs.Levels.{Levels}
 use Rattle.standing.specs.declared.numbers.Standing.{Standing}
-use Rattle.standing.specs.declared.table.Entry.{Entry}
-use Rattle.standing.specs.declared.table.Entry.TheVariants.{Mark, Undo}
 use Rattle.standing.specs.Standings.{IsStanding}
 
--- what a contract sees of a `Table`: the numbers of each level below the top, the lowest first, and those of the top
-pub record Tables : Type 0 where
-  pub older : List (List Standing)
-  pub top : List Standing
+-- what a contract sees of a `Table`: the numbers of each level
+abbrev pub Tables : Type 0
+Tables = Levels Standing
 
 -- ---- what numbers are right
 
@@ -41,16 +39,3 @@ putting x cs s e = if same_element e x then cs else s e
 -- the sets before a change of x, of which is told what the domain of x was
 abbrev pub sets_before : RegionView → Element → Before → DomainView → Sets
 sets_before g x before kept = putting x (choices (domain_before before kept (domain_at g x))) (sets g)
-
--- ---- how levels are kept
-
--- the levels below the top of a log, its newest entry first
-abbrev pub olders : List Standing → List Entry → List (List Standing)
-olders top [] = []
-olders top (Mark ∷ es) = olders top es ++ top ∷ []
-olders top (Undo v k ∷ es) = olders (slice_set top v.0 k) es
-
--- a log with the number of its marks: without a mark nothing is kept
-pub record IsLog (top : List Standing) (log : List Entry) (marks : ℕ) : Type 0 where
-  pub count : marks ≡ length (olders top log)
-  pub empty : marks ≡ 0 → log ≡ []

@@ -15,39 +15,24 @@ use domains::domain::Domain;
 use domains::parts::Change;
 use domains::region::Region;
 use domains::undo::Before;
+use levels::levelled::Levelled;
 use memory::Memory;
 use std::alloc::Global;
 use std::marker::Model;
 
-/// One entry of the log.
-#[derive(Clone, Copy, Debug)]
-pub enum Entry {
-    /// A mark was made.
-    Mark,
-    /// The machine had these numbers.
-    Undo(VmId, Standing),
-}
-
 /// Where each machine of a problem surely stands in a region, at the top and at each mark.
-///
-/// A mark costs a constant, and what is kept for going back is the numbers that have changed since. While no
-/// mark stands nothing is kept.
 #[derive(Drop)]
 pub struct Table {
-    top: Vec<Standing>,
-    log: Vec<Entry>,
-    marks: u64,
+    levels: Levelled<Standing>,
+    alloc: Global,
 }
 
 impl Model for Table {
-    ghost use Rattle.std.specs.Prelude.{reverse};
-    ghost use Rattle.standing.specs.Tables.{Tables, olders, IsLog};
+    ghost use Rattle.standing.specs.Tables.{Tables};
 
     ghost Value = { Tables };
 
-    ghost view = { λ m. record { older = olders m.top.items (reverse m.log.items); top = m.top.items } };
-
-    ghost invariant = { λ m. IsLog m.top.items (reverse m.log.items) m.marks };
+    ghost view = { λ m. m.levels };
 }
 
 impl Table {
@@ -56,9 +41,8 @@ impl Table {
         ensures { result ≡ record { older = []; top = [] } }
     {
         Table {
-            top: Vec::new(alloc),
-            log: Vec::new(alloc),
-            marks: 0,
+            levels: Levelled::new(alloc),
+            alloc,
         }
     }
 
@@ -66,14 +50,14 @@ impl Table {
     pub fn level(&self) -> u64
         ensures { result ≡ length self.now.older }
     {
-        self.marks
+        self.levels.level()
     }
 
     /// The numbers of each machine.
     pub fn standings(&self) -> &[Standing]
         ensures { result.now ≡ self.now.top }
     {
-        self.top.as_slice()
+        self.levels.items()
     }
 
     /// The numbers of a machine.
@@ -81,7 +65,7 @@ impl Table {
         requires { v.0 < length self.now.top }
         ensures { result ≡ slice_index_or self.now.top v.0 no_standing }
     {
-        self.top[v.0 as usize]
+        self.levels.items()[v.0 as usize]
     }
 
     /// Starts anew with the numbers of a region, and no mark. After want of memory all is as it was.
@@ -91,31 +75,22 @@ impl Table {
         ensures top { OnOk result (AreStanding p.now.given (sets g.now) self.new.top) }
         ensures err { OnErr result (self.new ≡ self.old) }
     {
-        let top = standings_of(*self.top.allocator(), p, g)?;
-        self.top = top;
-        self.log.clear();
-        self.marks = 0;
+        let top = standings_of(self.alloc, p, g)?;
+        self.levels.reset(top);
         Ok(())
     }
 
     // the numbers of one machine; nothing is kept where they are the same, as after most changes
-    #[tactic(auto, using(crate::proofs::TableLemmas::set_same, crate::proofs::TableLemmas::olders_put, crate::proofs::TableLemmas::log_put))]
+    #[tactic(auto, using(crate::proofs::TableLemmas::set_same))]
     fn put(&mut self, v: VmId, k: Standing) -> Result<(), Memory>
         requires { v.0 < length self.old.top }
         ensures ok { OnOk result (self.new ≡ record { older = self.old.older; top = slice_set self.old.top v.0 k }) }
         ensures err { OnErr result (self.new ≡ self.old) }
     {
-        let i = v.0 as usize;
-        let old = self.top[i];
-        if is_same(old, k) {
+        if is_same(self.get(v), k) {
             return Ok(());
         }
-        if self.marks == 0 {
-            self.top[i] = k;
-            return Ok(());
-        }
-        self.log.push(Entry::Undo(v, old))?;
-        self.top[i] = k;
+        self.levels.set(v.0, k)?;
         Ok(())
     }
 
@@ -168,14 +143,12 @@ impl Table {
         Ok(())
     }
 
-    /// Makes a mark, to which `back` returns.
+    /// Makes a mark, to which `back` returns. After want of memory all is as it was.
     pub fn mark(&mut self) -> Result<(), Memory>
         ensures ok { OnOk result (self.new ≡ record { older = self.old.older ++ self.old.top ∷ []; top = self.old.top }) }
         ensures err { OnErr result (self.new ≡ self.old) }
     {
-        self.log.push(Entry::Mark)?;
-        self.marks += 1;
-        Ok(())
+        self.levels.mark()
     }
 
     /// Goes back to the last mark, and drops it.
@@ -183,23 +156,7 @@ impl Table {
         requires { 0 < length self.old.older }
         ensures { self.old.older ≡ self.new.older ++ self.new.top ∷ [] }
     {
-        while let Some(entry) = self.log.pop() {
-            match entry {
-                Entry::Mark => {
-                    self.marks -= 1;
-                    if self.marks == 0 {
-                        // without a mark nothing is kept
-                        self.log.clear();
-                    }
-                    return;
-                }
-                Entry::Undo(v, old) => {
-                    if (v.0 as usize) < self.top.len() {
-                        self.top[v.0 as usize] = old;
-                    }
-                }
-            }
-        }
+        self.levels.back()
     }
 }
 

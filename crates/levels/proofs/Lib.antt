@@ -1,0 +1,3 @@
+-- Public has what crates above may cite; the rest is for this crate alone.
+pub mod Public
+mod LevelLemmas

@@ -1,0 +1,4 @@
+//! Lists whose items change, with levels to which they go back.
+#![tactic(auto)]
+
+pub mod levelled;
