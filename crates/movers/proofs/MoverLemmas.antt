@@ -1,0 +1,120 @@
+-- The list of the machines that may not stay, with one machine more.
+use Rattle.std.proofs.Common.{◌≡◌, inl, inr, ℕ, zero, suc, ◌+◌, ◌<◌, Bool, true, false, cond, List, [], ◌∷◌, ◌++◌, refl, sym, subst, ◌∙◌, arith}
+use Rattle.std.specs.List.{Contains, flat_map, list_any}
+use Rattle.std.proofs.lemmas.Bool.{cases_eq, false≢true, ne_eqb}
+use Rattle.std.proofs.lemmas.List.Elements.{Contains-append_left, Contains-append_right, Contains-push, Contains-push_cases}
+use Rattle.std.proofs.lemmas.List.Folds.{list_any-append}
+use Rattle.cluster.specs.declared.choices.Choice.{Choice}
+use Rattle.cluster.specs.declared.choices.Choice.TheVariants.{Idle, Act}
+use Rattle.cluster.specs.declared.choices.Place.{Place}
+use Rattle.cluster.specs.declared.ids.Element.{Element}
+use Rattle.cluster.specs.declared.ids.Element.TheVariants.{Vm, Node}
+use Rattle.catalogue.specs.Instance.{Instance}
+use Rattle.slices.specs.Elements.{machine_count, vm}
+use Rattle.domains.specs.declared.parts.Row.{Row}
+use Rattle.domains.specs.Choices.{DomainView, choices, row_choices, starts_from}
+use Rattle.domains.specs.Sets.{Sets, same_element}
+use Rattle.domains.proofs.Public.{contains_here, may_each}
+use Rattle.near.specs.Near.{AreMachines, IsEachOnce}
+use Rattle.movers.specs.Movers.{AreMovers, IsGrown, IsListedOrStays, IsToldOf}
+
+-- ---- whether Idle is a choice
+
+pub idle_in : (d : DomainView) (idle : Bool) → idle ≡ d.idle → idle ≡ true → Contains (choices d) Idle
+idle_in d idle is on = let flag : d.idle ≡ true = sym is ∙ on in rw flag (contains_here Idle (flat_map row_choices d.rows))
+
+is-idle : Choice → Bool
+is-idle Idle = true
+is-idle (Act place start) = false
+
+none-idle : (place : Place) (from count : ℕ) → list_any is-idle (starts_from place from count) ≡ false
+unfolding is-idle
+none-idle place from zero = refl
+none-idle place from (suc count) = none-idle place (from + 1) count
+
+rows-idle : (rows : List Row) → list_any is-idle (flat_map row_choices rows) ≡ false
+rows-idle [] = refl
+rows-idle (r ∷ rs) = rw (list_any-append is-idle (row_choices r) (flat_map row_choices rs), none-idle r.place r.lo _, rows-idle rs) refl
+
+-- it is only by the flag of a domain
+pub idle_tells : (d : DomainView) → Contains (choices d) Idle → d.idle ≡ true
+unfolding is-idle
+idle_tells d h = by d.idle refl
+  where
+    by : (b : Bool) → d.idle ≡ b → d.idle ≡ true
+    by true is = is
+    by false is = absurd (false≢true (sym (rows-idle d.rows) ∙ may_each is-idle (flat_map row_choices d.rows) Idle (rw is at h) refl))
+
+-- ---- one machine more
+
+first : (x : ℕ) (xs : List ℕ) → Contains (x ∷ xs) x
+first x xs = (0, omega arith, refl)
+
+-- a number that is not there, at the end
+once-more : (xs : List ℕ) (v : ℕ) → IsEachOnce xs → ¬ Contains xs v → IsEachOnce (xs ++ v ∷ [])
+once-more [] v once out = (λ h. omega (arith, h.1), tt)
+once-more (x ∷ xs) v once out = (
+  λ h. elim (Contains-push_cases xs v x h) [ inl there ↦ once.0 there | inr same ↦ out (subst (λ k. Contains (x ∷ xs) k) (sym same) (first x xs)) ],
+  once-more xs v once.1 (λ h. out (Contains-append_right (x ∷ []) xs v h)),
+)
+
+pub grown_not : (count : ℕ) (xs : List ℕ) → IsGrown count xs xs
+grown_not count xs = record { kept = λ v h. h; machines = λ p same is. is }
+
+pub grown_push : (count v : ℕ) (xs ys : List ℕ) → v < count → ¬ Contains xs v → ys ≡ xs ++ v ∷ [] → IsGrown count xs ys
+grown_push count v xs ys low out is = rw is (record {
+  kept = λ w h. Contains-append_left xs (v ∷ []) w h;
+  machines = λ p same are. record {
+    each = λ w h. elim (Contains-push_cases xs v w h) [ inl old ↦ are.each w old | inr new ↦ omega (arith, low, same, new) ];
+    once = once-more xs v are.once out;
+  };
+})
+
+pub stays : (s : Sets) (v : ℕ) (xs : List ℕ) → Contains (s (vm v)) Idle → IsListedOrStays s v xs
+stays s v xs idle = record { stays = λ out. idle }
+
+pub there : (s : Sets) (v : ℕ) (xs : List ℕ) → Contains xs v → IsListedOrStays s v xs
+there s v xs h = record { stays = λ out. absurd (out h) }
+
+pub pushed : (s : Sets) (v : ℕ) (xs ys : List ℕ) → ys ≡ xs ++ v ∷ [] → IsListedOrStays s v ys
+pushed s v xs ys is = there s v ys (rw is (Contains-push xs v))
+
+-- ---- all machines
+
+pub none_once : (p : Instance) → AreMachines p []
+none_once p = record { each = λ v h. absurd (omega (arith, h.1)); once = tt }
+
+-- the first machines are told, and one more
+pub next_told : (s : Sets) (i count : ℕ) (xs ys : List ℕ) → IsGrown count xs ys → ((v : ℕ) → v < i → IsListedOrStays s v xs) → IsListedOrStays s i ys → (v : ℕ) → v < i + 1 → IsListedOrStays s v ys
+next_told s i count xs ys grown before here v h =
+    elim (cases_eq v i) [
+      | inl same ↦ rw same here
+      | inr other ↦ record { stays = λ out. (before v (omega (arith, h, other))).stays (λ old. out (grown.kept v old)) }
+    ]
+
+pub all_told : (p : Instance) (s : Sets) (xs : List ℕ) → AreMachines p xs → ((v : ℕ) → v < machine_count p → IsListedOrStays s v xs) → AreMovers p s xs
+all_told p s xs are told = record { machines = are; others = λ v low out. (told v low).stays out }
+
+-- ---- what stays right
+
+-- after a change of element x, which had other choices
+pub movers_told : (p : Instance) (s : Sets) (x : Element) (cs : List Choice) (xs ys : List ℕ) (count : ℕ) → machine_count p ≡ count →
+    AreMovers p (λ e. cond (same_element e x) cs (s e)) xs → IsGrown count xs ys → IsToldOf s x ys → AreMovers p s ys
+movers_told p s (Node n) cs xs ys count same was grown told = record {
+  machines = grown.machines p same was.machines;
+  others = λ v low out. was.others v low (λ old. out (grown.kept v old));
+}
+movers_told p s (Vm w) cs xs ys count same was grown told = record {
+  machines = grown.machines p same was.machines;
+  others = λ v low out. elim (cases_eq v w.0) [
+    | inl is ↦ rw is (told.stays (subst (λ k. ¬ Contains ys k) is out))
+    | inr other ↦ let off : same_element (vm v) (Vm w) ≡ false = ne_eqb v w.0 other in rw off at (was.others v low (λ old. out (grown.kept v old)))
+  ];
+}
+
+-- in any region in which the list was right before it grew
+pub movers_grown : (p : Instance) (s : Sets) (xs ys : List ℕ) (count : ℕ) → machine_count p ≡ count → AreMovers p s xs → IsGrown count xs ys → AreMovers p s ys
+movers_grown p s xs ys count same was grown = record {
+  machines = grown.machines p same was.machines;
+  others = λ v low out. was.others v low (λ old. out (grown.kept v old));
+}

@@ -1,0 +1,11 @@
+use Rattle.std.proofs.Common.{ℕ, ◌<◌}
+use Rattle.domains.specs.Sets.{sets}
+use Rattle.near.specs.Near.{AreMachines}
+use Rattle.movers.specs.Movers.{IsListedOrStays}
+use Rattle.movers.proofs.movers.Movers.put_all.Given as goal
+
+abbrev pub invariant-loop-i : goal.invariant-loop-i
+invariant-loop-i l = record {
+  machines : AreMachines l.p.given l.self;
+  told : (v : ℕ) → v < l.i → IsListedOrStays (sets l.g) v l.self;
+}
