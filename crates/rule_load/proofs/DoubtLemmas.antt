@@ -63,7 +63,7 @@ none-kept p s n ks xs w x v are near low out = by (hosted_in (state_of p v) (one
     by false hosted true come = absurd (out (near.come v x.to low (sym ((are.each v low).come n x.to) ∙ come)))
     by false hosted false e = refl
 
-pub near_sum : (p : Instance) (s : Sets) (n : ℕ) (f : FixedView) (ks : List Standing) (xs : List ℕ) (w : Weight) (x : Period) (total : ℕ) → AreKeptAt p s n f ks xs →
+pub near_sum : (p : Instance) (s : Sets) (n : ℕ) (f : FixedView) (ks : List Standing) (xs fs : List ℕ) (w : Weight) (x : Period) (total : ℕ) → AreKeptAt p s n f ks xs fs →
     total ≡ sum_by (λ v. most_kept p v w n x (slice_index_or ks v no_standing)) xs → total ≡ sum_to (machine_count p) (λ v. most_kept p v w n x (slice_index_or ks v no_standing))
-near_sum p s n f ks xs w x total kept is =
+near_sum p s n f ks xs fs w x total kept is =
     is ∙ sym (all_over xs (machine_count p) (λ v. most_kept p v w n x (slice_index_or ks v no_standing)) kept.near.machines.once kept.near.machines.each (λ v low out. none-kept p s n ks xs w x v kept.standing kept.near low out))

@@ -16,7 +16,7 @@ use Rattle.relax.specs.Areas.{hosted_in}
 use Rattle.standing.specs.Standings.{base}
 use Rattle.standing.proofs.Public.{each_push}
 use Rattle.rule_load.specs.declared.fixed.MostUse.{MostUse}
-use Rattle.rule_load.specs.Fixed.{AreHosts, AreMostUses, AreOrders, AreUses, HostIs, IsMostUse, IsOrder, lists_of, most_use}
+use Rattle.rule_load.specs.Fixed.{AreHosts, AreMostUses, AreOrders, AreTotalBases, AreUses, HostIs, IsMostUse, IsOrder, IsTotalBase, lists_of, most_use}
 
 -- both tell whether the node is the host
 pub host_tells : (h : Option NodeId) (n : ℕ) (a b : Bool) → HostIs h n a → HostIs h n b → a ≡ b
@@ -38,6 +38,12 @@ uses_push p n xs x uses is = record {
 pub most_more : (p : Instance) (r n most new : ℕ) → IsMostUse p r n most → most ≤ new → base p n (Amount r) + demand_of p n r ≤ new → IsMostUse p r (n + 1) new
 most_more p r n most new is less here = record {
   each = λ v h. elim (cases_eq v n) [ inl same ↦ rw same here | inr other ↦ omega (arith, is.each v (omega (arith, h, other)), less) ];
+}
+
+pub bases_push : (p : Instance) (n : ℕ) (xs : List ℕ) (x : ℕ) → AreTotalBases p n xs → IsTotalBase p n x → AreTotalBases p (n + 1) (xs ++ x ∷ [])
+bases_push p n xs x bases is = record {
+  count = omega (arith, length-append xs (x ∷ []), bases.count);
+  each = each_push (λ r m. IsTotalBase p r m) 0 n xs x bases.count bases.each is;
 }
 
 -- ---- the machines by what they use at the most

@@ -24,7 +24,7 @@ use Rattle.standing.specs.declared.numbers.Standing.{Standing}
 use Rattle.standing.specs.Standings.{never}
 use Rattle.standing.specs.Tables.{AreStanding, no_standing}
 use Rattle.rule_load.specs.declared.period.Period.{Period}
-use Rattle.rule_load.specs.Periods.{AreMost, HasRoom, IsDuring, IsFreeDuring, MachinesFit, NodesFit, most_kept}
+use Rattle.rule_load.specs.Periods.{AreMost, HasRoom, IsDuring, IsFreeDuring, IsFreePast, MachinesFit, NodesFit, most_kept}
 use Rattle.rule_load.specs.Totals.{is_steady, most_anywhere}
 use Rattle.rule_load.proofs.RoomLemmas.{steady-fits, steady-room}
 use Rattle.rule_load.proofs.TotalLemmas.{are_most}
@@ -115,3 +115,7 @@ all_free p s set x each = record {
 pub free_past : (p : Instance) (s : Sets) (set : Nodes) (x : Period) (next : ℕ) → next ≡ x.to + 1 → ((t : ℕ) → t < x.from → IsFreeOf (IsOverloaded p set) p s t) → IsFreeDuring (IsOverloaded p set) p s x → (t : ℕ) → t < next → IsFreeOf (IsOverloaded p set) p s t
 free_past p s set x next is before here t h =
     elim (cases_lt t x.from) [ inl earlier ↦ before t earlier | inr now ↦ here.each t (now, omega (arith, h, is)) ]
+
+-- and so up to the end of the next period
+pub free_on : (p : Instance) (s : Sets) (set : Nodes) (from until : ℕ) → ((t : ℕ) → t < from → IsFreeOf (IsOverloaded p set) p s t) → IsFreePast p s set from until → (t : ℕ) → t < until → IsFreeOf (IsOverloaded p set) p s t
+free_on p s set from until before past t h = elim (cases_lt t from) [ inl earlier ↦ before t earlier | inr now ↦ past.clean t now h ]

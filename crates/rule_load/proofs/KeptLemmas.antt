@@ -1,28 +1,38 @@
 -- The machines near each node, told of one more.
-use Rattle.std.proofs.Common.{◌≡◌, inl, inr, ℕ, ◌+◌, ◌-◌, ◌<◌, true, false, nat_le, List, [], ◌∷◌, length, Some, None, refl, sym, subst, ◌∙◌, arith}
+use Rattle.std.proofs.Common.{◌≡◌, inl, inr, ℕ, ◌+◌, ◌-◌, ◌<◌, Bool, true, false, cond, nat_le, List, [], ◌∷◌, ◌++◌, length, Some, None, refl, sym, ap, subst, ◌∙◌, arith}
 use Rattle.std.specs.Prelude.{slice_index_or}
 use Rattle.std.specs.List.{Contains}
 use Rattle.std.proofs.lemmas.Bool.{and_parts, cases_eq, false≢true, ne_eqb}
 use Rattle.std.proofs.lemmas.Bool.Decides.{nat_tests}
 use Rattle.std.proofs.lemmas.List.{get_or_append_left, get_or-append_right}
+use Rattle.cluster.specs.declared.choices.Choice.{Choice}
 use Rattle.cluster.specs.declared.ids.Element.{Element}
 use Rattle.cluster.specs.declared.ids.Element.TheVariants.{Vm, Node as TheNode}
 use Rattle.catalogue.specs.Instance.{Instance}
 use Rattle.slices.specs.Elements.{machine_count, node_count, vm}
 use Rattle.slices.specs.Stages.{one}
 use Rattle.domains.specs.declared.undo.Before.{Before}
-use Rattle.domains.specs.Choices.{DomainView}
-use Rattle.domains.specs.Sets.{RegionView, Sets, same_element, sets}
+use Rattle.domains.specs.declared.parts.Change.{Change}
+use Rattle.domains.specs.Choices.{DomainView, choices}
+use Rattle.domains.specs.Parts.{on_side}
+use Rattle.domains.specs.Undo.{domain_before}
+use Rattle.domains.proofs.Public.{filter_is_fewer, same_is}
+use Rattle.domains.specs.Sets.{RegionView, Sets, domain_at, same_element, sets}
+use Rattle.levels.specs.Levels.{Levels}
 use Rattle.near.specs.Near.{IsNear, IsPut, list_at}
 use Rattle.near.proofs.Public.{near_put}
-use Rattle.prop_core.specs.Propagators.{sets_before}
+use Rattle.movers.specs.Movers.{AreMovers, IsGrown}
+use Rattle.movers.proofs.Public.{movers_grown}
+use Rattle.prop_core.specs.Propagators.{IsNarrowed, sets_before}
 use Rattle.rule_frame.specs.Caches.{IsCachePosted, IsCacheTold}
 use Rattle.standing.specs.declared.numbers.Arrival.{Arrival}
 use Rattle.standing.specs.declared.numbers.Standing.{Standing}
 use Rattle.standing.specs.Standings.{comes_by}
 use Rattle.standing.specs.Tables.{AreStanding, Tables, no_standing}
 use Rattle.rule_load.specs.Fixed.{FixedView, IsFixed}
-use Rattle.rule_load.specs.Kept.{AreKept, AreKeptAt, Grows, HaveCome, IsListedBy, IsListedFor, cache_of, numbers_at}
+use Rattle.rule_load.specs.Firsts.{AreFirstAt, AreFirsts}
+use Rattle.rule_load.proofs.FirstLemmas.{firsts_fewer}
+use Rattle.rule_load.specs.Kept.{AreKept, AreKeptAt, Grows, HaveCome, IsListedBy, IsListedFor, cache_of, firsts_at}
 
 -- ---- one machine more
 
@@ -67,34 +77,64 @@ come_told p g (Vm w) before kept ks xs ys count come grows are listed = record {
 
 -- ---- levels
 
-top-is : (m : Tables) → numbers_at m (length m.older) ≡ m.top
-top-is m = get_or-append_right m.older (m.top ∷ []) (length m.older) (length m.older) [] refl (omega arith) ∙ rw (let none : length m.older - length m.older ≡ 0 = omega arith in none) refl
+module _ {T : Type 0} (m : Levels T) where
+  top-is : slice_index_or (m.older ++ m.top ∷ []) (length m.older) [] ≡ m.top
+  top-is = get_or-append_right m.older (m.top ∷ []) (length m.older) (length m.older) [] refl (omega arith) ∙ rw (let none : length m.older - length m.older ≡ 0 = omega arith in none) refl
 
-lower-is : (m now : Tables) (j : ℕ) → now.older ≡ m.older → j < length m.older → numbers_at now j ≡ numbers_at m j
-lower-is m now j same low =
-    get_or_append_left now.older (now.top ∷ []) [] j (rw same low) ∙ rw same (sym (get_or_append_left m.older (m.top ∷ []) [] j low))
+  lower-is : (now : Levels T) (j : ℕ) → now.older ≡ m.older → j < length m.older → slice_index_or (now.older ++ now.top ∷ []) j [] ≡ slice_index_or (m.older ++ m.top ∷ []) j []
+  lower-is now j same low =
+      get_or_append_left now.older (now.top ∷ []) [] j (rw same low) ∙ rw same (sym (get_or_append_left m.older (m.top ∷ []) [] j low))
 
-pub kept_at : (p : Instance) (s : Sets) (m : Tables) (x : FixedView) (xs : List (List ℕ)) (n : ℕ) → n < node_count p → AreKept p s m x xs (length m.older) → AreKeptAt p s n x m.top (list_at xs n)
-kept_at p s m x xs n low kept = record {
+-- the top of firsts that have as many levels
+firsts-top : (m : Tables) (f : Levels ℕ) → length f.older ≡ length m.older → firsts_at f (length m.older) ≡ f.top
+firsts-top m f same = ap (firsts_at f) (sym same) ∙ top-is f
+
+pub kept_at : (p : Instance) (s : Sets) (m : Tables) (x : FixedView) (xs : List (List ℕ)) (f : Levels ℕ) (ws : List ℕ) (n : ℕ) (fs : List ℕ) → n < node_count p → AreKept p s m x xs f ws (length m.older) → AreFirstAt p s n fs → AreKeptAt p s n x m.top (list_at xs n) fs
+kept_at p s m x xs f ws n fs low kept first = record {
   fixed = kept.fixed;
   standing = subst (λ ks. AreStanding p s ks) (top-is m) kept.standing;
   near = record { machines = kept.near.machines n; hosted = λ v l on. kept.near.hosted n v low l on; come = λ v t l on. kept.come.come n v t low l on };
+  firsts = first;
 }
 
-pub cache_posted : (p : Instance) (s : Sets) (m : Tables) (x : FixedView) (xs : List (List ℕ)) → m.older ≡ [] → AreStanding p s m.top → IsFixed p x → IsNear p xs → HaveCome p s xs → IsCachePosted p s (cache_of m x xs)
-cache_posted p s m x xs none are fixed near come = record {
+-- before when no machine starts at a node
+pub kept_firsts : (p : Instance) (s : Sets) (m : Tables) (x : FixedView) (xs : List (List ℕ)) (f : Levels ℕ) (ws : List ℕ) → AreKept p s m x xs f ws (length m.older) → AreFirsts p s f.top
+kept_firsts p s m x xs f ws kept = subst (λ fs. AreFirsts p s fs) (firsts-top m f kept.same) kept.firsts
+
+-- nor after a change that has narrowed its element
+pub kept_fewer : (p : Instance) (g : RegionView) (change : Change) (before : Before) (kept : DomainView) (m : Tables) (x : FixedView) (xs : List (List ℕ)) (f : Levels ℕ) (ws : List ℕ) → IsNarrowed p g change before kept → AreKept p (sets_before g change.element before kept) m x xs f ws (length m.older) → AreFirsts p (sets g) f.top
+kept_fewer p g change before kept m x xs f ws narrowed was = firsts_fewer p (sets g) (sets_before g change.element before kept) f.top (kept_firsts p (sets_before g change.element before kept) m x xs f ws was) (λ v c low h. at v c (same_element (vm v) change.element) refl h)
+  where
+    at : (v : ℕ) (c : Choice) (b : Bool) → same_element (vm v) change.element ≡ b → Contains (sets g (vm v)) c → Contains (cond b (choices (domain_before before kept (domain_at g change.element))) (sets g (vm v))) c
+    at v c true same h = filter_is_fewer (on_side change.side change.part) (choices (domain_before before kept (domain_at g change.element))) c (subst (λ cs. Contains cs c) narrowed.left (subst (λ e. Contains (sets g e) c) (same_is (vm v) change.element same) h))
+    at v c false other h = h
+
+pub cache_posted : (p : Instance) (s : Sets) (m : Tables) (x : FixedView) (xs : List (List ℕ)) (f : Levels ℕ) (ws : List ℕ) → m.older ≡ [] → f.older ≡ [] → AreStanding p s m.top → AreFirsts p s f.top → IsFixed p x → IsNear p xs → HaveCome p s xs → AreMovers p s ws → IsCachePosted p s (cache_of m x xs f ws)
+cache_posted p s m x xs f ws none nothing are first fixed near come movers = record {
   level = rw none refl;
-  top = record { standing = subst (λ ks. AreStanding p s ks) (sym (top-is m)) are; fixed = fixed; near = near; come = come };
+  top = record {
+    standing = subst (λ ks. AreStanding p s ks) (sym (top-is m)) are;
+    fixed = fixed;
+    near = near;
+    come = come;
+    firsts = subst (λ fs. AreFirsts p s fs) (sym (firsts-top m f (rw (none, nothing) refl))) first;
+    same = rw (none, nothing) refl;
+    movers = movers;
+  };
 }
 
-pub cache_told : (p : Instance) (s old : Sets) (m now : Tables) (x : FixedView) (xs ys : List (List ℕ)) → now.older ≡ m.older → AreStanding p s now.top → AreKept p old m x xs (length m.older) → Grows (machine_count p) xs ys → HaveCome p s ys → IsCacheTold p s (cache_of m x xs) (cache_of now x ys)
-cache_told p s old m now x xs ys same are was grows come = record {
+pub cache_told : (p : Instance) (s old : Sets) (m now : Tables) (x : FixedView) (xs ys : List (List ℕ)) (f h : Levels ℕ) (ws vs : List ℕ) → now.older ≡ m.older → h.older ≡ f.older → AreStanding p s now.top → AreFirsts p s h.top → AreKept p old m x xs f ws (length m.older) → Grows (machine_count p) xs ys → HaveCome p s ys →
+    IsGrown (machine_count p) ws vs → AreMovers p s vs → IsCacheTold p s (cache_of m x xs f ws) (cache_of now x ys h vs)
+cache_told p s old m now x xs ys f h ws vs same alike are first was grows come grown movers = record {
   below = record {
     kept = λ j q r low k. record {
       standing = subst (λ ks. AreStanding q r ks) (sym (lower-is m now j same low)) k.standing;
       fixed = k.fixed;
       near = grows.near q (sym k.fixed.hosts.count ∙ was.fixed.hosts.count) k.near;
-      come = record { come = λ n v t l h on. grows.kept n v (k.come.come n v t l h on) };
+      come = record { come = λ n v t l i on. grows.kept n v (k.come.come n v t l i on) };
+      firsts = subst (λ fs. AreFirsts q r fs) (sym (lower-is f h j alike (omega (arith, low, was.same)))) k.firsts;
+      same = level;
+      movers = movers_grown q r ws vs (machine_count p) (sym k.fixed.hosts.count ∙ was.fixed.hosts.count) k.movers grown;
     };
   };
   top = record {
@@ -102,5 +142,11 @@ cache_told p s old m now x xs ys same are was grows come = record {
     fixed = was.fixed;
     near = grows.near p refl was.near;
     come = come;
+    firsts = subst (λ fs. AreFirsts p s fs) (sym (firsts-top now h level)) first;
+    same = level;
+    movers = movers;
   };
 }
+  where
+    level : length h.older ≡ length now.older
+    level = rw (alike, same) was.same

@@ -1,4 +1,5 @@
 pub mod DoubtLemmas
+pub mod FirstLemmas
 pub mod FixedLemmas
 pub mod FreeLemmas
 pub mod KeptLemmas

@@ -1,10 +1,11 @@
 -- What one machine uses at the most on the nodes of any set.
 use Rattle.std.specs.Prelude.{slice_index_or}
-use Rattle.std.specs.List.{Contains, flat_map}
+use Rattle.std.specs.List.{Contains, flat_map, sum_by}
 use Rattle.std.proofs.Common.{◌≡◌, inl, inr, ℕ, suc, ◌+◌, ◌-◌, ◌<◌, ◌≤◌, Bool, true, false, not, ◌&&◌, nat_lt, nat_le, cond, Option, Some, None, List, [], ◌∷◌, refl, sym, ◌∙◌, arith}
 use Rattle.std.proofs.lemmas.Bool.{cases_lt, false≢true}
 use Rattle.std.proofs.lemmas.Bool.Decides.{Decides-eqb, nat_tests}
 use Rattle.sums.specs.Least.{least}
+use Rattle.sums.specs.Sums.{sum_to}
 use Rattle.cluster.specs.declared.choices.Choice.{Choice}
 use Rattle.cluster.specs.declared.choices.Choice.TheVariants.{Idle, Act}
 use Rattle.cluster.specs.declared.choices.Place.{Place}
@@ -19,7 +20,7 @@ use Rattle.slices.specs.declared.slice.Slices.{Slices}
 use Rattle.slices.specs.declared.stage.Stage.{Stage}
 use Rattle.slices.specs.declared.slice.Weight.TheVariants.{Amount}
 use Rattle.slices.specs.Actions.{action_duration, end_of, kind_of}
-use Rattle.slices.specs.Elements.{state_of, vm}
+use Rattle.slices.specs.Elements.{machine_count, state_of, vm}
 use Rattle.slices.specs.Snapshots.{held_at, held_by, stage_at}
 use Rattle.slices.specs.Stages.{Nodes, acting_slices, idle_slices, one, slices_by, slices_of, stage_from, weigh}
 use Rattle.slices.proofs.Public.{ends_by_duration}
@@ -27,6 +28,8 @@ use Rattle.domains.specs.Choices.{DomainView, choices, row_choices}
 use Rattle.domains.specs.Sets.{RegionView, domain_at, sets, surely}
 use Rattle.domains.proofs.Public.{contains_here, least_of_each, surely_each}
 use Rattle.reasons.specs.Sure.{sure}
+use Rattle.movers.specs.Movers.{AreMovers}
+use Rattle.movers.proofs.Public.{idle_tells, sum_but_for}
 use Rattle.standing.specs.declared.numbers.Arrival.{Arrival}
 use Rattle.standing.specs.declared.numbers.Standing.{Standing}
 use Rattle.standing.specs.Standings.{IsStanding, base, had_there, has_come, kept_until, leave_of, never, weight_if}
@@ -233,6 +236,14 @@ are_most p g ks r set x short are = record {
   where
     idle-in : (d : DomainView) → d.idle ≡ true → Contains (choices d) Idle
     idle-in d e = rw e (contains_here Idle (flat_map row_choices d.rows))
+
+-- what all use is what they have at present, but for the machines that may not stay
+pub base_but_for : (p : Instance) (g : RegionView) (ks : List Standing) (r : ℕ) (x : Period) (xs : List ℕ) → AreMovers p (sets g) xs →
+    sum_to (machine_count p) (λ v. most_anywhere p v r x (domain_at g (vm v)).idle (slice_index_or ks v no_standing)) + sum_by (λ v. base p v (Amount r) - most_anywhere p v r x (domain_at g (vm v)).idle (slice_index_or ks v no_standing)) xs
+    ≡ sum_to (machine_count p) (λ v. base p v (Amount r)) + sum_by (λ v. most_anywhere p v r x (domain_at g (vm v)).idle (slice_index_or ks v no_standing) - base p v (Amount r)) xs
+base_but_for p g ks r x xs are =
+    sum_but_for (machine_count p) (λ v. most_anywhere p v r x (domain_at g (vm v)).idle (slice_index_or ks v no_standing)) (λ v. base p v (Amount r)) xs are.machines.once are.machines.each
+    (λ v low out. let stays : (domain_at g (vm v)).idle ≡ true = idle_tells (domain_at g (vm v)) (are.others v low out) in rw stays refl)
 
 -- ---- under each of its choices
 

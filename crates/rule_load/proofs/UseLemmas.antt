@@ -17,7 +17,7 @@ use Rattle.catalogue.specs.Values.{demand_of}
 use Rattle.slices.specs.declared.slice.Weight.{Weight}
 use Rattle.slices.specs.declared.slice.Weight.TheVariants.{Amount}
 use Rattle.slices.specs.Actions.{kind_of}
-use Rattle.slices.specs.Elements.{state_of, vm}
+use Rattle.slices.specs.Elements.{machine_count, state_of, vm}
 use Rattle.slices.specs.Snapshots.{held_at}
 use Rattle.slices.specs.Stages.{one}
 use Rattle.domains.specs.declared.parts.Part.TheVariants.{Upto}
@@ -35,7 +35,8 @@ use Rattle.standing.specs.Standings.{base, brought, comes_by, gain, has_come, ke
 use Rattle.standing.specs.Tables.{AreStanding, no_standing}
 use Rattle.standing.proofs.Public.{kept_law}
 use Rattle.rule_load.specs.declared.period.Period.{Period}
-use Rattle.rule_load.specs.Parts.{HasLeft, IsMostBrought, IsMostLeft, left_over}
+use Rattle.rule_load.specs.Firsts.{AreFirstAt}
+use Rattle.rule_load.specs.Parts.{HasLeft, IsAway, IsMostBrought, IsMostLeft, left_over}
 use Rattle.rule_load.specs.Periods.{AreMost, IsDuring, IsMost, most_kept}
 use Rattle.rule_load.proofs.StillLemmas.{arrival_of, choice_stands}
 
@@ -214,3 +215,32 @@ fits_next p s ks r n x spare i d low before here v h =
       | inl same ↦ rw same (subst (λ k. IsMost p i (s (vm i)) r (one n) x (spare + most_kept p i (Amount r) n x k)) (get_or_default ks i d no_standing low) here)
       | inr other ↦ before v (omega (arith, h, other))
     ]
+
+-- ---- a machine that is away
+
+pub is_away_by : (p : Instance) (s : Sets) (n v by d : ℕ) (fs : List ℕ) → AreFirstAt p s n fs → v < machine_count p → by < slice_index_or fs v d → hosted_in (state_of p v) (one n) ≡ false → IsAway p v (s (vm v)) n by
+is_away_by p s n v by d fs are low late off = record {
+  elsewhere = off;
+  after = λ start h. omega (arith, (are.each v low).each start h, late, get_or_default fs v d 0 (omega (arith, low, are.count)));
+}
+
+away-come : (p : Instance) (v : ℕ) (cs : List Choice) (n by : ℕ) (c : Choice) (t : ℕ) → IsAway p v cs n by → Contains cs c → t ≤ by → has_come n t c ≡ true → ⊥
+away-come p v cs n by Idle t away i l e = false≢true e
+away-come p v cs n by (Act Nowhere s) t away i l e = false≢true e
+away-come p v cs n by (Act (At m) s) t away i l e =
+    let two = both (one n m.0) (nat_le s t) e in
+    let same : m.0 ≡ n = (Decides-eqb m.0 n).0 two.0 in
+    let late = away.after s (subst (λ k. Contains cs (Act (At (record { 0 = k })) s)) same i) in
+    let soon : s ≤ t = grind (arith, nat_tests, two.1) in
+    omega (arith, late, soon, l)
+
+off-here : (h b : Bool) (k : ℕ) → h ≡ false → cond (h && b) k 0 ≤ 0
+off-here true b k e = cc
+off-here false b k e = omega arith
+
+pub away_fits : (p : Instance) (v : ℕ) (cs : List Choice) (r n : ℕ) (x : Period) (bound : ℕ) → x.to < never → IsAway p v cs n x.to → IsMost p v cs r (one n) x bound
+away_fits p v cs r n x bound short away =
+    fits_now p v cs r n x 0 0 bound short
+    (record { each = λ c t i l. off-here (hosted_in (state_of p v) (one n)) (nat_lt t (leave_of p v c)) (base p v (Amount r)) away.elsewhere })
+    (record { each = λ c t i l. unless (has_come n t c) (gain p v (Amount r) n) (away-come p v cs n x.to c t away i l) })
+    (omega arith)

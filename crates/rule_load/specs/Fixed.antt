@@ -1,11 +1,13 @@
 -- What no change of a region changes.
-use Rattle.std.specs.Prelude.{◌≡◌, ℕ, ◌+◌, ◌<◌, ◌≤◌, Bool, false, List, [], length, map, Option, Some, None, Vec, slice_index_or}
+use Rattle.std.specs.Prelude.{◌≡◌, ℕ, ◌+◌, ◌*◌, ◌<◌, ◌≤◌, Bool, false, List, [], length, map, Option, Some, None, Vec, slice_index_or}
 use Rattle.std.specs.List.{All, Contains}
 use Rattle.std.specs.List.Sorted.{IsNonDecreasingBy}
 use Rattle.std.specs.declared.alloc.Global.{Global}
+use Rattle.cluster.specs.Limits.{max_amount, max_machines}
 use Rattle.cluster.specs.declared.ids.NodeId.{NodeId}
 use Rattle.catalogue.specs.Instance.{Instance}
 use Rattle.catalogue.specs.Values.{demand_of}
+use Rattle.sums.specs.Sums.{sum_to}
 use Rattle.slices.specs.declared.slice.Weight.TheVariants.{Amount}
 use Rattle.slices.specs.Elements.{machine_count, state_of}
 use Rattle.slices.specs.Stages.{one}
@@ -13,11 +15,12 @@ use Rattle.relax.specs.Areas.{hosted_in}
 use Rattle.standing.specs.Standings.{base}
 use Rattle.rule_load.specs.declared.fixed.MostUse.{MostUse}
 
--- what a contract sees of it: the host of each machine, and by resource the most that any machine has and brings, and the machines
--- by what each does
+-- what a contract sees of it: the host of each machine, and by resource the most that any machine has and brings, what all have at
+-- present, and the machines by what each has and brings
 pub record FixedView : Type 0 where
   pub hosts : List (Option NodeId)
   pub most : List ℕ
+  pub bases : List ℕ
   pub orders : List (List MostUse)
 
 -- whether node n is the host, if there is one
@@ -38,6 +41,16 @@ pub record IsMostUse (p : Instance) (r many most : ℕ) : Type 0 where
 pub record AreMostUses (p : Instance) (many : ℕ) (xs : List ℕ) : Type 0 where
   pub count : length xs ≡ many
   pub each : (r : ℕ) → r < many → IsMostUse p r (machine_count p) (slice_index_or xs r 0)
+
+-- all machines together have so much of resource r at present, which is no more than a sum of so many amounts
+pub record IsTotalBase (p : Instance) (r total : ℕ) : Type 0 where
+  pub sum : total ≡ sum_to (machine_count p) (λ v. base p v (Amount r))
+  pub small : total ≤ max_machines * max_amount
+
+-- so it is of the first resources
+pub record AreTotalBases (p : Instance) (many : ℕ) (xs : List ℕ) : Type 0 where
+  pub count : length xs ≡ many
+  pub each : (r : ℕ) → r < many → IsTotalBase p r (slice_index_or xs r 0)
 
 -- the most that machine v uses of resource r on one node: what it has and what it brings
 abbrev pub most_use : Instance → ℕ → ℕ → MostUse
@@ -65,4 +78,5 @@ lists_of xs = map (λ (x : Vec MostUse Global). x.items) xs
 pub record IsFixed (p : Instance) (x : FixedView) : Type 0 where
   pub hosts : AreHosts p (machine_count p) x.hosts
   pub most : AreMostUses p (length p.resources) x.most
+  pub bases : AreTotalBases p (length p.resources) x.bases
   pub orders : AreOrders p (length p.resources) x.orders

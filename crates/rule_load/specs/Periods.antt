@@ -11,6 +11,7 @@ use Rattle.slices.specs.Stages.{Nodes, one}
 use Rattle.domains.specs.Sets.{Sets, setting}
 use Rattle.reasons.specs.Sure.{sure}
 use Rattle.relax.specs.Areas.{hosted_in}
+use Rattle.closing.specs.Kinds.{IsOverloaded}
 use Rattle.closing.specs.Looks.{IsFreeOf}
 use Rattle.standing.specs.declared.numbers.Standing.{Standing}
 use Rattle.standing.specs.Standings.{base, comes_by, gain}
@@ -23,6 +24,12 @@ IsDuring x t = (x.from ≤ t) × (t ≤ x.to)
 -- a condition is met at no instant of the period, nor with any one element set to an end of its choices
 pub record IsFreeDuring (met : Snapshot → Type 0) (p : Instance) (s : Sets) (x : Period) : Type 0 where
   pub each : (t : ℕ) → IsDuring x t → IsFreeOf met p s t
+
+-- a set of nodes is overloaded at no instant from one on and before a later one, which is the one after the horizon at the latest
+pub record IsFreePast (p : Instance) (s : Sets) (set : Nodes) (from until : ℕ) : Type 0 where
+  pub later : from < until
+  pub most : until ≤ p.horizon + 1
+  pub clean : (t : ℕ) → from ≤ t → t < until → IsFreeOf (IsOverloaded p set) p s t
 
 -- ---- machines
 

@@ -108,7 +108,7 @@ fn machine_doubt(
     spare: u64,
 ) -> Option<Doubt>
     requires region { IsSized p.now.given g.now }
-    requires kept { AreKeptAt p.now.given (sets g.now) n.0 kept.fixed.now kept.standings.now kept.near.now }
+    requires kept { AreKeptAt p.now.given (sets g.now) n.0 kept.fixed.now kept.standings.now kept.near.now kept.firsts.now }
     requires resource { r < length p.now.given.resources }
     requires period { x.to ≤ p.now.given.horizon }
     requires small { spare ≤ max_capacity }
@@ -122,8 +122,7 @@ fn machine_doubt(
     'machines: while first < k {
         k -= 1;
         let v = order[k].machine;
-        let standing = kept.standings[v.0 as usize];
-        if !machine_fits(p, kept.fixed, g, v, standing, n, r, x, spare) {
+        if !machine_fits(p, g, kept, v, n, r, x, spare) {
             return Some(of_machine(p, g, v, n, r, x));
         }
     }
@@ -161,7 +160,7 @@ fn resource_doubt(
     x: Period,
 ) -> Option<Doubt>
     requires region { IsSized p.now.given g.now }
-    requires kept { AreKeptAt p.now.given (sets g.now) n.0 kept.fixed.now kept.standings.now kept.near.now }
+    requires kept { AreKeptAt p.now.given (sets g.now) n.0 kept.fixed.now kept.standings.now kept.near.now kept.firsts.now }
     requires node { n.0 < node_count p.now.given }
     requires resource { r < length p.now.given.resources }
     requires period { x.to ≤ p.now.given.horizon }
@@ -191,7 +190,7 @@ pub(crate) fn load_doubt(
     x: Period,
 ) -> Option<Doubt>
     requires region { IsSized p.now.given g.now }
-    requires kept { AreKeptAt p.now.given (sets g.now) n.0 kept.fixed.now kept.standings.now kept.near.now }
+    requires kept { AreKeptAt p.now.given (sets g.now) n.0 kept.fixed.now kept.standings.now kept.near.now kept.firsts.now }
     requires node { n.0 < node_count p.now.given }
     requires period { x.to ≤ p.now.given.horizon }
     ensures { IfNone result (IsFreeDuring (IsOverloaded p.now.given (one n.0)) p.now.given (sets g.now) x) }

@@ -1,5 +1,5 @@
-//! What no change of a region changes: the hosts of machines, and the most that any of them uses.
-ghost use Rattle.std.specs.Prelude.{◌≡◌, ℕ, ◌+◌, ◌<◌, ◌≤◌, [], IfOk, length};
+//! What no change of a region changes: the hosts of machines, what all have, and the most that any of them uses.
+ghost use Rattle.std.specs.Prelude.{◌≡◌, ℕ, ◌+◌, ◌*◌, ◌<◌, ◌≤◌, [], IfOk, length};
 ghost use Rattle.cluster.specs.Limits.{max_amount};
 ghost use Rattle.catalogue.specs.Instance.{Instance, IsElement};
 ghost use Rattle.catalogue.specs.Values.{demand_of};
@@ -8,7 +8,7 @@ ghost use Rattle.slices.specs.Stages.{one};
 ghost use Rattle.slices.specs.declared.slice.Weight.TheVariants.{Amount as AmountOf};
 ghost use Rattle.relax.specs.Areas.{hosted_in};
 ghost use Rattle.standing.specs.Standings.{base as the_base};
-ghost use Rattle.rule_load.specs.Fixed.{AreHosts, AreMostUses, AreOrders, AreUses, HostIs, IsFixed, IsMostUse, IsOrder, lists_of};
+ghost use Rattle.rule_load.specs.Fixed.{AreHosts, AreMostUses, AreOrders, AreTotalBases, AreUses, HostIs, IsFixed, IsMostUse, IsOrder, IsTotalBase, lists_of};
 
 use crate::nodes::resource_total;
 use catalogue::problem::Problem;
@@ -20,11 +20,13 @@ use standing::uses::base;
 use std::alloc::Global;
 use std::marker::Model;
 
-/// The host of each machine, if it has one, and by resource the most that any machine has and brings.
+/// The host of each machine, if it has one, and by resource the most that any machine has and brings, and what all
+/// have at present.
 #[derive(Drop)]
 pub struct Fixed {
     hosts: Vec<Option<NodeId>>,
     most: Vec<u64>,
+    bases: Vec<u64>,
     orders: Vec<Vec<MostUse>>,
 }
 
@@ -43,7 +45,7 @@ impl Model for Fixed {
 
     ghost Value = { FixedView };
 
-    ghost view = { λ m. record { hosts = m.hosts.items; most = m.most.items; orders = map (λ (o : Vec MostUse Global). o.items) m.orders.items } };
+    ghost view = { λ m. record { hosts = m.hosts.items; most = m.most.items; bases = m.bases.items; orders = map (λ (o : Vec MostUse Global). o.items) m.orders.items } };
 }
 
 // the host of a machine in a state
@@ -101,6 +103,30 @@ fn most_uses(alloc: Global, p: &Problem) -> Result<Vec<u64>, Memory>
     Ok(most)
 }
 
+// what all machines have at present of a resource
+fn total_base(p: &Problem, r: u8) -> u64
+    requires { r < length p.now.given.resources }
+    ensures { IsTotalBase p.now.given r result }
+{
+    let mut total = 0;
+    for i in 0..p.cluster().machines().len() {
+        total += base(p, VmId(i as u32), Weight::Amount(r));
+    }
+    total
+}
+
+// of each resource
+fn total_bases(alloc: Global, p: &Problem) -> Result<Vec<u64>, Memory>
+    ensures { IfOk result (λ xs. AreTotalBases p.now.given (length p.now.given.resources) xs.items) }
+{
+    let count = resource_total(p);
+    let mut bases = Vec::with_capacity(alloc, count)?;
+    for r in 0..count {
+        bases.push(total_base(p, r as u8))?;
+    }
+    Ok(bases)
+}
+
 // the machines by what they use of a resource at the most, the least first
 fn order_of(alloc: Global, p: &Problem, r: u8) -> Result<Vec<MostUse>, Memory>
     requires { r < length p.now.given.resources }
@@ -141,11 +167,12 @@ fn orders_of(alloc: Global, p: &Problem) -> Result<Vec<Vec<MostUse>>, Memory>
 impl Fixed {
     /// Of no machine and no resource. It takes no memory.
     pub fn none(alloc: Global) -> Fixed
-        ensures { result ≡ record { hosts = []; most = []; orders = [] } }
+        ensures { result ≡ record { hosts = []; most = []; bases = []; orders = [] } }
     {
         Fixed {
             hosts: Vec::new(alloc),
             most: Vec::new(alloc),
+            bases: Vec::new(alloc),
             orders: Vec::new(alloc),
         }
     }
@@ -156,10 +183,12 @@ impl Fixed {
     {
         let hosts = hosts_of(alloc, p)?;
         let most = most_uses(alloc, p)?;
+        let bases = total_bases(alloc, p)?;
         let orders = orders_of(alloc, p)?;
         Ok(Fixed {
             hosts,
             most,
+            bases,
             orders,
         })
     }
@@ -190,6 +219,15 @@ impl Fixed {
         ensures { IsMostUse _p.now.given r (machine_count _p.now.given) result }
     {
         self.most[r as usize]
+    }
+
+    /// What all machines have at present of a resource.
+    pub fn total_base(&self, _p: &Problem, r: u8) -> u64
+        requires fixed { IsFixed _p.now.given self.now }
+        requires resource { r < length _p.now.given.resources }
+        ensures { IsTotalBase _p.now.given r result }
+    {
+        self.bases[r as usize]
     }
 }
 

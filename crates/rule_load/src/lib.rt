@@ -2,6 +2,7 @@
 #![tactic(auto)]
 
 mod doubt;
+pub mod firsts;
 pub mod fixed;
 mod kept;
 mod marking;

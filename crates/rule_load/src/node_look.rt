@@ -21,7 +21,7 @@ use domains::region::Region;
 // whether it is seen that a node is never overloaded, with the most that is ever used at once
 fn is_never_overloaded(p: &Problem, g: &Region, kept: Kept<'_>, n: NodeId) -> bool
     requires region { IsSized p.now.given g.now }
-    requires kept { AreKeptAt p.now.given (sets g.now) n.0 kept.fixed.now kept.standings.now kept.near.now }
+    requires kept { AreKeptAt p.now.given (sets g.now) n.0 kept.fixed.now kept.standings.now kept.near.now kept.firsts.now }
     requires node { n.0 < node_count p.now.given }
     ensures { IsTrue result → IsLook (load_watch p.now.given n.0) p.now.given (sets g.now) Look.Clean }
 {
@@ -38,7 +38,7 @@ fn is_never_overloaded(p: &Problem, g: &Region, kept: Kept<'_>, n: NodeId) -> bo
 // the first case in which a node may be overloaded
 fn first_doubt(p: &Problem, g: &Region, kept: Kept<'_>, n: NodeId) -> Option<Doubt>
     requires region { IsSized p.now.given g.now }
-    requires kept { AreKeptAt p.now.given (sets g.now) n.0 kept.fixed.now kept.standings.now kept.near.now }
+    requires kept { AreKeptAt p.now.given (sets g.now) n.0 kept.fixed.now kept.standings.now kept.near.now kept.firsts.now }
     requires node { n.0 < node_count p.now.given }
     ensures { IfNone result (IsLook (load_watch p.now.given n.0) p.now.given (sets g.now) Look.Clean) }
 {
@@ -61,7 +61,7 @@ fn first_doubt(p: &Problem, g: &Region, kept: Kept<'_>, n: NodeId) -> Option<Dou
 /// be one is looked at exactly, and where it is none, the node is looked at in full.
 pub(crate) fn node_look(p: &Problem, g: &Region, kept: Kept<'_>, n: NodeId) -> Look
     requires region { IsSized p.now.given g.now }
-    requires kept { AreKeptAt p.now.given (sets g.now) n.0 kept.fixed.now kept.standings.now kept.near.now }
+    requires kept { AreKeptAt p.now.given (sets g.now) n.0 kept.fixed.now kept.standings.now kept.near.now kept.firsts.now }
     requires node { n.0 < node_count p.now.given }
     ensures { IsLook (load_watch p.now.given n.0) p.now.given (sets g.now) result }
 {

@@ -66,7 +66,7 @@ fn is_narrowed(lens: Lens, v: VmId) -> bool
 #[tactic(auto, using(crate::proofs::OverLemmas::kept_is_held), unfolding(reasons::specs::Sure::sure))]
 fn use_seen(p: &Problem, view: &View, kept: Kept<'_>, v: VmId, r: u8, n: NodeId, t: Instant) -> u64
     requires region { IsSized p.now.given view.now.region.now }
-    requires kept { AreKeptAt p.now.given (sets view.now.region.now) n.0 kept.fixed.now kept.standings.now kept.near.now }
+    requires kept { AreKeptAt p.now.given (sets view.now.region.now) n.0 kept.fixed.now kept.standings.now kept.near.now kept.firsts.now }
     requires machine { IsElement p.now.given (Element.Vm v) }
     requires resource { r < length p.now.given.resources }
     requires within { t ≤ p.now.given.horizon }
@@ -83,7 +83,7 @@ fn use_seen(p: &Problem, view: &View, kept: Kept<'_>, v: VmId, r: u8, n: NodeId,
 // what those near it do
 fn near_use(p: &Problem, view: &View, kept: Kept<'_>, r: u8, n: NodeId, t: Instant) -> u64
     requires region { IsSized p.now.given view.now.region.now }
-    requires kept { AreKeptAt p.now.given (sets view.now.region.now) n.0 kept.fixed.now kept.standings.now kept.near.now }
+    requires kept { AreKeptAt p.now.given (sets view.now.region.now) n.0 kept.fixed.now kept.standings.now kept.near.now kept.firsts.now }
     requires resource { r < length p.now.given.resources }
     requires within { t ≤ p.now.given.horizon }
     ensures sum { result ≡ sum_by (λ v. (sure p.now.given (seen view.now.region.now view.now.lens) t).held v (AmountOf r) (one n.0)) kept.entry.near.now }
@@ -106,7 +106,7 @@ pub(crate) fn is_over(
     t: Instant,
 ) -> bool
     requires region { IsSized p.now.given view.now.region.now }
-    requires kept { AreKeptAt p.now.given (sets view.now.region.now) n.0 kept.fixed.now kept.standings.now kept.near.now }
+    requires kept { AreKeptAt p.now.given (sets view.now.region.now) n.0 kept.fixed.now kept.standings.now kept.near.now kept.firsts.now }
     requires resource { r < length p.now.given.resources }
     requires node { n.0 < node_count p.now.given }
     requires within { t ≤ p.now.given.horizon }
@@ -125,7 +125,7 @@ pub(crate) fn overloaded_at(
     t: Instant,
 ) -> Option<u8>
     requires region { IsSized p.now.given view.now.region.now }
-    requires kept { AreKeptAt p.now.given (sets view.now.region.now) n.0 kept.fixed.now kept.standings.now kept.near.now }
+    requires kept { AreKeptAt p.now.given (sets view.now.region.now) n.0 kept.fixed.now kept.standings.now kept.near.now kept.firsts.now }
     requires node { n.0 < node_count p.now.given }
     requires within { t ≤ p.now.given.horizon }
     ensures { IfSome result (λ r. (r < length p.now.given.resources) × IsOverload p.now.given (sure p.now.given (seen view.now.region.now view.now.lens) t) r (one n.0)) }

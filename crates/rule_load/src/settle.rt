@@ -65,7 +65,7 @@ fn is_element(p: &Problem, e: Element) -> bool
 // whether a node is overloaded in what is seen of a region
 fn is_broken(p: &Problem, view: &View, kept: Kept<'_>, n: NodeId, t: Instant) -> bool
     requires region { IsSized p.now.given view.now.region.now }
-    requires kept { AreKeptAt p.now.given (sets view.now.region.now) n.0 kept.fixed.now kept.standings.now kept.near.now }
+    requires kept { AreKeptAt p.now.given (sets view.now.region.now) n.0 kept.fixed.now kept.standings.now kept.near.now kept.firsts.now }
     requires within { t ≤ p.now.given.horizon }
     requires node { n.0 < node_count p.now.given }
     ensures { IsTrue result → IsOverloaded p.now.given (one n.0) (sure p.now.given (seen view.now.region.now view.now.lens) t) }
@@ -79,7 +79,7 @@ fn is_broken(p: &Problem, view: &View, kept: Kept<'_>, n: NodeId, t: Instant) ->
 // the region at an instant, where the node is overloaded
 fn whole(p: &Problem, g: &Region, kept: Kept<'_>, n: NodeId, t: Instant) -> Option<Look>
     requires region { IsSized p.now.given g.now }
-    requires kept { AreKeptAt p.now.given (sets g.now) n.0 kept.fixed.now kept.standings.now kept.near.now }
+    requires kept { AreKeptAt p.now.given (sets g.now) n.0 kept.fixed.now kept.standings.now kept.near.now kept.firsts.now }
     requires node { n.0 < node_count p.now.given }
     ensures { IfSome result (IsLook (load_watch p.now.given n.0) p.now.given (sets g.now)) }
 {
@@ -109,7 +109,7 @@ fn set(
     t: Instant,
 ) -> Option<Look>
     requires region { IsSized p.now.given g.now }
-    requires kept { AreKeptAt p.now.given (sets g.now) n.0 kept.fixed.now kept.standings.now kept.near.now }
+    requires kept { AreKeptAt p.now.given (sets g.now) n.0 kept.fixed.now kept.standings.now kept.near.now kept.firsts.now }
     requires node { n.0 < node_count p.now.given }
     ensures { IfSome result (IsLook (load_watch p.now.given n.0) p.now.given (sets g.now)) }
 {
@@ -142,7 +142,7 @@ pub(crate) fn confirmed(
     doubt: Doubt,
 ) -> Option<Look>
     requires region { IsSized p.now.given g.now }
-    requires kept { AreKeptAt p.now.given (sets g.now) n.0 kept.fixed.now kept.standings.now kept.near.now }
+    requires kept { AreKeptAt p.now.given (sets g.now) n.0 kept.fixed.now kept.standings.now kept.near.now kept.firsts.now }
     requires node { n.0 < node_count p.now.given }
     ensures { IfSome result (IsLook (load_watch p.now.given n.0) p.now.given (sets g.now)) }
 {

@@ -4,12 +4,14 @@ ghost use Rattle.catalogue.specs.Instance.{IsElement};
 ghost use Rattle.slices.specs.Elements.{machine_count, node_count};
 ghost use Rattle.domains.specs.Sets.{sets};
 ghost use Rattle.near.specs.Near.{IsNear};
+ghost use Rattle.movers.specs.Movers.{AreMovers};
 ghost use Rattle.rule_frame.specs.Caches.{IsCacheFor};
 ghost use Rattle.rule_load.specs.Fixed.{IsFixed};
 ghost use Rattle.standing.specs.Standings.{IsStanding};
 ghost use Rattle.standing.specs.Tables.{AreStanding, no_standing};
 ghost use Rattle.rule_load.specs.Kept.{AreKeptAt, Grows, IsListedBy, IsListedFor};
 
+use crate::firsts::Firsts;
 use crate::fixed::Fixed;
 use crate::kept::Kept;
 use catalogue::problem::Problem;
@@ -19,19 +21,23 @@ use domains::parts::Change;
 use domains::region::Region;
 use domains::undo::Before;
 use memory::Memory;
+use movers::movers::Movers;
 use near::near::Near;
 use rule_frame::keeper::Keeper;
 use standing::numbers::Standing;
 use standing::table::Table;
 use std::alloc::Global;
 
-/// Keeps for each machine until when it surely stands on its host, and where it surely comes to; and for each node the
-/// machines near it, of which none is taken away.
+/// Keeps for each machine until when it surely stands on its host, and where it surely comes to; for each node the
+/// machines near it, of which none is taken away, and before when each machine does not start there; and the machines
+/// that may not stay.
 #[derive(Drop)]
 pub struct Standings {
     table: Table,
     fixed: Fixed,
     near: Near,
+    firsts: Firsts,
+    movers: Movers,
     alloc: Global,
 }
 
@@ -44,13 +50,15 @@ impl Standings {
             table: Table::new(alloc),
             fixed: Fixed::none(alloc),
             near: Near::none(alloc),
+            firsts: Firsts::new(alloc),
+            movers: Movers::none(alloc),
             alloc,
         }
     }
 
     /// Where a machine surely stands in the region of which this was told last.
     pub fn of(&self, p: &Problem, _g: &Region, v: VmId) -> Standing
-        requires right { IsCacheFor (cache_of self.now.table self.now.fixed self.now.near) p.now.given (sets _g.now) }
+        requires right { IsCacheFor (cache_of self.now.table self.now.fixed self.now.near self.now.firsts self.now.movers) p.now.given (sets _g.now) }
         requires machine { IsElement p.now.given (Element.Vm v) }
         ensures { IsStanding p.now.given v.0 (sets _g.now (Element.Vm v)) result }
     {
@@ -59,7 +67,7 @@ impl Standings {
 
     /// What no change of a region changes.
     pub fn fixed(&self, p: &Problem, _g: &Region) -> &Fixed
-        requires { IsCacheFor (cache_of self.now.table self.now.fixed self.now.near) p.now.given (sets _g.now) }
+        requires { IsCacheFor (cache_of self.now.table self.now.fixed self.now.near self.now.firsts self.now.movers) p.now.given (sets _g.now) }
         ensures { IsFixed p.now.given result.now }
     {
         &self.fixed
@@ -73,6 +81,8 @@ impl Standings {
         requires number { v.0 < length self.old.table.top }
         ensures table { self.new.table ≡ self.old.table }
         ensures fixed { self.new.fixed ≡ self.old.fixed }
+        ensures firsts { self.new.firsts ≡ self.old.firsts }
+        ensures movers { self.new.movers ≡ self.old.movers }
         ensures near { OnOk result (IsNear _p.now.given self.new.near) }
         ensures grows { OnOk result (Grows (machine_count _p.now.given) self.old.near self.new.near) }
         ensures there { OnOk result (IsListedBy _p.now.given v.0 (slice_index_or self.old.table.top v.0 no_standing) self.new.near) }
@@ -89,6 +99,8 @@ impl Standings {
         requires count { length self.old.table.top ≡ machine_count p.now.given }
         ensures table { self.new.table ≡ self.old.table }
         ensures fixed { self.new.fixed ≡ self.old.fixed }
+        ensures firsts { self.new.firsts ≡ self.old.firsts }
+        ensures movers { self.new.movers ≡ self.old.movers }
         ensures near { OnOk result (IsNear p.now.given self.new.near) }
         ensures there { OnOk result ((v : ℕ) → v < machine_count p.now.given → IsListedBy p.now.given v (slice_index_or self.old.table.top v no_standing) self.new.near) }
     {
@@ -105,6 +117,8 @@ impl Standings {
         requires count { length self.old.table.top ≡ machine_count p.now.given }
         ensures table { self.new.table ≡ self.old.table }
         ensures fixed { self.new.fixed ≡ self.old.fixed }
+        ensures firsts { self.new.firsts ≡ self.old.firsts }
+        ensures movers { self.new.movers ≡ self.old.movers }
         ensures near { OnOk result (IsNear p.now.given self.new.near) }
         ensures grows { OnOk result (Grows (machine_count p.now.given) self.old.near self.new.near) }
         ensures there { OnOk result (IsListedFor p.now.given e self.old.table.top self.new.near) }
@@ -116,37 +130,48 @@ impl Standings {
     }
 
     /// What is kept, as far as a node needs it.
-    #[tactic(auto, using(crate::proofs::KeptLemmas::kept_at))]
-    pub(crate) fn at(&self, p: &Problem, _g: &Region, n: NodeId) -> Kept<'_>
-        requires right { IsCacheFor (cache_of self.now.table self.now.fixed self.now.near) p.now.given (sets _g.now) }
+    #[tactic(auto, using(crate::proofs::KeptLemmas::kept_at, crate::proofs::KeptLemmas::kept_firsts))]
+    pub(crate) fn at(&self, p: &Problem, g: &Region, n: NodeId) -> Kept<'_>
+        requires right { IsCacheFor (cache_of self.now.table self.now.fixed self.now.near self.now.firsts self.now.movers) p.now.given (sets g.now) }
         requires node { n.0 < node_count p.now.given }
-        ensures { AreKeptAt p.now.given (sets _g.now) n.0 result.fixed.now result.standings.now result.near.now }
+        ensures { AreKeptAt p.now.given (sets g.now) n.0 result.fixed.now result.standings.now result.near.now result.firsts.now }
     {
         Kept {
             fixed: &self.fixed,
             standings: self.table.standings(),
             near: self.near.at(p, n),
+            firsts: self.firsts.at(p, g, n),
         }
     }
 
     /// Where each machine surely stands in the region of which this was told last.
     pub fn all(&self, p: &Problem, _g: &Region) -> &[Standing]
-        requires { IsCacheFor (cache_of self.now.table self.now.fixed self.now.near) p.now.given (sets _g.now) }
+        requires { IsCacheFor (cache_of self.now.table self.now.fixed self.now.near self.now.firsts self.now.movers) p.now.given (sets _g.now) }
         ensures { AreStanding p.now.given (sets _g.now) result.now }
     {
         self.table.standings()
+    }
+
+    /// The machines that may not stay in the region of which this was told last, and no machine twice.
+    pub fn movers(&self, p: &Problem, _g: &Region) -> &[u32]
+        requires { IsCacheFor (cache_of self.now.table self.now.fixed self.now.near self.now.firsts self.now.movers) p.now.given (sets _g.now) }
+        ensures { AreMovers p.now.given (sets _g.now) result.now }
+    {
+        self.movers.machines()
     }
 }
 
 impl Keeper for Standings {
     ghost use Rattle.rule_load.specs.Kept.{cache_of};
 
-    ghost cache = { λ k. cache_of k.table k.fixed k.near };
+    ghost cache = { λ k. cache_of k.table k.fixed k.near k.firsts k.movers };
 
     fn post(&mut self, p: &Problem, g: &Region) -> Result<(), Memory> {
         self.fixed = Fixed::of(self.alloc, p)?;
         self.near = Near::of(self.alloc, p)?;
+        self.movers = Movers::of(self.alloc, p, g)?;
         self.table.post(p, g)?;
+        self.firsts.post(p, g)?;
         self.put_all(p)
     }
 
@@ -159,17 +184,29 @@ impl Keeper for Standings {
         kept: &Domain,
     ) -> Result<(), Memory> {
         self.table.told(p, g, change, before, kept)?;
+        self.firsts.told(p, g, change)?;
+        self.movers.told(p, g, change.element)?;
         self.put_changed(p, change.element)?;
         Ok(())
     }
 
     fn mark(&mut self) -> Result<(), Memory> {
-        self.table.mark()
+        self.table.mark()?;
+        match self.firsts.mark() {
+            Ok(()) => Ok(()),
+            Err(e) => {
+                self.table.back();
+                Err(e)
+            }
+        }
     }
 
     fn back(&mut self) {
         if self.table.level() > 0 {
             self.table.back();
+        }
+        if self.firsts.level() > 0 {
+            self.firsts.back();
         }
     }
 }

@@ -54,7 +54,7 @@ fn spares(
     r: u8,
 ) -> Result<Vec<Spare>, Memory>
     requires region { IsSized p.now.given g.now }
-    requires kept { AreKeptAt p.now.given (sets g.now) n.0 kept.fixed.now kept.standings.now kept.near.now }
+    requires kept { AreKeptAt p.now.given (sets g.now) n.0 kept.fixed.now kept.standings.now kept.near.now kept.firsts.now }
     requires node { n.0 < node_count p.now.given }
     requires resource { r < length p.now.given.resources }
 {
@@ -128,7 +128,7 @@ fn suggest_arrivals(
     them: &mut Vec<Suggestion>,
 ) -> Result<(), Memory>
     requires region { IsSized p.now.given g.now }
-    requires kept { AreKeptAt p.now.given (sets g.now) node.0 kept.fixed.now kept.standings.now kept.near.now }
+    requires kept { AreKeptAt p.now.given (sets g.now) node.0 kept.fixed.now kept.standings.now kept.near.now kept.firsts.now }
     requires node { node.0 < node_count p.now.given }
     requires resource { r < length p.now.given.resources }
 {
@@ -230,7 +230,7 @@ fn suggest_all_arrivals(
     them: &mut Vec<Suggestion>,
 ) -> Result<(), Memory>
     requires region { IsSized p.now.given g.now }
-    requires kept { AreKeptAt p.now.given (sets g.now) node.0 kept.fixed.now kept.standings.now kept.near.now }
+    requires kept { AreKeptAt p.now.given (sets g.now) node.0 kept.fixed.now kept.standings.now kept.near.now kept.firsts.now }
     requires node { node.0 < node_count p.now.given }
 {
     for r in 0..resource_total(p) {
@@ -251,7 +251,7 @@ pub(crate) fn suggest_on(
     them: &mut Vec<Suggestion>,
 ) -> Result<(), Memory>
     requires region { IsSized p.now.given g.now }
-    requires kept { AreKeptAt p.now.given (sets g.now) node.0 kept.fixed.now kept.standings.now kept.near.now }
+    requires kept { AreKeptAt p.now.given (sets g.now) node.0 kept.fixed.now kept.standings.now kept.near.now kept.firsts.now }
     requires node { node.0 < node_count p.now.given }
 {
     let Element::Vm(machine) = found.element else {

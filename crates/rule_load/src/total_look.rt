@@ -1,14 +1,15 @@
 //! The look at the load of all nodes together, by where machines surely stand.
-ghost use Rattle.std.specs.Prelude.{◌<◌, ◌≤◌, length, IsTrue};
+ghost use Rattle.std.specs.Prelude.{◌+◌, ◌<◌, ◌≤◌, length, IfSome, IsTrue};
 ghost use Rattle.domains.specs.Sets.{sets};
 ghost use Rattle.reasons.specs.Closed.{all_nodes};
 ghost use Rattle.reasons.specs.Reasons.{IsOverload};
 ghost use Rattle.relax.specs.Areas.{IsSized};
 ghost use Rattle.closing.specs.Kinds.{IsOverloaded, total_load_watch};
 ghost use Rattle.closing.specs.Looks.{IsLook};
+ghost use Rattle.movers.specs.Movers.{AreMovers};
 ghost use Rattle.standing.specs.Tables.{AreStanding};
 ghost use Rattle.rule_load.specs.Fixed.{IsFixed};
-ghost use Rattle.rule_load.specs.Periods.{IsFreeDuring};
+ghost use Rattle.rule_load.specs.Periods.{IsFreeDuring, IsFreePast};
 
 use crate::fixed::Fixed;
 use crate::nodes::resource_total;
@@ -23,29 +24,39 @@ use domains::region::Region;
 use standing::numbers::Standing;
 
 // whether it is seen that of a resource enough is there during a period
-fn has_enough(p: &Problem, f: &Fixed, g: &Region, ks: &[Standing], r: u8, x: Period) -> bool
+fn has_enough(
+    p: &Problem,
+    f: &Fixed,
+    g: &Region,
+    ks: &[Standing],
+    movers: &[u32],
+    r: u8,
+    x: Period,
+) -> bool
     requires region { IsSized p.now.given g.now }
     requires fixed { IsFixed p.now.given f.now }
     requires right { AreStanding p.now.given (sets g.now) ks.now }
+    requires movers { AreMovers p.now.given (sets g.now) movers.now }
     requires resource { r < length p.now.given.resources }
     requires period { x.to ≤ p.now.given.horizon }
     ensures { IsTrue result → IsFreeDuring (λ b. IsOverload p.now.given b r (all_nodes p.now.given)) p.now.given (sets g.now) x }
 {
-    let used = most_total(p, g, ks, r, x);
+    let used = most_total(p, f, g, ks, movers, r, x);
     let room = steady_room(p, g, r, x);
     used <= room && machines_fit(p, f, g, ks, r, x, room - used)
 }
 
 // whether it is of each resource
-fn is_free(p: &Problem, f: &Fixed, g: &Region, ks: &[Standing], x: Period) -> bool
+fn is_free(p: &Problem, f: &Fixed, g: &Region, ks: &[Standing], movers: &[u32], x: Period) -> bool
     requires region { IsSized p.now.given g.now }
     requires fixed { IsFixed p.now.given f.now }
     requires right { AreStanding p.now.given (sets g.now) ks.now }
+    requires movers { AreMovers p.now.given (sets g.now) movers.now }
     requires period { x.to ≤ p.now.given.horizon }
     ensures { IsTrue result → IsFreeDuring (IsOverloaded p.now.given (all_nodes p.now.given)) p.now.given (sets g.now) x }
 {
     for r in 0..resource_total(p) {
-        if !has_enough(p, f, g, ks, r as u8, x) {
+        if !has_enough(p, f, g, ks, movers, r as u8, x) {
             return false;
         }
     }
@@ -53,53 +64,97 @@ fn is_free(p: &Problem, f: &Fixed, g: &Region, ks: &[Standing], x: Period) -> bo
 }
 
 // whether it is at all times taken together
-fn is_always_free(p: &Problem, f: &Fixed, g: &Region, ks: &[Standing]) -> bool
+fn is_always_free(p: &Problem, f: &Fixed, g: &Region, ks: &[Standing], movers: &[u32]) -> bool
     requires region { IsSized p.now.given g.now }
     requires fixed { IsFixed p.now.given f.now }
     requires right { AreStanding p.now.given (sets g.now) ks.now }
+    requires movers { AreMovers p.now.given (sets g.now) movers.now }
     ensures { IsTrue result → IsLook (total_load_watch p.now.given) p.now.given (sets g.now) Look.Clean }
 {
     let x = Period {
         from: 0,
         to: p.horizon(),
     };
-    is_free(p, f, g, ks, x)
+    is_free(p, f, g, ks, movers, x)
 }
 
-// whether it is from each change to the next
-fn is_free_by_periods(p: &Problem, f: &Fixed, g: &Region, ks: &[Standing]) -> bool
+// the end of a period from an instant on in which it is, if one is seen: as long a one as may be, or half as long and so on,
+// down to the next change
+fn free_until(
+    p: &Problem,
+    f: &Fixed,
+    g: &Region,
+    ks: &[Standing],
+    movers: &[u32],
+    from: u64,
+    far: u64,
+) -> Option<u64>
     requires region { IsSized p.now.given g.now }
     requires fixed { IsFixed p.now.given f.now }
     requires right { AreStanding p.now.given (sets g.now) ks.now }
-    ensures { IsTrue result → IsLook (total_load_watch p.now.given) p.now.given (sets g.now) Look.Clean }
+    requires movers { AreMovers p.now.given (sets g.now) movers.now }
+    requires within { from ≤ p.now.given.horizon }
+    requires far { far ≤ p.now.given.horizon + 1 }
+    ensures { IfSome result (IsFreePast p.now.given (sets g.now) (all_nodes p.now.given) from) }
 {
-    let mut from = 0u64;
-    'periods: while from <= u64::from(p.horizon()) {
-        let next = next_change_anywhere(p, g, ks, from);
+    let next = next_change_anywhere(p, g, ks, movers, from);
+    let mut until = far.max(next);
+    'halves: loop {
         let x = Period {
             from: from as u32,
-            to: (next - 1) as u32,
+            to: (until - 1) as u32,
         };
-        if !is_free(p, f, g, ks, x) {
-            return false;
+        if is_free(p, f, g, ks, movers, x) {
+            return Some(until);
         }
-        from = next;
+        if until == next {
+            return None;
+        }
+        until = next + (until - next) / 2;
+    }
+}
+
+// whether it is in periods one after the other
+fn is_free_by_periods(p: &Problem, f: &Fixed, g: &Region, ks: &[Standing], movers: &[u32]) -> bool
+    requires region { IsSized p.now.given g.now }
+    requires fixed { IsFixed p.now.given f.now }
+    requires right { AreStanding p.now.given (sets g.now) ks.now }
+    requires movers { AreMovers p.now.given (sets g.now) movers.now }
+    ensures { IsTrue result → IsLook (total_load_watch p.now.given) p.now.given (sets g.now) Look.Clean }
+{
+    let end = u64::from(p.horizon()) + 1;
+    let mut from = 0u64;
+    let mut far = end / 2;
+    'periods: while from < end {
+        let Some(until) = free_until(p, f, g, ks, movers, from, far.min(end)) else {
+            return false;
+        };
+        // the next period may be twice as long
+        far = until.saturating_add((until - from).saturating_mul(2));
+        from = until;
     }
     true
 }
 
 /// A look at the load of all nodes together. Where it is not seen by where machines surely stand that it is clean,
-/// it is looked at in full.
-pub(crate) fn total_look(p: &Problem, f: &Fixed, g: &Region, ks: &[Standing]) -> Look
+/// it is looked at in full. All other machines than those handed in may stay.
+pub(crate) fn total_look(
+    p: &Problem,
+    f: &Fixed,
+    g: &Region,
+    ks: &[Standing],
+    movers: &[u32],
+) -> Look
     requires region { IsSized p.now.given g.now }
     requires fixed { IsFixed p.now.given f.now }
     requires right { AreStanding p.now.given (sets g.now) ks.now }
+    requires movers { AreMovers p.now.given (sets g.now) movers.now }
     ensures { IsLook (total_load_watch p.now.given) p.now.given (sets g.now) result }
 {
-    if is_always_free(p, f, g, ks) {
+    if is_always_free(p, f, g, ks, movers) {
         return Look::Clean;
     }
-    if is_free_by_periods(p, f, g, ks) {
+    if is_free_by_periods(p, f, g, ks, movers) {
         return Look::Clean;
     }
     look_at_total_load(p, g)

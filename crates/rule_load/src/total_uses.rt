@@ -1,13 +1,18 @@
 //! What machines use at the most on all nodes together during a period.
-ghost use Rattle.std.specs.Prelude.{◌≡◌, ◌+◌, ◌*◌, ◌<◌, ◌≤◌, length, slice_index_or, IsTrue};
+ghost use Rattle.std.specs.Prelude.{◌≡◌, ◌+◌, ◌-◌, ◌*◌, ◌<◌, ◌≤◌, length, slice_index_or, IsTrue};
+ghost use Rattle.std.specs.List.{sum_by};
 ghost use Rattle.cluster.specs.Limits.{max_amount, max_machines, max_nodes};
 ghost use Rattle.sums.specs.Sums.{sum_to};
 ghost use Rattle.catalogue.specs.Instance.{IsElement};
 ghost use Rattle.catalogue.specs.Limits.{max_capacity};
 ghost use Rattle.slices.specs.Elements.{machine_count, vm};
+ghost use Rattle.slices.specs.declared.slice.Weight.TheVariants.{Amount as AmountOf};
 ghost use Rattle.domains.specs.Sets.{domain_at, sets};
 ghost use Rattle.reasons.specs.Closed.{all_nodes};
 ghost use Rattle.relax.specs.Areas.{IsSized};
+ghost use Rattle.near.specs.Near.{AreMachines};
+ghost use Rattle.movers.specs.Movers.{AreMovers};
+ghost use Rattle.standing.specs.Standings.{base as the_base};
 ghost use Rattle.standing.specs.Tables.{AreStanding, no_standing};
 ghost use Rattle.rule_load.specs.Fixed.{IsFixed};
 ghost use Rattle.rule_load.specs.Parts.{StartsAfter};
@@ -57,21 +62,92 @@ fn most_anywhere(p: &Problem, v: VmId, r: u8, x: Period, idle: bool, k: Standing
     }
 }
 
-/// What the machines with these numbers surely use at the most.
-pub(crate) fn most_total(p: &Problem, g: &Region, ks: &[Standing], r: u8, x: Period) -> u64
+/// How much more machines surely use at the most than they have at present, and how much less.
+#[derive(Clone, Copy)]
+struct Beside {
+    more: u64,
+    less: u64,
+}
+
+// of a machine with these numbers; what it has is looked up only where it may be gone
+fn beside_base(p: &Problem, v: VmId, r: u8, x: Period, idle: bool, k: Standing) -> Beside
+    requires machine { IsElement p.now.given (Element.Vm v) }
+    requires resource { r < length p.now.given.resources }
+    ensures more { result.more ≡ the_most_anywhere p.now.given v.0 r x idle k - the_base p.now.given v.0 (AmountOf r) }
+    ensures less { result.less ≡ the_base p.now.given v.0 (AmountOf r) - the_most_anywhere p.now.given v.0 r x idle k }
+    ensures few_more { result.more ≤ max_amount }
+    ensures few_less { result.less ≤ max_amount }
+{
+    if idle {
+        return Beside { more: 0, less: 0 };
+    }
+    let demand = p.demand(v, r);
+    if k.leave <= u64::from(x.from) {
+        let had = base(p, v, Weight::Amount(r));
+        Beside {
+            more: demand.saturating_sub(had),
+            less: had.saturating_sub(demand),
+        }
+    } else if comes_after(k.come, x.to) {
+        Beside { more: 0, less: 0 }
+    } else {
+        Beside {
+            more: demand,
+            less: 0,
+        }
+    }
+}
+
+// of the machines of a list
+fn beside_bases(
+    p: &Problem,
+    g: &Region,
+    ks: &[Standing],
+    machines: &[u32],
+    r: u8,
+    x: Period,
+) -> Beside
     requires region { IsSized p.now.given g.now }
     requires count { length ks.now ≡ machine_count p.now.given }
+    requires machines { AreMachines p.now.given machines.now }
+    requires resource { r < length p.now.given.resources }
+    ensures more { result.more ≡ sum_by (λ v. the_most_anywhere p.now.given v r x (domain_at g.now (vm v)).idle (slice_index_or ks.now v no_standing) - the_base p.now.given v (AmountOf r)) machines.now }
+    ensures less { result.less ≡ sum_by (λ v. the_base p.now.given v (AmountOf r) - the_most_anywhere p.now.given v r x (domain_at g.now (vm v)).idle (slice_index_or ks.now v no_standing)) machines.now }
+    ensures small { result.more ≤ max_machines * max_amount }
+{
+    let mut more = 0;
+    let mut less = 0;
+    for i in 0..machines.len() {
+        let v = VmId(machines[i]);
+        let idle = g.domain(Element::Vm(v)).idle();
+        let one = beside_base(p, v, r, x, idle, ks[v.0 as usize]);
+        more += one.more;
+        less += one.less;
+    }
+    Beside { more, less }
+}
+
+/// What the machines with these numbers surely use at the most: what they have at present, but for those that may
+/// not stay.
+pub(crate) fn most_total(
+    p: &Problem,
+    f: &Fixed,
+    g: &Region,
+    ks: &[Standing],
+    movers: &[u32],
+    r: u8,
+    x: Period,
+) -> u64
+    requires fixed { IsFixed p.now.given f.now }
+    requires region { IsSized p.now.given g.now }
+    requires count { length ks.now ≡ machine_count p.now.given }
+    requires movers { AreMovers p.now.given (sets g.now) movers.now }
     requires resource { r < length p.now.given.resources }
     ensures sum { result ≡ sum_to (machine_count p.now.given) (λ v. the_most_anywhere p.now.given v r x (domain_at g.now (vm v)).idle (slice_index_or ks.now v no_standing)) }
     ensures small { result ≤ max_machines * (2 * max_amount) }
 {
-    let mut total = 0;
-    for i in 0..p.cluster().machines().len() {
-        let v = VmId(i as u32);
-        let idle = g.domain(Element::Vm(v)).idle();
-        total += most_anywhere(p, v, r, x, idle, ks[i]);
-    }
-    total
+    let beside = beside_bases(p, g, ks, movers, r, x);
+    f.total_base(p, r) + beside.more - beside.less
 }
 
 // whether a machine starts after an instant under each of its choices

@@ -4,6 +4,7 @@ ghost use Rattle.catalogue.specs.Instance.{IsElement};
 ghost use Rattle.slices.specs.Elements.{machine_count, node_count};
 ghost use Rattle.relax.specs.Areas.{IsSized};
 ghost use Rattle.domains.specs.Sets.{sets};
+ghost use Rattle.near.specs.Near.{AreMachines};
 ghost use Rattle.rule_load.specs.Fixed.{IsFixed};
 ghost use Rattle.rule_load.specs.Kept.{AreKeptAt};
 
@@ -85,7 +86,7 @@ fn act(row: Row, start: Instant) -> Choice {
 /// The first instant after one at which what is sure of a node changes, or the one after the horizon.
 pub(crate) fn next_change(p: &Problem, g: &Region, kept: Kept<'_>, n: NodeId, after: u64) -> u64
     requires region { IsSized p.now.given g.now }
-    requires kept { AreKeptAt p.now.given (sets g.now) n.0 kept.fixed.now kept.standings.now kept.near.now }
+    requires kept { AreKeptAt p.now.given (sets g.now) n.0 kept.fixed.now kept.standings.now kept.near.now kept.firsts.now }
     requires node { n.0 < node_count p.now.given }
     requires within { after ≤ p.now.given.horizon }
     ensures later { after < result }
@@ -137,15 +138,24 @@ fn next_of_nodes(p: &Problem, g: &Region, after: u64, best: u64) -> u64
 }
 
 /// The first instant after one at which what is sure of all nodes together changes, or the one after the horizon.
-pub(crate) fn next_change_anywhere(p: &Problem, g: &Region, ks: &[Standing], after: u64) -> u64
+/// Of the machines only those of a list are asked.
+pub(crate) fn next_change_anywhere(
+    p: &Problem,
+    g: &Region,
+    ks: &[Standing],
+    machines: &[u32],
+    after: u64,
+) -> u64
     requires region { IsSized p.now.given g.now }
+    requires count { length ks.now ≡ machine_count p.now.given }
+    requires machines { AreMachines p.now.given machines.now }
     requires within { after ≤ p.now.given.horizon }
     ensures later { after < result }
     ensures most { result ≤ p.now.given.horizon + 1 }
 {
     let mut next = u64::from(p.horizon()) + 1;
-    for k in ks {
-        next = next_anywhere(*k, after, next);
+    for i in 0..machines.len() {
+        next = next_anywhere(ks[machines[i] as usize], after, next);
     }
     next_of_nodes(p, g, after, next)
 }

@@ -13,7 +13,7 @@ ghost use Rattle.standing.specs.Standings.{base as the_base};
 ghost use Rattle.standing.specs.Tables.{no_standing};
 ghost use Rattle.rule_load.specs.Fixed.{IsFixed};
 ghost use Rattle.rule_load.specs.Kept.{AreKeptAt};
-ghost use Rattle.rule_load.specs.Parts.{HasLeft, IsMostBrought, IsMostLeft};
+ghost use Rattle.rule_load.specs.Parts.{HasLeft, IsAway, IsMostBrought, IsMostLeft};
 ghost use Rattle.rule_load.specs.Periods.{IsMost, most_kept as the_most_kept};
 
 use crate::fixed::Fixed;
@@ -61,7 +61,7 @@ pub(crate) fn most_used(
     r: u8,
     x: Period,
 ) -> u64
-    requires kept { AreKeptAt p.now.given (sets _g.now) n.0 kept.fixed.now kept.standings.now kept.near.now }
+    requires kept { AreKeptAt p.now.given (sets _g.now) n.0 kept.fixed.now kept.standings.now kept.near.now kept.firsts.now }
     requires resource { r < length p.now.given.resources }
     ensures sum { result ≡ sum_to (machine_count p.now.given) (λ v. the_most_kept p.now.given v (AmountOf r) n.0 x (slice_index_or kept.entry.standings.now v no_standing)) }
     ensures small { result ≤ max_machines * (2 * max_amount) }
@@ -162,35 +162,47 @@ pub(crate) fn most_brought(p: &Problem, g: &Region, v: VmId, n: NodeId, r: u8, b
     }
 }
 
+// whether it is seen that a machine is away from a node up to an instant
+#[tactic(auto, using(crate::proofs::UseLemmas::is_away_by))]
+fn is_away(p: &Problem, kept: Kept<'_>, _g: &Region, v: VmId, n: NodeId, by: Instant) -> bool
+    requires kept { AreKeptAt p.now.given (sets _g.now) n.0 kept.fixed.now kept.standings.now kept.near.now kept.firsts.now }
+    requires machine { IsElement p.now.given (Element.Vm v) }
+    ensures { IsTrue result → IsAway p.now.given v.0 (sets _g.now (vm v.0)) n.0 by }
+{
+    kept.firsts[v.0 as usize] > by && !kept.fixed.is_host(p, v, n)
+}
+
 /// Whether a machine uses no more of a node, under any of its choices, than what is spare and what it surely
 /// uses there itself. Its rows are looked at only where its present use and its demand are more.
-#[tactic(auto, using(crate::proofs::UseLemmas::fits_ever))]
+#[tactic(auto, using(crate::proofs::UseLemmas::fits_ever, crate::proofs::UseLemmas::away_fits))]
 pub(crate) fn machine_fits(
     p: &Problem,
-    f: &Fixed,
     g: &Region,
+    kept: Kept<'_>,
     v: VmId,
-    k: Standing,
     n: NodeId,
     r: u8,
     x: Period,
     spare: u64,
 ) -> bool
-    requires fixed { IsFixed p.now.given f.now }
     requires region { IsSized p.now.given g.now }
+    requires kept { AreKeptAt p.now.given (sets g.now) n.0 kept.fixed.now kept.standings.now kept.near.now kept.firsts.now }
     requires machine { IsElement p.now.given (Element.Vm v) }
     requires resource { r < length p.now.given.resources }
     requires period { x.to ≤ p.now.given.horizon }
     requires small { spare ≤ max_capacity }
-    ensures { IsTrue result → IsMost p.now.given v.0 (sets g.now (vm v.0)) r (one n.0) x (spare + the_most_kept p.now.given v.0 (AmountOf r) n.0 x k) }
+    ensures { IsTrue result → IsMost p.now.given v.0 (sets g.now (vm v.0)) r (one n.0) x (spare + the_most_kept p.now.given v.0 (AmountOf r) n.0 x (slice_index_or kept.entry.standings.now v.0 no_standing)) }
 {
-    let ever = most_here(p, f, v, n, r) + p.demand(v, r);
+    if is_away(p, kept, g, v, n, x.to) {
+        return true;
+    }
+    let ever = most_here(p, kept.fixed, v, n, r) + p.demand(v, r);
     if ever <= spare {
         return true;
     }
-    let bound = spare + most_kept(p, f, v, n, r, x, k);
+    let bound = spare + most_kept(p, kept.fixed, v, n, r, x, kept.standings[v.0 as usize]);
     if ever <= bound {
         return true;
     }
-    most_left(p, f, g, v, n, r, x.from) + most_brought(p, g, v, n, r, x.to) <= bound
+    most_left(p, kept.fixed, g, v, n, r, x.from) + most_brought(p, g, v, n, r, x.to) <= bound
 }

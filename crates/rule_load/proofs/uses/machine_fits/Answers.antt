@@ -1,9 +1,10 @@
-use Rattle.std.proofs.Common.{◌+◌, ◌≤◌, arith}
+use Rattle.std.proofs.Common.{◌+◌, ◌≤◌, arith, slice_index_or}
 use Rattle.std.proofs.lemmas.Bool.Decides.{nat_tests}
 use Rattle.slices.specs.declared.slice.Weight.TheVariants.{Amount}
 use Rattle.slices.specs.Elements.{vm}
 use Rattle.domains.specs.Sets.{sets}
 use Rattle.rule_load.specs.Periods.{most_kept}
+use Rattle.standing.specs.Tables.{no_standing}
 use Rattle.rule_load.proofs.UseLemmas.{fits_now}
 use Rattle.rule_load.proofs.uses.machine_fits.Goals as goal
 
@@ -11,5 +12,5 @@ pub returns : goal.returns
 returns c =
     λ on.
     let fits : c.most_left.result + c.most_brought.result ≤ c.args.spare + c.most_kept.result = grind (arith, nat_tests, on) in
-    fits_now c.args.p.now.given c.args.v.0 (sets c.args.g.now (vm c.args.v.0)) c.args.r c.args.n.0 c.args.x c.most_left.result c.most_brought.result (c.args.spare + most_kept c.args.p.now.given c.args.v.0 (Amount c.args.r) c.args.n.0 c.args.x c.args.k)
+    fits_now c.args.p.now.given c.args.v.0 (sets c.args.g.now (vm c.args.v.0)) c.args.r c.args.n.0 c.args.x c.most_left.result c.most_brought.result (c.args.spare + most_kept c.args.p.now.given c.args.v.0 (Amount c.args.r) c.args.n.0 c.args.x (slice_index_or c.args.kept.standings.now c.args.v.0 no_standing))
     (omega (arith, c.args.p.now.sound.horizon, c.requires.period)) c.most_left.ensures.most c.most_brought.ensures.most (omega (arith, fits, c.most_kept.ensures.most))

@@ -24,7 +24,7 @@ pub returns : goal.returns
 returns c =
     let few = few_once c.args.kept.near.now (machine_count c.args.p.now.given) c.requires.kept.near.machines.once c.requires.kept.near.machines.each in
     record {
-      sum = near_sum c.args.p.now.given (sets c.args._g.now) c.args.n.0 c.args.kept.fixed.now c.args.kept.standings.now c.args.kept.near.now (Amount c.args.r) c.args.x c.loop-i.total c.requires.kept
+      sum = near_sum c.args.p.now.given (sets c.args._g.now) c.args.n.0 c.args.kept.fixed.now c.args.kept.standings.now c.args.kept.near.now c.args.kept.firsts.now (Amount c.args.r) c.args.x c.loop-i.total c.requires.kept
           (sum_whole (λ v. most_kept c.args.p.now.given v (Amount c.args.r) c.args.n.0 c.args.x (slice_index_or c.args.kept.standings.now v no_standing)) c.args.kept.near.now c.loop-i.i c.loop-i.total c.loop-i-test.false c.loop-i.invariant.total);
       small = omega (arith, few, c.loop-i.auto.i-end, c.loop-i.invariant.small, c.args.p.now.sound.inventory.few_machines);
     }

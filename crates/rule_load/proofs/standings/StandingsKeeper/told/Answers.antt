@@ -1,4 +1,4 @@
-use Rattle.std.proofs.Common.{subst}
+use Rattle.std.proofs.Common.{subst, refl}
 use Rattle.std.specs.List.{Contains}
 use Rattle.domains.specs.Choices.{choices}
 use Rattle.domains.specs.Parts.{on_side}
@@ -6,8 +6,9 @@ use Rattle.slices.specs.Elements.{machine_count}
 use Rattle.domains.specs.Sets.{domain_at, sets}
 use Rattle.domains.specs.Undo.{domain_before}
 use Rattle.domains.proofs.Public.{filter_is_fewer}
+use Rattle.movers.proofs.Public.{movers_told}
 use Rattle.prop_core.specs.Propagators.{sets_before}
-use Rattle.rule_load.proofs.KeptLemmas.{cache_told, come_told}
+use Rattle.rule_load.proofs.KeptLemmas.{cache_told, come_told, kept_fewer}
 use Rattle.rule_load.proofs.standings.StandingsKeeper.told.Goals as goal
 
 pub told-requires-clause-fewer : goal.told-requires-clause-fewer
@@ -15,10 +16,14 @@ told-requires-clause-fewer c =
     λ d h. filter_is_fewer (on_side c.args.change.side c.args.change.part) (choices (domain_before c.args.before c.args.kept.now (domain_at c.args.g.now c.args.change.element))) d
     (subst (λ cs. Contains cs d) c.requires.narrowed.left h)
 
+pub told-requires-2-clause-right : goal.told-requires-2-clause-right
+told-requires-2-clause-right c = kept_fewer c.args.p.now.given c.args.g.now c.args.change c.args.before c.args.kept.now c.args.self.now.table c.args.self.now.fixed c.args.self.now.near c.args.self.now.firsts c.args.self.now.movers c.requires.narrowed c.requires.right
+
 pub returns-clause-told : goal.returns-clause-told
 returns-clause-told c =
-    let table = c.put_changed.ensures.table in
     let come = come_told c.args.p.now.given c.args.g.now c.args.change.element c.args.before c.args.kept.now c.told.new.self.top c.args.self.now.near c.put_changed.new.self.near (machine_count c.args.p.now.given) c.requires.right.come (c.in_ok-put_changed.ensures.grows) c.in_ok-told.ensures.top c.in_ok-put_changed.ensures.there in
-    rw (table, c.put_changed.ensures.fixed)
-    (cache_told c.args.p.now.given (sets c.args.g.now) (sets_before c.args.g.now c.args.change.element c.args.before c.args.kept.now) c.args.self.now.table c.told.new.self c.args.self.now.fixed c.args.self.now.near c.put_changed.new.self.near
-    c.in_ok-told.ensures.older c.in_ok-told.ensures.top c.requires.right c.in_ok-put_changed.ensures.grows come)
+    let movers = movers_told c.args.p.now.given (sets c.args.g.now) c.args.change.element (choices (domain_before c.args.before c.args.kept.now (domain_at c.args.g.now c.args.change.element))) c.args.self.now.movers c.told-3.new.self (machine_count c.args.p.now.given) refl
+    c.requires.right.movers c.in_ok-told-3.ensures.grown c.in_ok-told-3.ensures.told in
+    rw (c.put_changed.ensures.table, c.put_changed.ensures.fixed, c.put_changed.ensures.firsts, c.put_changed.ensures.movers)
+    (cache_told c.args.p.now.given (sets c.args.g.now) (sets_before c.args.g.now c.args.change.element c.args.before c.args.kept.now) c.args.self.now.table c.told.new.self c.args.self.now.fixed c.args.self.now.near c.put_changed.new.self.near c.args.self.now.firsts c.told-2.new.self c.args.self.now.movers
+    c.told-3.new.self c.in_ok-told.ensures.older c.in_ok-told-2.ensures.older c.in_ok-told.ensures.top c.in_ok-told-2.ensures.top c.requires.right c.in_ok-put_changed.ensures.grows come c.in_ok-told-3.ensures.grown movers)

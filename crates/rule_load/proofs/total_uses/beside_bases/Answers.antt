@@ -1,0 +1,33 @@
+use Rattle.std.proofs.Common.{get_or, arith}
+use Rattle.std.proofs.lemmas.List.Elements.{Contains-get_or}
+use Rattle.slices.specs.Elements.{machine_count}
+use Rattle.near.proofs.Public.{few_once, sum_whole}
+use Rattle.rule_load.proofs.total_uses.beside_bases.Goals as goal
+
+pub beside_base-one-requires-clause-machine : goal.beside_base-one-requires-clause-machine
+beside_base-one-requires-clause-machine c = c.requires.machines.each (get_or c.args.machines.now c.loop-i.i 0) (Contains-get_or c.args.machines.now c.loop-i.i 0 c.loop-i-test.true)
+
+pub domain-requires : goal.domain-requires
+domain-requires c = omega (arith, c.requires.region.machines, c.requires.machines.each (get_or c.args.machines.now c.loop-i.i 0) (Contains-get_or c.args.machines.now c.loop-i.i 0 c.loop-i-test.true))
+
+pub bounds-ks-v : goal.bounds-ks-v
+bounds-ks-v c = omega (arith, c.requires.count, c.requires.machines.each (get_or c.args.machines.now c.loop-i.i 0) (Contains-get_or c.args.machines.now c.loop-i.i 0 c.loop-i-test.true))
+
+pub overflow_add-more : goal.overflow_add-more
+overflow_add-more c =
+    let few = few_once c.args.machines.now (machine_count c.args.p.now.given) c.requires.machines.once c.requires.machines.each in
+    omega (arith, few, c.loop-i-test.true, c.loop-i.invariant.few_more, c.beside_base-one.ensures.few_more, c.args.p.now.sound.inventory.few_machines)
+
+pub overflow_add-less : goal.overflow_add-less
+overflow_add-less c =
+    let few = few_once c.args.machines.now (machine_count c.args.p.now.given) c.requires.machines.once c.requires.machines.each in
+    omega (arith, few, c.loop-i-test.true, c.loop-i.invariant.few_less, c.beside_base-one.ensures.few_less, c.args.p.now.sound.inventory.few_machines)
+
+pub returns : goal.returns
+returns c =
+    let few = few_once c.args.machines.now (machine_count c.args.p.now.given) c.requires.machines.once c.requires.machines.each in
+    record {
+      more = sum_whole _ c.args.machines.now c.loop-i.i c.loop-i.more c.loop-i-test.false c.loop-i.invariant.more;
+      less = sum_whole _ c.args.machines.now c.loop-i.i c.loop-i.less c.loop-i-test.false c.loop-i.invariant.less;
+      small = omega (arith, few, c.loop-i.auto.i-end, c.loop-i.invariant.few_more, c.args.p.now.sound.inventory.few_machines);
+    }
