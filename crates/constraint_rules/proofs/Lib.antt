@@ -3,4 +3,5 @@ mod ApartLemmas
 mod MarkLemmas
 mod NodeLemmas
 mod ShutdownLemmas
+mod StayLemmas
 mod WatchLemmas

@@ -4,6 +4,7 @@ pub mod Covers
 -- what the code says beside it
 pub mod Marking
 pub mod Apart
+pub mod Stays
 pub mod Shutdowns
 -- what the trait of watchers asks a proof of
 pub mod Quiet

@@ -8,12 +8,12 @@ ghost use Rattle.slices.specs.Elements.{machine_count};
 ghost use Rattle.prop_core.specs.Propagators.{FailHolds};
 ghost use Rattle.relax.specs.Areas.{IsSized};
 
+use crate::stays::runs_on;
 use catalogue::constraint::Constraint;
 use catalogue::problem::Problem;
 use cluster::choices::Place;
 use cluster::ids::{Element, NodeId, VmId};
 use cluster::sets::NodeSet;
-use cluster::states::State;
 use domains::domain::Domain;
 use domains::region::Region;
 use reasons::reason::Reason;
@@ -49,17 +49,11 @@ impl Room {
     }
 }
 
-// the node on which a machine is while it stays as it is
-fn runs_on(state: State) -> Option<NodeId> {
-    match state {
-        State::Running(n) => Some(n),
-        State::Init | State::Ready | State::Sleeping(_) | State::Gone => None,
-    }
-}
-
 // whether a machine may be on no node at the end
-fn may_be_off(state: State, domain: &Domain) -> bool {
-    if domain.idle() && runs_on(state).is_none() {
+fn may_be_off(p: &Problem, v: VmId, domain: &Domain) -> bool
+    requires { v.0 < machine_count p.now.given }
+{
+    if domain.idle() && runs_on(p, v).is_none() {
         return true;
     }
     // a row at no node comes before all others
@@ -74,14 +68,13 @@ fn add_member(p: &Problem, g: &Region, v: VmId, room: &mut Room)
     requires region { IsSized p.now.given g.now }
     requires machine { v.0 < machine_count p.now.given }
 {
-    let state = p.cluster().machines()[v.0 as usize].state;
     let domain = g.domain(Element::Vm(v));
-    if may_be_off(state, domain) {
+    if may_be_off(p, v, domain) {
         room.lower();
         return;
     }
     if domain.idle() {
-        if let Some(n) = runs_on(state) {
+        if let Some(n) = runs_on(p, v) {
             room.add(p, n);
         }
     }

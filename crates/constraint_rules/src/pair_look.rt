@@ -10,6 +10,7 @@ ghost use Rattle.closing.specs.Kinds.{constraint_watch};
 ghost use Rattle.closing.specs.Looks.{IsLook, broken_at};
 
 use crate::clear::{Doubt, Seen, never_meet};
+use crate::pairs::is_pair;
 use crate::posts::is_hosted;
 use catalogue::problem::Problem;
 use closing::look::Look;
@@ -19,7 +20,6 @@ use cluster::ids::{Element, NodeId};
 use domains::domain::Domain;
 use domains::region::Region;
 use domains::view::{Lens, View};
-use relax::elements::is_pair;
 
 // whether a place is a node
 fn is_at(place: Place, n: NodeId) -> bool {

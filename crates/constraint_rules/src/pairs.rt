@@ -1,4 +1,5 @@
 //! Two machines on one node that a constraint keeps apart, looked for.
+ghost use Rattle.catalogue.specs.Instance.{IsElement};
 ghost use Rattle.std.specs.Prelude.{◌≡◌, ℕ, ◌<◌, false, IfNone, IfSome, IsTrue};
 ghost use Rattle.slices.specs.Elements.{machine_count, node_count};
 ghost use Rattle.domains.specs.Views.{seen};
@@ -9,15 +10,14 @@ ghost use Rattle.catalogue.specs.Faults.{is_member};
 ghost use Rattle.slices.specs.Holds.{ForbidsPair, IsInPart};
 ghost use Rattle.closing.specs.Kinds.{HasPair};
 
+use crate::stays::{runs_on, surely_at};
 use catalogue::constraint::Constraint;
 use catalogue::lists::Vms;
 use catalogue::problem::Problem;
-use cluster::choices::Instant;
+use cluster::choices::{Choice, Instant, Place};
 use cluster::ids::{Element, NodeId, VmId};
 use domains::view::{Lens, View};
-use relax::area::Area;
-use relax::elements::is_pair;
-use relax::sure::surely_in;
+use relax::forbidden::forbids_pair;
 
 /// Whether a machine is in a list.
 pub fn has(machines: &[VmId], v: VmId) -> bool
@@ -68,6 +68,28 @@ fn parts(constraint: &Constraint, v: VmId) -> bool
     }
 }
 
+/// Whether two machines that a constraint keeps apart are surely on a node.
+pub fn is_pair(
+    p: &Problem,
+    view: &View,
+    constraint: &Constraint,
+    v: VmId,
+    w: VmId,
+    n: NodeId,
+    t: Instant,
+) -> bool
+    requires region { IsSized p.now.given view.now.region.now }
+    requires first { IsElement p.now.given (Element.Vm v) }
+    requires second { IsElement p.now.given (Element.Vm w) }
+    ensures yes { IsTrue result → IsPair p.now.given (sure p.now.given (seen view.now.region.now view.now.lens) t) constraint.now v.0 w.0 n.0 }
+    ensures no { result ≡ false → ¬ IsPair p.now.given (sure p.now.given (seen view.now.region.now view.now.lens) t) constraint.now v.0 w.0 n.0 }
+{
+    if v.0 == w.0 || !forbids_pair(constraint, v, w) {
+        return false;
+    }
+    surely_at(p, view, v, n, t) && surely_at(p, view, w, n, t)
+}
+
 // a machine that is on a node with this one
 fn other_on(
     p: &Problem,
@@ -82,7 +104,7 @@ fn other_on(
     ensures none { IfNone result ((w : ℕ) → w < machine_count p.now.given → ¬ IsPair p.now.given (sure p.now.given (seen view.now.region.now view.now.lens) t) constraint.now v.0 w n.0) }
     ensures some { IfSome result (λ w. (w.0 < machine_count p.now.given) × IsPair p.now.given (sure p.now.given (seen view.now.region.now view.now.lens) t) constraint.now v.0 w.0 n.0) }
 {
-    if !surely_in(p, view, v, &Area::One(n), t) {
+    if !surely_at(p, view, v, n, t) {
         return None;
     }
     for i in 0..p.cluster().machines().len() {
@@ -119,6 +141,148 @@ fn pair_with(
     None
 }
 
+// one of these machines that is on a node with this one
+fn member_on(
+    p: &Problem,
+    view: &View,
+    constraint: &Constraint,
+    machines: &[VmId],
+    v: VmId,
+    n: NodeId,
+    t: Instant,
+) -> Option<VmId>
+    requires region { IsSized p.now.given view.now.region.now }
+    requires machine { v.0 < machine_count p.now.given }
+    ensures { IfSome result (λ w. (w.0 < machine_count p.now.given) × IsPair p.now.given (sure p.now.given (seen view.now.region.now view.now.lens) t) constraint.now v.0 w.0 n.0) }
+{
+    for w in machines {
+        if (w.0 as usize) < p.cluster().machines().len()
+            && is_pair(p, view, constraint, v, *w, n, t)
+        {
+            return Some(*w);
+        }
+    }
+    None
+}
+
+// one of the machines of parts that is
+fn part_on(
+    p: &Problem,
+    view: &View,
+    constraint: &Constraint,
+    parts: &[Vms],
+    v: VmId,
+    n: NodeId,
+    t: Instant,
+) -> Option<VmId>
+    requires region { IsSized p.now.given view.now.region.now }
+    requires machine { v.0 < machine_count p.now.given }
+    ensures { IfSome result (λ w. (w.0 < machine_count p.now.given) × IsPair p.now.given (sure p.now.given (seen view.now.region.now view.now.lens) t) constraint.now v.0 w.0 n.0) }
+{
+    for i in 0..parts.len() {
+        let found = member_on(p, view, constraint, parts[i].items(), v, n, t);
+        if found.is_some() {
+            return found;
+        }
+    }
+    None
+}
+
+// a machine that is, looked for among those that a constraint names alone
+fn named_on(
+    p: &Problem,
+    view: &View,
+    constraint: &Constraint,
+    v: VmId,
+    n: NodeId,
+    t: Instant,
+) -> Option<VmId>
+    requires region { IsSized p.now.given view.now.region.now }
+    requires machine { v.0 < machine_count p.now.given }
+    ensures { IfSome result (λ w. (w.0 < machine_count p.now.given) × IsPair p.now.given (sure p.now.given (seen view.now.region.now view.now.lens) t) constraint.now v.0 w.0 n.0) }
+{
+    match constraint {
+        Constraint::Spread { machines, .. } => {
+            member_on(p, view, constraint, machines.items(), v, n, t)
+        }
+        Constraint::Split { parts, .. } => part_on(p, view, constraint, parts.items(), v, n, t),
+        Constraint::Lonely { .. }
+        | Constraint::Ban { .. }
+        | Constraint::Fence { .. }
+        | Constraint::Gather { .. }
+        | Constraint::Among { .. }
+        | Constraint::Root { .. }
+        | Constraint::Precedence { .. }
+        | Constraint::Serialize { .. }
+        | Constraint::Preserve { .. }
+        | Constraint::ResourceCapacity { .. }
+        | Constraint::RunningCapacity { .. }
+        | Constraint::MaxOnline { .. }
+        | Constraint::Overbook { .. }
+        | Constraint::Online { .. }
+        | Constraint::Offline { .. }
+        | Constraint::Running { .. }
+        | Constraint::Sleeping { .. }
+        | Constraint::Ready { .. }
+        | Constraint::Killed { .. } => None,
+    }
+}
+
+// where a machine is likely to be under a choice
+fn likely_node(p: &Problem, v: VmId, c: Choice) -> Option<NodeId>
+    requires { v.0 < machine_count p.now.given }
+{
+    match c {
+        Choice::Idle => runs_on(p, v),
+        Choice::Act { place, start: _ } => match place {
+            Place::Nowhere => None,
+            Place::At(n) => Some(n),
+        },
+    }
+}
+
+// a machine and a node on which it is with this one, which is set to a choice, where that is where it is likely to be
+fn likely_with(
+    p: &Problem,
+    view: &View,
+    constraint: &Constraint,
+    v: VmId,
+    c: Choice,
+    t: Instant,
+) -> Option<(VmId, NodeId)>
+    requires region { IsSized p.now.given view.now.region.now }
+    requires machine { v.0 < machine_count p.now.given }
+    ensures { IfSome result (λ x. (x.0.0 < machine_count p.now.given) × (x.1.0 < node_count p.now.given) × IsPair p.now.given (sure p.now.given (seen view.now.region.now view.now.lens) t) constraint.now v.0 x.0.0 x.1.0) }
+{
+    let n = likely_node(p, v, c)?;
+    if n.0 as usize >= p.cluster().nodes().len() {
+        return None;
+    }
+    match named_on(p, view, constraint, v, n, t) {
+        Some(w) => Some((w, n)),
+        None => None,
+    }
+}
+
+// a machine and a node on which it is with this one, which is set to a choice
+fn pair_set(
+    p: &Problem,
+    view: &View,
+    constraint: &Constraint,
+    v: VmId,
+    c: Choice,
+    t: Instant,
+) -> Option<(VmId, NodeId)>
+    requires region { IsSized p.now.given view.now.region.now }
+    requires machine { v.0 < machine_count p.now.given }
+    ensures { IfSome result (λ x. (x.0.0 < machine_count p.now.given) × (x.1.0 < node_count p.now.given) × IsPair p.now.given (sure p.now.given (seen view.now.region.now view.now.lens) t) constraint.now v.0 x.0.0 x.1.0) }
+{
+    match likely_with(p, view, constraint, v, c, t) {
+        Some(found) => Some(found),
+        None => pair_with(p, view, constraint, v, t),
+    }
+}
+
 /// Two machines and a node on which both surely are, where the constraint keeps them apart. The machine
 /// that is set to a choice is tried first.
 pub fn pair_on(
@@ -132,9 +296,9 @@ pub fn pair_on(
     ensures some { IfSome result (λ x. (x.0.0 < machine_count p.now.given) × (x.1.0 < machine_count p.now.given) × (x.2.0 < node_count p.now.given) × IsPair p.now.given (sure p.now.given (seen view.now.region.now view.now.lens) t) constraint.now x.0.0 x.1.0 x.2.0) }
 {
     let machines = p.cluster().machines().len();
-    if let Lens::Set(Element::Vm(v), _) = view.lens {
+    if let Lens::Set(Element::Vm(v), c) = view.lens {
         if (v.0 as usize) < machines {
-            if let Some((w, n)) = pair_with(p, view, constraint, v, t) {
+            if let Some((w, n)) = pair_set(p, view, constraint, v, c, t) {
                 return Some((v, w, n));
             }
         }

@@ -4,16 +4,19 @@ ghost use Rattle.slices.specs.Elements.{machine_count, state_of};
 ghost use Rattle.slices.specs.Stages.{one};
 ghost use Rattle.domains.specs.Sets.{sets};
 ghost use Rattle.relax.specs.Areas.{IsSized, hosted_in};
-ghost use Rattle.standing.specs.Standings.{comes_by};
+ghost use Rattle.domains.specs.Choices.{choices};
+ghost use Rattle.standing.specs.Standings.{IsStanding, comes_by};
 ghost use Rattle.constraint_rules.specs.Apart.{HasPosts, IsAt, KeepsOff};
 
 use crate::nodes::host;
+use crate::stays::leave;
 use catalogue::problem::Problem;
 use cluster::choices::{Instant, Place};
 use cluster::ids::{Element, NodeId, VmId};
+use domains::domain::Domain;
 use domains::parts::{Change, Part, Side};
 use domains::region::Region;
-use standing::numbers::{Arrival, standing_of};
+use standing::numbers::{Arrival, Standing, standing_of};
 
 /// A node, and the last instant at which a machine may surely be there.
 #[derive(Clone, Copy)]
@@ -72,6 +75,22 @@ fn come_post(p: &Problem, come: Option<Arrival>) -> Option<Post>
     }
 }
 
+// where a machine surely stands; one that may stay has not come elsewhere
+#[tactic(auto, using(crate::proofs::StayLemmas::idle_standing))]
+fn stand(p: &Problem, v: VmId, domain: &Domain) -> Standing
+    requires { v.0 < machine_count p.now.given }
+    ensures { IsStanding p.now.given v.0 (choices domain.now) result }
+{
+    if domain.idle() {
+        Standing {
+            leave: leave(p, v, domain),
+            come: None,
+        }
+    } else {
+        standing_of(p, v, domain)
+    }
+}
+
 /// The posts of a machine that has a choice.
 pub fn posts_of(p: &Problem, g: &Region, v: VmId) -> Posts
     requires region { IsSized p.now.given g.now }
@@ -79,7 +98,7 @@ pub fn posts_of(p: &Problem, g: &Region, v: VmId) -> Posts
     requires some { sets g.now (Element.Vm v) ≢ [] }
     ensures { HasPosts p.now.given (sets g.now) v.0 result }
 {
-    let k = standing_of(p, v, g.domain(Element::Vm(v)));
+    let k = stand(p, v, g.domain(Element::Vm(v)));
     Posts {
         host: host_post(p, v, k.leave),
         come: come_post(p, k.come),

@@ -12,6 +12,7 @@ ghost use Rattle.constraint_rules.specs.Quiet.{kinds_are_quiet, watches_are_loca
 use crate::hall::hall_reason;
 use crate::nodes::mark_nodes;
 use crate::pair_look::look_quickly;
+use crate::refuting::refutes_part;
 use crate::shutdowns::is_let_go;
 use crate::suggest::suggest_pairs;
 use crate::witnesses::{constraint_reason, usable_reason};
@@ -28,7 +29,6 @@ use domains::undo::Before;
 use domains::view::View;
 use memory::Memory;
 use reasons::reason::{Reason, ReasonKind};
-use relax::refutes::refutes_inside;
 use rule_frame::index::{ConstraintIndex, mark_looking};
 use rule_frame::marks::Marks;
 use rule_frame::suggestion::Suggestion;
@@ -183,7 +183,7 @@ impl<S: Kinds> Watcher<ConstraintIndex> for ConstraintWatcher<S> {
         part: Part,
         reason: &Reason,
     ) -> bool {
-        refutes_inside(p, None, g, e, part, reason)
+        refutes_part(p, g, e, part, reason)
     }
 
     fn suggest(

@@ -1,0 +1,4 @@
+use Rattle.constraint_rules.proofs.refuting.refutes_part.Goals as goal
+
+pub returns-in-Pair : goal.returns-in-Pair
+returns-in-Pair c = λ yes. rw c.in-Pair.is (c.is_pair_inside.ensures yes)
