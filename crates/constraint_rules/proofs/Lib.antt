@@ -1,5 +1,7 @@
 pub mod Public
+mod AmountLemmas
 mod ApartLemmas
+mod BoundLemmas
 mod MarkLemmas
 mod NodeLemmas
 mod ShutdownLemmas

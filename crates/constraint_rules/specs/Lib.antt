@@ -5,6 +5,7 @@ pub mod Covers
 pub mod Marking
 pub mod Apart
 pub mod Stays
+pub mod Amounts
 pub mod Shutdowns
 -- what the trait of watchers asks a proof of
 pub mod Quiet

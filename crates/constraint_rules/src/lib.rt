@@ -1,8 +1,11 @@
 //! The rules of constraints: machines kept apart, places, whole groups, and amounts on nodes.
 #![tactic(auto)]
 
+pub mod amounts;
+mod bounds;
 mod clear;
 mod hall;
+mod movers_hold;
 mod nodes;
 mod pair_look;
 mod pairs;
@@ -11,6 +14,7 @@ mod posts;
 mod refuting;
 pub mod rules;
 mod shutdowns;
+mod stayers;
 mod stays;
 mod suggest;
 pub mod watcher;

@@ -2,6 +2,7 @@
 ghost use Rattle.std.specs.Prelude.{refl};
 ghost use Rattle.constraint_rules.specs.Covers.{group_kinds, pair_kinds, place_kinds, set_kinds};
 
+use crate::amounts::{AmountKeeper, AmountWatcher};
 use crate::watcher::{ConstraintWatcher, Kinds};
 use reasons::reason::ReasonKind;
 use rule_frame::index::ConstraintIndex;
@@ -73,4 +74,4 @@ pub type PlaceRule = Rule<ConstraintWatcher<Places>, ConstraintIndex>;
 pub type GroupRule = Rule<ConstraintWatcher<Groups>, ConstraintIndex>;
 
 /// The rule of the constraints on amounts.
-pub type SetRule = Rule<ConstraintWatcher<Sets>, ConstraintIndex>;
+pub type SetRule = Rule<AmountWatcher, AmountKeeper>;
