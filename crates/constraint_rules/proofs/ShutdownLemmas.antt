@@ -76,8 +76,8 @@ shutdown_is p s n d rows on is idle same climbs single = rw same (record { order
 -- ---- a machine
 
 -- who has left its host, or has another one, has something on a node only where it has come there
-holds-none : (p : Instance) (v n t : ℕ) (w : Weight) (c : Choice) → t < never → (hosted_in (state_of p v) (one n) && nat_lt t (leave_of p v c)) ≡ false → has_come n t c ≡ false → held_at p v w (one n) t c ≡ 0
-holds-none p v n t w c h left come = kept_law p v w n t (c ∷ []) (numbers p v c) h (of_one p v c) ∙ nothing (arrived n t c ∙ come)
+pub holds_none : (p : Instance) (v n t : ℕ) (w : Weight) (c : Choice) → t < never → (hosted_in (state_of p v) (one n) && nat_lt t (leave_of p v c)) ≡ false → has_come n t c ≡ false → held_at p v w (one n) t c ≡ 0
+holds_none p v n t w c h left come = kept_law p v w n t (c ∷ []) (numbers p v c) h (of_one p v c) ∙ nothing (arrived n t c ∙ come)
   where
     nothing : comes_by n t (arrival c) ≡ false → kept_use p v w n t (numbers p v c) ≡ 0
     nothing e = rw (left, e) refl
@@ -102,10 +102,10 @@ lets_go_by p s v n x short away early ends = record {
   surely = λ t l h.
       let c = early t h in
       let before : t < never = omega (arith, l, short) in
-      surely-gone p s v n t c.0 c.1 (holds-none p v n t Presence c.0 before c.2 (away c.0 t c.1 l)) (holds-none p v n t Image c.0 before c.2 (away c.0 t c.1 l));
+      surely-gone p s v n t c.0 c.1 (holds_none p v n t Presence c.0 before c.2 (away c.0 t c.1 l)) (holds_none p v n t Image c.0 before c.2 (away c.0 t c.1 l));
   ends = λ c t end l h stands.
       let before : t < never = omega (arith, l, short) in
-      let none = λ (w : Weight). holds-none p v n t w c before (ends c t end h) (away c t (end_is_choice (s (vm v)) c end) l) in
+      let none = λ (w : Weight). holds_none p v n t w c before (ends c t end h) (away c t (end_is_choice (s (vm v)) c end) l) in
       elim stands [ inl a ↦ omega (arith, a, none Presence) | inr b ↦ omega (arith, b, none Image) ];
 }
 

@@ -1,9 +1,9 @@
 -- How long a machine stays that runs, and where it is until then.
-use Rattle.std.proofs.Common.{◌≡◌, ◌≢◌, ℕ, ◌+◌, ◌<◌, ◌≤◌, Bool, true, false, ◌&&◌, ◌==◌, nat_lt, cond, Option, Some, None, List, [], ◌∷◌, refl, sym, ap, ◌∙◌, arith}
+use Rattle.std.proofs.Common.{◌≡◌, ◌≢◌, ℕ, ◌+◌, ◌<◌, ◌≤◌, Bool, true, false, ◌&&◌, ◌==◌, nat_lt, cond, max, unwrap_or, Option, Some, None, List, [], ◌∷◌, refl, sym, ap, ◌∙◌, arith}
 use Rattle.std.specs.List.{filter}
 use Rattle.std.proofs.lemmas.Bool.{ne_eqb}
 use Rattle.std.proofs.lemmas.Bool.Decides.{Decides-eqb, nat_tests}
-use Rattle.sums.specs.Least.{least}
+use Rattle.sums.specs.Least.{least, lowest}
 use Rattle.cluster.specs.declared.choices.Choice.{Choice}
 use Rattle.cluster.specs.declared.choices.Choice.TheVariants.{Act}
 use Rattle.cluster.specs.declared.choices.Place.TheVariants.{At}
@@ -29,7 +29,7 @@ use Rattle.standing.specs.declared.numbers.Standing.{Standing}
 use Rattle.standing.specs.Standings.{IsStanding, kept_use, leave_of, never}
 use Rattle.standing.proofs.Public.{present_law}
 use Rattle.constraint_rules.specs.declared.stays.Leaves.{Leaves}
-use Rattle.constraint_rules.specs.Stays.{AreLeaves}
+use Rattle.constraint_rules.specs.Stays.{AreLeaves, StandsWithin}
 
 -- ---- the kind of the action to another node
 
@@ -80,6 +80,22 @@ all_stay (c ∷ cs) = ap (λ xs. c ∷ xs) (all_stay cs)
 -- one that may stay has not come elsewhere
 pub idle_standing : (p : Instance) (v : ℕ) (d : DomainView) (k : Standing) → d.idle ≡ true → k.leave ≡ least (leave_of p v) (choices d) → k.come ≡ None → IsStanding p v (choices d) k
 idle_standing p v d k idle leave come = record { leave = leave; come = λ n t. rw (come, idle) refl }
+
+-- nor is told too short how long it stays
+pub idle_stands : (p : Instance) (v : ℕ) (d : DomainView) (k : Standing) → d.idle ≡ true → least (leave_of p v) (choices d) ≤ k.leave → k.come ≡ None → StandsWithin p v (choices d) k
+idle_stands p v d k idle leave come = record { leave = leave; come = λ n t. rw (come, idle) refl }
+
+pub stands_within : (p : Instance) (v : ℕ) (cs : List Choice) (k : Standing) → IsStanding p v cs k → StandsWithin p v cs k
+stands_within p v cs k is = record { leave = rw is.leave (omega arith); come = is.come }
+
+-- the least of what is raised is no less than the least
+raised : (f : Choice → ℕ) (a : ℕ) (cs : List Choice) → least f cs ≤ least (λ c. max a (f c)) cs
+raised f a [] = omega arith
+raised f a (c ∷ []) = omega arith
+raised f a (c ∷ d ∷ cs) = let rest = raised f a (d ∷ cs) in omega (arith, rest)
+
+pub least_raised : (f : Choice → ℕ) (a : ℕ) (cs : List Choice) (found : Option ℕ) → found ≡ lowest (λ c. max a (f c)) (filter (stays None) cs) → least f cs ≤ unwrap_or found 0
+least_raised f a cs found is = rw (is, all_stay cs) (raised f a cs)
 
 some-choice : (d : DomainView) → d.idle ≡ true → choices d ≡ [] → ⊥
 some-choice d idle e = let some = rw idle at e in cc

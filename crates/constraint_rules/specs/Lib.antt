@@ -3,7 +3,9 @@ pub mod Watches
 pub mod Covers
 -- what the code says beside it
 pub mod Marking
+pub mod Allowed
 pub mod Apart
+pub mod Longest
 pub mod Stays
 pub mod Amounts
 pub mod Shutdowns

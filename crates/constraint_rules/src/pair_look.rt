@@ -1,4 +1,4 @@
-//! A look at a constraint that tells quickly whether machines keep apart, and where two do not.
+//! A look at a constraint that tells quickly whether it is kept, and where two machines are not kept apart.
 ghost use Rattle.std.specs.Prelude.{◌≡◌, ◌<◌, ◌≤◌, IfSome, IsTrue, length};
 ghost use Rattle.slices.specs.Elements.{machine_count, node_count, vm};
 ghost use Rattle.domains.specs.Choices.{choices};
@@ -9,7 +9,7 @@ ghost use Rattle.relax.specs.Areas.{IsSized};
 ghost use Rattle.closing.specs.Kinds.{constraint_watch};
 ghost use Rattle.closing.specs.Looks.{IsLook, broken_at};
 
-use crate::clear::{Doubt, Seen, never_meet};
+use crate::clear::{Doubt, Seen, look_over};
 use crate::pairs::is_pair;
 use crate::posts::is_hosted;
 use catalogue::problem::Problem;
@@ -137,7 +137,7 @@ pub fn look_quickly(p: &Problem, g: &Region, c: u32) -> Look
     requires constraint { c < length p.now.given.constraints }
     ensures { IsLook (constraint_watch p.now.given c) p.now.given (sets g.now) result }
 {
-    match never_meet(p, g, &p.constraints()[c as usize]) {
+    match look_over(p, g, &p.constraints()[c as usize]) {
         Seen::Clear => Look::Clean,
         Seen::Doubtful(d) => look_at_doubt(p, g, c, d),
         Seen::Unknown => look_at_constraint(p, g, c),

@@ -228,8 +228,8 @@ fn named_on(
     }
 }
 
-// where a machine is likely to be under a choice
-fn likely_node(p: &Problem, v: VmId, c: Choice) -> Option<NodeId>
+/// Where a machine is likely to be under a choice.
+pub fn likely_node(p: &Problem, v: VmId, c: Choice) -> Option<NodeId>
     requires { v.0 < machine_count p.now.given }
 {
     match c {

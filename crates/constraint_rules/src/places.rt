@@ -9,10 +9,10 @@ ghost use Rattle.reasons.specs.Sure.{sure};
 ghost use Rattle.relax.specs.Areas.{IsSized};
 ghost use Rattle.closing.specs.Kinds.{HasPlace, IsNeeded};
 
-use crate::pairs::has;
+use crate::pairs::{has, likely_node};
 use catalogue::constraint::Constraint;
 use catalogue::problem::Problem;
-use cluster::choices::Instant;
+use cluster::choices::{Choice, Instant};
 use cluster::ids::{Element, NodeId, VmId};
 use domains::view::{Lens, View};
 use relax::elements::{is_place, is_unusable};
@@ -71,6 +71,45 @@ fn place_of(
     None
 }
 
+// where a machine that is set to a choice is likely to be, where it is there and the constraint lets it not be
+fn likely_place(
+    p: &Problem,
+    view: &View,
+    constraint: &Constraint,
+    v: VmId,
+    c: Choice,
+    t: Instant,
+) -> Option<NodeId>
+    requires region { IsSized p.now.given view.now.region.now }
+    requires machine { v.0 < machine_count p.now.given }
+    ensures { IfSome result (λ n. (n.0 < node_count p.now.given) × IsPlace p.now.given (sure p.now.given (seen view.now.region.now view.now.lens) t) constraint.now v.0 n.0) }
+{
+    let n = likely_node(p, v, c)?;
+    if n.0 as usize >= p.cluster().nodes().len() || !is_place(p, view, constraint, v, n, t) {
+        return None;
+    }
+    Some(n)
+}
+
+// a node on which a machine is that is set to a choice, where the constraint lets it not be
+fn place_set(
+    p: &Problem,
+    view: &View,
+    constraint: &Constraint,
+    v: VmId,
+    c: Choice,
+    t: Instant,
+) -> Option<NodeId>
+    requires region { IsSized p.now.given view.now.region.now }
+    requires machine { v.0 < machine_count p.now.given }
+    ensures { IfSome result (λ n. (n.0 < node_count p.now.given) × IsPlace p.now.given (sure p.now.given (seen view.now.region.now view.now.lens) t) constraint.now v.0 n.0) }
+{
+    match likely_place(p, view, constraint, v, c, t) {
+        Some(n) => Some(n),
+        None => place_of(p, view, constraint, v, t),
+    }
+}
+
 /// A machine and a node on which it surely is, where the constraint lets it not be. The machine that is
 /// set to a choice is tried first.
 pub fn place_on(
@@ -84,9 +123,9 @@ pub fn place_on(
     ensures some { IfSome result (λ x. (x.0.0 < machine_count p.now.given) × (x.1.0 < node_count p.now.given) × IsPlace p.now.given (sure p.now.given (seen view.now.region.now view.now.lens) t) constraint.now x.0.0 x.1.0) }
 {
     let machines = p.cluster().machines().len();
-    if let Lens::Set(Element::Vm(v), _) = view.lens {
+    if let Lens::Set(Element::Vm(v), c) = view.lens {
         if (v.0 as usize) < machines {
-            if let Some(n) = place_of(p, view, constraint, v, t) {
+            if let Some(n) = place_set(p, view, constraint, v, c, t) {
                 return Some((v, n));
             }
         }

@@ -5,16 +5,16 @@ ghost use Rattle.slices.specs.Stages.{one};
 ghost use Rattle.domains.specs.Sets.{sets};
 ghost use Rattle.relax.specs.Areas.{IsSized, hosted_in};
 ghost use Rattle.domains.specs.Choices.{choices};
-ghost use Rattle.standing.specs.Standings.{IsStanding, comes_by};
-ghost use Rattle.constraint_rules.specs.Apart.{HasPosts, IsAt, KeepsOff};
+ghost use Rattle.standing.specs.Standings.{comes_by};
+ghost use Rattle.constraint_rules.specs.Apart.{HasPosts, IsAt};
+ghost use Rattle.constraint_rules.specs.Stays.{StandsWithin};
 
 use crate::nodes::host;
-use crate::stays::leave;
+use crate::stays::leave_or_later;
 use catalogue::problem::Problem;
-use cluster::choices::{Instant, Place};
+use cluster::choices::Instant;
 use cluster::ids::{Element, NodeId, VmId};
 use domains::domain::Domain;
-use domains::parts::{Change, Part, Side};
 use domains::region::Region;
 use standing::numbers::{Arrival, Standing, standing_of};
 
@@ -33,8 +33,8 @@ pub struct Posts {
     pub come: Option<Post>,
 }
 
-// the last instant before one, or the horizon
-fn last_before(p: &Problem, end: u64) -> Option<Instant>
+/// The last instant before one, or the horizon.
+pub fn last_before(p: &Problem, end: u64) -> Option<Instant>
     ensures none { IfNone result (end ≡ 0) }
     ensures some { IfSome result (λ l. (t : ℕ) → t ≤ p.now.given.horizon → t < end → t ≤ l) }
 {
@@ -75,15 +75,15 @@ fn come_post(p: &Problem, come: Option<Arrival>) -> Option<Post>
     }
 }
 
-// where a machine surely stands; one that may stay has not come elsewhere
-#[tactic(auto, using(crate::proofs::StayLemmas::idle_standing))]
+// where a machine surely stands, and for how long at most; one that may stay has not come elsewhere
+#[tactic(auto, using(crate::proofs::StayLemmas::idle_stands, crate::proofs::StayLemmas::stands_within))]
 fn stand(p: &Problem, v: VmId, domain: &Domain) -> Standing
     requires { v.0 < machine_count p.now.given }
-    ensures { IsStanding p.now.given v.0 (choices domain.now) result }
+    ensures { StandsWithin p.now.given v.0 (choices domain.now) result }
 {
     if domain.idle() {
         Standing {
-            leave: leave(p, v, domain),
+            leave: leave_or_later(p, v, domain),
             come: None,
         }
     } else {
@@ -114,20 +114,4 @@ pub fn is_hosted(p: &Problem, v: VmId, n: NodeId) -> bool
         None => false,
         Some(h) => h.0 == n.0,
     }
-}
-
-/// Whether a machine has another host than the node of a post, and starts there under no choice while it lasts.
-pub fn keeps_off(p: &Problem, g: &Region, w: VmId, post: Post) -> bool
-    requires region { IsSized p.now.given g.now }
-    requires machine { w.0 < machine_count p.now.given }
-    ensures { IsTrue result → KeepsOff p.now.given w.0 (sets g.now (Element.Vm w)) (Some post) }
-{
-    if is_hosted(p, w, post.node) {
-        return false;
-    }
-    g.leaves_none(Change {
-        element: Element::Vm(w),
-        part: Part::Upto(Place::At(post.node), post.last),
-        side: Side::Inside,
-    })
 }

@@ -5,7 +5,6 @@ ghost use Rattle.cluster.specs.declared.choices.Choice.{Choice as AnyChoice};
 ghost use Rattle.slices.specs.Elements.{machine_count, node_count};
 ghost use Rattle.domains.specs.Choices.{choices};
 ghost use Rattle.domains.specs.Sets.{sets};
-ghost use Rattle.reasons.specs.Closed.{IsEnd};
 ghost use Rattle.relax.specs.Areas.{IsSized};
 ghost use Rattle.standing.specs.Standings.{has_come, leave_of};
 ghost use Rattle.closing.specs.Kinds.{usable_watch};
@@ -13,6 +12,7 @@ ghost use Rattle.closing.specs.Looks.{IsClean};
 ghost use Rattle.constraint_rules.specs.Shutdowns.{IsShutdown, LetsGo};
 
 use crate::posts::is_hosted;
+use crate::stays::leaves_by;
 use catalogue::problem::Problem;
 use cluster::choices::{Choice, Instant, Place};
 use cluster::ids::{Element, NodeId, VmId};
@@ -66,32 +66,7 @@ fn leave_at(p: &Problem, v: VmId, row: Row, start: Instant) -> u64
     })
 }
 
-// whether a machine leaves its host by an instant under both ends of a row
-fn row_leaves_by(p: &Problem, v: VmId, row: Row, end: Instant) -> bool
-    requires { v.0 < machine_count p.now.given }
-    ensures { IsTrue result → (leave_of p.now.given v.0 (AnyChoice.Act row.place row.lo) ≤ end) × (leave_of p.now.given v.0 (AnyChoice.Act row.place row.hi) ≤ end) }
-{
-    leave_at(p, v, row, row.lo) <= u64::from(end) && leave_at(p, v, row, row.hi) <= u64::from(end)
-}
-
-// whether it does under each end of its choices
-fn leaves_by(p: &Problem, v: VmId, domain: &Domain, end: Instant) -> bool
-    requires { v.0 < machine_count p.now.given }
-    ensures { IsTrue result → (c : AnyChoice) → IsEnd (choices domain.now) c → leave_of p.now.given v.0 c ≤ end }
-{
-    let rows = domain.rows();
-    if domain.idle() {
-        return false;
-    }
-    for i in 0..rows.len() {
-        if !row_leaves_by(p, v, rows[i], end) {
-            return false;
-        }
-    }
-    true
-}
-
-// whether it does under one of its choices
+// whether a machine leaves its host by an instant under one of its choices
 fn may_leave_by(p: &Problem, v: VmId, domain: &Domain, end: Instant) -> bool
     requires { v.0 < machine_count p.now.given }
     ensures { IsTrue result → (c : AnyChoice) × Contains (choices domain.now) c × (leave_of p.now.given v.0 c ≤ end) }

@@ -1,12 +1,15 @@
 //! How long a machine stays on its host, told without the kind of the action to each node.
-ghost use Rattle.std.specs.Prelude.{◌≡◌, ◌≢◌, ◌<◌, ◌≤◌, IfSome, IsTrue, false, true};
+ghost use Rattle.std.specs.Prelude.{◌≡◌, ◌≢◌, ℕ, ◌<◌, ◌≤◌, IfNone, IfSome, IsTrue, false, max, true};
 ghost use Rattle.sums.specs.Least.{least};
+ghost use Rattle.cluster.specs.declared.choices.Choice.{Choice as AnyChoice};
 ghost use Rattle.catalogue.specs.Instance.{IsElement};
 ghost use Rattle.slices.specs.Elements.{state_of, vm};
+ghost use Rattle.slices.specs.Holds.{runs_elsewhere};
 ghost use Rattle.slices.specs.Stages.{one};
 ghost use Rattle.domains.specs.Choices.{choices};
 ghost use Rattle.domains.specs.Sets.{RegionView, sets};
 ghost use Rattle.domains.specs.Views.{seen};
+ghost use Rattle.reasons.specs.Closed.{IsEnd};
 ghost use Rattle.reasons.specs.Sure.{sure};
 ghost use Rattle.relax.specs.Areas.{IsSized};
 ghost use Rattle.standing.specs.Standings.{leave_of};
@@ -19,6 +22,7 @@ use cluster::kinds::Kind;
 use cluster::states::State;
 use domains::domain::Domain;
 use domains::measure::{Measure, lowest};
+use domains::parts::Row;
 use domains::view::{Lens, View};
 use near::over::narrowed;
 use relax::area::Area;
@@ -33,10 +37,11 @@ pub struct Leaves {
     pub lasts: u64,
 }
 
-/// The node on which a machine runs at present.
+/// The node on which a machine runs at present, if it runs.
 pub fn runs_on(p: &Problem, v: VmId) -> Option<NodeId>
     requires { IsElement p.now.given (Element.Vm v) }
-    ensures { IfSome result (λ h. state_of p.now.given v.0 ≡ State.Running h) }
+    ensures none { IfNone result ((n : ℕ) → runs_elsewhere (state_of p.now.given v.0) n ≡ false) }
+    ensures some { IfSome result (λ h. state_of p.now.given v.0 ≡ State.Running h) }
 {
     match p.cluster().machines()[v.0 as usize].state {
         State::Running(h) => Some(h),
@@ -134,6 +139,104 @@ impl Measure for LeavingBy<'_> {
     fn floor(&self) -> u64 {
         0
     }
+}
+
+/// The same, raised to what an action keeps that starts at once. No action that leaves so keeps the host shorter, and
+/// a search for the least stops there.
+#[derive(Drop)]
+struct LeavingLate<'a>(LeavingBy<'a>);
+
+impl Measure for LeavingLate<'_> {
+    ghost use Rattle.standing.specs.Ends.{leave_at_ends};
+    ghost use Rattle.std.proofs.Common.{arith};
+
+    ghost ready = { λ m. IsElement m.0.leaving.problem.now.given (vm m.0.leaving.machine.0) × AreLeaves m.0.leaving.problem.now.given m.0.leaving.machine.0 m.0.leaves };
+
+    ghost value_of = { λ m c. max m.0.leaves.lasts (leave_of m.0.leaving.problem.now.given m.0.leaving.machine.0 c) };
+
+    ghost floor_of = { λ m. m.0.leaves.lasts };
+
+    ghost least_at_ends = { λ m place lo s hi l u. Prim.omega (arith, leave_at_ends m.0.leaving.problem.now.given m.0.leaving.machine.0 place lo s hi l u) };
+
+    ghost above_floor = { λ m c. Prim.omega arith };
+
+    fn value(&self, c: Choice) -> u64 {
+        self.0.value(c).max(self.0.leaves.lasts)
+    }
+
+    fn floor(&self) -> u64 {
+        self.0.leaves.lasts
+    }
+}
+
+/// Until when a machine may surely be on its host: as long as each of its choices keeps it there, or longer.
+pub fn leave_or_later(p: &Problem, v: VmId, domain: &Domain) -> u64
+    requires { IsElement p.now.given (Element.Vm v) }
+    ensures { least (leave_of p.now.given v.0) (choices domain.now) ≤ result }
+{
+    match leaves_of(p, v) {
+        None => standing_of(p, v, domain).leave,
+        Some(leaves) => {
+            let leaving = Leaving {
+                problem: p,
+                machine: v,
+            };
+            let late = LeavingLate(LeavingBy { leaving, leaves });
+            lowest(domain, None, &late).unwrap_or(0)
+        }
+    }
+}
+
+// until when a choice keeps the host, told by how its machine leaves where that is known
+fn leave_under(p: &Problem, v: VmId, leaves: Option<Leaves>, c: Choice) -> u64
+    requires machine { IsElement p.now.given (Element.Vm v) }
+    requires leaves { IfSome leaves (AreLeaves p.now.given v.0) }
+    ensures { result ≡ leave_of p.now.given v.0 c }
+{
+    let leaving = Leaving {
+        problem: p,
+        machine: v,
+    };
+    match leaves {
+        None => leaving.value(c),
+        Some(leaves) => LeavingBy { leaving, leaves }.value(c),
+    }
+}
+
+// whether a machine leaves its host by an instant under both ends of a row
+fn row_leaves_by(p: &Problem, v: VmId, leaves: Option<Leaves>, row: Row, end: Instant) -> bool
+    requires machine { IsElement p.now.given (Element.Vm v) }
+    requires leaves { IfSome leaves (AreLeaves p.now.given v.0) }
+    ensures { IsTrue result → (leave_of p.now.given v.0 (AnyChoice.Act row.place row.lo) ≤ end) × (leave_of p.now.given v.0 (AnyChoice.Act row.place row.hi) ≤ end) }
+{
+    let first = Choice::Act {
+        place: row.place,
+        start: row.lo,
+    };
+    let last = Choice::Act {
+        place: row.place,
+        start: row.hi,
+    };
+    leave_under(p, v, leaves, first) <= u64::from(end)
+        && leave_under(p, v, leaves, last) <= u64::from(end)
+}
+
+/// Whether a machine leaves its host by an instant under each end of its choices.
+pub fn leaves_by(p: &Problem, v: VmId, domain: &Domain, end: Instant) -> bool
+    requires { IsElement p.now.given (Element.Vm v) }
+    ensures { IsTrue result → (c : AnyChoice) → IsEnd (choices domain.now) c → leave_of p.now.given v.0 c ≤ end }
+{
+    let rows = domain.rows();
+    if domain.idle() {
+        return false;
+    }
+    let leaves = leaves_of(p, v);
+    for i in 0..rows.len() {
+        if !row_leaves_by(p, v, leaves, rows[i], end) {
+            return false;
+        }
+    }
+    true
 }
 
 /// Until when each choice of a machine keeps its host.

@@ -1,5 +1,5 @@
 //! The widest part of an element's choices that a reason is seen to take away.
-ghost use Rattle.std.specs.Prelude.{◌≡◌, ◌⊎◌, ◌≤◌, [], ◌∷◌, filter, IfSome, None};
+ghost use Rattle.std.specs.Prelude.{◌≡◌, ◌⊎◌, ◌<◌, ◌≤◌, [], ◌∷◌, filter, IfSome, None};
 ghost use Rattle.catalogue.specs.Instance.{IsElement};
 ghost use Rattle.cluster.specs.declared.choices.Choice.{Choice as AnyChoice};
 ghost use Rattle.domains.specs.Choices.{choices};
@@ -18,6 +18,7 @@ use domains::domain::Domain;
 use domains::parts::{Part, Row};
 use domains::region::Region;
 use reasons::reason::Reason;
+use relax::measures::end;
 
 // the row that an end of the choices is of: its first start, or its last
 fn row_of_end(d: &Domain, place: Place, start: Instant) -> Row
@@ -60,6 +61,34 @@ fn at_instant(reason: Reason, t: Instant) -> Reason
     }
 }
 
+// whether a reason is of an instant, or of none
+fn is_at(reason: Reason, t: Instant) -> bool {
+    match reason {
+        Reason::Empty(_) | Reason::Bound => true,
+        Reason::Load(at, ..)
+        | Reason::Pair(_, at, ..)
+        | Reason::Place(_, at, ..)
+        | Reason::Group(_, at)
+        | Reason::SetLoad(_, at)
+        | Reason::Power(_, at)
+        | Reason::Usable(at, ..)
+        | Reason::Hall(_, at, _) => at == t,
+    }
+}
+
+// by how much to go on where this much is left: by a step, or by half of what is left where that is less than the step
+fn stride(step: u32, left: u32) -> u32
+    requires { 0 < left }
+    ensures some { 0 < result }
+    ensures within { result ≤ left }
+{
+    if step == 0 || step > left {
+        left.div_ceil(2)
+    } else {
+        step
+    }
+}
+
 // a reason that refutes the region inside a part: the one handed in, at an instant or at its own
 fn refuting<K: Keeper, W: Watcher<K>>(
     w: &W,
@@ -80,6 +109,9 @@ fn refuting<K: Keeper, W: Watcher<K>>(
     let moved = at_instant(reason, t);
     if w.refutes(k, p, g, e, part, &moved) {
         return Some(moved);
+    }
+    if is_at(reason, t) {
+        return None;
     }
     if w.refutes(k, p, g, e, part, &reason) {
         return Some(reason);
@@ -109,10 +141,11 @@ fn from_the_first<K: Keeper, W: Watcher<K>>(
     let mut best = row.lo;
     let mut found = reason;
     let mut top = row.hi;
-    let mut step = 1u32;
+    // whatever starts by the instant is there at the instant
+    let mut step = t.min(row.hi).saturating_sub(row.lo).max(1);
+    let mut next = 1u32;
     'steps: while best < top {
-        let half = (top - best).div_ceil(2);
-        let middle = best + step.max(1).min(half);
+        let middle = best + stride(step, top - best);
         match refuting(
             w,
             k,
@@ -126,12 +159,26 @@ fn from_the_first<K: Keeper, W: Watcher<K>>(
             Some(r) => {
                 best = middle;
                 found = r;
-                step = step.saturating_mul(2);
+                step = next;
+                next = next.saturating_mul(2);
             }
             None => top = middle - 1,
         }
     }
     (Part::Upto(place, best), found)
+}
+
+// the first start of a row with which an element's action ends past an instant
+fn first_past(p: &Problem, e: Element, row: Row, t: Instant) -> Instant
+    requires { IsElement p.now.given e }
+{
+    let last = Choice::Act {
+        place: row.place,
+        start: row.hi,
+    };
+    let duration = end(p, e, last).saturating_sub(u64::from(row.hi));
+    let first = (u64::from(t) + 1).saturating_sub(duration);
+    first.clamp(u64::from(row.lo), u64::from(row.hi.max(row.lo))) as Instant
 }
 
 // as many of the starts up to the last one as the reason takes away, from the first one of the row on, sought in
@@ -156,10 +203,11 @@ fn up_to_the_last<K: Keeper, W: Watcher<K>>(
     let mut best = row.hi;
     let mut found = reason;
     let mut low = row.lo;
-    let mut step = 1u32;
+    // whatever has not ended by the instant is there at the instant
+    let mut step = row.hi.saturating_sub(first_past(p, e, row, t)).max(1);
+    let mut next = 1u32;
     'steps: while low < best {
-        let half = (best - low).div_ceil(2);
-        let middle = best - step.max(1).min(half);
+        let middle = best - stride(step, best - low);
         match refuting(
             w,
             k,
@@ -173,7 +221,8 @@ fn up_to_the_last<K: Keeper, W: Watcher<K>>(
             Some(r) => {
                 best = middle;
                 found = r;
-                step = step.saturating_mul(2);
+                step = next;
+                next = next.saturating_mul(2);
             }
             None => low = middle + 1,
         }

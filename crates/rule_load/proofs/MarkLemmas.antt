@@ -1,5 +1,7 @@
 -- Marks.
-use Rattle.std.proofs.Common.{◌≡◌, ◌≢◌, ℕ, ◌+◌, ◌<◌, Bool, true, false, List, length, refl, sym, subst, ◌∙◌, arith}
+use Rattle.std.proofs.Common.{◌≡◌, ◌≢◌, ◌⊎◌, inl, inr, ℕ, ◌+◌, ◌<◌, Bool, true, false, List, length, refl, sym, subst, ◌∙◌, arith}
+use Rattle.std.proofs.lemmas.Bool.{false≢true}
+use Rattle.std.specs.List.{Contains}
 use Rattle.cluster.specs.declared.choices.Choice.{Choice}
 use Rattle.cluster.specs.declared.ids.Element.{Element}
 use Rattle.cluster.specs.declared.ids.Element.TheVariants.{Vm, Node as TheNode}
@@ -14,11 +16,11 @@ use Rattle.closing.specs.Kinds.{load_scope}
 use Rattle.rule_frame.specs.Changes.{IsDisturbed, IsStill}
 use Rattle.rule_frame.specs.Levels.{Levels}
 use Rattle.standing.specs.declared.numbers.Standing.{Standing}
-use Rattle.standing.specs.Standings.{IsStanding, comes_by, never}
-use Rattle.rule_load.specs.Marking.{AreSpared, StaysAsBefore}
+use Rattle.standing.specs.Standings.{IsStanding, comes_by, has_come, never}
+use Rattle.rule_load.specs.Marking.{AreSpared, CameBefore, KeepsHost}
 use Rattle.rule_load.specs.Quiet.{one_at}
 use Rattle.rule_load.specs.Watched.{watch_at}
-use Rattle.rule_load.proofs.StayLemmas.{stays_still}
+use Rattle.rule_load.proofs.StayLemmas.{host_still}
 use Rattle.rule_load.proofs.StillLemmas.{machine_still, node_still}
 
 pub weaker : (P Q : ℕ → Type 0) (m n : Levels) → ((k : ℕ) → P k → Q k) → AreSpared P m n → AreSpared Q m n
@@ -34,23 +36,29 @@ both P Q m n o first second = record {
       (sooner.0, (sooner.1, later.1));
 }
 
--- where the host of a machine is marked, and the node that all its choices go to
+-- where the host of a machine is marked unless it keeps that, and the node that all its choices go to unless they did before
 pub machine_spared : (p : Instance) (v : VmId) (old now : List Choice) (k : Standing) (m n o : Levels) → p.horizon < never → AreFewer now old → IsStanding p v.0 now k →
-    AreSpared (λ i. hosted_in (state_of p v.0) (one i) ≡ false) m n → AreSpared (λ i. (t : ℕ) → comes_by i t k.come ≡ false) n o → AreSpared (λ i. IsStill p (load_scope (one i)) (Vm v) old now) m o
+    AreSpared (λ i. (hosted_in (state_of p v.0) (one i) ≡ false) ⊎ KeepsHost p v.0 old now k.leave) m n → AreSpared (λ i. ((t : ℕ) → comes_by i t k.come ≡ false) ⊎ CameBefore old k.come) n o → AreSpared (λ i. IsStill p (load_scope (one i)) (Vm v) old now) m o
 machine_spared p v old now k m n o short fewer is host come =
-    weaker (λ i. (hosted_in (state_of p v.0) (one i) ≡ false) × ((t : ℕ) → comes_by i t k.come ≡ false)) (λ i. IsStill p (load_scope (one i)) (Vm v) old now) m o
-    (λ i x. machine_still p v.0 i old now k short fewer is x.0 x.1)
-    (both (λ i. hosted_in (state_of p v.0) (one i) ≡ false) (λ i. (t : ℕ) → comes_by i t k.come ≡ false) m n o host come)
-
--- where the node that all its choices go to is marked alone, and nothing has changed at its host
-pub stays_spared : (p : Instance) (v : VmId) (old now : List Choice) (k : Standing) (m n : Levels) → p.horizon < never → AreFewer now old → IsStanding p v.0 now k → StaysAsBefore p v.0 old now k.leave →
-    AreSpared (λ i. (t : ℕ) → comes_by i t k.come ≡ false) m n → AreSpared (λ i. IsStill p (load_scope (one i)) (Vm v) old now) m n
-stays_spared p v old now k m n short fewer is stays come =
-    weaker (λ i. (t : ℕ) → comes_by i t k.come ≡ false) (λ i. IsStill p (load_scope (one i)) (Vm v) old now) m n (λ i x. by i x (hosted_in (state_of p v.0) (one i)) refl) come
+    weaker (λ i. ((hosted_in (state_of p v.0) (one i) ≡ false) ⊎ KeepsHost p v.0 old now k.leave) × (((t : ℕ) → comes_by i t k.come ≡ false) ⊎ CameBefore old k.come)) (λ i. IsStill p (load_scope (one i)) (Vm v) old now) m o
+    (λ i x. still i x.0 x.1)
+    (both (λ i. (hosted_in (state_of p v.0) (one i) ≡ false) ⊎ KeepsHost p v.0 old now k.leave) (λ i. ((t : ℕ) → comes_by i t k.come ≡ false) ⊎ CameBefore old k.come) m n o host come)
   where
-    by : (i : ℕ) → ((t : ℕ) → comes_by i t k.come ≡ false) → (b : Bool) → hosted_in (state_of p v.0) (one i) ≡ b → IsStill p (load_scope (one i)) (Vm v) old now
-    by i x true e = stays_still p v.0 i old now k short fewer is stays (stays.away i e)
-    by i x false e = machine_still p v.0 i old now k short fewer is e x
+    came : (i : ℕ) → ((t : ℕ) → comes_by i t k.come ≡ false) ⊎ CameBefore old k.come → (t : ℕ) → comes_by i t k.come ≡ true → (c : Choice) → Contains old c → has_come i t c ≡ true
+    came i (inl none) t e c h = absurd (false≢true (sym (none t) ∙ e))
+    came i (inr before) t e c h = before i t e c h
+
+    still : (i : ℕ) → (hosted_in (state_of p v.0) (one i) ≡ false) ⊎ KeepsHost p v.0 old now k.leave → ((t : ℕ) → comes_by i t k.come ≡ false) ⊎ CameBefore old k.come → IsStill p (load_scope (one i)) (Vm v) old now
+    still i (inl off) come = machine_still p v.0 i old now k short fewer is off (came i come)
+    still i (inr keeps) come = by (hosted_in (state_of p v.0) (one i)) refl
+      where
+        by : (b : Bool) → hosted_in (state_of p v.0) (one i) ≡ b → IsStill p (load_scope (one i)) (Vm v) old now
+        by true e = host_still p v.0 i old now k.leave short fewer is.leave keeps (keeps.away i e)
+        by false e = machine_still p v.0 i old now k short fewer is e (came i come)
+
+-- where nothing is marked
+pub all_spared : (P : ℕ → Type 0) (m : Levels) → ((i : ℕ) → P i) → AreSpared P m m
+all_spared P m each = record { older = refl; count = refl; kept = λ k h e. (e, each k) }
 
 -- where a node is marked
 pub node_spared : (p : Instance) (x : NodeId) (old now : List Choice) (m n : Levels) → AreSpared (λ i. i ≢ x.0) m n → AreSpared (λ i. IsStill p (load_scope (one i)) (TheNode x) old now) m n

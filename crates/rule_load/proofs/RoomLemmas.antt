@@ -125,6 +125,16 @@ both : (a b : Bool) → (a && b) ≡ true → (a ≡ true) × (b ≡ true)
 both true b e = (refl, e)
 both false b e = absurd (false≢true e)
 
+-- who is steady in each period may be used at each instant
+pub usable_when_steady : (p : Instance) (s : Sets) (n : ℕ) → ((x : Period) → is_steady p s x n ≡ true) → (t : ℕ) → (sure p s t).usable n ≡ true
+unfolding sure
+usable_when_steady p s n steady t = (both (may (usable_at p n t) (s (node n))) (surely (usable_at p n t) (s (node n)) && surely (usable_at p n t) (s (node n))) (steady (record { from = t; to = t }))).0
+
+pub steady_fits : (p : Instance) (s : Sets) (r n : ℕ) (x : Period) (used free : ℕ) → ((x : Period) → is_steady p s x n ≡ true) → HasRoom p s r (one n) x free → used ≤ free → NodesFit p s r (one n) x used
+steady_fits p s r n x used free steady room fits =
+    let rest = both (surely (usable_at p n x.from) (s (node n))) (surely (usable_at p n x.to) (s (node n))) (both (may (usable_at p n x.from) (s (node n))) (surely (usable_at p n x.from) (s (node n)) && surely (usable_at p n x.to) (s (node n))) (steady x)).1 in
+    usable_fits p s r n x used free rest.0 rest.1 room fits
+
 module _ (p : Instance) (s : Sets) (x : Period) (t : ℕ) (h : IsDuring x t) where
   each-steady : (n : ℕ) (c : Choice) → is_steady p s x n ≡ true → Contains (s (node n)) c → usable_at p n t c ≡ true
   each-steady n c e i =

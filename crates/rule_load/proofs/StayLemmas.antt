@@ -1,56 +1,61 @@
--- A change of a machine that may stay does not weigh on its host, where it surely keeps that as long as before.
-use Rattle.std.proofs.Common.{◌≡◌, inr, ℕ, ◌<◌, ◌≤◌, ◌&&◌, Bool, true, false, nat_lt, cond, Option, Some, None, min, unwrap_or, List, [], ◌∷◌, refl, sym, ap, subst, ◌∙◌, arith}
-use Rattle.std.proofs.lemmas.Bool.{false≢true}
-use Rattle.std.proofs.lemmas.Bool.Decides.{nat_tests}
+-- A change of a machine does not weigh on its host, where it surely keeps that as long as before; and where all its choices came before.
+use Rattle.std.proofs.Common.{◌≡◌, ◌≢◌, ◌⊎◌, inl, inr, ℕ, zero, suc, ◌+◌, ◌-◌, ◌<◌, ◌≤◌, ◌&&◌, Bool, true, false, nat_le, nat_lt, cond, Option, Some, None, min, unwrap_or, List, [], ◌∷◌, refl, sym, ap, subst, ◌∙◌, arith}
+use Rattle.std.proofs.lemmas.Bool.{cases_lt, false≢true}
+use Rattle.std.proofs.lemmas.Bool.Decides.{Decides-eqb, nat_tests}
 use Rattle.std.specs.List.{Contains, filter}
 use Rattle.cluster.specs.declared.choices.Choice.{Choice}
 use Rattle.cluster.specs.declared.choices.Choice.TheVariants.{Idle, Act}
+use Rattle.cluster.specs.declared.choices.Place.{Place}
 use Rattle.cluster.specs.declared.choices.Place.TheVariants.{Nowhere, At}
 use Rattle.cluster.specs.declared.ids.NodeId.{NodeId}
 use Rattle.catalogue.specs.Instance.{Instance}
 use Rattle.sums.specs.Least.{least, lowest}
 use Rattle.slices.specs.declared.slice.Weight.TheVariants.{Amount}
+use Rattle.slices.specs.Actions.{end_of, kind_of}
 use Rattle.slices.specs.Elements.{state_of, vm}
 use Rattle.slices.specs.Snapshots.{held_at}
 use Rattle.slices.specs.Stages.{one}
+use Rattle.slices.proofs.Public.{ends_by_duration}
 use Rattle.domains.specs.declared.parts.Part.TheVariants.{From}
+use Rattle.domains.specs.declared.parts.Row.{Row}
 use Rattle.domains.specs.declared.undo.Lost.{Lost}
-use Rattle.domains.specs.Choices.{DomainView, choices}
+use Rattle.domains.specs.declared.undo.Lost.TheVariants.{Row as LostRow}
+use Rattle.domains.specs.Choices.{DomainView, choices, starts_from}
 use Rattle.domains.specs.Laws.{AreFewer}
 use Rattle.domains.specs.Measures.{lower_option}
 use Rattle.domains.specs.Parts.{in_part}
 use Rattle.domains.specs.Undo.{lost_choices, restored}
-use Rattle.domains.proofs.Public.{contains_filter, lowest_before, surely_each}
-use Rattle.reasons.proofs.Public.{end_is_choice}
+use Rattle.domains.proofs.Public.{contains_filter, least_of_each, lowest_before, restored_is_both, surely_each}
+use Rattle.reasons.specs.Closed.{IsEnd}
 use Rattle.relax.specs.Areas.{goes_in, hosted_in}
 use Rattle.closing.specs.Kinds.{load_scope}
 use Rattle.rule_frame.specs.Changes.{IsMachineLess, IsStill}
-use Rattle.standing.specs.declared.numbers.Standing.{Standing}
-use Rattle.standing.specs.Standings.{IsStanding, base, comes_by, has_come, have_come, leave_of, never}
-use Rattle.standing.proofs.Public.{kept_law}
-use Rattle.rule_load.specs.Marking.{StaysAsBefore}
-use Rattle.rule_load.proofs.StillLemmas.{choice_stands, arrival_of}
+use Rattle.standing.specs.declared.numbers.Arrival.{Arrival}
+use Rattle.standing.specs.Standings.{base, comes_by, gain, has_come, have_come, leave_of, never}
+use Rattle.rule_load.specs.Marking.{CameBefore, KeepsHost}
+use Rattle.rule_load.specs.Measured.{kept_longer}
+use Rattle.rule_load.proofs.StillLemmas.{cases_in, held_parts, last_of, least_above, least_attained}
 
 -- ---- until when the host is kept
 
-some-lowest : (f : Choice → ℕ) (cs : List Choice) (c : Choice) → Contains cs c → (a : ℕ) × (lowest f cs ≡ Some a)
-some-lowest f [] c h = absurd (omega (arith, h.1))
-some-lowest f (x ∷ xs) c h = (_, refl)
+some-lowest : (f : Choice → ℕ) (cs : List Choice) → cs ≢ [] → (a : ℕ) × (lowest f cs ≡ Some a)
+some-lowest f [] some = absurd (some refl)
+some-lowest f (x ∷ xs) some = (_, refl)
 
 before-is : (f : Choice → ℕ) (lost : Lost) (d : DomainView) (a : ℕ) → AreFewer (choices d) (choices (restored lost d)) → lowest f (choices d) ≡ Some a → (o : Option ℕ) → lowest f (lost_choices lost) ≡ o → least f (choices (restored lost d)) ≡ unwrap_or (lower_option (Some a) o) 0
 before-is f lost d a fewer some o lost-is = ap (λ x. unwrap_or x 0) (rw (some, lost-is) at (lowest_before f lost d fewer))
 
 -- nothing was lost
-pub least_was : (f : Choice → ℕ) (lost : Lost) (d : DomainView) (leave : ℕ) → AreFewer (choices d) (choices (restored lost d)) → Contains (choices d) Idle → leave ≡ least f (choices d) → lowest f (lost_choices lost) ≡ None → leave ≡ least f (choices (restored lost d))
-least_was f lost d leave fewer stays is none =
-    let some = some-lowest f (choices d) Idle stays in
+pub least_was : (f : Choice → ℕ) (lost : Lost) (d : DomainView) (leave : ℕ) → AreFewer (choices d) (choices (restored lost d)) → choices d ≢ [] → leave ≡ least f (choices d) → lowest f (lost_choices lost) ≡ None → leave ≡ least f (choices (restored lost d))
+least_was f lost d leave fewer has is none =
+    let some = some-lowest f (choices d) has in
     let now : leave ≡ some.0 = is ∙ ap (λ x. unwrap_or x 0) some.1 in
     now ∙ sym (before-is f lost d some.0 fewer some.1 None none)
 
--- or what was lost keeps it longer
-pub least_was_so : (f : Choice → ℕ) (lost : Lost) (d : DomainView) (leave x : ℕ) → AreFewer (choices d) (choices (restored lost d)) → Contains (choices d) Idle → leave ≡ least f (choices d) → lowest f (lost_choices lost) ≡ Some x → leave < x → leave ≡ least f (choices (restored lost d))
-least_was_so f lost d leave x fewer stays is lost-is longer =
-    let some = some-lowest f (choices d) Idle stays in
+-- or what was lost keeps it as long
+pub least_was_so : (f : Choice → ℕ) (lost : Lost) (d : DomainView) (leave x : ℕ) → AreFewer (choices d) (choices (restored lost d)) → choices d ≢ [] → leave ≡ least f (choices d) → lowest f (lost_choices lost) ≡ Some x → leave ≤ x → leave ≡ least f (choices (restored lost d))
+least_was_so f lost d leave x fewer has is lost-is longer =
+    let some = some-lowest f (choices d) has in
     let now : leave ≡ some.0 = is ∙ ap (λ x. unwrap_or x 0) some.1 in
     let was : least f (choices (restored lost d)) ≡ min some.0 x = before-is f lost d some.0 fewer some.1 (Some x) lost-is in
     omega (arith, now, was, longer)
@@ -71,9 +76,16 @@ none_at cs h n (Act (At m) s) none same there = by (one n m.0) refl
         let held = contains_filter (in_part (From (At h) 0)) cs (Act (At m) s) there inside in
         absurd (let none-there : Contains [] (Act (At m) s) = subst (λ xs. Contains xs (Act (At m) s)) none held in omega (arith, none-there.1))
 
+-- ---- a later start
+
+-- a later start at the same place keeps the host as long
+later-leaves : (p : Instance) (v : ℕ) (q : Place) (s u : ℕ) → s ≤ u → leave_of p v (Act q s) ≤ leave_of p v (Act q u)
+later-leaves p v q s u l =
+    kept_longer (kind_of p (vm v) q) (end_of p (vm v) (Act q s)) (end_of p (vm v) (Act q u)) (omega (arith, ends_by_duration p (vm v) q s, ends_by_duration p (vm v) q u, l))
+
 -- ---- a change
 
-module _ (p : Instance) (v n : ℕ) (old now : List Choice) (k : Standing) (short : p.horizon < never) (fewer : AreFewer now old) (is : IsStanding p v now k) (stays : StaysAsBefore p v old now k.leave) (away : (c : Choice) → Contains now c → goes_in c (one n) ≡ false) where
+module _ (p : Instance) (v n : ℕ) (old now : List Choice) (leave : ℕ) (short : p.horizon < never) (fewer : AreFewer now old) (is : leave ≡ least (leave_of p v) now) (keeps : KeepsHost p v old now leave) (away : (c : Choice) → Contains now c → goes_in c (one n) ≡ false) where
   less : (t : ℕ) (cs ds : List Choice) → ((r : ℕ) → least (held_at p v (Amount r) (one n) t) cs ≤ least (held_at p v (Amount r) (one n) t) ds) → IsMachineLess p (load_scope (one n)) v t cs ds
   less t cs ds le = record {
     held = λ w set i. rw (i.1, i.2) (le i.0);
@@ -81,64 +93,102 @@ module _ (p : Instance) (v n : ℕ) (old now : List Choice) (k : Standing) (shor
     action = λ far x. absurd x;
   }
 
-  not-come : (cs : List Choice) (t : ℕ) → Contains cs Idle → have_come n t cs ≡ false
-  not-come [] t there = refl
-  not-come (c ∷ cs) t there = by (have_come n t (c ∷ cs)) refl
-    where
-      by : (b : Bool) → have_come n t (c ∷ cs) ≡ b → b ≡ false
-      by false e = refl
-      by true e = absurd (false≢true (surely_each (has_come n t) (c ∷ cs) Idle there e))
-
-  was : IsStanding p v old (record { leave = k.leave; come = None })
-  was = record { leave = stays.same; come = λ m t. sym (none m t old (fewer Idle stays.idle)) }
-    where
-      none : (m t : ℕ) (cs : List Choice) → Contains cs Idle → have_come m t cs ≡ false
-      none m t [] there = refl
-      none m t (c ∷ cs) there = by (have_come m t (c ∷ cs)) refl
-        where
-          by : (b : Bool) → have_come m t (c ∷ cs) ≡ b → b ≡ false
-          by false e = refl
-          by true e = absurd (false≢true (surely_each (has_come m t) (c ∷ cs) Idle there e))
-
-  same : (r t : ℕ) → t ≤ p.horizon → least (held_at p v (Amount r) (one n) t) now ≡ least (held_at p v (Amount r) (one n) t) old
-  same r t l =
-      let come : comes_by n t k.come ≡ false = is.come n t ∙ not-come now t stays.idle in
-      kept_law p v (Amount r) n t now k (omega (arith, short, l)) is ∙ rw come refl ∙ sym (kept_law p v (Amount r) n t old (record { leave = k.leave; come = None }) (omega (arith, short, l)) was)
-
-  one-held : (r t : ℕ) (c : Choice) → t ≤ p.horizon → has_come n t c ≡ false → held_at p v (Amount r) (one n) t c ≡ cond (hosted_in (state_of p v) (one n) && nat_lt t (leave_of p v c)) (base p v (Amount r)) 0
-  one-held r t c l off =
-      let come : comes_by n t (arrival_of c) ≡ false = arrives c off in
-      let law = kept_law p v (Amount r) n t (c ∷ []) (record { leave = leave_of p v c; come = arrival_of c }) (omega (arith, short, l)) (choice_stands p v c) in
-      omega (arith, rw come at law)
-    where
-      arrives : (c : Choice) → has_come n t c ≡ false → comes_by n t (arrival_of c) ≡ false
-      arrives Idle e = refl
-      arrives (Act Nowhere s) e = refl
-      arrives (Act (At m) s) e = e
-
-  no-more : (r t : ℕ) (c : Choice) → t ≤ p.horizon → has_come n t c ≡ false → held_at p v (Amount r) (one n) t c ≤ held_at p v (Amount r) (one n) t Idle
-  no-more r t c l off =
-      let idle = one-held r t Idle l refl in
-      let soon : nat_lt t never ≡ true = grind (arith, nat_tests, short, l) in
-      let here = by (hosted_in (state_of p v) (one n)) (nat_lt t (leave_of p v c)) (base p v (Amount r)) in
-      omega (arith, one-held r t c l off, rw soon at idle, here)
-    where
-      by : (a b : Bool) (m : ℕ) → cond (a && b) m 0 ≤ cond (a && true) m 0
-      by true true m = omega arith
-      by true false m = omega arith
-      by false b m = omega arith
-
   off-node : (c : Choice) (t : ℕ) → goes_in c (one n) ≡ false → has_come n t c ≡ false
   off-node Idle t e = refl
   off-node (Act Nowhere s) t e = refl
   off-node (Act (At m) s) t e = rw e refl
 
-  pub stays_still : IsStill p (load_scope (one n)) (vm v) old now
-  stays_still = record {
-    sure = λ t l. less t now old (λ r. omega (arith, same r t l));
-    ends = λ c end t l. inr (
-      Idle,
-      fewer Idle stays.idle,
-      less t (c ∷ []) (Idle ∷ []) (λ r. omega (arith, no-more r t c l (off-node c t (away c (end_is_choice now c end))))),
-    );
+  as-long : (h : Bool) (t a b m k : ℕ) → a ≤ b → cond (h && nat_lt t a) m 0 ≤ cond (h && nat_lt t b) m 0 + k
+  as-long false t a b m k l = omega arith
+  as-long true t a b m k l = by (nat_lt t a) refl
+    where
+      by : (x : Bool) → nat_lt t a ≡ x → cond x m 0 ≤ cond (nat_lt t b) m 0 + k
+      by false e = omega arith
+      by true e = let later : nat_lt t b ≡ true = grind (arith, nat_tests, e, l) in rw later (omega arith)
+
+  -- a choice that keeps the host as long holds no less there
+  no-more : (r t : ℕ) (c d : Choice) → t ≤ p.horizon → has_come n t c ≡ false → leave_of p v c ≤ leave_of p v d → held_at p v (Amount r) (one n) t c ≤ held_at p v (Amount r) (one n) t d
+  no-more r t c d l off longer =
+      let mine = held_parts p v (Amount r) n t c (omega (arith, short, l)) ∙ ap (λ b. cond (hosted_in (state_of p v) (one n) && nat_lt t (leave_of p v c)) (base p v (Amount r)) 0 + cond b (gain p v (Amount r) n) 0) off in
+      let other = held_parts p v (Amount r) n t d (omega (arith, short, l)) in
+      let host = as-long (hosted_in (state_of p v) (one n)) t (leave_of p v c) (leave_of p v d) (base p v (Amount r)) (cond (has_come n t d) (gain p v (Amount r) n) 0) longer in
+      omega (arith, mine, other, host)
+
+  -- the one that gives the host up first is there still
+  sooner : (c : Choice) × Contains now c × (leave_of p v c ≤ leave)
+  sooner = by now keeps.some is
+    where
+      by : (cs : List Choice) → cs ≢ [] → leave ≡ least (leave_of p v) cs → (c : Choice) × Contains cs c × (leave_of p v c ≤ leave)
+      by [] some e = absurd (some refl)
+      by (c ∷ cs) some e = let one = least_attained (leave_of p v) c cs in (one.0, one.1, omega (arith, e, one.2))
+
+  no-more-now : (r t : ℕ) → t ≤ p.horizon → least (held_at p v (Amount r) (one n) t) now ≤ least (held_at p v (Amount r) (one n) t) old
+  no-more-now r t l =
+      let mine = least_of_each (held_at p v (Amount r) (one n) t) now sooner.0 sooner.1 in
+      let all = least_above (held_at p v (Amount r) (one n) t) (held_at p v (Amount r) (one n) t sooner.0) old sooner.0 (fewer sooner.0 sooner.1)
+      (λ d h. no-more r t sooner.0 d l (off-node sooner.0 t (away sooner.0 sooner.1)) (omega (arith, sooner.2, keeps.same, least_of_each (leave_of p v) old d h))) in
+      omega (arith, mine, all)
+
+  ends : (c : Choice) → IsEnd now c → (t : ℕ) → t ≤ p.horizon → (d : Choice) × IsEnd old d × IsMachineLess p (load_scope (one n)) v t (c ∷ []) (d ∷ [])
+  ends Idle end t l = (Idle, fewer Idle end, less t (Idle ∷ []) (Idle ∷ []) (λ r. omega arith))
+  ends (Act q s) end t l =
+      let last = last_of old q s (fewer (Act q s) end.0) in (
+        Act q last.0,
+        (last.1, inr last.2),
+        less t (Act q s ∷ []) (Act q last.0 ∷ []) (λ r. no-more r t (Act q s) (Act q last.0) l (off-node (Act q s) t (away (Act q s) end.0)) (later-leaves p v q s last.0 (last.2 s (fewer (Act q s) end.0)))),
+      )
+
+  pub host_still : IsStill p (load_scope (one n)) (vm v) old now
+  host_still = record {
+    sure = λ t l. less t now old (λ r. no-more-now r t l);
+    ends = λ c end t l. inr (ends c end t l);
   }
+
+-- ---- where all its choices come
+
+-- all starts of a row at a node that ends by an instant have come by then
+row-came : (n m : NodeId) (last from count : ℕ) (c : Choice) → m.0 ≡ n.0 → from + count ≤ last + 1 → Contains (starts_from (At m) from count) c → has_come n.0 last c ≡ true
+row-came n m last from zero c same l h = absurd (omega (arith, h.1))
+row-came n m last from (suc count) c same l h = elim (cases_in (Act (At m) from) c (starts_from (At m) (from + 1) count) h) [
+  | inl here ↦ rw (← here) (both (omega (arith, l)))
+  | inr later ↦ row-came n m last (from + 1) count c same (omega (arith, l)) later
+]
+  where
+    both : from ≤ last → (one n.0 m.0 && nat_le from last) ≡ true
+    both u = let there : one n.0 m.0 ≡ true = (Decides-eqb m.0 n.0).1 same in let by : nat_le from last ≡ true = grind (arith, nat_tests, u) in rw (there, by) refl
+
+pub row_came : (n : NodeId) (last : ℕ) (r : Row) (m : NodeId) → r.place ≡ At m → m.0 ≡ n.0 → r.hi ≤ last → (c : Choice) → Contains (lost_choices (LostRow r)) c → has_come n.0 last c ≡ true
+row_came n last r m place same l c h = by (cases_lt r.hi r.lo)
+  where
+    by : (r.hi < r.lo) ⊎ (r.lo ≤ r.hi) → has_come n.0 last c ≡ true
+    by (inl none) = let nothing : r.hi + 1 - r.lo ≡ 0 = omega (arith, none) in absurd (omega (arith, (rw (place, nothing) at h).1))
+    by (inr some) = row-came n m last r.lo (r.hi + 1 - r.lo) c same (omega (arith, some, l)) (rw place at h)
+
+two : (a b : Bool) → (a && b) ≡ true → (a ≡ true) × (b ≡ true)
+two true b e = (refl, e)
+two false b e = absurd (false≢true e)
+
+-- what has come to a node by an instant has come there by a later one
+come-later : (node last n t : ℕ) (c : Choice) → (one n node && nat_le last t) ≡ true → has_come node last c ≡ true → has_come n t c ≡ true
+come-later node last n t Idle e f = absurd (false≢true f)
+come-later node last n t (Act Nowhere s) e f = absurd (false≢true f)
+come-later node last n t (Act (At m) s) e f =
+    let at = two (one n node) (nat_le last t) e in
+    let came = two (one node m.0) (nat_le s last) f in
+    let there : one n m.0 ≡ true = grind (arith, nat_tests, at.0, came.0) in
+    let by : nat_le s t ≡ true = grind (arith, nat_tests, at.1, came.1) in
+    rw (there, by) refl
+
+pub came_before : (d : DomainView) (lost : Lost) (a : Arrival) → ((n t : ℕ) → comes_by n t (Some a) ≡ have_come n t (choices d)) → ((c : Choice) → Contains (lost_choices lost) c → has_come a.node.0 a.last c ≡ true) → CameBefore (choices (restored lost d)) (Some a)
+came_before d lost a is gone n t e c h =
+    come-later a.node.0 a.last n t c e (elim (restored_is_both lost d c h) [ inl has ↦ each (choices d) (sym (is a.node.0 a.last) ∙ at_last) c has | inr left ↦ gone c left ])
+  where
+    at_last : comes_by a.node.0 a.last (Some a) ≡ true
+    at_last = let here : one a.node.0 a.node.0 ≡ true = (Decides-eqb a.node.0 a.node.0).1 refl in let by : nat_le a.last a.last ≡ true = grind (arith, nat_tests) in rw (here, by) refl
+
+    each : (cs : List Choice) → have_come a.node.0 a.last cs ≡ true → (c : Choice) → Contains cs c → has_come a.node.0 a.last c ≡ true
+    each [] f c i = absurd (false≢true f)
+    each (x ∷ xs) f c i = surely_each (has_come a.node.0 a.last) (x ∷ xs) c i f
+
+pub none_came : (cs : List Choice) → CameBefore cs None
+none_came cs n t e = absurd (false≢true e)

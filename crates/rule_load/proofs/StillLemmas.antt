@@ -1,10 +1,11 @@
--- A change of a machine does not weigh on the load of a node that is not its host and to which not all its choices go.
-use Rattle.std.proofs.Common.{◌≡◌, ◌≢◌, ◌⊎◌, inl, inr, ℕ, zero, suc, ◌<◌, ◌≤◌, Bool, true, false, ◌&&◌, nat_le, cond, Option, Some, None, List, [], ◌∷◌, refl, sym, ap, subst, ◌∙◌, arith}
+-- A change of a machine does not weigh on the load of a node that is not its host, unless all its choices come there sooner now.
+use Rattle.std.proofs.Common.{◌≡◌, ◌≢◌, ◌⊎◌, inl, inr, ℕ, zero, suc, ◌+◌, ◌<◌, ◌≤◌, Bool, true, false, ◌&&◌, nat_le, nat_lt, cond, Option, Some, None, List, [], ◌∷◌, refl, sym, ap, subst, ◌∙◌, arith}
 use Rattle.std.proofs.lemmas.Bool.{cases_eq, cases_lt, false≢true}
 use Rattle.std.proofs.lemmas.Bool.Decides.{nat_tests}
 use Rattle.std.specs.List.{Contains}
 use Rattle.cluster.specs.declared.choices.Choice.{Choice}
 use Rattle.cluster.specs.declared.choices.Choice.TheVariants.{Idle, Act}
+use Rattle.cluster.specs.declared.choices.Place.{Place}
 use Rattle.cluster.specs.declared.choices.Place.TheVariants.{Nowhere, At}
 use Rattle.cluster.specs.declared.ids.NodeId.{NodeId}
 use Rattle.catalogue.specs.Instance.{Instance}
@@ -15,6 +16,7 @@ use Rattle.slices.specs.Elements.{state_of, vm, node}
 use Rattle.slices.specs.Snapshots.{held_at}
 use Rattle.slices.specs.Stages.{one}
 use Rattle.domains.specs.Laws.{AreFewer}
+use Rattle.domains.proofs.Public.{contains_here}
 use Rattle.domains.specs.Sets.{surely}
 use Rattle.reasons.specs.Closed.{IsEnd}
 use Rattle.relax.specs.Areas.{hosted_in}
@@ -23,7 +25,7 @@ use Rattle.rule_frame.specs.Changes.{IsLess, IsMachineLess, IsStill}
 use Rattle.rule_frame.proofs.Public.{unseen_still}
 use Rattle.standing.specs.declared.numbers.Arrival.{Arrival}
 use Rattle.standing.specs.declared.numbers.Standing.{Standing}
-use Rattle.standing.specs.Standings.{IsStanding, comes_by, gain, has_come, kept_use, leave_of, never}
+use Rattle.standing.specs.Standings.{IsStanding, base, comes_by, gain, has_come, have_come, kept_use, leave_of, never}
 use Rattle.standing.proofs.Public.{kept_law}
 
 -- ---- one choice, away from the host
@@ -61,15 +63,24 @@ no_less true u s t k l = by (cases_lt t s)
     by (inl early) = let off : nat_le s t ≡ false = grind (arith, nat_tests, early) in rw off (omega arith)
     by (inr late) = let on : nat_le s t ≡ true = grind (arith, nat_tests, late) in let too : nat_le u t ≡ true = grind (arith, nat_tests, late, l) in rw (on, too) (omega arith)
 
--- ---- the first start at a node
+pub come_is : (c : Choice) (n t : ℕ) → comes_by n t (arrival_of c) ≡ has_come n t c
+come_is Idle n t = refl
+come_is (Act Nowhere s) n t = refl
+come_is (Act (At m) s) n t = refl
 
-abbrev IsFirst : List Choice → NodeId → ℕ → Type 0
-IsFirst cs m b = Contains cs (Act (At m) b) × ((u : ℕ) → Contains cs (Act (At m) u) → b ≤ u)
+pub held_parts : (p : Instance) (v : ℕ) (w : Weight) (n t : ℕ) (c : Choice) → t < never → held_at p v w (one n) t c ≡ cond (hosted_in (state_of p v) (one n) && nat_lt t (leave_of p v c)) (base p v w) 0 + cond (has_come n t c) (gain p v w n) 0
+held_parts p v w n t c h =
+    kept_law p v w n t (c ∷ []) (record { leave = leave_of p v c; come = arrival_of c }) h (choice_stands p v c)
+    ∙ ap (λ b. cond (hosted_in (state_of p v) (one n) && nat_lt t (leave_of p v c)) (base p v w) 0 + cond b (gain p v w n) 0) (come_is c n t)
 
-starts_at : (c : Choice) (m : NodeId) → ((s : ℕ) × (c ≡ Act (At m) s)) ⊎ ((u : ℕ) → c ≢ Act (At m) u)
-starts_at Idle m = inr (λ u e. cc)
-starts_at (Act Nowhere s) m = inr (λ u e. cc)
-starts_at (Act (At k) s) m = by (cases_eq k.0 m.0)
+-- ---- the first and the last start at a place
+
+starts_at : (c : Choice) (q : Place) → ((s : ℕ) × (c ≡ Act q s)) ⊎ ((u : ℕ) → c ≢ Act q u)
+starts_at Idle q = inr (λ u e. cc)
+starts_at (Act Nowhere s) Nowhere = inl (s, refl)
+starts_at (Act Nowhere s) (At m) = inr (λ u e. cc)
+starts_at (Act (At k) s) Nowhere = inr (λ u e. cc)
+starts_at (Act (At k) s) (At m) = by (cases_eq k.0 m.0)
   where
     number : (k m : NodeId) (s u : ℕ) → Act (At k) s ≡ Act (At m) u → k ≡ m
     number k m s u e = cc
@@ -78,42 +89,77 @@ starts_at (Act (At k) s) m = by (cases_eq k.0 m.0)
     by (inl same) = inl (s, ap (λ (i : ℕ). let c : Choice = Act (At (record { 0 = i })) s in c) same)
     by (inr other) = inr (λ u e. other (ap (λ (i : NodeId). i.0) (number k m s u e)))
 
-start_is : (m : NodeId) (s u : ℕ) → Act (At m) s ≡ Act (At m) u → s ≡ u
-start_is m s u e = cc
+start_is : (q : Place) (s u : ℕ) → Act q s ≡ Act q u → s ≡ u
+start_is q s u e = cc
 
-cases-in : (c d : Choice) (cs : List Choice) → Contains (c ∷ cs) d → (c ≡ d) ⊎ Contains cs d
-cases-in c d cs (zero, h, e) = inl e
-cases-in c d cs (suc k, h, e) = inr (k, omega arith, e)
+pub cases_in : (c d : Choice) (cs : List Choice) → Contains (c ∷ cs) d → (c ≡ d) ⊎ Contains cs d
+cases_in c d cs (zero, h, e) = inl e
+cases_in c d cs (suc k, h, e) = inr (k, omega arith, e)
 
 later-in : (c d : Choice) (cs : List Choice) → Contains cs d → Contains (c ∷ cs) d
 later-in c d cs (k, h, e) = (suc k, omega arith, e)
 
-first_or_none : (cs : List Choice) (m : NodeId) → ((b : ℕ) × IsFirst cs m b) ⊎ ((u : ℕ) → ¬ Contains cs (Act (At m) u))
-first_or_none [] m = inr (λ u h. omega (arith, h.1))
-first_or_none (c ∷ cs) m = by (starts_at c m) (first_or_none cs m)
-  where
-    with_first : (s b : ℕ) → c ≡ Act (At m) s → b ≤ s → ((u : ℕ) → Contains cs (Act (At m) u) → b ≤ u) → (u : ℕ) → Contains (c ∷ cs) (Act (At m) u) → b ≤ u
-    with_first s b is first rest u h = elim (cases-in c (Act (At m) u) cs h) [ inl here ↦ subst (λ u. b ≤ u) (start_is m s u (sym is ∙ here)) first | inr later ↦ rest u later ]
+-- by an order of instants: the start at a place that comes before all others there
+module _ (before : ℕ → ℕ → Type 0) (total : (a b : ℕ) → before a b ⊎ before b a) (trans : (a b c : ℕ) → before a b → before b c → before a c) where
+  abbrev IsOutermost : List Choice → Place → ℕ → Type 0
+  IsOutermost cs q b = Contains cs (Act q b) × ((u : ℕ) → Contains cs (Act q u) → before b u)
 
-    first : (s : ℕ) → c ≡ Act (At m) s → Contains (c ∷ cs) (Act (At m) s)
-    first s is = (0, omega arith, is)
+  self : (a : ℕ) → before a a
+  self a = elim (total a a) [ inl x ↦ x | inr x ↦ x ]
 
-    by : ((s : ℕ) × (c ≡ Act (At m) s)) ⊎ ((u : ℕ) → c ≢ Act (At m) u) → ((b : ℕ) × IsFirst cs m b) ⊎ ((u : ℕ) → ¬ Contains cs (Act (At m) u)) → ((b : ℕ) × IsFirst (c ∷ cs) m b) ⊎ ((u : ℕ) → ¬ Contains (c ∷ cs) (Act (At m) u))
-    by (inl here) (inl rest) =
-        elim (cases_lt rest.0 here.0) [
-          | inl l ↦ inl (rest.0, (later-in c (Act (At m) rest.0) cs rest.1.0, with_first here.0 rest.0 here.1 (omega (arith, l)) rest.1.1))
-          | inr l ↦ inl (here.0, (first here.0 here.1, with_first here.0 here.0 here.1 (omega arith) (λ u h. omega (arith, l, rest.1.1 u h))))
-        ]
-    by (inl here) (inr none) = inl (here.0, (first here.0 here.1, with_first here.0 here.0 here.1 (omega arith) (λ u h. absurd (none u h))))
-    by (inr other) (inl rest) = inl (rest.0, (later-in c (Act (At m) rest.0) cs rest.1.0, λ u h. elim (cases-in c (Act (At m) u) cs h) [ inl here ↦ absurd (other u here) | inr later ↦ rest.1.1 u later ]))
-    by (inr other) (inr none) = inr (λ u h. elim (cases-in c (Act (At m) u) cs h) [ inl here ↦ other u here | inr later ↦ none u later ])
+  outermost_or_none : (cs : List Choice) (q : Place) → ((b : ℕ) × IsOutermost cs q b) ⊎ ((u : ℕ) → ¬ Contains cs (Act q u))
+  outermost_or_none [] q = inr (λ u h. omega (arith, h.1))
+  outermost_or_none (c ∷ cs) q = by (starts_at c q) (outermost_or_none cs q)
+    where
+      among : (s b : ℕ) → c ≡ Act q s → before b s → ((u : ℕ) → Contains cs (Act q u) → before b u) → (u : ℕ) → Contains (c ∷ cs) (Act q u) → before b u
+      among s b is first rest u h = elim (cases_in c (Act q u) cs h) [ inl here ↦ subst (λ u. before b u) (start_is q s u (sym is ∙ here)) first | inr later ↦ rest u later ]
 
-first_of : (cs : List Choice) (m : NodeId) (s : ℕ) → Contains cs (Act (At m) s) → (b : ℕ) × IsFirst cs m b
-first_of cs m s h = elim (first_or_none cs m) [ inl x ↦ x | inr none ↦ absurd (none s h) ]
+      head : (s : ℕ) → c ≡ Act q s → Contains (c ∷ cs) (Act q s)
+      head s is = (0, omega arith, is)
+
+      by : ((s : ℕ) × (c ≡ Act q s)) ⊎ ((u : ℕ) → c ≢ Act q u) → ((b : ℕ) × IsOutermost cs q b) ⊎ ((u : ℕ) → ¬ Contains cs (Act q u)) → ((b : ℕ) × IsOutermost (c ∷ cs) q b) ⊎ ((u : ℕ) → ¬ Contains (c ∷ cs) (Act q u))
+      by (inl here) (inl rest) =
+          elim (total rest.0 here.0) [
+            | inl l ↦ inl (rest.0, (later-in c (Act q rest.0) cs rest.1.0, among here.0 rest.0 here.1 l rest.1.1))
+            | inr l ↦ inl (here.0, (head here.0 here.1, among here.0 here.0 here.1 (self here.0) (λ u h. trans here.0 rest.0 u l (rest.1.1 u h))))
+          ]
+      by (inl here) (inr none) = inl (here.0, (head here.0 here.1, among here.0 here.0 here.1 (self here.0) (λ u h. absurd (none u h))))
+      by (inr other) (inl rest) = inl (rest.0, (later-in c (Act q rest.0) cs rest.1.0, λ u h. elim (cases_in c (Act q u) cs h) [ inl here ↦ absurd (other u here) | inr later ↦ rest.1.1 u later ]))
+      by (inr other) (inr none) = inr (λ u h. elim (cases_in c (Act q u) cs h) [ inl here ↦ other u here | inr later ↦ none u later ])
+
+  outermost_of : (cs : List Choice) (q : Place) (s : ℕ) → Contains cs (Act q s) → (b : ℕ) × IsOutermost cs q b
+  outermost_of cs q s h = elim (outermost_or_none cs q) [ inl x ↦ x | inr none ↦ absurd (none s h) ]
+
+pub first_of : (cs : List Choice) (q : Place) (s : ℕ) → Contains cs (Act q s) → (b : ℕ) × Contains cs (Act q b) × ((u : ℕ) → Contains cs (Act q u) → b ≤ u)
+first_of cs q s h =
+    let x = outermost_of (λ a b. a ≤ b) (λ a b. elim (cases_lt a b) [ inl l ↦ inl (omega (arith, l)) | inr l ↦ inr l ]) (λ a b c l u. omega (arith, l, u)) cs q s h in
+    (x.0, x.1.0, x.1.1)
+
+pub last_of : (cs : List Choice) (q : Place) (s : ℕ) → Contains cs (Act q s) → (b : ℕ) × Contains cs (Act q b) × ((u : ℕ) → Contains cs (Act q u) → u ≤ b)
+last_of cs q s h =
+    let x = outermost_of (λ a b. b ≤ a) (λ a b. elim (cases_lt a b) [ inl l ↦ inr (omega (arith, l)) | inr l ↦ inl l ]) (λ a b c l u. omega (arith, l, u)) cs q s h in
+    (x.0, x.1.0, x.1.1)
+
+-- ---- the least of some choices
+
+-- some choice has it
+pub least_attained : (f : Choice → ℕ) (c : Choice) (cs : List Choice) → (d : Choice) × Contains (c ∷ cs) d × (f d ≤ least f (c ∷ cs))
+least_attained f c [] = (c, contains_here c [], omega arith)
+least_attained f c (d ∷ ds) =
+    let rest = least_attained f d ds in
+    elim (cases_lt (f c) (least f (d ∷ ds))) [
+      | inl l ↦ (c, contains_here c (d ∷ ds), omega (arith, l))
+      | inr l ↦ (rest.0, later-in c rest.0 (d ∷ ds) rest.1, omega (arith, l, rest.2))
+    ]
+
+-- a number that no choice is below is no more than the least, where there is a choice
+pub least_above : (f : Choice → ℕ) (m : ℕ) (cs : List Choice) (c : Choice) → Contains cs c → ((d : Choice) → Contains cs d → m ≤ f d) → m ≤ least f cs
+least_above f m [] c h each = absurd (omega (arith, h.1))
+least_above f m (x ∷ xs) c h each = let one = least_attained f x xs in let low = each one.0 one.1 in omega (arith, low, one.2)
 
 -- ---- a change
 
-module _ (p : Instance) (v n : ℕ) (old now : List Choice) (k : Standing) (short : p.horizon < never) (fewer : AreFewer now old) (is : IsStanding p v now k) (off : hosted_in (state_of p v) (one n) ≡ false) (come : (t : ℕ) → comes_by n t k.come ≡ false) where
+module _ (p : Instance) (v n : ℕ) (old now : List Choice) (k : Standing) (short : p.horizon < never) (fewer : AreFewer now old) (is : IsStanding p v now k) (off : hosted_in (state_of p v) (one n) ≡ false) (came : (t : ℕ) → comes_by n t k.come ≡ true → (c : Choice) → Contains old c → has_come n t c ≡ true) where
   less : (t : ℕ) (cs ds : List Choice) → ((r : ℕ) → least (held_at p v (Amount r) (one n) t) cs ≤ least (held_at p v (Amount r) (one n) t) ds) → IsMachineLess p (load_scope (one n)) v t cs ds
   less t cs ds le = record {
     held = λ w set i. rw (i.1, i.2) (le i.0);
@@ -121,31 +167,50 @@ module _ (p : Instance) (v n : ℕ) (old now : List Choice) (k : Standing) (shor
     action = λ far x. absurd x;
   }
 
-  none_left : (r t : ℕ) → t ≤ p.horizon → least (held_at p v (Amount r) (one n) t) now ≡ 0
-  none_left r t l = kept_law p v (Amount r) n t now k (omega (arith, short, l)) is ∙ brought_alone p v (Amount r) n t k off ∙ rw (come t) refl
-
   alone : (r t : ℕ) (c : Choice) → t ≤ p.horizon → held_at p v (Amount r) (one n) t c ≡ cond (comes_by n t (arrival_of c)) (gain p v (Amount r) n) 0
   alone r t c l = held_alone p v (Amount r) n t c (omega (arith, short, l)) off
+
+  -- where all come now, all did
+  no_more : (r t : ℕ) → t ≤ p.horizon → least (held_at p v (Amount r) (one n) t) now ≤ least (held_at p v (Amount r) (one n) t) old
+  no_more r t l = by (comes_by n t k.come) refl
+    where
+      by : (b : Bool) → comes_by n t k.come ≡ b → least (held_at p v (Amount r) (one n) t) now ≤ least (held_at p v (Amount r) (one n) t) old
+      by false e =
+          let none : least (held_at p v (Amount r) (one n) t) now ≡ 0 = kept_law p v (Amount r) n t now k (omega (arith, short, l)) is ∙ brought_alone p v (Amount r) n t k off ∙ rw e refl in
+          omega (arith, none)
+      by true e =
+          let some : least (held_at p v (Amount r) (one n) t) now ≡ gain p v (Amount r) n = kept_law p v (Amount r) n t now k (omega (arith, short, l)) is ∙ brought_alone p v (Amount r) n t k off ∙ rw e refl in
+          let have : have_come n t now ≡ true = sym (is.come n t) ∙ e in
+          let some_one = one_of now have in
+          let all = least_above (held_at p v (Amount r) (one n) t) (gain p v (Amount r) n) old some_one.0 (fewer some_one.0 some_one.1) (λ d h. each d (came t e d h)) in
+          omega (arith, some, all)
+        where
+          one_of : (cs : List Choice) → have_come n t cs ≡ true → (c : Choice) × Contains cs c
+          one_of [] f = absurd (false≢true f)
+          one_of (c ∷ cs) f = (c, contains_here c cs)
+
+          each : (d : Choice) → has_come n t d ≡ true → gain p v (Amount r) n ≤ held_at p v (Amount r) (one n) t d
+          each d f = let come : comes_by n t (arrival_of d) ≡ true = come_is d n t ∙ f in let held : held_at p v (Amount r) (one n) t d ≡ gain p v (Amount r) n = alone r t d l ∙ rw come refl in omega (arith, held)
 
   ends : (c : Choice) → IsEnd now c → (t : ℕ) → t ≤ p.horizon → IsLess p (load_scope (one n)) (vm v) t (c ∷ []) old ⊎ ((d : Choice) × IsEnd old d × IsLess p (load_scope (one n)) (vm v) t (c ∷ []) (d ∷ []))
   ends Idle end t l = inl (less t (Idle ∷ []) old (λ r. omega (arith, alone r t Idle l)))
   ends (Act Nowhere s) end t l = inl (less t (Act Nowhere s ∷ []) old (λ r. omega (arith, alone r t (Act Nowhere s) l)))
   ends (Act (At m) s) end t l =
-      let first = first_of old m s (fewer (Act (At m) s) end.0) in
+      let first = first_of old (At m) s (fewer (Act (At m) s) end.0) in
       inr (
         Act (At m) first.0,
-        (first.1.0, inl first.1.1),
+        (first.1, inl first.2),
         less t (Act (At m) s ∷ []) (Act (At m) first.0 ∷ []) (λ r. omega (
           arith,
           alone r t (Act (At m) s) l,
           alone r t (Act (At m) first.0) l,
-          no_less (one n m.0) first.0 s t (gain p v (Amount r) n) (first.1.1 s (fewer (Act (At m) s) end.0)),
+          no_less (one n m.0) first.0 s t (gain p v (Amount r) n) (first.2 s (fewer (Act (At m) s) end.0)),
         )),
       )
 
   pub machine_still : IsStill p (load_scope (one n)) (vm v) old now
   machine_still = record {
-    sure = λ t l. less t now old (λ r. omega (arith, none_left r t l));
+    sure = λ t l. less t now old (λ r. no_more r t l);
     ends = λ c end t l. ends c end t l;
   }
 

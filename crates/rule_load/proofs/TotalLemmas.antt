@@ -1,15 +1,15 @@
 -- What one machine uses at the most on the nodes of any set.
 use Rattle.std.specs.Prelude.{slice_index_or}
-use Rattle.std.specs.List.{Contains, flat_map, sum_by}
-use Rattle.std.proofs.Common.{◌≡◌, inl, inr, ℕ, suc, ◌+◌, ◌-◌, ◌<◌, ◌≤◌, Bool, true, false, not, ◌&&◌, nat_lt, nat_le, cond, Option, Some, None, List, [], ◌∷◌, refl, sym, ◌∙◌, arith}
+use Rattle.std.specs.List.{Contains, sum_by}
+use Rattle.std.proofs.Common.{◌≡◌, inl, inr, ℕ, suc, ◌+◌, ◌-◌, ◌<◌, ◌≤◌, Bool, true, false, not, ◌&&◌, nat_le, cond, Option, Some, None, List, [], ◌∷◌, refl, sym, ◌∙◌, arith}
 use Rattle.std.proofs.lemmas.Bool.{cases_lt, false≢true}
-use Rattle.std.proofs.lemmas.Bool.Decides.{Decides-eqb, nat_tests}
+use Rattle.std.proofs.lemmas.Bool.Decides.{nat_tests}
 use Rattle.sums.specs.Least.{least}
 use Rattle.sums.specs.Sums.{sum_to}
 use Rattle.cluster.specs.declared.choices.Choice.{Choice}
 use Rattle.cluster.specs.declared.choices.Choice.TheVariants.{Idle, Act}
 use Rattle.cluster.specs.declared.choices.Place.{Place}
-use Rattle.cluster.specs.declared.choices.Place.TheVariants.{Nowhere, At}
+use Rattle.cluster.specs.declared.choices.Place.TheVariants.{At}
 use Rattle.cluster.specs.declared.kinds.Kind.{Kind}
 use Rattle.cluster.specs.declared.kinds.Kind.TheVariants.{Boot, Shutdown, Suspend, Resume, Migrate, Allocate, Kill}
 use Rattle.cluster.specs.declared.states.State.{State}
@@ -22,22 +22,21 @@ use Rattle.slices.specs.declared.slice.Weight.TheVariants.{Amount}
 use Rattle.slices.specs.Actions.{action_duration, end_of, kind_of}
 use Rattle.slices.specs.Elements.{machine_count, state_of, vm}
 use Rattle.slices.specs.Snapshots.{held_at, held_by, stage_at}
-use Rattle.slices.specs.Stages.{Nodes, acting_slices, idle_slices, one, slices_by, slices_of, stage_from, weigh}
+use Rattle.slices.specs.Stages.{Nodes, acting_slices, idle_slices, slices_by, slices_of, stage_from, weigh}
 use Rattle.slices.proofs.Public.{ends_by_duration}
-use Rattle.domains.specs.Choices.{DomainView, choices, row_choices}
-use Rattle.domains.specs.Sets.{RegionView, domain_at, sets, surely}
-use Rattle.domains.proofs.Public.{contains_here, least_of_each, surely_each}
+use Rattle.domains.specs.Sets.{may, RegionView, sets}
+use Rattle.domains.proofs.Public.{contains_here, least_of_each, may_each}
 use Rattle.reasons.specs.Sure.{sure}
 use Rattle.movers.specs.Movers.{AreMovers}
-use Rattle.movers.proofs.Public.{idle_tells, sum_but_for}
-use Rattle.standing.specs.declared.numbers.Arrival.{Arrival}
+use Rattle.movers.proofs.Public.{sum_but_for}
 use Rattle.standing.specs.declared.numbers.Standing.{Standing}
-use Rattle.standing.specs.Standings.{IsStanding, base, had_there, has_come, kept_until, leave_of, never, weight_if}
+use Rattle.standing.specs.Standings.{IsStanding, base, had_there, kept_until, leave_of, never, weight_if}
 use Rattle.standing.specs.Tables.{AreStanding, no_standing}
+use Rattle.rule_load.proofs.StillLemmas.{least_attained}
 use Rattle.rule_load.specs.declared.period.Period.{Period}
 use Rattle.rule_load.specs.Parts.{HasLeft, StartsAfter, start_count}
 use Rattle.rule_load.specs.Periods.{AreMost, IsDuring, IsMost}
-use Rattle.rule_load.specs.Totals.{comes_after, most_anywhere}
+use Rattle.rule_load.specs.Totals.{may_wait, most_anywhere, waits}
 
 -- ---- what slices weigh
 
@@ -154,96 +153,58 @@ least-all f m (c ∷ cs) h = least-some f m (c ∷ cs) c (contains_here c cs) (h
 later : (x : Choice) (xs : List Choice) (c : Choice) → Contains xs c → Contains (x ∷ xs) c
 later x xs c h = (suc h.0, omega (arith, h.1), h.2)
 
--- some choice has the least
-least-held : (f : Choice → ℕ) (c : Choice) (cs : List Choice) → (d : Choice) × Contains (c ∷ cs) d × (f d ≤ least f (c ∷ cs))
-least-held f c [] = (c, contains_here c [], omega arith)
-least-held f c (d ∷ ds) =
-    let rest = least-held f d ds in
-    elim (cases_lt (f c) (least f (d ∷ ds))) [
-      | inl l ↦ (c, contains_here c (d ∷ ds), omega (arith, l))
-      | inr l ↦ (rest.0, later c (d ∷ ds) rest.0 rest.1, omega (arith, l, rest.2))
-    ]
-
 sure-left : (p : Instance) (v r : ℕ) (set : Nodes) (t : ℕ) (cs : List Choice) → t < never → least (leave_of p v) cs ≤ t → least (held_at p v (Amount r) set t) cs ≤ demand_of p v r
 sure-left p v r set t [] short l = omega arith
 sure-left p v r set t (c ∷ cs) short l =
-    let first = least-held (leave_of p v) c cs in
+    let first = least_attained (leave_of p v) c cs in
     least-some (held_at p v (Amount r) set t) (demand_of p v r) (c ∷ cs) first.0 first.1 (held-after p v r set t first.0 short (omega (arith, first.2, l)))
-
--- of choices that have not all come by t and have by some later instant, one starts after t
-not-all : (test : Choice → Bool) (cs : List Choice) → surely test cs ≡ false → (c : Choice) × Contains cs c × (test c ≡ false)
-not-all test [] e = absurd (false≢true (sym e))
-not-all test (c ∷ cs) e = by (test c) refl (λ tail. not-all test cs tail)
-  where
-    by : (b : Bool) → test c ≡ b → (surely test cs ≡ false → (d : Choice) × Contains cs d × (test d ≡ false)) → (d : Choice) × Contains (c ∷ cs) d × (test d ≡ false)
-    by false is tail = (c, contains_here c cs, is)
-    by true is tail = let rest = tail (rw is at e) in (rest.0, later c cs rest.0 rest.1, rest.2)
 
 both : (a b : Bool) → (a && b) ≡ true → (a ≡ true) × (b ≡ true)
 both true b e = (refl, e)
 both false b e = absurd (false≢true e)
 
-starts-late : (p : Instance) (v r : ℕ) (set : Nodes) (n t last : ℕ) (c : Choice) → has_come n last c ≡ true → has_come n t c ≡ false → held_at p v (Amount r) set t c ≤ base p v (Amount r)
-starts-late p v r set n t last Idle come not_yet = absurd (false≢true come)
-starts-late p v r set n t last (Act Nowhere s) come not_yet = absurd (false≢true come)
-starts-late p v r set n t last (Act (At m) s) come not_yet =
-    let there = (both (one n m.0) (nat_le s last) come).0 in
-    let after : nat_le s t ≡ false = rw there at not_yet in
-    elim (cases_lt t s) [
-      | inl l ↦ held-before p v r set t (At m) s l
-      | inr l ↦ let on : nat_le s t ≡ true = grind (arith, nat_tests, l) in absurd (false≢true (sym after ∙ on))
-    ]
+-- a choice that waits holds no more than the machine has
+held-waiting : (p : Instance) (v r : ℕ) (set : Nodes) (t last : ℕ) (c : Choice) → t ≤ last → waits last c ≡ true → held_at p v (Amount r) set t c ≤ base p v (Amount r)
+held-waiting p v r set t last Idle l e = held-idle p v r set t
+held-waiting p v r set t last (Act place s) l e = let late : last < s = grind (arith, nat_tests, e) in held-before p v r set t place s (omega (arith, l, late))
 
-sure-later : (p : Instance) (v r : ℕ) (set : Nodes) (t : ℕ) (cs : List Choice) (k : Standing) (a : Arrival) → IsStanding p v cs k → k.come ≡ Some a → t < a.last → least (held_at p v (Amount r) set t) cs ≤ base p v (Amount r)
-sure-later p v r set t [] k a is e l = omega arith
-sure-later p v r set t (c ∷ cs) k a is e l =
-    let there : one a.node.0 a.node.0 ≡ true = (Decides-eqb a.node.0 a.node.0).1 refl in
-    let ends : nat_le a.last a.last ≡ true = grind (arith, nat_tests) in
-    let early : nat_le a.last t ≡ false = grind (arith, nat_tests, l) in
-    let all : surely (has_come a.node.0 a.last) (c ∷ cs) ≡ true = sym (is.come a.node.0 a.last) ∙ rw (e, there, ends) refl in
-    let some : surely (has_come a.node.0 t) (c ∷ cs) ≡ false = sym (is.come a.node.0 t) ∙ rw (e, there, early) refl in
-    let x = not-all (has_come a.node.0 t) (c ∷ cs) some in
-    least-some (held_at p v (Amount r) set t) (base p v (Amount r)) (c ∷ cs) x.0 x.1
-    (starts-late p v r set a.node.0 t a.last x.0 (surely_each (has_come a.node.0 a.last) (c ∷ cs) x.0 x.1 all) x.2)
-
-sure-most : (p : Instance) (v r : ℕ) (set : Nodes) (x : Period) (t : ℕ) (cs : List Choice) (idle : Bool) (k : Standing) → x.to < never → IsStanding p v cs k → (idle ≡ true → Contains cs Idle) → IsDuring x t →
-    least (held_at p v (Amount r) set t) cs ≤ most_anywhere p v r x idle k
-sure-most p v r set x t cs true k short is stays h = least-some (held_at p v (Amount r) set t) (base p v (Amount r)) cs Idle (stays refl) (held-idle p v r set t)
-sure-most p v r set x t cs false k short is stays h = by (nat_le k.leave x.from) refl
+some-waits : (last : ℕ) (cs : List Choice) → may (waits last) cs ≡ true → (c : Choice) × Contains cs c × (waits last c ≡ true)
+some-waits last [] e = absurd (false≢true e)
+some-waits last (c ∷ cs) e = by (waits last c) refl (λ rest. some-waits last cs rest)
   where
-    come : (o : Option Arrival) → k.come ≡ o → least (held_at p v (Amount r) set t) cs ≤ cond (comes_after x.to o) (base p v (Amount r)) (base p v (Amount r) + demand_of p v r)
-    come None e = least-all (held_at p v (Amount r) set t) (base p v (Amount r) + demand_of p v r) cs (held-ever p v r set t)
-    come (Some a) e =
-        elim (cases_lt x.to a.last) [
-          | inl l ↦ let on : nat_lt x.to a.last ≡ true = grind (arith, nat_tests, l) in rw on (sure-later p v r set t cs k a is e (omega (arith, h.1, l)))
-          | inr l ↦ let off : nat_lt x.to a.last ≡ false = grind (arith, nat_tests, l) in rw off (least-all (held_at p v (Amount r) set t) (base p v (Amount r) + demand_of p v r) cs (held-ever p v r set t))
-        ]
+    by : (b : Bool) → waits last c ≡ b → (may (waits last) cs ≡ true → (d : Choice) × Contains cs d × (waits last d ≡ true)) → (d : Choice) × Contains (c ∷ cs) d × (waits last d ≡ true)
+    by true is tail = (c, contains_here c cs, is)
+    by false is tail = let rest = tail (rw is at e) in (rest.0, later c cs rest.0 rest.1, rest.2)
 
-    by : (b : Bool) → nat_le k.leave x.from ≡ b → least (held_at p v (Amount r) set t) cs ≤ cond b (demand_of p v r) (cond (comes_after x.to k.come) (base p v (Amount r)) (base p v (Amount r) + demand_of p v r))
+sure-most : (p : Instance) (v r : ℕ) (set : Nodes) (x : Period) (t : ℕ) (cs : List Choice) (b : Bool) (k : Standing) → x.to < never → IsStanding p v cs k → may (waits x.to) cs ≡ b → IsDuring x t →
+    least (held_at p v (Amount r) set t) cs ≤ most_anywhere p v r x b k
+sure-most p v r set x t cs true k short is e h =
+    let one = some-waits x.to cs e in
+    least-some (held_at p v (Amount r) set t) (base p v (Amount r)) cs one.0 one.1 (held-waiting p v r set t x.to one.0 h.1 one.2)
+sure-most p v r set x t cs false k short is e h = by (nat_le k.leave x.from) refl
+  where
+    by : (b : Bool) → nat_le k.leave x.from ≡ b → least (held_at p v (Amount r) set t) cs ≤ cond b (demand_of p v r) (base p v (Amount r) + demand_of p v r)
     by true e =
         elim (cases_lt x.from k.leave) [
           | inl l ↦ let off : nat_le k.leave x.from ≡ false = grind (arith, nat_tests, l) in absurd (false≢true (sym off ∙ e))
           | inr l ↦ sure-left p v r set t cs (omega (arith, h.1, short)) (omega (arith, is.leave, l, h.0))
         ]
-    by false e = come k.come refl
+    by false e = least-all (held_at p v (Amount r) set t) (base p v (Amount r) + demand_of p v r) cs (held-ever p v r set t)
 
 pub are_most : (p : Instance) (g : RegionView) (ks : List Standing) (r : ℕ) (set : Nodes) (x : Period) → x.to < never → AreStanding p (sets g) ks →
-    AreMost p (sets g) r set x (λ v. most_anywhere p v r x (domain_at g (vm v)).idle (slice_index_or ks v no_standing))
+    AreMost p (sets g) r set x (λ v. most_anywhere p v r x (may_wait (sets g) x v) (slice_index_or ks v no_standing))
 unfolding sure
 are_most p g ks r set x short are = record {
-  each = λ v t l h. sure-most p v r set x t (sets g (vm v)) (domain_at g (vm v)).idle (slice_index_or ks v no_standing) short (are.each v l) (idle-in (domain_at g (vm v))) h;
+  each = λ v t l h. sure-most p v r set x t (sets g (vm v)) (may_wait (sets g) x v) (slice_index_or ks v no_standing) short (are.each v l) refl h;
 }
-  where
-    idle-in : (d : DomainView) → d.idle ≡ true → Contains (choices d) Idle
-    idle-in d e = rw e (contains_here Idle (flat_map row_choices d.rows))
 
 -- what all use is what they have at present, but for the machines that may not stay
 pub base_but_for : (p : Instance) (g : RegionView) (ks : List Standing) (r : ℕ) (x : Period) (xs : List ℕ) → AreMovers p (sets g) xs →
-    sum_to (machine_count p) (λ v. most_anywhere p v r x (domain_at g (vm v)).idle (slice_index_or ks v no_standing)) + sum_by (λ v. base p v (Amount r) - most_anywhere p v r x (domain_at g (vm v)).idle (slice_index_or ks v no_standing)) xs
-    ≡ sum_to (machine_count p) (λ v. base p v (Amount r)) + sum_by (λ v. most_anywhere p v r x (domain_at g (vm v)).idle (slice_index_or ks v no_standing) - base p v (Amount r)) xs
+    sum_to (machine_count p) (λ v. most_anywhere p v r x (may_wait (sets g) x v) (slice_index_or ks v no_standing)) + sum_by (λ v. base p v (Amount r) - most_anywhere p v r x (may_wait (sets g) x v) (slice_index_or ks v no_standing)) xs
+    ≡ sum_to (machine_count p) (λ v. base p v (Amount r)) + sum_by (λ v. most_anywhere p v r x (may_wait (sets g) x v) (slice_index_or ks v no_standing) - base p v (Amount r)) xs
 base_but_for p g ks r x xs are =
-    sum_but_for (machine_count p) (λ v. most_anywhere p v r x (domain_at g (vm v)).idle (slice_index_or ks v no_standing)) (λ v. base p v (Amount r)) xs are.machines.once are.machines.each
-    (λ v low out. let stays : (domain_at g (vm v)).idle ≡ true = idle_tells (domain_at g (vm v)) (are.others v low out) in rw stays refl)
+    sum_but_for (machine_count p) (λ v. most_anywhere p v r x (may_wait (sets g) x v) (slice_index_or ks v no_standing)) (λ v. base p v (Amount r)) xs are.machines.once are.machines.each
+    (λ v low out. let stays : may_wait (sets g) x v ≡ true = may_each (waits x.to) (sets g (vm v)) Idle (are.others v low out) refl in rw stays refl)
 
 -- ---- under each of its choices
 

@@ -1,6 +1,6 @@
 -- What one machine uses of a node at the most during a period.
-use Rattle.std.proofs.Common.{◌≡◌, inl, inr, ℕ, ◌+◌, ◌-◌, ◌<◌, ◌≤◌, ◌==◌, Bool, true, false, ◌&&◌, nat_lt, nat_le, cond, Option, Some, None, List, [], ◌∷◌, ◌++◌, length, refl, sym, ap, subst, ◌∙◌, arith}
-use Rattle.std.specs.Prelude.{slice_index_or}
+use Rattle.std.proofs.Common.{◌≡◌, ◌≢◌, inl, inr, ℕ, ◌+◌, ◌-◌, ◌<◌, ◌≤◌, ◌==◌, Bool, true, false, ◌&&◌, nat_lt, nat_le, cond, Option, Some, None, List, [], ◌∷◌, ◌++◌, length, refl, sym, ap, subst, ◌∙◌, arith}
+use Rattle.std.specs.Prelude.{IfSome, slice_index_or}
 use Rattle.std.specs.List.{Contains, filter}
 use Rattle.std.proofs.lemmas.Bool.{cases_eq, false≢true}
 use Rattle.std.proofs.lemmas.List.{get_or_default}
@@ -18,7 +18,6 @@ use Rattle.slices.specs.declared.slice.Weight.{Weight}
 use Rattle.slices.specs.declared.slice.Weight.TheVariants.{Amount}
 use Rattle.slices.specs.Actions.{kind_of}
 use Rattle.slices.specs.Elements.{machine_count, state_of, vm}
-use Rattle.slices.specs.Snapshots.{held_at}
 use Rattle.slices.specs.Stages.{one}
 use Rattle.domains.specs.declared.parts.Part.TheVariants.{Upto}
 use Rattle.domains.specs.declared.parts.Side.TheVariants.{Inside}
@@ -26,19 +25,19 @@ use Rattle.domains.specs.Choices.{DomainView, choices}
 use Rattle.domains.specs.declared.parts.Row.{Row}
 use Rattle.domains.specs.Parts.{in_part, on_side}
 use Rattle.domains.specs.Sets.{Sets}
-use Rattle.domains.proofs.Public.{contains_filter, least_of_each}
+use Rattle.domains.proofs.Public.{contains_filter, least_of_each, surely_each}
 use Rattle.reasons.specs.Sure.{sure}
 use Rattle.relax.specs.Areas.{hosted_in}
 use Rattle.standing.specs.declared.numbers.Arrival.{Arrival}
 use Rattle.standing.specs.declared.numbers.Standing.{Standing}
-use Rattle.standing.specs.Standings.{base, brought, comes_by, gain, has_come, kept_use, leave_of, never, weight_if}
+use Rattle.standing.specs.Standings.{IsStanding, base, brought, comes_by, gain, has_come, have_come, kept_use, leave_of, never, weight_if}
 use Rattle.standing.specs.Tables.{AreStanding, no_standing}
 use Rattle.standing.proofs.Public.{kept_law}
 use Rattle.rule_load.specs.declared.period.Period.{Period}
 use Rattle.rule_load.specs.Firsts.{AreFirstAt}
-use Rattle.rule_load.specs.Parts.{HasLeft, IsAway, IsMostBrought, IsMostLeft, left_over}
+use Rattle.rule_load.specs.Parts.{HasLeft, IsMostBrought, IsMostLeft, StartsPast, left_over}
 use Rattle.rule_load.specs.Periods.{AreMost, IsDuring, IsMost, most_kept}
-use Rattle.rule_load.proofs.StillLemmas.{arrival_of, choice_stands}
+use Rattle.rule_load.proofs.StillLemmas.{held_parts}
 
 -- ---- what counts only where a test holds
 
@@ -81,20 +80,10 @@ sure_most p s ks r n x short are = record {
 
 -- ---- by the choices of a machine
 
-come-is : (c : Choice) (n t : ℕ) → comes_by n t (arrival_of c) ≡ has_come n t c
-come-is Idle n t = refl
-come-is (Act Nowhere s) n t = refl
-come-is (Act (At m) s) n t = refl
-
-held-parts : (p : Instance) (v : ℕ) (w : Weight) (n t : ℕ) (c : Choice) → t < never → held_at p v w (one n) t c ≡ cond (hosted_in (state_of p v) (one n) && nat_lt t (leave_of p v c)) (base p v w) 0 + cond (has_come n t c) (gain p v w n) 0
-held-parts p v w n t c h =
-    kept_law p v w n t (c ∷ []) (record { leave = leave_of p v c; come = arrival_of c }) h (choice_stands p v c)
-    ∙ ap (λ b. cond (hosted_in (state_of p v) (one n) && nat_lt t (leave_of p v c)) (base p v w) 0 + cond b (gain p v w n) 0) (come-is c n t)
-
 pub fits_now : (p : Instance) (v : ℕ) (cs : List Choice) (r n : ℕ) (x : Period) (left come bound : ℕ) → x.to < never → IsMostLeft p v cs n r x.from left → IsMostBrought p v cs n r x.to come → left + come ≤ bound → IsMost p v cs r (one n) x bound
 fits_now p v cs r n x left come bound short a b fits = record {
   each = λ c t i h.
-      let parts = held-parts p v (Amount r) n t c (omega (arith, short, h.1)) in
+      let parts = held_parts p v (Amount r) n t c (omega (arith, short, h.1)) in
       let first = a.each c t i h.0 in
       let second = b.each c t i h.1 in
       omega (arith, parts, first, second, fits);
@@ -185,22 +174,21 @@ brought-small p v r (Some Kill) = omega arith
 brought-small p v r (Some NodeBoot) = omega arith
 brought-small p v r (Some NodeShutdown) = omega arith
 
-demand-brought : (p : Instance) (v : ℕ) (cs : List Choice) (n r by : ℕ) → IsMostBrought p v cs n r by (demand_of p v r)
-demand-brought p v cs n r by = record {
+pub demand_brought : (p : Instance) (v : ℕ) (cs : List Choice) (n r by : ℕ) → IsMostBrought p v cs n r by (demand_of p v r)
+demand_brought p v cs n r by = record {
   each = λ c t i l.
       let less = most (has_come n t c) (gain p v (Amount r) n) in
       let small : gain p v (Amount r) n ≤ demand_of p v r = brought-small p v r (kind_of p (vm v) (At (record { 0 = n }))) in
       omega (arith, less, small);
 }
 
-pub fits_ever : (p : Instance) (v : ℕ) (cs : List Choice) (r n : ℕ) (x : Period) (here demand bound : ℕ) → x.to < never → here ≡ cond (hosted_in (state_of p v) (one n)) (base p v (Amount r)) 0 → demand ≡ demand_of p v r → here + demand ≤ bound → IsMost p v cs r (one n) x bound
-fits_ever p v cs r n x here demand bound short is all fits =
-    fits_now p v cs r n x here (demand_of p v r) bound short (some_left p v cs n r x.from here is) (demand-brought p v cs n r x.to) (omega (arith, all, fits))
+pub fits_ever : (p : Instance) (v : ℕ) (cs : List Choice) (r n : ℕ) (x : Period) (here come bound : ℕ) → x.to < never → here ≡ cond (hosted_in (state_of p v) (one n)) (base p v (Amount r)) 0 → IsMostBrought p v cs n r x.to come → here + come ≤ bound → IsMost p v cs r (one n) x bound
+fits_ever p v cs r n x here come bound short is brings fits = fits_now p v cs r n x here come bound short (some_left p v cs n r x.from here is) brings fits
 
 -- what any machine has and brings is spare
 pub fits_at_once : (p : Instance) (v : ℕ) (cs : List Choice) (r n : ℕ) (x : Period) (most spare kept : ℕ) → x.to < never → base p v (Amount r) + demand_of p v r ≤ most → most ≤ spare → IsMost p v cs r (one n) x (spare + kept)
 fits_at_once p v cs r n x most spare kept short uses fits =
-    fits_ever p v cs r n x (cond (hosted_in (state_of p v) (one n)) (base p v (Amount r)) 0) (demand_of p v r) (spare + kept) short refl refl (omega (arith, at (hosted_in (state_of p v) (one n)), uses, fits))
+    fits_ever p v cs r n x (cond (hosted_in (state_of p v) (one n)) (base p v (Amount r)) 0) (demand_of p v r) (spare + kept) short refl (demand_brought p v cs n r x.to) (omega (arith, at (hosted_in (state_of p v) (one n)), uses, fits))
   where
     at : (b : Bool) → cond b (base p v (Amount r)) 0 ≤ base p v (Amount r)
     at true = omega arith
@@ -216,31 +204,40 @@ fits_next p s ks r n x spare i d low before here v h =
       | inr other ↦ before v (omega (arith, h, other))
     ]
 
--- ---- a machine that is away
+-- ---- a machine that does not come
 
-pub is_away_by : (p : Instance) (s : Sets) (n v by d : ℕ) (fs : List ℕ) → AreFirstAt p s n fs → v < machine_count p → by < slice_index_or fs v d → hosted_in (state_of p v) (one n) ≡ false → IsAway p v (s (vm v)) n by
-is_away_by p s n v by d fs are low late off = record {
-  elsewhere = off;
+pub late_is_past : (p : Instance) (s : Sets) (n v by d : ℕ) (fs : List ℕ) → AreFirstAt p s n fs → v < machine_count p → by < slice_index_or fs v d → StartsPast (s (vm v)) n by
+late_is_past p s n v by d fs are low late = record {
   after = λ start h. omega (arith, (are.each v low).each start h, late, get_or_default fs v d 0 (omega (arith, low, are.count)));
 }
 
-away-come : (p : Instance) (v : ℕ) (cs : List Choice) (n by : ℕ) (c : Choice) (t : ℕ) → IsAway p v cs n by → Contains cs c → t ≤ by → has_come n t c ≡ true → ⊥
-away-come p v cs n by Idle t away i l e = false≢true e
-away-come p v cs n by (Act Nowhere s) t away i l e = false≢true e
-away-come p v cs n by (Act (At m) s) t away i l e =
+pub elsewhere_is_past : (p : Instance) (s : Sets) (ks : List Standing) (n v by : ℕ) (d : Standing) → AreStanding p s ks → v < machine_count p → (slice_index_or ks v d).come ≢ None → IfSome (slice_index_or ks v d).come (λ a. a.node.0 ≢ n) → StartsPast (s (vm v)) n by
+elsewhere_is_past p s ks n v by d are low some other = record {
+  after = λ start h. absurd (at (slice_index_or ks v d).come some other (subst (λ k. IsStanding p v (s (vm v)) k) (get_or_default ks v no_standing d (omega (arith, low, are.count))) (are.each v low)).come start h);
+}
+  where
+    at : (come : Option Arrival) → come ≢ None → IfSome come (λ a. a.node.0 ≢ n) → ((m t : ℕ) → comes_by m t come ≡ have_come m t (s (vm v))) → (start : ℕ) → Contains (s (vm v)) (Act (At (record { 0 = n })) start) → ⊥
+    at None some other is start h = some refl
+    at (Some a) some other is start h =
+        let here : one a.node.0 a.node.0 ≡ true = (Decides-eqb a.node.0 a.node.0).1 refl in
+        let last : nat_le a.last a.last ≡ true = grind (arith, nat_tests) in
+        let all : have_come a.node.0 a.last (s (vm v)) ≡ true = sym (is a.node.0 a.last) ∙ rw (here, last) refl in
+        let one_came = each (s (vm v)) all (Act (At (record { 0 = n })) start) h in
+        other (sym ((Decides-eqb n a.node.0).0 (both (one a.node.0 n) (nat_le start a.last) one_came).0))
+      where
+        each : (cs : List Choice) → have_come a.node.0 a.last cs ≡ true → (c : Choice) → Contains cs c → has_come a.node.0 a.last c ≡ true
+        each [] f c i = absurd (false≢true f)
+        each (x ∷ xs) f c i = surely_each (has_come a.node.0 a.last) (x ∷ xs) c i f
+
+past-come : (cs : List Choice) (n by : ℕ) (c : Choice) (t : ℕ) → StartsPast cs n by → Contains cs c → t ≤ by → has_come n t c ≡ true → ⊥
+past-come cs n by Idle t past i l e = false≢true e
+past-come cs n by (Act Nowhere s) t past i l e = false≢true e
+past-come cs n by (Act (At m) s) t past i l e =
     let two = both (one n m.0) (nat_le s t) e in
     let same : m.0 ≡ n = (Decides-eqb m.0 n).0 two.0 in
-    let late = away.after s (subst (λ k. Contains cs (Act (At (record { 0 = k })) s)) same i) in
+    let late = past.after s (subst (λ k. Contains cs (Act (At (record { 0 = k })) s)) same i) in
     let soon : s ≤ t = grind (arith, nat_tests, two.1) in
     omega (arith, late, soon, l)
 
-off-here : (h b : Bool) (k : ℕ) → h ≡ false → cond (h && b) k 0 ≤ 0
-off-here true b k e = cc
-off-here false b k e = omega arith
-
-pub away_fits : (p : Instance) (v : ℕ) (cs : List Choice) (r n : ℕ) (x : Period) (bound : ℕ) → x.to < never → IsAway p v cs n x.to → IsMost p v cs r (one n) x bound
-away_fits p v cs r n x bound short away =
-    fits_now p v cs r n x 0 0 bound short
-    (record { each = λ c t i l. off-here (hosted_in (state_of p v) (one n)) (nat_lt t (leave_of p v c)) (base p v (Amount r)) away.elsewhere })
-    (record { each = λ c t i l. unless (has_come n t c) (gain p v (Amount r) n) (away-come p v cs n x.to c t away i l) })
-    (omega arith)
+pub past_brought : (p : Instance) (v : ℕ) (cs : List Choice) (n r by : ℕ) → StartsPast cs n by → IsMostBrought p v cs n r by 0
+past_brought p v cs n r by past = record { each = λ c t i l. unless (has_come n t c) (gain p v (Amount r) n) (past-come cs n by c t past i l) }

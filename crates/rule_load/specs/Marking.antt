@@ -1,14 +1,14 @@
 -- Which marks are set.
-use Rattle.std.specs.Prelude.{◌≡◌, ℕ, ◌<◌, true, false, List, length, slice_index_or}
+use Rattle.std.specs.Prelude.{◌≡◌, ◌≢◌, ℕ, ◌<◌, true, false, List, [], Option, length, slice_index_or}
 use Rattle.std.specs.List.{Contains}
 use Rattle.cluster.specs.declared.choices.Choice.{Choice}
-use Rattle.cluster.specs.declared.choices.Choice.TheVariants.{Idle}
 use Rattle.catalogue.specs.Instance.{Instance}
 use Rattle.sums.specs.Least.{least}
 use Rattle.slices.specs.Elements.{state_of}
 use Rattle.slices.specs.Stages.{one}
 use Rattle.relax.specs.Areas.{goes_in, hosted_in}
-use Rattle.standing.specs.Standings.{leave_of}
+use Rattle.standing.specs.declared.numbers.Arrival.{Arrival}
+use Rattle.standing.specs.Standings.{comes_by, has_come, leave_of}
 use Rattle.rule_frame.specs.Levels.{Levels}
 
 -- no mark is gone, and what has none is spared
@@ -17,8 +17,12 @@ pub record AreSpared (spared : ℕ → Type 0) (m n : Levels) : Type 0 where
   pub count : length n.top ≡ length m.top
   pub kept : (k : ℕ) → k < length n.top → slice_index_or n.top k false ≡ false → (slice_index_or m.top k false ≡ false) × spared k
 
--- the machine may stay, surely keeps its host until the same instant as before, and acts nowhere on it
-pub record StaysAsBefore (p : Instance) (v : ℕ) (old now : List Choice) (leave : ℕ) : Type 0 where
-  pub idle : Contains now Idle
+-- the machine has choices, surely keeps its host until the same instant as before, and acts nowhere on it
+pub record KeepsHost (p : Instance) (v : ℕ) (old now : List Choice) (leave : ℕ) : Type 0 where
+  pub some : now ≢ []
   pub same : leave ≡ least (leave_of p v) old
   pub away : (n : ℕ) → hosted_in (state_of p v) (one n) ≡ true → (c : Choice) → Contains now c → goes_in c (one n) ≡ false
+
+-- wherever all its choices come by an instant, all those that it had before do
+abbrev pub CameBefore : List Choice → Option Arrival → Type 0
+CameBefore old come = (n t : ℕ) → comes_by n t come ≡ true → (c : Choice) → Contains old c → has_come n t c ≡ true

@@ -14,21 +14,22 @@ use Rattle.slices.specs.Snapshots.{stage_at, usable_at}
 use Rattle.slices.specs.Stages.{stage_of, usable_of}
 use Rattle.slices.proofs.Public.{ends_by_duration}
 use Rattle.standing.specs.Standings.{kept_until, leave_of, never}
+use Rattle.rule_load.specs.Totals.{hurry_count}
 use Rattle.rule_load.specs.Parts.{left_over, usable_count}
 
 -- what ends later keeps the host no shorter
-kept-longer : (o : Option Kind) (a b : ℕ) → a ≤ b → kept_until o a ≤ kept_until o b
-kept-longer None a b l = omega arith
-kept-longer (Some Forge) a b l = l
-kept-longer (Some Boot) a b l = l
-kept-longer (Some Shutdown) a b l = l
-kept-longer (Some Suspend) a b l = l
-kept-longer (Some Resume) a b l = l
-kept-longer (Some Migrate) a b l = l
-kept-longer (Some Allocate) a b l = omega arith
-kept-longer (Some Kill) a b l = l
-kept-longer (Some NodeBoot) a b l = l
-kept-longer (Some NodeShutdown) a b l = l
+pub kept_longer : (o : Option Kind) (a b : ℕ) → a ≤ b → kept_until o a ≤ kept_until o b
+kept_longer None a b l = omega arith
+kept_longer (Some Forge) a b l = l
+kept_longer (Some Boot) a b l = l
+kept_longer (Some Shutdown) a b l = l
+kept_longer (Some Suspend) a b l = l
+kept_longer (Some Resume) a b l = l
+kept_longer (Some Migrate) a b l = l
+kept_longer (Some Allocate) a b l = omega arith
+kept_longer (Some Kill) a b l = l
+kept_longer (Some NodeBoot) a b l = l
+kept_longer (Some NodeShutdown) a b l = l
 
 less-left : (a b : ℕ) → a ≤ b → never - b ≤ never - a
 less-left a b l = omega arith
@@ -36,7 +37,7 @@ less-left a b l = omega arith
 pub left_at_ends : (p : Instance) (v : ℕ) → IsLeastAtEnds (left_over p v)
 left_at_ends p v place lo s hi l h =
     let later : end_of p (vm v) (Act place s) ≤ end_of p (vm v) (Act place hi) = omega (arith, ends_by_duration p (vm v) place s, ends_by_duration p (vm v) place hi) in
-    let longer = kept-longer (kind_of p (vm v) place) (end_of p (vm v) (Act place s)) (end_of p (vm v) (Act place hi)) later in
+    let longer = kept_longer (kind_of p (vm v) place) (end_of p (vm v) (Act place s)) (end_of p (vm v) (Act place hi)) later in
     let less = less-left (leave_of p v (Act place s)) (leave_of p v (Act place hi)) longer in
     omega (arith, less)
 
@@ -47,3 +48,6 @@ usable_at_ends p n t place lo s hi l h = at (is_online p.nodes n) (action_durati
     at : (b : Bool) (d : ℕ) → min (cond (usable_of b (Act place lo) (stage_of d (Act place lo) t)) 1 0) (cond (usable_of b (Act place hi) (stage_of d (Act place hi) t)) 1 0) ≤ cond (usable_of b (Act place s) (stage_of d (Act place s) t)) 1 0
     at true d = grind (arith, nat_tests)
     at false d = grind (arith, nat_tests)
+
+pub hurry_at_ends : (t : ℕ) → IsLeastAtEnds (hurry_count t)
+hurry_at_ends t place lo s hi l h = grind (arith, nat_tests, l, h)

@@ -1,5 +1,5 @@
 -- What the code says of single machines and nodes.
-use Rattle.std.specs.Prelude.{◌≡◌, ℕ, false, ◌-◌, ◌<◌, ◌≤◌, ◌&&◌, List, nat_lt, if◌then◌else◌}
+use Rattle.std.specs.Prelude.{ℕ, ◌-◌, ◌<◌, ◌≤◌, ◌&&◌, List, nat_lt, if◌then◌else◌}
 use Rattle.std.specs.List.{Contains}
 use Rattle.cluster.specs.declared.choices.Choice.{Choice}
 use Rattle.cluster.specs.declared.choices.Choice.TheVariants.{Idle, Act}
@@ -24,9 +24,8 @@ pub record IsMostLeft (p : Instance) (v : ℕ) (cs : List Choice) (n r from m : 
 pub record IsMostBrought (p : Instance) (v : ℕ) (cs : List Choice) (n r by m : ℕ) : Type 0 where
   pub each : (c : Choice) (t : ℕ) → Contains cs c → t ≤ by → (if has_come n t c then gain p v (Amount r) n else 0) ≤ m
 
--- machine v has its host elsewhere, and under none of these choices does it start at node n up to an instant
-pub record IsAway (p : Instance) (v : ℕ) (cs : List Choice) (n by : ℕ) : Type 0 where
-  pub elsewhere : hosted_in (state_of p v) (one n) ≡ false
+-- none of these choices starts at node n up to an instant
+pub record StartsPast (cs : List Choice) (n by : ℕ) : Type 0 where
   pub after : (start : ℕ) → Contains cs (Act (At (record { 0 = n })) start) → by < start
 
 -- each of these choices starts after the instant; Idle does not

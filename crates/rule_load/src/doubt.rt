@@ -91,7 +91,7 @@ fn of_machine(p: &Problem, g: &Region, v: VmId, n: NodeId, r: u8, x: Period) -> 
     if most_brought(p, g, v, n, r, x.to) > 0 {
         if let Some(start) = coming(domain, n) {
             let place = Place::At(n);
-            return Doubt::Set(e, Choice::Act { place, start }, start.max(x.from));
+            return Doubt::Set(e, Choice::Act { place, start }, x.to);
         }
     }
     Doubt::Set(e, staying(p, v, domain, x.from), x.from)

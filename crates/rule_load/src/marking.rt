@@ -1,5 +1,5 @@
 //! The watches on which a change weighs.
-ghost use Rattle.std.specs.Prelude.{◌≡◌, ◌≢◌, ℕ, ◌+◌, ◌<◌, true, false, IsTrue, length};
+ghost use Rattle.std.specs.Prelude.{◌≡◌, ◌≢◌, ◌⊎◌, ℕ, ◌+◌, ◌<◌, [], true, false, IsTrue, length};
 ghost use Rattle.std.specs.List.{Contains};
 ghost use Rattle.sums.specs.Least.{least};
 ghost use Rattle.cluster.specs.declared.choices.Choice.{Choice as AnyChoice};
@@ -9,14 +9,14 @@ ghost use Rattle.slices.specs.Stages.{one};
 ghost use Rattle.domains.specs.Choices.{choices};
 ghost use Rattle.domains.specs.Laws.{AreFewer};
 ghost use Rattle.domains.specs.Sets.{HasElement, domain_at, sets};
-ghost use Rattle.domains.specs.Undo.{domain_before};
+ghost use Rattle.domains.specs.Undo.{domain_before, lost_choices};
 ghost use Rattle.relax.specs.Areas.{IsSized, goes_in, hosted_in};
 ghost use Rattle.closing.specs.Kinds.{load_scope};
 ghost use Rattle.rule_frame.specs.Caches.{IsCacheFor};
 ghost use Rattle.rule_frame.specs.Changes.{IsDisturbed, IsStill};
-ghost use Rattle.standing.specs.Standings.{comes_by, leave_of};
+ghost use Rattle.standing.specs.Standings.{comes_by, has_come, have_come, leave_of};
 ghost use Rattle.rule_load.specs.Kept.{cache_of};
-ghost use Rattle.rule_load.specs.Marking.{AreSpared, StaysAsBefore};
+ghost use Rattle.rule_load.specs.Marking.{AreSpared, CameBefore, KeepsHost};
 ghost use Rattle.rule_load.specs.Watched.{watch_at};
 
 use crate::nodes::node_total;
@@ -29,7 +29,7 @@ use domains::domain::Domain;
 use domains::measure::lowest_lost;
 use domains::parts::{Change, Part, Side};
 use domains::region::Region;
-use domains::undo::Before;
+use domains::undo::{Before, Lost};
 use rule_frame::marks::Marks;
 use standing::numbers::{Arrival, Leaving};
 
@@ -87,7 +87,7 @@ fn acts_elsewhere(g: &Region, v: VmId, state: State) -> bool
     }
 }
 
-// whether a machine surely kept its host as long before it lost some choices: what was lost keeps it longer
+// whether a machine surely kept its host as long before it lost some choices: what was lost keeps it as long
 #[tactic(auto, using(crate::proofs::StayLemmas::least_was, crate::proofs::StayLemmas::least_was_so))]
 fn kept_as_long(
     p: &Problem,
@@ -99,7 +99,7 @@ fn kept_as_long(
 ) -> bool
     requires machine { IsElement p.now.given (Element.Vm v) }
     requires fewer { AreFewer (choices domain.now) (choices (domain_before before _kept.now domain.now)) }
-    requires stays { Contains (choices domain.now) AnyChoice.Idle }
+    requires some { choices domain.now ≢ [] }
     requires leave { leave ≡ least (leave_of p.now.given v.0) (choices domain.now) }
     ensures { IsTrue result → leave ≡ least (leave_of p.now.given v.0) (choices (domain_before before _kept.now domain.now)) }
 {
@@ -111,35 +111,96 @@ fn kept_as_long(
         Before::Kept => false,
         Before::Lost(lost) => match lowest_lost(lost, &leaving) {
             None => true,
-            Some(first) => leave < first,
+            Some(first) => leave <= first,
         },
     }
 }
 
-// whether a machine may stay, as long as before, and acts nowhere but away from its host: then nothing has changed there
-#[tactic(auto, using(relax::proofs::Public::idle_in))]
-fn stays_as_before(
+// whether a machine keeps its host as long as before, and acts nowhere but away from it: then nothing has changed there
+fn keeps_host(p: &Problem, g: &Region, v: VmId, before: Before, kept: &Domain, leave: u64) -> bool
+    requires region { IsSized p.now.given g.now }
+    requires machine { IsElement p.now.given (Element.Vm v) }
+    requires fewer { AreFewer (sets g.now (vm v.0)) (choices (domain_before before kept.now (domain_at g.now (vm v.0)))) }
+    requires leave { leave ≡ least (leave_of p.now.given v.0) (sets g.now (vm v.0)) }
+    ensures { IsTrue result → KeepsHost p.now.given v.0 (choices (domain_before before kept.now (domain_at g.now (vm v.0)))) (sets g.now (vm v.0)) leave }
+{
+    let domain = g.domain(Element::Vm(v));
+    if domain.is_empty() || !acts_elsewhere(g, v, state(p, v)) {
+        return false;
+    }
+    kept_as_long(p, v, domain, before, kept, leave)
+}
+
+// marks the host of a machine, but where nothing has changed there
+#[tactic(auto, using(crate::proofs::MarkLemmas::all_spared, crate::proofs::MarkLemmas::weaker))]
+fn mark_left(
     p: &Problem,
     g: &Region,
     v: VmId,
     before: Before,
     kept: &Domain,
     leave: u64,
-) -> bool
+    marks: &mut Marks,
+)
     requires region { IsSized p.now.given g.now }
     requires machine { IsElement p.now.given (Element.Vm v) }
     requires fewer { AreFewer (sets g.now (vm v.0)) (choices (domain_before before kept.now (domain_at g.now (vm v.0)))) }
     requires leave { leave ≡ least (leave_of p.now.given v.0) (sets g.now (vm v.0)) }
-    ensures { IsTrue result → StaysAsBefore p.now.given v.0 (choices (domain_before before kept.now (domain_at g.now (vm v.0)))) (sets g.now (vm v.0)) leave }
+    ensures { AreSpared (λ i. (hosted_in (state_of p.now.given v.0) (one i) ≡ false) ⊎ KeepsHost p.now.given v.0 (choices (domain_before before kept.now (domain_at g.now (vm v.0)))) (sets g.now (vm v.0)) leave) marks.old marks.new }
 {
-    let domain = g.domain(Element::Vm(v));
-    if !domain.idle() || !acts_elsewhere(g, v, state(p, v)) {
-        return false;
+    if !keeps_host(p, g, v, before, kept, leave) {
+        mark_host(state(p, v), marks);
     }
-    kept_as_long(p, v, domain, before, kept, leave)
 }
 
-// marks for a machine its host, but where nothing has changed there, and the one node that all its choices go to
+// whether all choices that were lost came to a node by an instant
+#[tactic(auto, using(crate::proofs::StayLemmas::row_came))]
+fn came_by(lost: Lost, a: Arrival) -> bool
+    ensures { IsTrue result → (c : AnyChoice) → Contains (lost_choices lost) c → has_come a.node.0 a.last c ≡ true }
+{
+    match lost {
+        Lost::Nothing => true,
+        Lost::Idle => false,
+        Lost::Row(row) => match row.place {
+            Place::Nowhere => false,
+            Place::At(m) => m.0 == a.node.0 && row.hi <= a.last,
+        },
+    }
+}
+
+// whether all choices that a machine had before came where all come now, and as soon
+#[tactic(auto, using(crate::proofs::StayLemmas::none_came, crate::proofs::StayLemmas::came_before))]
+fn came_before(_domain: &Domain, before: Before, _kept: &Domain, come: Option<Arrival>) -> bool
+    requires come { (n t : ℕ) → comes_by n t come ≡ have_come n t (choices _domain.now) }
+    ensures { IsTrue result → CameBefore (choices (domain_before before _kept.now _domain.now)) come }
+{
+    let Some(a) = come else {
+        return true;
+    };
+    match before {
+        Before::Kept => false,
+        Before::Lost(lost) => came_by(lost, a),
+    }
+}
+
+// marks the one node that all choices go to, but where they went there before
+#[tactic(auto, using(crate::proofs::MarkLemmas::all_spared, crate::proofs::MarkLemmas::weaker))]
+fn mark_come(
+    domain: &Domain,
+    before: Before,
+    kept: &Domain,
+    come: Option<Arrival>,
+    marks: &mut Marks,
+)
+    requires come { (n t : ℕ) → comes_by n t come ≡ have_come n t (choices domain.now) }
+    ensures { AreSpared (λ i. ((t : ℕ) → comes_by i t come ≡ false) ⊎ CameBefore (choices (domain_before before kept.now domain.now)) come) marks.old marks.new }
+{
+    if !came_before(domain, before, kept, come) {
+        mark_arrival(come, marks);
+    }
+}
+
+// marks for a machine its host, and the one node that all its choices go to, but where nothing has changed there
 fn mark_machine(
     k: &Standings,
     p: &Problem,
@@ -156,16 +217,12 @@ fn mark_machine(
     ensures { AreSpared (λ i. IsStill p.now.given (load_scope (one i)) (vm v.0) (choices (domain_before before kept.now (domain_at g.now (vm v.0)))) (sets g.now (vm v.0))) marks.old marks.new }
 {
     let now = k.of(p, g, v);
-    if stays_as_before(p, g, v, before, kept, now.leave) {
-        mark_arrival(now.come, marks);
-        return;
-    }
-    mark_host(state(p, v), marks);
-    mark_arrival(now.come, marks);
+    mark_left(p, g, v, before, kept, now.leave, marks);
+    mark_come(g.domain(Element::Vm(v)), before, kept, now.come, marks);
 }
 
-/// Marks the load of all nodes together, and of a machine that of its host, but where nothing has changed there, and
-/// of the one node that all its choices now go to, of a node its own.
+/// Marks the load of all nodes together, and of a machine that of its host and of the one node that all its choices now
+/// go to, but where nothing has changed there, of a node its own.
 pub(crate) fn mark_disturbed(
     k: &Standings,
     p: &Problem,

@@ -3,6 +3,7 @@ ghost use Rattle.std.specs.Prelude.{◌≡◌};
 ghost use Rattle.catalogue.specs.Instance.{IsElement};
 ghost use Rattle.slices.specs.Elements.{node, vm};
 ghost use Rattle.rule_load.specs.Parts.{left_over, start_count, usable_count};
+ghost use Rattle.rule_load.specs.Totals.{hurry_count};
 
 use catalogue::problem::Problem;
 use cluster::choices::{Choice, Instant};
@@ -97,6 +98,38 @@ impl Measure for Start {
         match c {
             Choice::Idle => 0,
             Choice::Act { place: _, start } => u64::from(start),
+        }
+    }
+
+    fn floor(&self) -> u64 {
+        0
+    }
+}
+
+/// 0 for a choice that leaves a machine as it is up to an instant, 1 for others.
+#[derive(Drop)]
+pub struct Hurries {
+    pub by: Instant,
+}
+
+impl Measure for Hurries {
+    ghost use Rattle.std.proofs.Common.{arith};
+    ghost use Rattle.rule_load.specs.Measured.{hurry_at_ends};
+
+    ghost ready = { λ _. Unit {0} };
+
+    ghost value_of = { λ m. hurry_count m.by };
+
+    ghost floor_of = { λ _. 0 };
+
+    ghost least_at_ends = { λ m. hurry_at_ends m.by };
+
+    ghost above_floor = { λ m c. Prim.omega arith };
+
+    fn value(&self, c: Choice) -> u64 {
+        match c {
+            Choice::Idle => 0,
+            Choice::Act { place: _, start } => u64::from(start <= self.by),
         }
     }
 

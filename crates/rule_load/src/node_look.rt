@@ -1,5 +1,5 @@
 //! The look at the load of one node, by where machines surely stand.
-ghost use Rattle.std.specs.Prelude.{◌<◌, IfNone, IsTrue};
+ghost use Rattle.std.specs.Prelude.{◌<◌, IfNone};
 ghost use Rattle.slices.specs.Elements.{node_count};
 ghost use Rattle.domains.specs.Sets.{sets};
 ghost use Rattle.relax.specs.Areas.{IsSized};
@@ -17,23 +17,6 @@ use closing::look::Look;
 use closing::watch::look_at_load;
 use cluster::ids::NodeId;
 use domains::region::Region;
-
-// whether it is seen that a node is never overloaded, with the most that is ever used at once
-fn is_never_overloaded(p: &Problem, g: &Region, kept: Kept<'_>, n: NodeId) -> bool
-    requires region { IsSized p.now.given g.now }
-    requires kept { AreKeptAt p.now.given (sets g.now) n.0 kept.fixed.now kept.standings.now kept.near.now kept.firsts.now }
-    requires node { n.0 < node_count p.now.given }
-    ensures { IsTrue result → IsLook (load_watch p.now.given n.0) p.now.given (sets g.now) Look.Clean }
-{
-    let x = Period {
-        from: 0,
-        to: p.horizon(),
-    };
-    match load_doubt(p, g, kept, n, x) {
-        None => true,
-        Some(_) => false,
-    }
-}
 
 // the first case in which a node may be overloaded
 fn first_doubt(p: &Problem, g: &Region, kept: Kept<'_>, n: NodeId) -> Option<Doubt>
@@ -65,9 +48,6 @@ pub(crate) fn node_look(p: &Problem, g: &Region, kept: Kept<'_>, n: NodeId) -> L
     requires node { n.0 < node_count p.now.given }
     ensures { IsLook (load_watch p.now.given n.0) p.now.given (sets g.now) result }
 {
-    if is_never_overloaded(p, g, kept, n) {
-        return Look::Clean;
-    }
     match first_doubt(p, g, kept, n) {
         None => Look::Clean,
         Some(doubt) => match confirmed(p, g, kept, n, doubt) {

@@ -1,18 +1,24 @@
 //! Whether a node is overloaded, told by where the machines near it surely stand.
-ghost use Rattle.std.specs.Prelude.{◌≡◌, false, ◌*◌, ◌<◌, ◌≤◌, IfSome, IsTrue, length};
-ghost use Rattle.std.specs.List.{sum_by};
+ghost use Rattle.std.specs.Prelude.{◌≡◌, ◌≢◌, ◌+◌, ◌*◌, ◌<◌, ◌≤◌, [], false, true, IfSome, IsTrue, length};
+ghost use Rattle.std.specs.List.{Contains, sum_by};
 ghost use Rattle.cluster.specs.Limits.{max_machines};
+ghost use Rattle.cluster.specs.declared.choices.Choice.{Choice as AnyChoice};
+ghost use Rattle.cluster.specs.declared.choices.Place.TheVariants.{At};
+ghost use Rattle.cluster.specs.declared.ids.NodeId.{NodeId as AnyNode};
+ghost use Rattle.sums.specs.Least.{least};
 ghost use Rattle.catalogue.specs.Instance.{IsElement};
 ghost use Rattle.slices.specs.Elements.{node_count, vm};
 ghost use Rattle.slices.specs.Limits.{max_held};
+ghost use Rattle.slices.specs.Snapshots.{held_at, load as load_of};
 ghost use Rattle.slices.specs.Stages.{one};
 ghost use Rattle.slices.specs.declared.slice.Weight.TheVariants.{Amount as AmountOf};
+ghost use Rattle.domains.specs.Choices.{choices};
 ghost use Rattle.domains.specs.Sets.{RegionView, sets};
 ghost use Rattle.domains.specs.Views.{seen};
 ghost use Rattle.reasons.specs.Reasons.{IsOverload};
 ghost use Rattle.reasons.specs.Sure.{sure};
 ghost use Rattle.relax.specs.Areas.{IsSized};
-ghost use Rattle.standing.specs.Standings.{kept_use as the_kept_use};
+ghost use Rattle.standing.specs.Standings.{has_come, kept_use as the_kept_use};
 ghost use Rattle.rule_load.specs.Fixed.{IsFixed};
 ghost use Rattle.rule_load.specs.Kept.{AreKeptAt};
 
@@ -20,14 +26,17 @@ use crate::fixed::Fixed;
 use crate::kept::Kept;
 use crate::nodes::resource_total;
 use catalogue::problem::Problem;
-use cluster::choices::Instant;
+use cluster::choices::{Instant, Place};
 use cluster::ids::{Element, NodeId, VmId};
-use domains::view::{Lens, View};
-use near::over::{beside, narrowed, room_seen};
+use domains::domain::Domain;
+use domains::parts::Row;
+use domains::view::{Lens, Sight, View, shown};
+use near::near::is_listed;
+use near::over::{narrowed, room_seen};
 use relax::area::Area;
 use relax::sure::least_held;
 use slices::slice::Weight;
-use standing::numbers::Standing;
+use standing::numbers::{Standing, standing_of};
 use standing::uses::{base, comes_by, gain};
 
 // what a machine with these numbers surely uses of a node
@@ -52,6 +61,91 @@ fn kept_use(p: &Problem, f: &Fixed, v: VmId, k: Standing, r: u8, n: NodeId, t: I
     kept + come
 }
 
+// whether all choices of a machine have come to a node by an instant
+#[tactic(auto, using(crate::proofs::OverLemmas::row_comes))]
+fn have_come(domain: &Domain, n: NodeId, t: Instant) -> bool
+    ensures come { IsTrue result → (c : AnyChoice) → Contains (choices domain.now) c → has_come n.0 t c ≡ true }
+    ensures some { IsTrue result → choices domain.now ≢ [] }
+{
+    if domain.idle() {
+        return false;
+    }
+    match domain.rows() {
+        [row] => is_there(*row, n, t),
+        _ => false,
+    }
+}
+
+// whether a row is at a node and its last start is no later than an instant
+fn is_there(row: Row, n: NodeId, t: Instant) -> bool
+    ensures node { IsTrue result → (m : AnyNode) × (row.place ≡ At m) × (m.0 ≡ n.0) }
+    ensures by { IsTrue result → row.hi ≤ t }
+{
+    match row.place {
+        Place::Nowhere => false,
+        Place::At(m) => m.0 == n.0 && row.hi <= t,
+    }
+}
+
+// what a machine with these choices uses of a node at the least; until when it keeps its host is asked only there
+#[tactic(auto, using(crate::proofs::OverLemmas::guest_holds, crate::proofs::OverLemmas::host_holds))]
+fn use_of(p: &Problem, f: &Fixed, v: VmId, domain: &Domain, r: u8, n: NodeId, t: Instant) -> u64
+    requires fixed { IsFixed p.now.given f.now }
+    requires machine { IsElement p.now.given (Element.Vm v) }
+    requires resource { r < length p.now.given.resources }
+    requires within { t ≤ p.now.given.horizon }
+    ensures held { result ≤ least (held_at p.now.given v.0 (AmountOf r) (one n.0) t) (choices domain.now) }
+    ensures small { result ≤ max_held }
+{
+    if f.is_host(p, v, n) {
+        kept_use(p, f, v, standing_of(p, v, domain), r, n, t)
+    } else if have_come(domain, n, t) {
+        gain(p, v, Weight::Amount(r), n)
+    } else {
+        0
+    }
+}
+
+// what a machine surely uses of a node in what is seen, where that may not be all of its choices
+#[tactic(auto, unfolding(reasons::specs::Sure::sure))]
+fn use_seen(p: &Problem, view: &View, f: &Fixed, v: VmId, r: u8, n: NodeId, t: Instant) -> u64
+    requires region { IsSized p.now.given view.now.region.now }
+    requires fixed { IsFixed p.now.given f.now }
+    requires machine { IsElement p.now.given (Element.Vm v) }
+    requires resource { r < length p.now.given.resources }
+    requires within { t ≤ p.now.given.horizon }
+    ensures held { result ≤ (sure p.now.given (seen view.now.region.now view.now.lens) t).held v.0 (AmountOf r) (one n.0) }
+    ensures small { result ≤ max_held }
+{
+    match shown(view.lens, Element::Vm(v)) {
+        Sight::In(part) => {
+            let there = view.region.domain(Element::Vm(v)).inside(part);
+            use_of(p, f, v, &there, r, n, t)
+        }
+        Sight::All | Sight::Out(_) | Sight::Only(_) => {
+            least_held(p, view, v, Weight::Amount(r), &Area::One(n), t)
+        }
+    }
+}
+
+// what a machine near the node does: by its numbers, where all of its choices are seen
+#[tactic(auto, using(crate::proofs::OverLemmas::kept_is_held))]
+fn near_one(p: &Problem, view: &View, kept: Kept<'_>, v: VmId, r: u8, n: NodeId, t: Instant) -> u64
+    requires region { IsSized p.now.given view.now.region.now }
+    requires kept { AreKeptAt p.now.given (sets view.now.region.now) n.0 kept.fixed.now kept.standings.now kept.near.now kept.firsts.now }
+    requires machine { IsElement p.now.given (Element.Vm v) }
+    requires resource { r < length p.now.given.resources }
+    requires within { t ≤ p.now.given.horizon }
+    ensures held { result ≤ (sure p.now.given (seen view.now.region.now view.now.lens) t).held v.0 (AmountOf r) (one n.0) }
+    ensures small { result ≤ max_held }
+{
+    if is_narrowed(view.lens, v) {
+        use_seen(p, view, kept.fixed, v, r, n, t)
+    } else {
+        kept_use(p, kept.fixed, v, kept.standings[v.0 as usize], r, n, t)
+    }
+}
+
 // whether a lens may not show all choices of a machine
 fn is_narrowed(lens: Lens, v: VmId) -> bool
     ensures { result ≡ false → (g : RegionView) → seen g lens (vm v.0) ≡ sets g (vm v.0) }
@@ -62,38 +156,43 @@ fn is_narrowed(lens: Lens, v: VmId) -> bool
     }
 }
 
-// what a machine surely uses of a node in what is seen: by its numbers, where all of its choices are seen
-#[tactic(auto, using(crate::proofs::OverLemmas::kept_is_held), unfolding(reasons::specs::Sure::sure))]
-fn use_seen(p: &Problem, view: &View, kept: Kept<'_>, v: VmId, r: u8, n: NodeId, t: Instant) -> u64
-    requires region { IsSized p.now.given view.now.region.now }
-    requires kept { AreKeptAt p.now.given (sets view.now.region.now) n.0 kept.fixed.now kept.standings.now kept.near.now kept.firsts.now }
-    requires machine { IsElement p.now.given (Element.Vm v) }
-    requires resource { r < length p.now.given.resources }
-    requires within { t ≤ p.now.given.horizon }
-    ensures held { result ≡ (sure p.now.given (seen view.now.region.now view.now.lens) t).held v.0 (AmountOf r) (one n.0) }
-    ensures small { result ≤ max_held }
-{
-    if is_narrowed(view.lens, v) {
-        least_held(p, view, v, Weight::Amount(r), &Area::One(n), t)
-    } else {
-        kept_use(p, kept.fixed, v, kept.standings[v.0 as usize], r, n, t)
-    }
-}
-
 // what those near it do
 fn near_use(p: &Problem, view: &View, kept: Kept<'_>, r: u8, n: NodeId, t: Instant) -> u64
     requires region { IsSized p.now.given view.now.region.now }
     requires kept { AreKeptAt p.now.given (sets view.now.region.now) n.0 kept.fixed.now kept.standings.now kept.near.now kept.firsts.now }
     requires resource { r < length p.now.given.resources }
     requires within { t ≤ p.now.given.horizon }
-    ensures sum { result ≡ sum_by (λ v. (sure p.now.given (seen view.now.region.now view.now.lens) t).held v (AmountOf r) (one n.0)) kept.entry.near.now }
+    ensures sum { result ≤ sum_by (λ v. (sure p.now.given (seen view.now.region.now view.now.lens) t).held v (AmountOf r) (one n.0)) kept.entry.near.now }
     ensures small { result ≤ max_machines * max_held }
 {
     let mut total = 0;
     for i in 0..kept.near.len() {
-        total += use_seen(p, view, kept, VmId(kept.near[i]), r, n, t);
+        total += near_one(p, view, kept, VmId(kept.near[i]), r, n, t);
     }
     total
+}
+
+// what the machine does of which a lens may not show all choices, 0 where it is near. With what those near use it is no
+// more than the load of the node
+#[tactic(auto, using(crate::proofs::OverLemmas::near_alone, crate::proofs::OverLemmas::near_with))]
+fn use_beside(p: &Problem, view: &View, kept: Kept<'_>, r: u8, n: NodeId, t: Instant) -> u64
+    requires region { IsSized p.now.given view.now.region.now }
+    requires kept { AreKeptAt p.now.given (sets view.now.region.now) n.0 kept.fixed.now kept.standings.now kept.near.now kept.firsts.now }
+    requires resource { r < length p.now.given.resources }
+    requires within { t ≤ p.now.given.horizon }
+    ensures sum { result + sum_by (λ v. (sure p.now.given (seen view.now.region.now view.now.lens) t).held v (AmountOf r) (one n.0)) kept.entry.near.now ≤ load_of p.now.given (sure p.now.given (seen view.now.region.now view.now.lens) t) r (one n.0) }
+    ensures small { result ≤ max_held }
+{
+    let Some(v) = narrowed(view.lens) else {
+        return 0;
+    };
+    if v.0 as usize >= p.cluster().machines().len() {
+        return 0;
+    }
+    if is_listed(kept.near, v) {
+        return 0;
+    }
+    use_seen(p, view, kept.fixed, v, r, n, t)
 }
 
 /// Whether the machines near a node surely use more of a resource than it has room for.
@@ -112,7 +211,7 @@ pub(crate) fn is_over(
     requires within { t ≤ p.now.given.horizon }
     ensures { IsTrue result → IsOverload p.now.given (sure p.now.given (seen view.now.region.now view.now.lens) t) r (one n.0) }
 {
-    let used = beside(p, view, kept.near, r, n, t) + near_use(p, view, kept, r, n, t);
+    let used = use_beside(p, view, kept, r, n, t) + near_use(p, view, kept, r, n, t);
     room_seen(p, view, r, n, t) < used
 }
 

@@ -10,6 +10,7 @@ ghost use Rattle.slices.specs.Snapshots.{usable_at};
 ghost use Rattle.slices.specs.Stages.{one};
 ghost use Rattle.domains.specs.Laws.{is_above_none};
 ghost use Rattle.domains.specs.Sets.{sets, surely};
+ghost use Rattle.reasons.specs.Sure.{sure};
 ghost use Rattle.relax.specs.Areas.{IsSized};
 ghost use Rattle.rule_load.specs.Periods.{HasRoom, NodesFit};
 ghost use Rattle.rule_load.specs.Totals.{is_steady as the_is_steady};
@@ -33,15 +34,29 @@ pub(crate) fn room_of(p: &Problem, g: &Region, n: NodeId, r: u8, x: Period) -> u
     ensures room { HasRoom p.now.given (sets g.now) r (one n.0) x result }
     ensures small { result ≤ max_capacity }
 {
-    let view = View {
-        region: g,
-        lens: Lens::Whole,
-    };
-    if may_be_usable(p, &view, n, x.from) && may_be_usable(p, &view, n, x.to) {
+    if may_be_used(p, g, n, x) {
         p.capacity(n, r)
     } else {
         0
     }
+}
+
+// whether a node may be usable at both ends of a period
+#[tactic(auto, using(crate::proofs::RoomLemmas::usable_when_steady))]
+fn may_be_used(p: &Problem, g: &Region, n: NodeId, x: Period) -> bool
+    requires region { IsSized p.now.given g.now }
+    requires node { n.0 < node_count p.now.given }
+    ensures first { IsTrue result → (sure p.now.given (sets g.now) x.from).usable n.0 ≡ true }
+    ensures last { IsTrue result → (sure p.now.given (sets g.now) x.to).usable n.0 ≡ true }
+{
+    if stays_online(p, g, n) {
+        return true;
+    }
+    let view = View {
+        region: g,
+        lens: Lens::Whole,
+    };
+    may_be_usable(p, &view, n, x.from) && may_be_usable(p, &view, n, x.to)
 }
 
 // whether a value, if there is one, is above 0
@@ -74,7 +89,7 @@ fn is_surely_usable(p: &Problem, g: &Region, n: NodeId, t: Instant) -> bool
 
 /// Whether what is used of a node fits under each of its choices: nothing is, or it is usable under each of
 /// them at the first and the last instant.
-#[tactic(auto, using(crate::proofs::RoomLemmas::unused_fits, crate::proofs::RoomLemmas::usable_fits))]
+#[tactic(auto, using(crate::proofs::RoomLemmas::unused_fits, crate::proofs::RoomLemmas::usable_fits, crate::proofs::RoomLemmas::steady_fits))]
 pub(crate) fn node_fits(p: &Problem, g: &Region, n: NodeId, x: Period, used: u64) -> bool
     requires region { IsSized p.now.given g.now }
     requires node { n.0 < node_count p.now.given }
@@ -83,7 +98,7 @@ pub(crate) fn node_fits(p: &Problem, g: &Region, n: NodeId, x: Period, used: u64
     if used == 0 {
         return true;
     }
-    is_surely_usable(p, g, n, x.from) && is_surely_usable(p, g, n, x.to)
+    stays_online(p, g, n) || is_surely_usable(p, g, n, x.from) && is_surely_usable(p, g, n, x.to)
 }
 
 // whether a node is online

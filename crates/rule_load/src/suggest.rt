@@ -137,7 +137,9 @@ fn suggest_arrivals(
     for i in 0..order.len() {
         let machine = order[i].machine;
         if let Some(at) = last_without(spares.as_slice(), p.demand(machine, r)) {
-            suggest_arrival(p, g, machine, node, r, at, them)?;
+            if kept.firsts[machine.0 as usize] <= at {
+                suggest_arrival(p, g, machine, node, r, at, them)?;
+            }
         }
     }
     Ok(())

@@ -7,7 +7,8 @@ ghost use Rattle.catalogue.specs.Instance.{IsElement};
 ghost use Rattle.catalogue.specs.Limits.{max_capacity};
 ghost use Rattle.slices.specs.Elements.{machine_count, vm};
 ghost use Rattle.slices.specs.declared.slice.Weight.TheVariants.{Amount as AmountOf};
-ghost use Rattle.domains.specs.Sets.{domain_at, sets};
+ghost use Rattle.domains.specs.Laws.{is_nought};
+ghost use Rattle.domains.specs.Sets.{sets};
 ghost use Rattle.reasons.specs.Closed.{all_nodes};
 ghost use Rattle.relax.specs.Areas.{IsSized};
 ghost use Rattle.near.specs.Near.{AreMachines};
@@ -17,10 +18,10 @@ ghost use Rattle.standing.specs.Tables.{AreStanding, no_standing};
 ghost use Rattle.rule_load.specs.Fixed.{IsFixed};
 ghost use Rattle.rule_load.specs.Parts.{StartsAfter};
 ghost use Rattle.rule_load.specs.Periods.{IsMost, MachinesFit};
-ghost use Rattle.rule_load.specs.Totals.{comes_after as the_comes_after, most_anywhere as the_most_anywhere};
+ghost use Rattle.rule_load.specs.Totals.{may_wait as the_may_wait, most_anywhere as the_most_anywhere};
 
 use crate::fixed::Fixed;
-use crate::measures::Start;
+use crate::measures::{Hurries, Start};
 use crate::period::Period;
 use crate::uses::has_left;
 use catalogue::problem::Problem;
@@ -29,34 +30,45 @@ use cluster::ids::{Element, VmId};
 use domains::region::Region;
 use domains::view::{Lens, View, lowest_seen};
 use slices::slice::Weight;
-use standing::numbers::{Arrival, Standing};
+use standing::numbers::Standing;
 use standing::uses::base;
 
-fn comes_after(come: Option<Arrival>, t: Instant) -> bool
-    ensures { result ≡ the_comes_after t come }
+// whether a value, if there is one, is 0
+fn is_zero(lowest: Option<u64>) -> bool
+    ensures { result ≡ is_nought lowest }
 {
-    match come {
+    match lowest {
         None => false,
-        Some(a) => t < a.last,
+        Some(x) => x == 0,
     }
 }
 
+// whether a machine may wait until a period is over
+fn may_wait(g: &Region, v: VmId, x: Period) -> bool
+    requires { v.0 < length g.now.machines }
+    ensures { result ≡ the_may_wait (sets g.now) x v.0 }
+{
+    let view = View {
+        region: g,
+        lens: Lens::Whole,
+    };
+    is_zero(lowest_seen(&view, Element::Vm(v), &Hurries { by: x.to }))
+}
+
 // what a machine with these numbers surely uses at the most
-fn most_anywhere(p: &Problem, v: VmId, r: u8, x: Period, idle: bool, k: Standing) -> u64
+fn most_anywhere(p: &Problem, v: VmId, r: u8, x: Period, waits: bool, k: Standing) -> u64
     requires machine { IsElement p.now.given (Element.Vm v) }
     requires resource { r < length p.now.given.resources }
-    ensures most { result ≡ the_most_anywhere p.now.given v.0 r x idle k }
+    ensures most { result ≡ the_most_anywhere p.now.given v.0 r x waits k }
     ensures small { result ≤ 2 * max_amount }
 {
     let had = base(p, v, Weight::Amount(r));
-    if idle {
+    if waits {
         return had;
     }
     let demand = p.demand(v, r);
     if k.leave <= u64::from(x.from) {
         demand
-    } else if comes_after(k.come, x.to) {
-        had
     } else {
         had + demand
     }
@@ -70,15 +82,15 @@ struct Beside {
 }
 
 // of a machine with these numbers; what it has is looked up only where it may be gone
-fn beside_base(p: &Problem, v: VmId, r: u8, x: Period, idle: bool, k: Standing) -> Beside
+fn beside_base(p: &Problem, v: VmId, r: u8, x: Period, waits: bool, k: Standing) -> Beside
     requires machine { IsElement p.now.given (Element.Vm v) }
     requires resource { r < length p.now.given.resources }
-    ensures more { result.more ≡ the_most_anywhere p.now.given v.0 r x idle k - the_base p.now.given v.0 (AmountOf r) }
-    ensures less { result.less ≡ the_base p.now.given v.0 (AmountOf r) - the_most_anywhere p.now.given v.0 r x idle k }
+    ensures more { result.more ≡ the_most_anywhere p.now.given v.0 r x waits k - the_base p.now.given v.0 (AmountOf r) }
+    ensures less { result.less ≡ the_base p.now.given v.0 (AmountOf r) - the_most_anywhere p.now.given v.0 r x waits k }
     ensures few_more { result.more ≤ max_amount }
     ensures few_less { result.less ≤ max_amount }
 {
-    if idle {
+    if waits {
         return Beside { more: 0, less: 0 };
     }
     let demand = p.demand(v, r);
@@ -88,8 +100,6 @@ fn beside_base(p: &Problem, v: VmId, r: u8, x: Period, idle: bool, k: Standing) 
             more: demand.saturating_sub(had),
             less: had.saturating_sub(demand),
         }
-    } else if comes_after(k.come, x.to) {
-        Beside { more: 0, less: 0 }
     } else {
         Beside {
             more: demand,
@@ -111,16 +121,15 @@ fn beside_bases(
     requires count { length ks.now ≡ machine_count p.now.given }
     requires machines { AreMachines p.now.given machines.now }
     requires resource { r < length p.now.given.resources }
-    ensures more { result.more ≡ sum_by (λ v. the_most_anywhere p.now.given v r x (domain_at g.now (vm v)).idle (slice_index_or ks.now v no_standing) - the_base p.now.given v (AmountOf r)) machines.now }
-    ensures less { result.less ≡ sum_by (λ v. the_base p.now.given v (AmountOf r) - the_most_anywhere p.now.given v r x (domain_at g.now (vm v)).idle (slice_index_or ks.now v no_standing)) machines.now }
+    ensures more { result.more ≡ sum_by (λ v. the_most_anywhere p.now.given v r x (the_may_wait (sets g.now) x v) (slice_index_or ks.now v no_standing) - the_base p.now.given v (AmountOf r)) machines.now }
+    ensures less { result.less ≡ sum_by (λ v. the_base p.now.given v (AmountOf r) - the_most_anywhere p.now.given v r x (the_may_wait (sets g.now) x v) (slice_index_or ks.now v no_standing)) machines.now }
     ensures small { result.more ≤ max_machines * max_amount }
 {
     let mut more = 0;
     let mut less = 0;
     for i in 0..machines.len() {
         let v = VmId(machines[i]);
-        let idle = g.domain(Element::Vm(v)).idle();
-        let one = beside_base(p, v, r, x, idle, ks[v.0 as usize]);
+        let one = beside_base(p, v, r, x, may_wait(g, v, x), ks[v.0 as usize]);
         more += one.more;
         less += one.less;
     }
@@ -143,7 +152,7 @@ pub(crate) fn most_total(
     requires count { length ks.now ≡ machine_count p.now.given }
     requires movers { AreMovers p.now.given (sets g.now) movers.now }
     requires resource { r < length p.now.given.resources }
-    ensures sum { result ≡ sum_to (machine_count p.now.given) (λ v. the_most_anywhere p.now.given v r x (domain_at g.now (vm v)).idle (slice_index_or ks.now v no_standing)) }
+    ensures sum { result ≡ sum_to (machine_count p.now.given) (λ v. the_most_anywhere p.now.given v r x (the_may_wait (sets g.now) x v) (slice_index_or ks.now v no_standing)) }
     ensures small { result ≤ max_machines * (2 * max_amount) }
 {
     let beside = beside_bases(p, g, ks, movers, r, x);
@@ -201,7 +210,7 @@ pub(crate) fn machines_fit(
     requires resource { r < length p.now.given.resources }
     requires period { x.to ≤ p.now.given.horizon }
     requires small { spare ≤ max_nodes * max_capacity }
-    ensures { IsTrue result → MachinesFit p.now.given (sets g.now) r (all_nodes p.now.given) x (λ v. the_most_anywhere p.now.given v r x (domain_at g.now (vm v)).idle (slice_index_or ks.now v no_standing)) spare }
+    ensures { IsTrue result → MachinesFit p.now.given (sets g.now) r (all_nodes p.now.given) x (λ v. the_most_anywhere p.now.given v r x (the_may_wait (sets g.now) x v) (slice_index_or ks.now v no_standing)) spare }
 {
     // what any of them has and brings is spare
     if f.most(p, r) <= spare {
@@ -209,8 +218,7 @@ pub(crate) fn machines_fit(
     }
     for i in 0..p.cluster().machines().len() {
         let v = VmId(i as u32);
-        let idle = g.domain(Element::Vm(v)).idle();
-        let bound = spare + most_anywhere(p, v, r, x, idle, ks[i]);
+        let bound = spare + most_anywhere(p, v, r, x, may_wait(g, v, x), ks[i]);
         if !is_below(p, g, v, r, x, bound) {
             return false;
         }

@@ -1,5 +1,5 @@
 //! What machines use of a node at the most during a period.
-ghost use Rattle.std.specs.Prelude.{◌≡◌, ℕ, ◌+◌, ◌*◌, ◌<◌, ◌≤◌, length, slice_index_or, IsTrue, if◌then◌else◌};
+ghost use Rattle.std.specs.Prelude.{◌≡◌, ◌≢◌, ℕ, None, false, IfSome, ◌+◌, ◌*◌, ◌<◌, ◌≤◌, length, slice_index_or, IsTrue, if◌then◌else◌};
 ghost use Rattle.cluster.specs.Limits.{max_amount, max_machines};
 ghost use Rattle.sums.specs.Sums.{sum_to};
 ghost use Rattle.catalogue.specs.Instance.{IsElement};
@@ -13,7 +13,7 @@ ghost use Rattle.standing.specs.Standings.{base as the_base};
 ghost use Rattle.standing.specs.Tables.{no_standing};
 ghost use Rattle.rule_load.specs.Fixed.{IsFixed};
 ghost use Rattle.rule_load.specs.Kept.{AreKeptAt};
-ghost use Rattle.rule_load.specs.Parts.{HasLeft, IsAway, IsMostBrought, IsMostLeft};
+ghost use Rattle.rule_load.specs.Parts.{HasLeft, IsMostBrought, IsMostLeft, StartsPast};
 ghost use Rattle.rule_load.specs.Periods.{IsMost, most_kept as the_most_kept};
 
 use crate::fixed::Fixed;
@@ -27,7 +27,7 @@ use domains::parts::{Change, Part, Side};
 use domains::region::Region;
 use domains::view::{Lens, View, lowest_seen};
 use slices::slice::Weight;
-use standing::numbers::{NEVER, Standing};
+use standing::numbers::{Arrival, NEVER, Standing};
 use standing::uses::{base, comes_by, gain};
 
 // what a machine with these numbers surely uses at the most
@@ -162,19 +162,54 @@ pub(crate) fn most_brought(p: &Problem, g: &Region, v: VmId, n: NodeId, r: u8, b
     }
 }
 
-// whether it is seen that a machine is away from a node up to an instant
-#[tactic(auto, using(crate::proofs::UseLemmas::is_away_by))]
-fn is_away(p: &Problem, kept: Kept<'_>, _g: &Region, v: VmId, n: NodeId, by: Instant) -> bool
+// whether all choices of a machine go to another node
+fn goes_elsewhere(come: Option<Arrival>, n: NodeId) -> bool
+    ensures other { IsTrue result → IfSome come (λ a. a.node.0 ≢ n.0) }
+    ensures some { IsTrue result → come ≢ None }
+{
+    match come {
+        None => false,
+        Some(a) => a.node.0 != n.0,
+    }
+}
+
+// whether a machine may start at a node by an instant
+#[tactic(auto, using(crate::proofs::UseLemmas::late_is_past, crate::proofs::UseLemmas::elsewhere_is_past))]
+fn may_come(p: &Problem, kept: Kept<'_>, _g: &Region, v: VmId, n: NodeId, by: Instant) -> bool
     requires kept { AreKeptAt p.now.given (sets _g.now) n.0 kept.fixed.now kept.standings.now kept.near.now kept.firsts.now }
     requires machine { IsElement p.now.given (Element.Vm v) }
-    ensures { IsTrue result → IsAway p.now.given v.0 (sets _g.now (vm v.0)) n.0 by }
+    ensures { result ≡ false → StartsPast (sets _g.now (vm v.0)) n.0 by }
 {
-    kept.firsts[v.0 as usize] > by && !kept.fixed.is_host(p, v, n)
+    kept.firsts[v.0 as usize] <= by && !goes_elsewhere(kept.standings[v.0 as usize].come, n)
+}
+
+// the most that a machine has brought to a node by an instant, told without its rows
+#[tactic(auto, using(crate::proofs::UseLemmas::past_brought, crate::proofs::UseLemmas::demand_brought))]
+fn most_demanded(
+    p: &Problem,
+    kept: Kept<'_>,
+    g: &Region,
+    v: VmId,
+    n: NodeId,
+    r: u8,
+    by: Instant,
+) -> u64
+    requires kept { AreKeptAt p.now.given (sets g.now) n.0 kept.fixed.now kept.standings.now kept.near.now kept.firsts.now }
+    requires machine { IsElement p.now.given (Element.Vm v) }
+    requires resource { r < length p.now.given.resources }
+    ensures most { IsMostBrought p.now.given v.0 (sets g.now (vm v.0)) n.0 r by result }
+    ensures small { result ≤ max_amount }
+{
+    if may_come(p, kept, g, v, n, by) {
+        p.demand(v, r)
+    } else {
+        0
+    }
 }
 
 /// Whether a machine uses no more of a node, under any of its choices, than what is spare and what it surely
 /// uses there itself. Its rows are looked at only where its present use and its demand are more.
-#[tactic(auto, using(crate::proofs::UseLemmas::fits_ever, crate::proofs::UseLemmas::away_fits))]
+#[tactic(auto, using(crate::proofs::UseLemmas::fits_ever))]
 pub(crate) fn machine_fits(
     p: &Problem,
     g: &Region,
@@ -193,10 +228,7 @@ pub(crate) fn machine_fits(
     requires small { spare ≤ max_capacity }
     ensures { IsTrue result → IsMost p.now.given v.0 (sets g.now (vm v.0)) r (one n.0) x (spare + the_most_kept p.now.given v.0 (AmountOf r) n.0 x (slice_index_or kept.entry.standings.now v.0 no_standing)) }
 {
-    if is_away(p, kept, g, v, n, x.to) {
-        return true;
-    }
-    let ever = most_here(p, kept.fixed, v, n, r) + p.demand(v, r);
+    let ever = most_here(p, kept.fixed, v, n, r) + most_demanded(p, kept, g, v, n, r, x.to);
     if ever <= spare {
         return true;
     }

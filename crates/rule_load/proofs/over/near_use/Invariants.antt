@@ -1,4 +1,4 @@
-use Rattle.std.proofs.Common.{◌≡◌, ◌*◌, ◌≤◌, take}
+use Rattle.std.proofs.Common.{◌*◌, ◌≤◌, take}
 use Rattle.std.specs.List.{sum_by}
 use Rattle.slices.specs.declared.slice.Weight.TheVariants.{Amount}
 use Rattle.slices.specs.Limits.{max_held}
@@ -9,6 +9,6 @@ use Rattle.rule_load.proofs.over.near_use.Given as goal
 
 abbrev pub invariant-loop-i : goal.invariant-loop-i
 invariant-loop-i l = record {
-  total : l.total ≡ sum_by (λ v. (sure l.p.given (seen l.view.region.now l.view.lens) l.t).held v (Amount l.r) (one l.n.0)) (take l.i l.kept.near.now);
+  total : l.total ≤ sum_by (λ v. (sure l.p.given (seen l.view.region.now l.view.lens) l.t).held v (Amount l.r) (one l.n.0)) (take l.i l.kept.near.now);
   small : l.total ≤ l.i * max_held;
 }

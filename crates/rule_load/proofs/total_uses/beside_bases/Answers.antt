@@ -7,8 +7,8 @@ use Rattle.rule_load.proofs.total_uses.beside_bases.Goals as goal
 pub beside_base-one-requires-clause-machine : goal.beside_base-one-requires-clause-machine
 beside_base-one-requires-clause-machine c = c.requires.machines.each (get_or c.args.machines.now c.loop-i.i 0) (Contains-get_or c.args.machines.now c.loop-i.i 0 c.loop-i-test.true)
 
-pub domain-requires : goal.domain-requires
-domain-requires c = omega (arith, c.requires.region.machines, c.requires.machines.each (get_or c.args.machines.now c.loop-i.i 0) (Contains-get_or c.args.machines.now c.loop-i.i 0 c.loop-i-test.true))
+pub may_wait-requires : goal.may_wait-requires
+may_wait-requires c = omega (arith, c.requires.region.machines, c.requires.machines.each (get_or c.args.machines.now c.loop-i.i 0) (Contains-get_or c.args.machines.now c.loop-i.i 0 c.loop-i-test.true))
 
 pub bounds-ks-v : goal.bounds-ks-v
 bounds-ks-v c = omega (arith, c.requires.count, c.requires.machines.each (get_or c.args.machines.now c.loop-i.i 0) (Contains-get_or c.args.machines.now c.loop-i.i 0 c.loop-i-test.true))

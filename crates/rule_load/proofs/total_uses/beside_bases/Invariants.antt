@@ -2,17 +2,16 @@ use Rattle.std.proofs.Common.{◌≡◌, ◌-◌, ◌*◌, ◌≤◌, slice_inde
 use Rattle.std.specs.List.{sum_by}
 use Rattle.cluster.specs.Limits.{max_amount}
 use Rattle.slices.specs.declared.slice.Weight.TheVariants.{Amount}
-use Rattle.slices.specs.Elements.{vm}
-use Rattle.domains.specs.Sets.{domain_at}
+use Rattle.domains.specs.Sets.{sets}
 use Rattle.standing.specs.Standings.{base}
 use Rattle.standing.specs.Tables.{no_standing}
-use Rattle.rule_load.specs.Totals.{most_anywhere}
+use Rattle.rule_load.specs.Totals.{may_wait, most_anywhere}
 use Rattle.rule_load.proofs.total_uses.beside_bases.Given as goal
 
 abbrev pub invariant-loop-i : goal.invariant-loop-i
 invariant-loop-i l = record {
-  more : l.more ≡ sum_by (λ v. most_anywhere l.p.given v l.r l.x (domain_at l.g (vm v)).idle (slice_index_or l.ks v no_standing) - base l.p.given v (Amount l.r)) (take l.i l.machines);
-  less : l.less ≡ sum_by (λ v. base l.p.given v (Amount l.r) - most_anywhere l.p.given v l.r l.x (domain_at l.g (vm v)).idle (slice_index_or l.ks v no_standing)) (take l.i l.machines);
+  more : l.more ≡ sum_by (λ v. most_anywhere l.p.given v l.r l.x (may_wait (sets l.g) l.x v) (slice_index_or l.ks v no_standing) - base l.p.given v (Amount l.r)) (take l.i l.machines);
+  less : l.less ≡ sum_by (λ v. base l.p.given v (Amount l.r) - most_anywhere l.p.given v l.r l.x (may_wait (sets l.g) l.x v) (slice_index_or l.ks v no_standing)) (take l.i l.machines);
   few_more : l.more ≤ l.i * max_amount;
   few_less : l.less ≤ l.i * max_amount;
 }

@@ -2,11 +2,11 @@ use Rattle.std.proofs.Common.{◌+◌, refl, slice_index_or, arith}
 use Rattle.catalogue.specs.Values.{demand_of}
 use Rattle.slices.specs.declared.slice.Weight.TheVariants.{Amount}
 use Rattle.slices.specs.Elements.{vm}
-use Rattle.domains.specs.Sets.{domain_at, sets}
+use Rattle.domains.specs.Sets.{sets}
 use Rattle.reasons.specs.Closed.{all_nodes}
 use Rattle.standing.specs.Standings.{base}
 use Rattle.standing.specs.Tables.{no_standing}
-use Rattle.rule_load.specs.Totals.{most_anywhere}
+use Rattle.rule_load.specs.Totals.{may_wait, most_anywhere}
 use Rattle.rule_load.proofs.TotalLemmas.{ever_most}
 use Rattle.rule_load.proofs.total_uses.machines_fit.Goals as goal
 
@@ -14,6 +14,6 @@ pub returns-then-most-spare : goal.returns-then-most-spare
 returns-then-most-spare c = λ on. record {
   each = λ v low.
       ever_most c.args.p.now.given v (sets c.args.g.now (vm v)) c.args.r (all_nodes c.args.p.now.given) c.args.x (base c.args.p.now.given v (Amount c.args.r)) (demand_of c.args.p.now.given v c.args.r)
-      (c.args.spare + most_anywhere c.args.p.now.given v c.args.r c.args.x (domain_at c.args.g.now (vm v)).idle (slice_index_or c.args.ks.now v no_standing)) refl refl
+      (c.args.spare + most_anywhere c.args.p.now.given v c.args.r c.args.x (may_wait (sets c.args.g.now) c.args.x v) (slice_index_or c.args.ks.now v no_standing)) refl refl
       (omega (arith, c.most.ensures.each v low, c.if-most-spare.true));
 }

@@ -1,12 +1,12 @@
 use Rattle.std.proofs.Common.{ℕ, ◌+◌, ◌<◌, slice_index_or}
 use Rattle.slices.specs.Elements.{vm}
-use Rattle.domains.specs.Sets.{domain_at, sets}
+use Rattle.domains.specs.Sets.{sets}
 use Rattle.reasons.specs.Closed.{all_nodes}
 use Rattle.standing.specs.Tables.{no_standing}
 use Rattle.rule_load.specs.Periods.{IsMost}
-use Rattle.rule_load.specs.Totals.{most_anywhere}
+use Rattle.rule_load.specs.Totals.{may_wait, most_anywhere}
 use Rattle.rule_load.proofs.total_uses.machines_fit.Given as goal
 
 abbrev pub invariant-loop-i : goal.invariant-loop-i
 invariant-loop-i l =
-    (v : ℕ) → v < l.i → IsMost l.p.given v (sets l.g (vm v)) l.r (all_nodes l.p.given) l.x (l.spare + most_anywhere l.p.given v l.r l.x (domain_at l.g (vm v)).idle (slice_index_or l.ks v no_standing))
+    (v : ℕ) → v < l.i → IsMost l.p.given v (sets l.g (vm v)) l.r (all_nodes l.p.given) l.x (l.spare + most_anywhere l.p.given v l.r l.x (may_wait (sets l.g) l.x v) (slice_index_or l.ks v no_standing))
