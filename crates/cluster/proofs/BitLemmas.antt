@@ -1,14 +1,14 @@
 -- The bits of words.
-use Rattle.std.proofs.Common.{pow_mono, ap, ◌+◌, ◌≤◌, ◌≡◌, ◌≢◌, ℕ, ◌<◌, ◌/◌, ◌%◌, ◌*◌, ◌^◌, ◌||◌, ◌==◌, ◌∙◌, zero, suc, false, List, length, replicate, slice_index, get_or-set_same, get_or-set_other, refl, sym, arith, ⊎_elim}
-use Rattle.std.specs.Int.{bit_at, w64}
-use Rattle.std.proofs.Math.Nat.{lt-div-mul-add, div-eq_of_lt}
+use Rattle.std.proofs.Common.{ap, ◌+◌, ◌-◌, ◌≤◌, ◌≡◌, ◌≢◌, ℕ, ◌<◌, ◌/◌, ◌%◌, ◌*◌, ◌^◌, ◌||◌, ◌==◌, ◌∙◌, zero, suc, false, List, length, replicate, slice_index, get_or-set_same, get_or-set_other, refl, sym, arith, ⊎_elim}
+use Rattle.std.specs.Int.{bit_at, trailing_zeros, w64}
+use Rattle.std.proofs.Math.Nat.{lt-div-mul-add}
 use Rattle.std.proofs.Math.Pow.{pow-lt}
-use Rattle.std.proofs.lemmas.Bool.{cases_eq}
+use Rattle.std.proofs.lemmas.Bool.{cases_eq, cases_lt}
 use Rattle.std.proofs.lemmas.Grind.{common_steps}
 use Rattle.std.proofs.lemmas.List.{ext_get_or, get_or_past}
-use Rattle.std.proofs.lemmas.Nat.{shr-shr, pow_pos}
-use Rattle.std.proofs.lemmas.Nat.Bits.{bit_at_set_same, bit_at_set_other, same_from_bits, same_from_bits_below, bit_at-lt, bit_at-zero, bit_at_above}
-use Rattle.cluster.specs.Bits.{has_bit, with_bit, IsBits}
+use Rattle.std.proofs.lemmas.Nat.{shr-shr, shr_le, pow_pos}
+use Rattle.std.proofs.lemmas.Nat.Bits.{bit_at_set_same, bit_at_set_other, same_from_bits_below, bit_at-lt, bit_at-trailing_zeros, bit_at-zero, bit_at_above}
+use Rattle.cluster.specs.Bits.{HasNoBit, IsFirstBit, has_bit, with_bit, IsBits}
 
 -- a bit within a word, as code shifts it
 pub one_shl : (n : ℕ) → 1 * 2 ^ (n % 64) % 2 ^ 64 ≡ 2 ^ (n % 64)
@@ -47,17 +47,38 @@ has_bit-with_bit words n m within =
     (cases_eq (m / 64) (n / 64)))
 
 -- a word has no bit past its 64
-pub shr-past : (w first : ℕ) → w < 2 ^ 64 → 64 ≤ first → w / 2 ^ first ≡ 0
-shr-past w first fits le = let more : 2 ^ 64 ≤ 2 ^ first = pow_mono le in div-eq_of_lt (omega arith)
+pub past_word : (w from : ℕ) → w < 2 ^ 64 → 64 ≤ from → HasNoBit w from
+past_word w from fits le i low = bit_at_above w 64 i fits (omega arith)
 
--- a word without bits from the first on, and the bits of such a word
-pub shr-none : (w first : ℕ) → ((i : ℕ) → first ≤ i → bit_at w i ≡ 0) → w / 2 ^ first ≡ 0
-shr-none w first none = same_from_bits (w / 2 ^ first) 0 (λ i. ap (λ x. x % 2) (shr-shr w first i) ∙ none (first + i) (omega arith) ∙ sym (bit_at-zero i))
+-- nor from a place on where nothing is left once it is shifted that far
+pub none_shifted : (w from : ℕ) → w / 2 ^ from ≡ 0 → HasNoBit w from
+none_shifted w from none i low =
+    let below : w < 0 * 2 ^ from + 2 ^ from = rw none at (lt-div-mul-add {a = w} {b = 2 ^ from} (pow_pos from)) in
+    bit_at_above w from i (omega arith) low
 
-pub bit-shr_none : (w first i : ℕ) → w / 2 ^ first ≡ 0 → first ≤ i → bit_at w i ≡ 0
-bit-shr_none w first i none le =
-    let below : w < 0 * 2 ^ first + 2 ^ first = rw none at (lt-div-mul-add {a = w} {b = 2 ^ first} (pow_pos first)) in
-    bit_at_above w first i (omega arith) le
+-- and else the first is the lowest of what is left
+pub first_shifted : (w from : ℕ) → w < 2 ^ 64 → w / 2 ^ from ≢ 0 → IsFirstBit w from (from + trailing_zeros w64 (w / 2 ^ from))
+first_shifted w from fits some = record { low = omega arith; within = within; there = there; none = none }
+  where
+    lowest : (trailing_zeros w64 (w / 2 ^ from) < 64) × (bit_at (w / 2 ^ from) (trailing_zeros w64 (w / 2 ^ from)) ≡ 1) × ((i : ℕ) → i < trailing_zeros w64 (w / 2 ^ from) → bit_at (w / 2 ^ from) i ≡ 0)
+    lowest = bit_at-trailing_zeros w64 (w / 2 ^ from) (omega (arith, some)) (omega (arith, shr_le w from))
+
+    shifted : (i : ℕ) → bit_at (w / 2 ^ from) i ≡ bit_at w (from + i)
+    shifted i = ap (λ x. x % 2) (shr-shr w from i)
+
+    there : bit_at w (from + trailing_zeros w64 (w / 2 ^ from)) ≡ 1
+    there = sym (shifted _) ∙ lowest.1
+
+    within : from + trailing_zeros w64 (w / 2 ^ from) < 64
+    within = ⊎_elim
+        (λ (lt : from + trailing_zeros w64 (w / 2 ^ from) < 64). lt)
+        (λ (ge : 64 ≤ from + trailing_zeros w64 (w / 2 ^ from)). let no : bit_at w (from + trailing_zeros w64 (w / 2 ^ from)) ≡ 0 = bit_at_above w 64 _ fits ge in absurd (omega (arith, no, there)))
+        (cases_lt (from + trailing_zeros w64 (w / 2 ^ from)) 64)
+
+    none : (j : ℕ) → from ≤ j → j < from + trailing_zeros w64 (w / 2 ^ from) → bit_at w j ≡ 0
+    none j low lt =
+        let split : from + (j - from) ≡ j = omega arith in
+        ap (bit_at w) (sym split) ∙ sym (shifted (j - from)) ∙ lowest.2 (j - from) (omega (arith, lt))
 
 -- two words are equal where they have the same bits
 same_word : (v w : ℕ) → v < 2 ^ 64 → w < 2 ^ 64 → ((j : ℕ) → j < 64 → bit_at v j == 1 ≡ (bit_at w j == 1)) → v ≡ w

@@ -14,6 +14,17 @@ use Rattle.std.proofs.lemmas.Nat.{or_lt}
 abbrev pub has_bit : List ℕ → ℕ → Bool
 has_bit words n = bit_at (slice_index words (n / 64)) (n % 64) == 1
 
+-- whether no bit of a word is set from a place on
+abbrev pub HasNoBit : ℕ → ℕ → Type 0
+HasNoBit word from = (i : ℕ) → from ≤ i → bit_at word i ≡ 0
+
+-- whether a place is the first from one on at which a bit of a word is set
+pub record IsFirstBit (word from i : ℕ) : Type 0 where
+  pub low : from ≤ i
+  pub within : i < 64
+  pub there : bit_at word i ≡ 1
+  pub none : (j : ℕ) → from ≤ j → j < i → bit_at word j ≡ 0
+
 -- the words with one more number
 abbrev pub with_bit : List ℕ → ℕ → List ℕ
 with_bit words n = slice_set words (n / 64) (bit_or (slice_index words (n / 64)) (2 ^ (n % 64)))

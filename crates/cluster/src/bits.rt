@@ -1,6 +1,6 @@
 //! Words of 64 bits, in which a set keeps its numbers.
-ghost use Rattle.std.specs.Prelude.{◌≡◌, ◌<◌, ◌/◌, ◌^◌, length, nat_lt};
-ghost use Rattle.cluster.specs.Bits.{has_bit, with_bit};
+ghost use Rattle.std.specs.Prelude.{◌≡◌, ◌<◌, ◌/◌, length, MatchOption};
+ghost use Rattle.cluster.specs.Bits.{HasNoBit, IsFirstBit, has_bit, with_bit};
 
 /// Sets the bit of a number.
 #[tactic(auto, using(crate::proofs::BitLemmas::one_shl))]
@@ -21,9 +21,16 @@ pub(crate) fn is_set(words: &[u64], n: u32) -> bool
     }
 }
 
-/// Whether a bit is set in the word at the first place or after it.
-pub(crate) fn is_any_set_from(word: u64, first: usize) -> bool
-    ensures { result ≡ nat_lt 0 (word / 2 ^ first) }
+/// The first place, from one on, at which a bit of a word is set, if there is one.
+pub(crate) fn first_set(word: u64, from: usize) -> Option<usize>
+    ensures { MatchOption result (HasNoBit word from) (IsFirstBit word from) }
 {
-    first < 64 && word >> first != 0
+    if from >= 64 {
+        return None;
+    }
+    let rest = word >> from;
+    if rest == 0 {
+        return None;
+    }
+    Some(from + rest.trailing_zeros() as usize)
 }
