@@ -81,6 +81,10 @@ lowest_row f r ends h =
       | inr high ↦ starts-at f r.place m r.lo (r.hi + 1 - r.lo) r.hi all (omega arith) (omega arith) high
     ]
 
+-- and at the first start where the last is no lower
+pub first_least : (f : Choice → ℕ) (r : Row) → ((p : Place) (lo s hi : ℕ) → lo ≤ s → s ≤ hi → min (f (Act p lo)) (f (Act p hi)) ≤ f (Act p s)) → r.lo ≤ r.hi → f (Act r.place r.lo) ≤ f (Act r.place r.hi) → lowest f (row_choices r) ≡ Some (f (Act r.place r.lo))
+first_least f r ends h low = lowest_row f r ends h ∙ ap Some (omega (arith, low))
+
 -- the choices of a domain's first so many rows that pass a test
 abbrev pub passed : (Choice → Bool) → Bool → List Row → List Choice
 passed test idle rows = filter test (cond idle (Idle ∷ []) [] ++ flat_map row_choices rows)

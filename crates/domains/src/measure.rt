@@ -90,6 +90,9 @@ fn least_of_row<M: Measure>(row: Row, m: &M) -> u64
     ensures { Some result ≡ lowest_of (M.value_of m.now) (row_choices row) }
 {
     let first = value_at(row, row.lo, m);
+    if row.lo == row.hi || first == m.floor() {
+        return first;
+    }
     let last = value_at(row, row.hi, m);
     first.min(last)
 }
