@@ -1,13 +1,12 @@
 -- Sets of one node, what a machine has there, and the room there.
-use Rattle.std.proofs.Common.{◌≡◌, ◌≢◌, inl, inr, ℕ, zero, suc, ◌+◌, ◌<◌, ◌≤◌, ◌==◌, Bool, true, false, not, cond, List, length, IsTrue, refl, sym, ap, subst, arith}
+use Rattle.std.proofs.Common.{◌≡◌, ◌≢◌, inl, inr, ℕ, zero, suc, ◌+◌, ◌<◌, ◌≤◌, ◌==◌, Bool, true, false, not, cond, List, length, IsTrue, refl, sym, subst, arith}
 use Rattle.std.specs.Prelude.{slice_index_or}
 use Rattle.std.specs.List.{Contains}
-use Rattle.std.proofs.lemmas.Bool.{cases_eq, false≢true, ne_eqb}
+use Rattle.std.proofs.lemmas.Bool.{cases_eq, cases_lt, false≢true, ne_eqb}
 use Rattle.std.proofs.lemmas.Bool.Decides.{Decides-eqb}
 use Rattle.sums.specs.Sums.{sum_to}
-use Rattle.sums.proofs.Sums.{sum_to-change, sum_to-zero}
-use Rattle.cluster.specs.Bits.{has_bit}
-use Rattle.cluster.specs.Sets.{has_node}
+use Rattle.sums.proofs.Sums.{sum_to-change, sum_to-none, sum_to-zero}
+use Rattle.cluster.specs.Sets.{has_node, IsFirstFrom, IsWithin}
 use Rattle.cluster.specs.declared.choices.Choice.{Choice}
 use Rattle.cluster.specs.declared.choices.Choice.TheVariants.{Act}
 use Rattle.cluster.specs.declared.sets.NodeSet.{NodeSet}
@@ -21,10 +20,20 @@ use Rattle.domains.specs.declared.parts.Row.{Row}
 use Rattle.relax.specs.Areas.{goes_in}
 use Rattle.relax.proofs.AwayLemmas.{start_in}
 
--- sets of the same words have the same nodes
-pub same_nodes : (a b : NodeSet) → a.words ≡ b.words → has_node a ≡ has_node b
-unfolding has_node
-same_nodes a b same = ap (λ words n. has_bit words n) same
+-- a set with no node before its first one, and none after it, has that alone
+pub only_one : (s : NodeSet) (n : ℕ) → IsFirstFrom s 0 n → IsWithin s (n + 1) → has_node s ≡ one n
+only_one s n first last = λ i m. same m i
+  where
+    same : (m : ℕ) → has_node s m ≡ (m == n)
+    same m = elim (cases_eq m n) [
+      | inl is ↦ let on : (m == n) ≡ true = (Decides-eqb m n).1 is in rw (on, is) first.there
+      | inr other ↦
+          let off : (m == n) ≡ false = ne_eqb m n other in
+          rw off (elim (cases_lt m n) [
+            | inl before ↦ first.none m (omega arith) before
+            | inr after ↦ last m (omega (arith, after, other))
+          ])
+    ]
 
 -- the first choice, which does not go to a node
 pub first_out : (d : DomainView) (rows : List Row) (x : Row) (n : ℕ) (goes : Bool) → Climbs 0 d.rows → rows ≡ d.rows → 1 ≤ length rows → ((start : ℕ) → goes ≡ goes_in (Act (slice_index_or rows 0 x).place start) (one n)) → IsTrue (not goes) → (c : Choice) × Contains (choices d) c × (goes_in c (one n) ≡ false)
@@ -56,3 +65,10 @@ sum_of_one count n f low =
 
 pub room_of_one : (p : Instance) (s : Snapshot) (r n : ℕ) → n < node_count p → room p s r (one n) ≡ cond (s.usable n) (capacity_of p n r) 0
 room_of_one p s r n low = sum_of_one (node_count p) n (λ k. cond (s.usable k) (capacity_of p k r) 0) low
+
+-- and past the nodes there is no room
+pub room_of_none : (p : Instance) (s : Snapshot) (r n : ℕ) → node_count p ≤ n → room p s r (one n) ≡ 0
+room_of_none p s r n past = sum_to-none (node_count p) (λ k. cond (one n k) (cond (s.usable k) (capacity_of p k r) 0) 0) none
+  where
+    none : (k : ℕ) → k < node_count p → cond (one n k) (cond (s.usable k) (capacity_of p k r) 0) 0 ≡ 0
+    none k low = let off : (k == n) ≡ false = ne_eqb k n (omega (arith, low, past)) in rw off refl

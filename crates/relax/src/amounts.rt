@@ -12,7 +12,6 @@ ghost use Rattle.reasons.specs.Sure.{least_cost as the_least_cost, sure};
 ghost use Rattle.relax.specs.Areas.{IsSized, nodes_of};
 
 use crate::area::{Area, area_of};
-use crate::one_node;
 use crate::sure::surely_in;
 use crate::totals::{least_cost, load, powered_nodes, presences, room};
 use catalogue::constraint::Constraint;
@@ -48,19 +47,14 @@ fn least_or(p: &Problem, view: &View, least: Option<u128>) -> u128
 }
 
 /// Whether the least uses of a resource on the nodes of a set exceed the capacities of those of them
-/// that may be usable. Of one node it is told in a quicker way.
+/// that may be usable.
 pub fn is_overload(p: &Problem, view: &View, r: u8, set: &NodeSet, t: Instant) -> bool
     requires region { IsSized p.now.given view.now.region.now }
     requires resource { r < length p.now.given.resources }
     ensures { IsTrue result ↔ IsOverload p.now.given (sure p.now.given (seen view.now.region.now view.now.lens) t) r (has_node set.now) }
 {
-    match one_node::only_node(p, set) {
-        Some(n) => one_node::room(p, view, r, n, t) < one_node::load(p, view, r, n, t),
-        None => {
-            let area = area_of(p, set);
-            room(p, view, r, &area, t) < load(p, view, r, &area, t)
-        }
-    }
+    let area = area_of(p, set);
+    room(p, view, r, &area, t) < load(p, view, r, &area, t)
 }
 
 /// Whether the least uses, or the least numbers of presences, on the nodes of a constraint exceed its

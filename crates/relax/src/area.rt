@@ -1,12 +1,14 @@
 //! Sets of nodes as looks ask for them.
-ghost use Rattle.std.specs.Prelude.{◌≡◌, ℕ, ◌<◌, ◌≤◌, IsTrue};
+ghost use Rattle.std.specs.Prelude.{◌≡◌, ◌↔◌, ℕ, ◌<◌, ◌≤◌, IfSome, IsTrue};
 ghost use Rattle.cluster.specs.Limits.{max_nodes};
 ghost use Rattle.cluster.specs.Sets.{has_node};
+ghost use Rattle.catalogue.specs.Instance.{IsElement};
 ghost use Rattle.slices.specs.Elements.{node_count};
+ghost use Rattle.slices.specs.Stages.{one};
 ghost use Rattle.relax.specs.Areas.{nodes_of};
 
 use catalogue::problem::Problem;
-use cluster::ids::NodeId;
+use cluster::ids::{Element, NodeId};
 use cluster::sets::NodeSet;
 
 /// Nodes: one, all of the problem, those of a set, or those that are not one or not in a set.
@@ -45,16 +47,38 @@ fn has_each(set: &NodeSet, count: usize) -> bool
     true
 }
 
-/// The area of a set, all nodes where it has them all and no other.
+// the node of a set that has one alone; None where it has more, or none
+#[tactic(auto, using(crate::proofs::OneNodeLemmas::only_one))]
+fn only_node(set: &NodeSet) -> Option<NodeId>
+    ensures { IfSome result (λ n. has_node set.now ≡ one n.0) }
+{
+    let n = set.first_from(0)?;
+    match set.first_from(n.0 as usize + 1) {
+        None => Some(n),
+        Some(_) => None,
+    }
+}
+
+/// The area of a set: one node where it has that alone, and all nodes where it has them all and no other.
 pub fn area_of(p: &Problem, set: &NodeSet) -> Area
     ensures { nodes_of p.now.given result ≡ has_node set.now }
 {
+    if let Some(n) = only_node(set) {
+        return Area::One(n);
+    }
     let count = node_total(p);
     if set.is_within(count) && has_each(set, count) {
         Area::All
     } else {
         Area::In(*set)
     }
+}
+
+/// Whether there is a node of that number.
+pub(crate) fn is_node(p: &Problem, n: NodeId) -> bool
+    ensures { IsTrue result ↔ IsElement p.now.given (Element.Node n) }
+{
+    (n.0 as usize) < node_total(p)
 }
 
 /// How many nodes there are.

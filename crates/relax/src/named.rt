@@ -6,6 +6,7 @@ ghost use Rattle.catalogue.specs.Instance.{IsElement};
 ghost use Rattle.slices.specs.Elements.{machine_count, node_count};
 ghost use Rattle.reasons.specs.Reasons.{AreListed, IsNamed};
 
+use crate::area::is_node;
 use catalogue::problem::Problem;
 use cluster::choices::Instant;
 use cluster::ids::{Element, NodeId, VmId};
@@ -17,13 +18,6 @@ fn is_machine(p: &Problem, v: VmId) -> bool
     ensures { IsTrue result ↔ IsElement p.now.given (Element.Vm v) }
 {
     (v.0 as usize) < p.cluster().machines().len()
-}
-
-// whether a node is listed
-fn is_node(p: &Problem, n: NodeId) -> bool
-    ensures { IsTrue result ↔ IsElement p.now.given (Element.Node n) }
-{
-    (n.0 as usize) < p.cluster().nodes().len()
 }
 
 // whether an element is listed
@@ -42,12 +36,10 @@ fn has_some(set: &NodeSet, count: usize) -> bool
     ensures some { IsTrue result → (n : ℕ) × IsTrue (has_node set.now n) }
     ensures none { result ≡ false → (n : ℕ) → n < count → has_node set.now n ≡ false }
 {
-    for n in 0..count {
-        if set.has(NodeId(n as u32)) {
-            return true;
-        }
+    match set.first_from(0) {
+        None => false,
+        Some(n) => (n.0 as usize) < count,
     }
-    false
 }
 
 // whether the nodes of a set are listed, and there is one unless the problem has no node

@@ -15,54 +15,16 @@ ghost use Rattle.domains.specs.Views.{seen};
 ghost use Rattle.reasons.specs.Sure.{sure};
 ghost use Rattle.relax.specs.Areas.{IsSized, goes_in, hosted_in};
 
-use crate::area::Area;
+use crate::area::{Area, is_node};
 use crate::measures::state;
 use crate::sure::{least_held, may_be_usable};
 use catalogue::problem::Problem;
 use cluster::choices::{Instant, Place};
 use cluster::ids::{Element, NodeId, VmId};
-use cluster::sets::NodeSet;
 use cluster::states::State;
 use domains::domain::Domain;
 use domains::view::{Lens, View};
 use slices::slice::Weight;
-
-// ---- sets of one node
-
-// the set of one node
-fn set_of(p: &Problem, n: NodeId) -> NodeSet
-    requires { n.0 < node_count p.now.given }
-    ensures { (m : ℕ) → has_node result m ≡ one n.0 m }
-{
-    let mut set = NodeSet::new();
-    set.insert(n);
-    set
-}
-
-// and what it has, as a whole
-fn node_set(p: &Problem, n: NodeId) -> NodeSet
-    requires { n.0 < node_count p.now.given }
-    ensures { has_node result ≡ one n.0 }
-{
-    set_of(p, n)
-}
-
-/// The node of a set that has one alone; None where it has more, or none.
-pub(crate) fn only_node(p: &Problem, set: &NodeSet) -> Option<NodeId>
-    ensures { IfSome result (λ n. (n.0 < node_count p.now.given) × (has_node set.now ≡ one n.0)) }
-{
-    for i in 0..p.cluster().nodes().len() {
-        let n = NodeId(i as u32);
-        if set.has(n) {
-            return if *set == node_set(p, n) {
-                Some(n)
-            } else {
-                None
-            };
-        }
-    }
-    None
-}
 
 // ---- one machine
 
@@ -176,15 +138,14 @@ pub(crate) fn load(p: &Problem, view: &View, r: u8, n: NodeId, t: Instant) -> u6
     total
 }
 
-/// The capacity of a node for a resource, 0 where it cannot be usable.
-#[tactic(auto, using(crate::proofs::OneNodeLemmas::room_of_one))]
+/// The capacity of a node for a resource, 0 where there is no such node or it cannot be usable.
+#[tactic(auto, using(crate::proofs::OneNodeLemmas::room_of_one, crate::proofs::OneNodeLemmas::room_of_none))]
 pub(crate) fn room(p: &Problem, view: &View, r: u8, n: NodeId, t: Instant) -> u64
     requires region { IsSized p.now.given view.now.region.now }
     requires resource { r < length p.now.given.resources }
-    requires node { n.0 < node_count p.now.given }
     ensures { result ≡ room_of p.now.given (sure p.now.given (seen view.now.region.now view.now.lens) t) r (one n.0) }
 {
-    if may_be_usable(p, view, n, t) {
+    if is_node(p, n) && may_be_usable(p, view, n, t) {
         p.capacity(n, r)
     } else {
         0

@@ -14,6 +14,7 @@ ghost use Rattle.reasons.specs.Sure.{least_cost as least_cost_of, sure};
 ghost use Rattle.relax.specs.Areas.{IsSized, nodes_of};
 
 use crate::area::{Area, has};
+use crate::one_node;
 use crate::sure::{least_end, least_held, may_be_usable, surely_powered};
 use catalogue::problem::Problem;
 use cluster::choices::Instant;
@@ -21,12 +22,15 @@ use cluster::ids::{Element, NodeId, VmId};
 use domains::view::View;
 use slices::slice::Weight;
 
-/// The sum of the least uses of a resource on the nodes of an area.
+/// The sum of the least uses of a resource on the nodes of an area. Of one node it is told in a quicker way.
 pub fn load(p: &Problem, view: &View, r: u8, area: &Area, t: Instant) -> u64
     requires region { IsSized p.now.given view.now.region.now }
     requires resource { r < length p.now.given.resources }
     ensures { result ≡ load_of p.now.given (sure p.now.given (seen view.now.region.now view.now.lens) t) r (nodes_of p.now.given area.now) }
 {
+    if let Area::One(n) = area {
+        return one_node::load(p, view, r, *n, t);
+    }
     let mut total = 0;
     for v in 0..p.cluster().machines().len() {
         total += least_held(p, view, VmId(v as u32), Weight::Amount(r), area, t);
@@ -70,6 +74,9 @@ pub fn room(p: &Problem, view: &View, r: u8, area: &Area, t: Instant) -> u64
     requires resource { r < length p.now.given.resources }
     ensures { result ≡ room_of p.now.given (sure p.now.given (seen view.now.region.now view.now.lens) t) r (nodes_of p.now.given area.now) }
 {
+    if let Area::One(n) = area {
+        return one_node::room(p, view, r, *n, t);
+    }
     let mut total = 0;
     for n in 0..p.cluster().nodes().len() {
         total += room_at(p, view, r, area, NodeId(n as u32), t);
