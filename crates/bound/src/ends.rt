@@ -1,18 +1,21 @@
 //! The least end of one element, and what a change of its domain makes of a sum of least ends.
-ghost use Rattle.std.specs.Prelude.{◌≡◌, ◌+◌, ◌≤◌, max};
-ghost use Rattle.sums.specs.Least.{least};
+ghost use Rattle.std.specs.Prelude.{◌≡◌, ◌+◌, ◌≤◌, filter, max};
+ghost use Rattle.sums.specs.Least.{least, lowest as lowest_of};
 ghost use Rattle.catalogue.specs.Instance.{IsElement};
 ghost use Rattle.slices.specs.Actions.{end_of};
 ghost use Rattle.slices.specs.Limits.{max_cost};
 ghost use Rattle.domains.specs.Choices.{choices};
 ghost use Rattle.domains.specs.Laws.{AreFewer};
-ghost use Rattle.domains.specs.Undo.{domain_before, restored};
+ghost use Rattle.domains.specs.Parts.{stays};
+ghost use Rattle.domains.specs.Undo.{domain_before, lost_choices};
+ghost use Rattle.bound.specs.Losses.{least_with};
 
 use catalogue::problem::Problem;
 use cluster::choices::Choice;
 use cluster::ids::Element;
 use domains::domain::Domain;
 use domains::measure::{Measure, lowest, lowest_lost};
+use domains::parts::Part;
 use domains::undo::{Before, Lost};
 use relax::measures::EndOf;
 
@@ -47,30 +50,52 @@ pub fn after_change(
 {
     match before {
         Before::Kept => sum - least_end(p, e, kept) + least_end(p, e, domain),
-        Before::Lost(lost) => after_loss(p, e, domain, lost, sum),
+        Before::Lost(lost) => after_loss(p, e, lost_end(p, e, lost), domain, None, sum),
     }
 }
 
-// where the change is told by what was lost, rows are read until one ends no later than that
-fn after_loss(p: &Problem, e: Element, domain: &Domain, lost: Lost, sum: u64) -> u64
-    requires element { IsElement p.now.given e }
-    requires narrowed { AreFewer (choices domain.now) (choices (restored lost domain.now)) }
-    requires within { least (end_of p.now.given e) (choices (restored lost domain.now)) ≤ sum }
-    requires small { sum + least (end_of p.now.given e) (choices domain.now)
-        ≤ max_cost + least (end_of p.now.given e) (choices (restored lost domain.now)) }
-    ensures { result + least (end_of p.now.given e) (choices (restored lost domain.now))
-        ≡ sum + least (end_of p.now.given e) (choices domain.now) }
+// the least end of what a domain has lost, if there is one
+fn lost_end(p: &Problem, e: Element, lost: Lost) -> Option<u64>
+    requires { IsElement p.now.given e }
+    ensures { result ≡ lowest_of (end_of p.now.given e) (lost_choices lost) }
 {
     let ends = EndOf {
         problem: p,
         element: e,
     };
-    match lowest_lost(lost, &ends) {
-        None => sum,
-        Some(floor) => match lowest(domain, None, &EndFrom { ends, floor }) {
-            None => sum - floor,
-            Some(end) => sum + (end - floor),
-        },
+    lowest_lost(lost, &ends)
+}
+
+/// What a sum with the least end of an element before it lost choices is with that of what it keeps: the choices of a
+/// domain that are not in the part that is left out, if there is one. `gone` is the least end of what it lost, None
+/// where it lost nothing.
+///
+/// Rows are read until one ends no later than what was lost.
+pub fn after_loss(
+    p: &Problem,
+    e: Element,
+    gone: Option<u64>,
+    domain: &Domain,
+    left_out: Option<Part>,
+    sum: u64,
+) -> u64
+    requires element { IsElement p.now.given e }
+    requires within { least_with (end_of p.now.given e) (filter (stays left_out) (choices domain.now)) gone ≤ sum }
+    requires small { sum + least (end_of p.now.given e) (filter (stays left_out) (choices domain.now))
+        ≤ max_cost + least_with (end_of p.now.given e) (filter (stays left_out) (choices domain.now)) gone }
+    ensures { result + least_with (end_of p.now.given e) (filter (stays left_out) (choices domain.now)) gone
+        ≡ sum + least (end_of p.now.given e) (filter (stays left_out) (choices domain.now)) }
+{
+    let Some(floor) = gone else {
+        return sum;
+    };
+    let ends = EndOf {
+        problem: p,
+        element: e,
+    };
+    match lowest(domain, left_out, &EndFrom { ends, floor }) {
+        None => sum - floor,
+        Some(end) => sum + (end - floor),
     }
 }
 
