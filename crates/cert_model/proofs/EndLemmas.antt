@@ -1,23 +1,23 @@
--- The sum of the least ends: how great it is, and what it is where one element is narrowed.
-use Rattle.std.proofs.Common.{◌≡◌, ◌≢◌, ℕ, ◌+◌, ◌-◌, ◌≤◌, ◌*◌, Bool, true, false, List, [], ◌∷◌, refl, sym, ap, subst, arith, IsTrue}
+-- The sum of the least ends where one element is narrowed.
+use Rattle.std.proofs.Common.{◌≡◌, ◌≢◌, ℕ, ◌+◌, ◌≤◌, Bool, true, false, not, List, [], ◌∷◌, Option, Some, None, unwrap_or, refl, ap, subst, arith, IsTrue}
 use Rattle.std.specs.List.{Contains, filter}
 use Rattle.std.proofs.lemmas.Bool.{eq-eqb, false_from_ne_true}
-use Rattle.sums.specs.Least.{least}
-use Rattle.sums.specs.Sums.{sum_to}
-use Rattle.sums.proofs.Sums.{sum_to-bound, sum_to-change, sum_to-same, sum_to-term}
+use Rattle.sums.specs.Least.{least, lower, lowest}
 use Rattle.cluster.specs.declared.choices.Choice.{Choice}
-use Rattle.cluster.specs.declared.choices.Choice.TheVariants.{Idle, Act}
 use Rattle.cluster.specs.declared.ids.Element.{Element}
 use Rattle.cluster.specs.declared.ids.Element.TheVariants.{Vm, Node as TheNode}
 use Rattle.catalogue.specs.Instance.{Instance, IsElement, IsInstance}
 use Rattle.slices.specs.Actions.{end_of, is_legal}
-use Rattle.slices.specs.Elements.{machine_count, node, node_count, vm}
 use Rattle.slices.specs.Limits.{max_cost}
-use Rattle.slices.proofs.Public.{ends_by_duration, legal_acts_last}
+use Rattle.domains.specs.declared.parts.Part.{Part}
+use Rattle.domains.specs.Measures.{lower_option}
+use Rattle.domains.specs.Parts.{in_part, stays}
 use Rattle.domains.specs.Sets.{Sets, keeping, same_element}
-use Rattle.domains.proofs.Public.{filter_is_fewer, least_of_each, same_is}
+use Rattle.domains.proofs.Public.{filter_is_fewer, same_is}
 use Rattle.reasons.specs.Sure.{least_cost}
 use Rattle.relax.specs.Areas.{AreLegal}
+use Rattle.bound.specs.Losses.{least_with}
+use Rattle.bound.proofs.Public.{cost_change, cost_is_small, cost_term}
 
 -- ---- a set that is narrowed
 
@@ -43,61 +43,49 @@ narrow_legal p s x test legal e i c has = at (same_element e x) refl
         let whole : keeping x test s e ≡ s e = rw same refl in
         legal e i c (subst (λ cs. Contains cs c) whole has)
 
--- ---- how great the sum is
+-- ---- the sum of narrower sets
 
-legal_end : (p : Instance) → IsInstance p → (e : Element) (c : Choice) → IsTrue (is_legal p e c) → end_of p e c ≤ p.horizon
-unfolding end_of
-legal_end p sound e Idle h = omega arith
-legal_end p sound e (Act place start) h = subst (λ n. n ≤ p.horizon) (sym (ends_by_duration p e place start)) (legal_acts_last p sound e place start h).1
+-- what an element loses and what it keeps, the least of both is that of all
+loss_split : (f : Choice → ℕ) (test : Choice → Bool) (cs : List Choice) → lower_option (lowest f (filter (λ c. not (test c)) cs)) (lowest f (filter test cs)) ≡ lowest f cs
+loss_split f test [] = refl
+loss_split f test (c ∷ cs) = at (test c) refl (loss_split f test cs)
+  where
+    inner : (n : ℕ) (kept lost : Option ℕ) → lower_option kept (Some (lower n lost)) ≡ Some (lower n (lower_option kept lost))
+    inner n None lost = refl
+    inner n (Some k) None = ap Some (omega arith)
+    inner n (Some k) (Some g) = ap Some (omega arith)
 
-least_upto : (f : Choice → ℕ) (m : ℕ) (cs : List Choice) → ((c : Choice) → Contains cs c → f c ≤ m) → least f cs ≤ m
-least_upto f m [] h = omega arith
-least_upto f m (c ∷ cs) h =
-    let here : Contains (c ∷ cs) c = (0, omega arith, refl) in
-    omega (arith, least_of_each f (c ∷ cs) c here, h c here)
+    outer : (n : ℕ) (kept lost : Option ℕ) → lower_option (Some (lower n kept)) lost ≡ Some (lower n (lower_option kept lost))
+    outer n None None = refl
+    outer n None (Some g) = refl
+    outer n (Some k) None = refl
+    outer n (Some k) (Some g) = ap Some (omega arith)
 
-least_end_upto : (p : Instance) → IsInstance p → (s : Sets) → AreLegal p s → (e : Element) → IsElement p e → least (end_of p e) (s e) ≤ p.horizon
-least_end_upto p sound s legal e i = least_upto (end_of p e) p.horizon (s e) (λ c has. legal_end p sound e c (legal e i c has))
+    at : (b : Bool) → test c ≡ b → lower_option (lowest f (filter (λ c. not (test c)) cs)) (lowest f (filter test cs)) ≡ lowest f cs
+        → lower_option (lowest f (filter (λ c. not (test c)) (c ∷ cs))) (lowest f (filter test (c ∷ cs))) ≡ Some (lower (f c) (lowest f cs))
+    at true is rest = rw (is, ← rest) (inner (f c) _ _)
+    at false is rest = rw (is, ← rest) (outer (f c) _ _)
 
-ends_in_all : (m n h a b : ℕ) → m ≤ 4096 → n ≤ 512 → h ≤ 1000000 → a ≤ m * h → b ≤ n * h → a + b ≤ max_cost
-ends_in_all m n h a b few_machines few_nodes early all_machines all_nodes = grind (arith, few_machines, few_nodes, early, all_machines, all_nodes)
+module _ (p : Instance) (s : Sets) (x : Element) (test : Choice → Bool) (sum : ℕ) (there : IsElement p x) (whole : sum ≡ least_cost p s) where
+  -- a number with the least end of all choices of the element, as the sum has with that of those that pass
+  pub is_narrowed : (n : ℕ) → n + least (end_of p x) (s x) ≡ sum + least (end_of p x) (filter test (s x)) → n ≡ least_cost p (keeping x test s)
+  is_narrowed n both =
+      let change : least_cost p (keeping x test s) + least (end_of p x) (s x) ≡ least_cost p s + least (end_of p x) (keeping x test s x) = cost_change p (keeping x test s) s x there (λ e ne. kept_other x e test s ne) in
+      omega (arith, whole, both, rw (kept_here x test s) at change)
 
-pub least_cost_small : (p : Instance) → IsInstance p → (s : Sets) → AreLegal p s → least_cost p s ≤ max_cost
-unfolding least_cost
-least_cost_small p sound s legal =
-    ends_in_all (machine_count p) (node_count p) p.horizon
-    (sum_to (machine_count p) (λ v. least (end_of p (vm v)) (s (vm v)))) (sum_to (node_count p) (λ n. least (end_of p (node n)) (s (node n))))
-    sound.inventory.few_machines sound.inventory.few_nodes sound.horizon
-    (sum_to-bound (machine_count p) p.horizon (λ v. least (end_of p (vm v)) (s (vm v))) (λ v l. least_end_upto p sound s legal (vm v) l))
-    (sum_to-bound (node_count p) p.horizon (λ n. least (end_of p (node n)) (s (node n))) (λ n l. least_end_upto p sound s legal (node n) l))
+  -- the sum has the least end of the element, and with that of those that pass in its place it is small
+  pub has_end : least (end_of p x) (s x) ≤ sum
+  has_end = omega (arith, whole, cost_term p s x there)
 
--- ---- one element more or less
+  pub small_with : IsInstance p → AreLegal p s → sum + least (end_of p x) (filter test (s x)) ≤ max_cost + least (end_of p x) (s x)
+  small_with sound legal =
+      let change : least_cost p (keeping x test s) + least (end_of p x) (s x) ≡ least_cost p s + least (end_of p x) (keeping x test s x) = cost_change p (keeping x test s) s x there (λ e ne. kept_other x e test s ne) in
+      omega (arith, whole, rw (kept_here x test s) at change, cost_is_small p sound (keeping x test s) (narrow_legal p s x test legal))
 
--- the least end of an element is a part of the sum
-pub end_in_sum : (p : Instance) (s : Sets) (x : Element) → IsElement p x → least (end_of p x) (s x) ≤ least_cost p s
-unfolding least_cost
-end_in_sum p s (Vm v) i = omega (arith, sum_to-term (machine_count p) (λ k. least (end_of p (vm k)) (s (vm k))) v.0 i)
-end_in_sum p s (TheNode n) i = omega (arith, sum_to-term (node_count p) (λ k. least (end_of p (node k)) (s (node k))) n.0 i)
+-- the least end before a part was lost
+pub whole_of_loss : (p : Instance) (s : Sets) (x : Element) (part : Part) (lost : Option ℕ) → lost ≡ lowest (end_of p x) (keeping x (in_part part) s x) → least_with (end_of p x) (filter (stays (Some part)) (s x)) lost ≡ least (end_of p x) (s x)
+whole_of_loss p s x part lost is = rw (is, kept_here x (in_part part) s) (ap (λ o. unwrap_or o 0) (loss_split (end_of p x) (in_part part) (s x)))
 
--- what changes with one element
-ends_change : (p : Instance) (s r : Sets) (x : Element) → IsElement p x → ((e : Element) → e ≢ x → r e ≡ s e) → least_cost p r + least (end_of p x) (s x) ≡ least_cost p s + least (end_of p x) (r x)
-unfolding least_cost
-ends_change p s r (Vm v) i other =
-    let machines = sum_to-change (machine_count p) (λ k. least (end_of p (vm k)) (r (vm k))) (λ k. least (end_of p (vm k)) (s (vm k))) v.0 i
-    (λ k ne. ap (least (end_of p (vm k))) (other (vm k) (λ e. ne (cc)))) in
-    let nodes = sum_to-same (node_count p) (λ k. least (end_of p (node k)) (r (node k))) (λ k. least (end_of p (node k)) (s (node k)))
-    (λ k l. ap (least (end_of p (node k))) (other (node k) (λ e. cc))) in
-    omega (arith, machines, nodes)
-ends_change p s r (TheNode n) i other =
-    let nodes = sum_to-change (node_count p) (λ k. least (end_of p (node k)) (r (node k))) (λ k. least (end_of p (node k)) (s (node k))) n.0 i
-    (λ k ne. ap (least (end_of p (node k))) (other (node k) (λ e. ne (cc)))) in
-    let machines = sum_to-same (machine_count p) (λ k. least (end_of p (vm k)) (r (vm k))) (λ k. least (end_of p (vm k)) (s (vm k)))
-    (λ k l. ap (least (end_of p (vm k))) (other (vm k) (λ e. cc))) in
-    omega (arith, machines, nodes)
-
--- so the sum of narrower sets is had from the sum of all
-pub sum_kept : (p : Instance) (s : Sets) (x : Element) (test : Choice → Bool) (sum old new : ℕ) → IsElement p x → sum ≡ least_cost p s → old ≡ least (end_of p x) (s x) → new ≡ least (end_of p x) (keeping x test s x) → sum - old + new ≡ least_cost p (keeping x test s)
-sum_kept p s x test sum old new i whole before after =
-    let change = ends_change p s (keeping x test s) x i (λ e ne. kept_other x e test s ne) in
-    let part = end_in_sum p s x i in
-    omega (arith, change, part, whole, before, after)
+-- the least end in a part, as it is seen there
+pub end_inside : (p : Instance) (s : Sets) (x : Element) (part : Part) → least (end_of p x) (keeping x (in_part part) s x) ≡ least (end_of p x) (filter (in_part part) (s x))
+end_inside p s x part = ap (least (end_of p x)) (kept_here x (in_part part) s)

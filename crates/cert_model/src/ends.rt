@@ -1,15 +1,17 @@
 //! The sum of the least ends of a region, kept from step to step.
 ghost use Rattle.std.specs.Prelude.{◌≡◌, ◌≤◌};
 ghost use Rattle.catalogue.specs.Instance.{IsElement};
-ghost use Rattle.sums.specs.Least.{least};
+ghost use Rattle.sums.specs.Least.{lowest};
 ghost use Rattle.slices.specs.Actions.{end_of};
 ghost use Rattle.slices.specs.Limits.{max_cost};
 ghost use Rattle.domains.specs.Parts.{on_side};
-ghost use Rattle.domains.specs.Sets.{RegionView, keeping, sets};
+ghost use Rattle.domains.specs.Sets.{keeping, sets};
 ghost use Rattle.domains.specs.Views.{seen};
 ghost use Rattle.reasons.specs.Sure.{least_cost as least_cost_of};
+ghost use Rattle.trees.specs.Trees.{inside, outside};
 ghost use Rattle.relax.specs.Areas.{AreLegal, IsSized};
 
+use bound::ends::after_loss;
 use catalogue::problem::Problem;
 use cluster::ids::Element;
 use domains::parts::{Part, Side};
@@ -40,27 +42,43 @@ pub fn sum_seen(p: &Problem, g: &Region, sum: u64, x: Element, part: Part, side:
     requires element { IsElement p.now.given x }
     ensures { result ≡ least_cost_of p.now.given (keeping x (on_side side part) (sets g.now)) }
 {
-    let old = end_seen(p, g, x, Lens::Whole);
-    let new = end_seen(p, g, x, lens_of(x, part, side));
-    (sum - old) + new
-}
-
-// the lens that shows one side of a part
-fn lens_of(x: Element, part: Part, side: Side) -> Lens
-    ensures { (g : RegionView) → seen g result ≡ keeping x (on_side side part) (sets g) }
-{
     match side {
-        Side::Inside => Lens::Inside(x, part),
-        Side::Outside => Lens::Outside(x, part),
+        Side::Inside => sum_inside(p, g, sum, x, part),
+        Side::Outside => sum_outside(p, g, sum, x, part),
     }
 }
 
-// the least end of an element under a lens, 0 where it has no choice
-fn end_seen(p: &Problem, g: &Region, x: Element, lens: Lens) -> u64
+// the sum with one element narrowed to a part
+fn sum_inside(p: &Problem, g: &Region, sum: u64, x: Element, part: Part) -> u64
+    requires region { IsSized p.now.given g.now }
+    requires legal { AreLegal p.now.given (sets g.now) }
+    requires sum { sum ≡ least_cost_of p.now.given (sets g.now) }
+    requires element { IsElement p.now.given x }
+    ensures { result ≡ least_cost_of p.now.given (inside x part (sets g.now)) }
+{
+    let old = end_seen(p, g, x, Lens::Whole).unwrap_or(0);
+    let new = end_seen(p, g, x, Lens::Inside(x, part)).unwrap_or(0);
+    (sum - old) + new
+}
+
+// the sum with one element narrowed to what is not in a part, told by what it loses
+fn sum_outside(p: &Problem, g: &Region, sum: u64, x: Element, part: Part) -> u64
+    requires region { IsSized p.now.given g.now }
+    requires legal { AreLegal p.now.given (sets g.now) }
+    requires sum { sum ≡ least_cost_of p.now.given (sets g.now) }
+    requires element { IsElement p.now.given x }
+    ensures { result ≡ least_cost_of p.now.given (outside x part (sets g.now)) }
+{
+    let gone = end_seen(p, g, x, Lens::Inside(x, part));
+    after_loss(p, x, gone, g.domain(x), Some(part), sum)
+}
+
+// the least end of an element under a lens, if it has a choice
+fn end_seen(p: &Problem, g: &Region, x: Element, lens: Lens) -> Option<u64>
     requires region { IsSized p.now.given g.now }
     requires element { IsElement p.now.given x }
-    ensures { result ≡ least (end_of p.now.given x) (seen g.now lens x) }
+    ensures { result ≡ lowest (end_of p.now.given x) (seen g.now lens x) }
 {
     let view = View { region: g, lens };
-    least_end(p, &view, x).unwrap_or(0)
+    least_end(p, &view, x)
 }

@@ -102,13 +102,11 @@ impl Nearby {
     }
 
     /// The machines near the first node of a set; none where it has none.
-    pub fn of_first(&self, p: &Problem, set: &NodeSet) -> &[u32] {
-        for i in 0..p.cluster().nodes().len() {
-            if set.has(NodeId(i as u32)) {
-                return self.at(i);
-            }
+    pub fn of_first(&self, set: &NodeSet) -> &[u32] {
+        match set.first_from(0) {
+            None => &[],
+            Some(n) => self.at(n.0 as usize),
         }
-        &[]
     }
 
     // the list of a number

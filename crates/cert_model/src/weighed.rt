@@ -15,7 +15,7 @@ use cluster::ids::{Element, VmId};
 use cluster::sets::NodeSet;
 use domains::view::{Lens, View};
 use reasons::reason::Reason;
-use relax::area::Area;
+use relax::area::{Area, area_of};
 use relax::named::is_named;
 use relax::sure::least_held;
 use relax::totals::room;
@@ -91,7 +91,7 @@ fn is_over(p: &Problem, view: &View, r: u8, set: &NodeSet, t: Instant, list: &[u
     requires resource { r < length p.now.given.resources }
     ensures { IsTrue result → IsOverload p.now.given (sure p.now.given (seen view.now.region.now view.now.lens) t) r (has_node set.now) }
 {
-    let area = Area::In(*set);
+    let area = area_of(p, set);
     let sum = listed(p, view, r, &area, t, list, narrowed(p, view.lens));
     room(p, view, r, &area, t) < sum.total
 }
@@ -104,5 +104,5 @@ pub fn is_seen(p: &Problem, nearby: &Nearby, view: &View, reason: &Reason) -> bo
     let Reason::Load(t, r, set) = reason else {
         return false;
     };
-    is_named(p, reason) && is_over(p, view, *r, set, *t, nearby.of_first(p, set))
+    is_named(p, reason) && is_over(p, view, *r, set, *t, nearby.of_first(set))
 }

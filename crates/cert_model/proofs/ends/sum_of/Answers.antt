@@ -1,8 +1,8 @@
 use Rattle.std.proofs.Common.{arith}
-use Rattle.cert_model.proofs.EndLemmas.{least_cost_small}
+use Rattle.bound.proofs.Public.{cost_is_small}
 use Rattle.cert_model.proofs.ends.sum_of.Goals as goal
 
 pub overflow_cast-result : goal.overflow_cast-result
 overflow_cast-result c =
-    let small = least_cost_small c.args.p.now.given c.args.p.now.sound _ c.requires.legal in
+    let small = cost_is_small c.args.p.now.given c.args.p.now.sound _ c.requires.legal in
     omega (arith, small, c.least_cost.ensures)
