@@ -1,10 +1,11 @@
 //! Lines of steps and goals, put together in a buffer that is kept from line to line.
-ghost use Rattle.std.specs.Prelude.{◌≡◌, [], ◌∷◌, ◌++◌, ◌<◌, OnOk, length, string_bytes};
+ghost use Rattle.std.specs.Prelude.{◌≡◌, ◌<◌, ◌≤◌, ℕ, false, [], ◌∷◌, ◌++◌, IsTrue, OnOk, length, string_bytes};
 ghost use Rattle.std.specs.Fmt.{decimal};
+ghost use Rattle.cluster.specs.Sets.{has_node};
 ghost use Rattle.catalogue.specs.Instance.{IsElement};
 ghost use Rattle.reasons.specs.Reasons.{AreListed};
 ghost use Rattle.slices.specs.Elements.{machine_count, node_count};
-ghost use Rattle.cert_text.specs.Spaced.{all_spaced, spaced, spaced_if_in};
+ghost use Rattle.cert_text.specs.Spaced.{all_spaced, spaced};
 ghost use Rattle.cert_text.specs.Spelling.{HasPart, HasPlace, HasReason, HasStep, element_name, end_line, has_all, node_names, nodes_text, part_text, place_name, reason_text, resource_name, step_line, step_text};
 ghost use Rattle.cert_text.specs.Texts.{goal_words, joined, nodes_words, part_words, place_word, reason_words, step_words};
 
@@ -92,24 +93,31 @@ fn has_all(p: &Problem, set: &NodeSet) -> bool
     (0..p.cluster().nodes().len()).all(|n| set.has(NodeId(n as u32)))
 }
 
-/// Adds the name of a node where the set has it.
-fn push_if_in(line: &mut String, p: &Problem, set: &NodeSet, n: NodeId) -> Result<(), Memory>
-    requires { n.0 < node_count p.now.given }
-    ensures { OnOk result (string_bytes line.new ≡ string_bytes line.old ++ spaced_if_in p.now.given set.now n.0) }
+/// The first node of the problem, from a number on, that the set has; how many nodes there are where none is left.
+fn next_in(p: &Problem, set: &NodeSet, from: usize) -> usize
+    requires { from ≤ node_count p.now.given }
+    ensures low { from ≤ result }
+    ensures within { result ≤ node_count p.now.given }
+    ensures there { result < node_count p.now.given → IsTrue (has_node set.now result) }
+    ensures none { (m : ℕ) → from ≤ m → m < result → has_node set.now m ≡ false }
 {
-    if set.has(n) {
-        push_element(line, p, Element::Node(n))?;
+    let count = p.cluster().nodes().len();
+    match set.first_from(from) {
+        None => count,
+        Some(n) => count.min(n.0 as usize),
     }
-    Ok(())
 }
 
 /// Adds the names of the nodes that a set has, in their order.
-#[tactic(auto, using(sums::proofs::Ranges::text_more, crate::proofs::NodeLemmas::spaced_listed))]
+#[tactic(auto, using(crate::proofs::NodeLemmas::spaced_listed))]
 fn push_listed(line: &mut String, p: &Problem, set: &NodeSet) -> Result<(), Memory>
     ensures { OnOk result (string_bytes line.new ≡ string_bytes line.old ++ all_spaced (node_names p.now.given set.now)) }
 {
-    for n in 0..p.cluster().nodes().len() {
-        push_if_in(line, p, set, NodeId(n as u32))?;
+    let count = p.cluster().nodes().len();
+    let mut n = next_in(p, set, 0);
+    while n < count {
+        push_element(line, p, Element::Node(NodeId(n as u32)))?;
+        n = next_in(p, set, n + 1);
     }
     Ok(())
 }
