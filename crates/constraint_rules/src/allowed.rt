@@ -10,7 +10,7 @@ ghost use Rattle.relax.specs.Areas.{IsSized};
 ghost use Rattle.constraint_rules.specs.Allowed.{IsAllowed, IsOffHost, MayGo};
 
 use crate::nodes::host;
-use crate::stays::{leaves_by, runs_on};
+use crate::stays::leaves_by;
 use catalogue::constraint::Constraint;
 use catalogue::problem::Problem;
 use cluster::choices::Place;
@@ -18,6 +18,7 @@ use cluster::ids::{Element, NodeId, VmId};
 use domains::domain::Domain;
 use domains::parts::Row;
 use domains::region::Region;
+use standing::leaves::runs_on;
 
 // whether a constraint lets its member not be on a node
 fn forbids(p: &Problem, constraint: &Constraint, v: VmId, n: NodeId) -> bool

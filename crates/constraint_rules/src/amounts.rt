@@ -160,6 +160,10 @@ impl Watcher<AmountKeeper> for AmountWatcher {
         self.watches.refuted(&k.index, p, g, i)
     }
 
+    fn names_all(&self, _p: &Problem, _i: usize) -> bool {
+        false
+    }
+
     fn look(&self, k: &AmountKeeper, p: &Problem, g: &Region, i: usize) -> Look {
         if k.is_clean(p, g, i) {
             return Look::Clean;

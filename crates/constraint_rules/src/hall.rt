@@ -8,7 +8,6 @@ ghost use Rattle.slices.specs.Elements.{machine_count};
 ghost use Rattle.prop_core.specs.Propagators.{FailHolds};
 ghost use Rattle.relax.specs.Areas.{IsSized};
 
-use crate::stays::runs_on;
 use catalogue::constraint::Constraint;
 use catalogue::problem::Problem;
 use cluster::choices::Place;
@@ -18,6 +17,7 @@ use domains::domain::Domain;
 use domains::region::Region;
 use reasons::reason::Reason;
 use relax::refutes::refutes;
+use standing::leaves::runs_on;
 
 // nodes, and how many more there must be for each of some machines to have one of its own
 #[derive(Clone, Copy)]

@@ -10,7 +10,7 @@ ghost use Rattle.catalogue.specs.Faults.{is_member};
 ghost use Rattle.slices.specs.Holds.{ForbidsPair, IsInPart};
 ghost use Rattle.closing.specs.Kinds.{HasPair};
 
-use crate::stays::{runs_on, surely_at};
+use crate::stays::surely_at;
 use catalogue::constraint::Constraint;
 use catalogue::lists::Vms;
 use catalogue::problem::Problem;
@@ -18,6 +18,7 @@ use cluster::choices::{Choice, Instant, Place};
 use cluster::ids::{Element, NodeId, VmId};
 use domains::view::{Lens, View};
 use relax::forbidden::forbids_pair;
+use standing::leaves::runs_on;
 
 /// Whether a machine is in a list.
 pub fn has(machines: &[VmId], v: VmId) -> bool

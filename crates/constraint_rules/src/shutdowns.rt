@@ -21,6 +21,7 @@ use domains::measure::Measure;
 use domains::parts::{Change, Part, Row, Side};
 use domains::region::Region;
 use slices::choice::usable;
+use standing::leaves::leaves_of;
 use standing::numbers::Leaving;
 
 /// The first and the last start of a node that shuts down.
@@ -59,6 +60,7 @@ fn leave_at(p: &Problem, v: VmId, row: Row, start: Instant) -> u64
     let leaving = Leaving {
         problem: p,
         machine: v,
+        leaves: leaves_of(p, v),
     };
     leaving.value(Choice::Act {
         place: row.place,

@@ -153,6 +153,10 @@ impl<S: Kinds> Watcher<ConstraintIndex> for ConstraintWatcher<S> {
         }
     }
 
+    fn names_all(&self, _p: &Problem, _i: usize) -> bool {
+        false
+    }
+
     fn look(&self, _k: &ConstraintIndex, p: &Problem, g: &Region, i: usize) -> Look {
         match node_of(p, i) {
             None => look_at(&self.kinds, p, g, i),

@@ -1,5 +1,5 @@
 //! The least value of a measure over a set of choices.
-ghost use Rattle.std.specs.Prelude.{◌≡◌, ℕ, ◌≤◌, min, filter, Option, Some, IfSome};
+ghost use Rattle.std.specs.Prelude.{◌≡◌, ℕ, ◌≤◌, min, filter, Option, Some, IfSome, IsTrue};
 ghost use Rattle.sums.specs.Least.{lowest as lowest_of};
 ghost use Rattle.cluster.specs.declared.choices.Choice.{Choice as AnyChoice};
 ghost use Rattle.cluster.specs.declared.choices.Choice.TheVariants.{Idle, Act};
@@ -33,6 +33,13 @@ pub trait Measure {
 
     fn floor(&self) -> u64
         ensures { result ≡ floor_of self.now };
+
+    /// Whether a later start at a place never has a lower number. Then the last start of a row need not be asked.
+    fn climbs(&self) -> bool
+        ensures { IsTrue result → (place : AnyPlace) (lo hi : ℕ) → lo ≤ hi → value_of self.now (Act place lo) ≤ value_of self.now (Act place hi) }
+    {
+        false
+    }
 
     ghost least_at_ends: { (m : Self) (place : AnyPlace) (lo s hi : ℕ) → lo ≤ s → s ≤ hi
         → min (value_of m (Act place lo)) (value_of m (Act place hi)) ≤ value_of m (Act place s) };
@@ -90,7 +97,7 @@ fn least_of_row<M: Measure>(row: Row, m: &M) -> u64
     ensures { Some result ≡ lowest_of (M.value_of m.now) (row_choices row) }
 {
     let first = value_at(row, row.lo, m);
-    if row.lo == row.hi || first == m.floor() {
+    if row.lo == row.hi || m.climbs() || first == m.floor() {
         return first;
     }
     let last = value_at(row, row.hi, m);

@@ -6,12 +6,18 @@ use Rattle.std.proofs.lemmas.Bool.Decides.{Decides-eqb}
 use Rattle.std.proofs.lemmas.List.Sums.{sum_by-cons}
 use Rattle.sums.specs.Sums.{sum_to}
 use Rattle.sums.proofs.Sums.{sum_to-change, sum_to-zero}
+use Rattle.cluster.specs.Inventory.{is_online}
 use Rattle.catalogue.specs.Instance.{Instance}
 use Rattle.catalogue.specs.Values.{capacity_of}
 use Rattle.slices.specs.declared.slice.Weight.TheVariants.{Amount}
-use Rattle.slices.specs.Elements.{machine_count, node_count}
-use Rattle.slices.specs.Snapshots.{Snapshot, load, room}
+use Rattle.slices.specs.Elements.{machine_count, node, node_count}
+use Rattle.slices.specs.Snapshots.{Snapshot, load, room, usable_at}
 use Rattle.slices.specs.Stages.{one}
+use Rattle.domains.specs.declared.view.Lens.{Lens}
+use Rattle.domains.specs.Sets.{RegionView, domain_at}
+use Rattle.domains.specs.Views.{idle_seen, seen, sight_at}
+use Rattle.domains.proofs.Public.{seen_by_rows}
+use Rattle.reasons.specs.Sure.{sure}
 use Rattle.near.specs.Near.{AreMachines}
 use Rattle.near.proofs.SumLemmas.{either, over_once}
 
@@ -24,6 +30,11 @@ sum-of-one count n f low =
 
 pub room_of_one : (p : Instance) (s : Snapshot) (r n : ℕ) → n < node_count p → room p s r (one n) ≡ cond (s.usable n) (capacity_of p n r) 0
 room_of_one p s r n low = sum-of-one (node_count p) n (λ k. cond (s.usable k) (capacity_of p k r) 0) low
+
+-- a node that is online is usable where it stays
+pub idle_usable : (p : Instance) (g : RegionView) (lens : Lens) (n t : ℕ) → is_online p.nodes n ≡ true → idle_seen (sight_at lens (node n)) (domain_at g (node n)) ≡ true → (sure p (seen g lens) t).usable n ≡ true
+unfolding sure usable_at
+idle_usable p g lens n t on idle = rw (seen_by_rows g lens (node n), idle, on) refl
 
 -- what the machines of a list use is no more than the load, also with one that is not in it
 pub list_alone : (p : Instance) (s : Snapshot) (r n : ℕ) (xs : List ℕ) → AreMachines p xs → sum_by (λ v. s.held v (Amount r) (one n)) xs ≤ load p s r (one n)

@@ -1,6 +1,7 @@
 //! Whether the machines near a node surely use more of it than it has room for.
-ghost use Rattle.std.specs.Prelude.{◌≡◌, ◌≢◌, ℕ, ◌+◌, ◌*◌, ◌<◌, ◌≤◌, length, IfSome, IsTrue};
+ghost use Rattle.std.specs.Prelude.{◌≡◌, ◌≢◌, ℕ, ◌+◌, ◌*◌, ◌<◌, ◌≤◌, length, true, IfSome, IsTrue};
 ghost use Rattle.std.specs.List.{sum_by};
+ghost use Rattle.cluster.specs.Inventory.{is_online as the_is_online};
 ghost use Rattle.cluster.specs.Limits.{max_machines};
 ghost use Rattle.slices.specs.Elements.{machine_count, node_count, vm};
 ghost use Rattle.slices.specs.Limits.{max_held};
@@ -18,7 +19,7 @@ use crate::near::is_listed;
 use catalogue::problem::Problem;
 use cluster::choices::Instant;
 use cluster::ids::{Element, NodeId, VmId};
-use domains::view::{Lens, View};
+use domains::view::{Lens, View, has_idle};
 use relax::area::Area;
 use relax::sure::{least_held, may_be_usable};
 use slices::slice::Weight;
@@ -36,6 +37,24 @@ pub fn narrowed(lens: Lens) -> Option<VmId>
     }
 }
 
+// whether a node is online at present
+fn is_online(p: &Problem, n: NodeId) -> bool
+    requires { n.0 < node_count p.now.given }
+    ensures { result ≡ the_is_online p.now.given.nodes n.0 }
+{
+    p.cluster().nodes()[n.0 as usize].online
+}
+
+// whether a node that is online may stay as it is, in what is seen: then it may be usable at all times
+#[tactic(auto, using(crate::proofs::OverLemmas::idle_usable))]
+fn may_stay_online(p: &Problem, view: &View, n: NodeId) -> bool
+    requires region { IsSized p.now.given view.now.region.now }
+    requires node { n.0 < node_count p.now.given }
+    ensures { IsTrue result → (t : ℕ) → (sure p.now.given (seen view.now.region.now view.now.lens) t).usable n.0 ≡ true }
+{
+    is_online(p, n) && has_idle(view, Element::Node(n))
+}
+
 /// The capacity of a node for a resource, 0 where it cannot be usable.
 #[tactic(auto, using(crate::proofs::OverLemmas::room_of_one))]
 pub fn room_seen(p: &Problem, view: &View, r: u8, n: NodeId, t: Instant) -> u64
@@ -44,7 +63,7 @@ pub fn room_seen(p: &Problem, view: &View, r: u8, n: NodeId, t: Instant) -> u64
     requires node { n.0 < node_count p.now.given }
     ensures { result ≡ room_of p.now.given (sure p.now.given (seen view.now.region.now view.now.lens) t) r (one n.0) }
 {
-    if may_be_usable(p, view, n, t) {
+    if may_stay_online(p, view, n) || may_be_usable(p, view, n, t) {
         p.capacity(n, r)
     } else {
         0

@@ -224,6 +224,11 @@ impl Measure for EndOf<'_> {
 
     ghost above_floor = { λ m c. Prim.omega arith };
 
+    #[tactic(auto, using(crate::proofs::EndLemmas::end_climbs))]
+    fn climbs(&self) -> bool {
+        true
+    }
+
     fn value(&self, c: Choice) -> u64 {
         end(self.problem, self.element, c)
     }

@@ -12,8 +12,9 @@ use crate::suggestion::{Suggestion, take_one};
 use crate::watcher::{Asked, Watcher, ask, tell};
 use crate::widen::widen;
 use catalogue::problem::Problem;
+use cluster::choices::Choice;
 use domains::domain::Domain;
-use domains::parts::Change;
+use domains::parts::{Change, Part};
 use domains::region::Region;
 use domains::undo::Before;
 use domains::view::{Lens, View};
@@ -52,7 +53,46 @@ fn answer<K: Keeper, W: Watcher<K>>(w: &W, k: &K, p: &Problem, g: &Region, asked
     }
 }
 
-// has the watcher suggest more cuts like one that was found
+// a part that holds an end of an element's choices
+fn part_at(end: Choice) -> Part {
+    match end {
+        Choice::Idle => Part::Idle,
+        Choice::Act { place, start } => Part::Upto(place, start),
+    }
+}
+
+// has the watcher suggest cuts where one was met, where these name it too
+fn suggest_first<K: Keeper, W: Watcher<K>>(
+    w: &W,
+    k: &K,
+    p: &Problem,
+    g: &Region,
+    asked: Asked,
+    suggestions: &mut Vec<Suggestion>,
+) -> Result<(), Memory>
+    requires region { IsRegionOf p.now.given g.now }
+    requires right { IsCacheFor (K.cache k.now) p.now.given (sets g.now) }
+    requires asked { IsAskedOf (W.watch w.now p.now.given) p.now.given (sets g.now) (W.count_of w.now p.now.given) asked }
+{
+    let Asked::Cuts(i, element, end, t) = asked else {
+        return Ok(());
+    };
+    if !w.names_all(p, i) {
+        return Ok(());
+    }
+    let view = View {
+        region: g,
+        lens: Lens::Set(element, end),
+    };
+    let met = Suggestion {
+        element,
+        part: part_at(end),
+        reason: w.reason(k, p, &view, i, t),
+    };
+    w.suggest(k, p, g, i, &met, suggestions)
+}
+
+// has the watcher suggest more cuts like one that was found, where it has not done so before
 fn suggest<K: Keeper, W: Watcher<K>>(
     w: &W,
     k: &K,
@@ -69,6 +109,9 @@ fn suggest<K: Keeper, W: Watcher<K>>(
     let Asked::Cuts(i, ..) = asked else {
         return Ok(());
     };
+    if w.names_all(p, i) {
+        return Ok(());
+    }
     let Answer::Cut(element, part, reason) = answer else {
         return Ok(());
     };
@@ -191,6 +234,19 @@ impl<K: Keeper, W: Watcher<K> + Drop> Propagator for Rule<W, K> {
             return Ok(found);
         }
         let asked = ask(&self.watcher, &self.keeper, p, g, &mut self.marks);
+        suggest_first(
+            &self.watcher,
+            &self.keeper,
+            p,
+            g,
+            asked,
+            &mut self.suggestions,
+        )?;
+        if let Some(it) = take_one(&mut self.suggestions, &self.watcher, &self.keeper, p, g) {
+            let found = Answer::Cut(it.element, it.part, it.reason);
+            self.given = count(self.given, found);
+            return Ok(found);
+        }
         let found = answer(&self.watcher, &self.keeper, p, g, asked);
         suggest(
             &self.watcher,

@@ -90,6 +90,10 @@ pub trait Watcher<K: Keeper> {
         requires watch { i < count_of self.now p.now.given }
         ensures { IfSome result (FailHolds p.now.given (sets g.now)) };
 
+    /// Whether what is suggested after a find at a watch names that find too, as wide as may be. Then the find
+    /// itself need not be widened first.
+    fn names_all(&self, p: &Problem, i: usize) -> bool;
+
     /// A look at one watch at all instants.
     fn look(&self, k: &K, p: &Problem, g: &Region, i: usize) -> Look
         requires region { IsRegionOf p.now.given g.now }

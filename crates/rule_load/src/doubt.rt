@@ -25,6 +25,7 @@ use domains::domain::Domain;
 use domains::measure::Measure;
 use domains::parts::Row;
 use domains::region::Region;
+use standing::leaves::leaves_of;
 use standing::numbers::Leaving;
 
 /// A case in which nodes may be overloaded, which is to be looked at.
@@ -57,6 +58,7 @@ fn staying(p: &Problem, v: VmId, domain: &Domain, from: Instant) -> Choice
     let leaving = Leaving {
         problem: p,
         machine: v,
+        leaves: leaves_of(p, v),
     };
     if domain.idle() {
         return Choice::Idle;

@@ -31,6 +31,7 @@ use domains::parts::{Change, Part, Side};
 use domains::region::Region;
 use domains::undo::{Before, Lost};
 use rule_frame::marks::Marks;
+use standing::leaves::leaves_of;
 use standing::numbers::{Arrival, Leaving};
 
 // marks a watch, if there is one of this number
@@ -106,6 +107,7 @@ fn kept_as_long(
     let leaving = Leaving {
         problem: p,
         machine: v,
+        leaves: leaves_of(p, v),
     };
     match before {
         Before::Kept => false,

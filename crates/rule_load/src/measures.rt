@@ -1,13 +1,14 @@
 //! What can be asked of one choice: over the starts at one place each is least at the first or the last.
-ghost use Rattle.std.specs.Prelude.{◌≡◌};
+ghost use Rattle.std.specs.Prelude.{◌≡◌, IfSome};
 ghost use Rattle.catalogue.specs.Instance.{IsElement};
 ghost use Rattle.slices.specs.Elements.{node, vm};
+ghost use Rattle.standing.specs.Leaves.{AreLeaves};
 ghost use Rattle.rule_load.specs.Parts.{left_over, start_count, usable_count};
 ghost use Rattle.rule_load.specs.Totals.{hurry_count};
 
 use catalogue::problem::Problem;
 use cluster::choices::{Choice, Instant};
-use cluster::ids::{NodeId, VmId};
+use cluster::ids::NodeId;
 use domains::measure::Measure;
 use slices::choice::usable;
 use standing::numbers::{Leaving, NEVER};
@@ -15,30 +16,25 @@ use standing::numbers::{Leaving, NEVER};
 /// How long before the end of time a machine gives its host up.
 #[derive(Drop)]
 pub struct LeftOver<'a> {
-    pub problem: &'a Problem,
-    pub machine: VmId,
+    pub leaving: Leaving<'a>,
 }
 
 impl Measure for LeftOver<'_> {
     ghost use Rattle.std.proofs.Common.{arith};
     ghost use Rattle.rule_load.specs.Measured.{left_at_ends};
 
-    ghost ready = { λ m. IsElement m.problem.now.given (vm m.machine.0) };
+    ghost ready = { λ m. IsElement m.leaving.problem.now.given (vm m.leaving.machine.0) × IfSome m.leaving.leaves (AreLeaves m.leaving.problem.now.given m.leaving.machine.0) };
 
-    ghost value_of = { λ m. left_over m.problem.now.given m.machine.0 };
+    ghost value_of = { λ m. left_over m.leaving.problem.now.given m.leaving.machine.0 };
 
     ghost floor_of = { λ m. 0 };
 
-    ghost least_at_ends = { λ m. left_at_ends m.problem.now.given m.machine.0 };
+    ghost least_at_ends = { λ m. left_at_ends m.leaving.problem.now.given m.leaving.machine.0 };
 
     ghost above_floor = { λ m c. Prim.omega arith };
 
     fn value(&self, c: Choice) -> u64 {
-        let leaving = Leaving {
-            problem: self.problem,
-            machine: self.machine,
-        };
-        NEVER.saturating_sub(leaving.value(c))
+        NEVER.saturating_sub(self.leaving.value(c))
     }
 
     fn floor(&self) -> u64 {

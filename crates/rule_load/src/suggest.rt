@@ -241,6 +241,14 @@ fn suggest_all_arrivals(
     Ok(())
 }
 
+// whether a part is of a place that is the node
+fn is_at(part: Part, node: NodeId) -> bool {
+    match part {
+        Part::Idle => false,
+        Part::Upto(place, _) | Part::From(place, _) => place == Place::At(node),
+    }
+}
+
 /// Puts cuts into a list that are worth a try after one of a machine was found: after an arrival those of all machines
 /// for which there is no room at some time, after a departure those of each machine that would keep as much there at the
 /// same instant.
@@ -272,8 +280,9 @@ pub(crate) fn suggest_on(
         at,
         reason: found.reason,
     };
-    match found.part {
-        Part::Upto(..) => suggest_all_arrivals(p, g, kept, node, them),
-        Part::Idle | Part::From(..) => suggest_departures(p, g, kept.standings, over, them),
+    if is_at(found.part, node) {
+        suggest_all_arrivals(p, g, kept, node, them)
+    } else {
+        suggest_departures(p, g, kept.standings, over, them)
     }
 }

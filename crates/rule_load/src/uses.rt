@@ -27,7 +27,8 @@ use domains::parts::{Change, Part, Side};
 use domains::region::Region;
 use domains::view::{Lens, View, lowest_seen};
 use slices::slice::Weight;
-use standing::numbers::{Arrival, NEVER, Standing};
+use standing::leaves::leaves_of;
+use standing::numbers::{Arrival, Leaving, NEVER, Standing};
 use standing::uses::{base, comes_by, gain};
 
 // what a machine with these numbers surely uses at the most
@@ -100,10 +101,12 @@ pub(crate) fn has_left(p: &Problem, g: &Region, v: VmId, by: Instant) -> bool
         region: g,
         lens: Lens::Whole,
     };
-    let left = LeftOver {
+    let leaving = Leaving {
         problem: p,
         machine: v,
+        leaves: leaves_of(p, v),
     };
+    let left = LeftOver { leaving };
     let least = lowest_seen(&view, Element::Vm(v), &left).unwrap_or(0);
     least >= NEVER - u64::from(by)
 }

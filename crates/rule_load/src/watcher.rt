@@ -64,6 +64,10 @@ impl Watcher<Standings> for Loads {
         None
     }
 
+    fn names_all(&self, p: &Problem, i: usize) -> bool {
+        node_at(p, i).is_some()
+    }
+
     fn look(&self, k: &Standings, p: &Problem, g: &Region, i: usize) -> Look {
         match node_at(p, i) {
             None => total_look(p, k.fixed(p, g), g, k.all(p, g), k.movers(p, g)),

@@ -2,6 +2,7 @@
 pub mod Public
 mod ChoiceLemmas
 mod BeforeLemmas
+mod LeaveLemmas
 mod ListLemmas
 mod NumberLemmas
 mod RowLemmas

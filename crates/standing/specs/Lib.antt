@@ -4,3 +4,4 @@ pub mod Tables
 -- what the laws and the code's contracts say beside it
 pub mod Ends
 pub mod Laws
+pub mod Leaves

@@ -2,6 +2,7 @@
 #![tactic(auto)]
 
 pub mod laws;
+pub mod leaves;
 pub mod numbers;
 pub mod table;
 pub mod uses;

@@ -1,5 +1,5 @@
 //! The two numbers of a machine.
-ghost use Rattle.std.specs.Prelude.{◌≡◌, ◌≤◌, ℕ, IsTrue, max};
+ghost use Rattle.std.specs.Prelude.{◌≡◌, ◌≤◌, ℕ, IfSome, IsTrue, max};
 ghost use Rattle.std.specs.List.{Contains};
 ghost use Rattle.cluster.specs.declared.choices.Choice.{Choice as AnyChoice};
 ghost use Rattle.sums.specs.Least.{least};
@@ -8,8 +8,10 @@ ghost use Rattle.slices.specs.Elements.{vm};
 ghost use Rattle.domains.specs.Choices.{choices};
 ghost use Rattle.domains.specs.Laws.{AreFewer};
 ghost use Rattle.domains.specs.Undo.{domain_before, restored};
+ghost use Rattle.standing.specs.Leaves.{AreLeaves};
 ghost use Rattle.standing.specs.Standings.{IsStanding, comes_by, have_come, kept_until as the_kept_until, leave_of};
 
+use crate::leaves::{Leaves, leaves_of, left_by};
 use catalogue::problem::Problem;
 use cluster::choices::{Choice, Instant, Place};
 use cluster::ids::{Element, NodeId, VmId};
@@ -78,18 +80,46 @@ fn kept_until(kind: Option<Kind>, end: u64) -> u64
     }
 }
 
+// until when a choice keeps what its machine has on its host, told by the kind of its action
+fn left_under(p: &Problem, v: VmId, c: Choice) -> u64
+    requires { IsElement p.now.given (Element.Vm v) }
+    ensures { result ≡ leave_of p.now.given v.0 c }
+{
+    match c {
+        Choice::Idle => NEVER,
+        Choice::Act { place, start: _ } => {
+            let e = Element::Vm(v);
+            kept_until(kind_of(p, e, place), end(p, e, c))
+        }
+    }
+}
+
 /// Until when a choice keeps what its machine has on its host.
+///
+/// Where it is known how the machine leaves, the kind of the action is not asked of each choice.
 #[derive(Drop)]
 pub struct Leaving<'a> {
     pub problem: &'a Problem,
     pub machine: VmId,
+    pub leaves: Option<Leaves>,
+}
+
+// the same, by how the machine leaves, where that is known and tells it
+fn left_as_known(p: &Problem, v: VmId, leaves: Option<Leaves>, c: Choice) -> Option<u64>
+    requires { IfSome leaves (AreLeaves p.now.given v.0) }
+    ensures { IfSome result (λ l. l ≡ leave_of p.now.given v.0 c) }
+{
+    match leaves {
+        None => None,
+        Some(leaves) => left_by(p, v, leaves, c),
+    }
 }
 
 impl Measure for Leaving<'_> {
     ghost use Rattle.standing.specs.Ends.{leave_at_ends};
     ghost use Rattle.std.proofs.Common.{arith};
 
-    ghost ready = { λ m. IsElement m.problem.now.given (vm m.machine.0) };
+    ghost ready = { λ m. IsElement m.problem.now.given (vm m.machine.0) × IfSome m.leaves (AreLeaves m.problem.now.given m.machine.0) };
 
     ghost value_of = { λ m. leave_of m.problem.now.given m.machine.0 };
 
@@ -100,12 +130,9 @@ impl Measure for Leaving<'_> {
     ghost above_floor = { λ m c. Prim.omega arith };
 
     fn value(&self, c: Choice) -> u64 {
-        match c {
-            Choice::Idle => NEVER,
-            Choice::Act { place, start: _ } => {
-                let e = Element::Vm(self.machine);
-                kept_until(kind_of(self.problem, e, place), end(self.problem, e, c))
-            }
+        match left_as_known(self.problem, self.machine, self.leaves, c) {
+            Some(left) => left,
+            None => left_under(self.problem, self.machine, c),
         }
     }
 
@@ -126,7 +153,7 @@ impl Measure for LeavingFrom<'_> {
     ghost use Rattle.standing.specs.Ends.{leave_at_ends};
     ghost use Rattle.std.proofs.Common.{arith};
 
-    ghost ready = { λ m. IsElement m.leaving.problem.now.given (vm m.leaving.machine.0) };
+    ghost ready = { λ m. IsElement m.leaving.problem.now.given (vm m.leaving.machine.0) × IfSome m.leaving.leaves (AreLeaves m.leaving.problem.now.given m.leaving.machine.0) };
 
     ghost value_of = { λ m c. max m.floor (leave_of m.leaving.problem.now.given m.leaving.machine.0 c) };
 
@@ -155,19 +182,21 @@ fn leave_from(p: &Problem, v: VmId, domain: &Domain, floor: u64) -> u64
     let leaving = Leaving {
         problem: p,
         machine: v,
+        leaves: leaves_of(p, v),
     };
     lowest(domain, None, &LeavingFrom { leaving, floor }).unwrap_or(0)
 }
 
-// until when each choice of a machine keeps its host
+/// Until when each choice of a machine keeps its host, 0 where it has none.
 #[tactic(auto, using(crate::proofs::RowLemmas::all_stay))]
-fn leave(p: &Problem, v: VmId, domain: &Domain) -> u64
+pub fn leave(p: &Problem, v: VmId, domain: &Domain) -> u64
     requires { IsElement p.now.given (Element.Vm v) }
     ensures { result ≡ least (leave_of p.now.given v.0) (choices domain.now) }
 {
     let leaving = Leaving {
         problem: p,
         machine: v,
+        leaves: leaves_of(p, v),
     };
     lowest(domain, None, &leaving).unwrap_or(0)
 }
@@ -212,6 +241,7 @@ fn leave_after(p: &Problem, v: VmId, domain: &Domain, lost: Lost, old: u64) -> u
     let leaving = Leaving {
         problem: p,
         machine: v,
+        leaves: leaves_of(p, v),
     };
     match lowest_lost(lost, &leaving) {
         None => old,

@@ -2,7 +2,7 @@ use Rattle.std.proofs.Common.{◌≡◌, Some, ap, sym, arith, ◌∙◌}
 use Rattle.cluster.specs.declared.choices.Choice.TheVariants.{Act}
 use Rattle.domains.proofs.MeasureLemmas.{first_least, lowest_row}
 use Rattle.domains.proofs.measure.least_of_row.Goals as goal
-use Rattle.domains.proofs.measure.least_of_row.Goals.{then-row-via-then-row, then-row-via-else-row+then-first-floor}
+use Rattle.domains.proofs.measure.least_of_row.Goals.{then-row-via-then-row, then-row-via-else-row+else-climbs+then-first-floor, then-row-via-else-row+then-climbs}
 
 pub returns-then-row : goal.returns-then-row
 returns-then-row g c =
@@ -11,7 +11,8 @@ returns-then-row g c =
     let least = first_least f row (g.met.M.Measure.least_at_ends c.args.m.now) c.requires.holds_one in
     ap Some c.value_at-first.ensures ∙ sym (least (elim c.then-row.branch [
       | then-row-via-then-row w ↦ rw (← w.if-row.true) (omega arith)
-      | then-row-via-else-row+then-first-floor w ↦
+      | then-row-via-else-row+then-climbs w ↦ w.climbs.ensures w.if-climbs.true row.place row.lo row.hi c.requires.holds_one
+      | then-row-via-else-row+else-climbs+then-first-floor w ↦
           let first : f (Act row.place row.lo) ≡ g.M.Measure.floor_of c.args.m.now = sym c.value_at-first.ensures ∙ w.if-first-floor.true ∙ w.floor.ensures in
           rw first (g.met.M.Measure.above_floor c.args.m.now (Act row.place row.hi))
     ]))

@@ -1,7 +1,7 @@
 use Rattle.std.proofs.Common.{rules, ◌<◌, sym, ◌∙◌}
 use Rattle.slices.specs.Elements.{node_count}
-use Rattle.constraint_rules.proofs.StayLemmas.{are_leaves}
-use Rattle.constraint_rules.proofs.stays.leaves_of.Goals as goal
+use Rattle.standing.proofs.LeaveLemmas.{are_leaves}
+use Rattle.standing.proofs.leaves.leaves_of.Goals as goal
 
 pub returns-in-Some-Migrate : goal.returns-in-Some-Migrate
 returns-in-Some-Migrate c =
