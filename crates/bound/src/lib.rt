@@ -4,5 +4,3 @@
 pub mod ends;
 pub mod laws;
 pub mod lower_bound;
-#[cfg(test)]
-mod tests;

@@ -19,8 +19,6 @@ mod pairs;
 mod places;
 mod stands;
 mod steady;
-#[cfg(test)]
-mod tests;
 mod turns;
 mod usable;
 pub mod watch;

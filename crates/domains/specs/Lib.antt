@@ -8,4 +8,3 @@ pub mod Sizes
 pub mod Views
 pub mod Measures
 pub mod Laws
-pub mod Tests

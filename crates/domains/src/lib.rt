@@ -11,7 +11,5 @@ pub mod parts;
 pub mod region;
 mod row_list;
 mod rows;
-#[cfg(test)]
-mod tests;
 pub mod undo;
 pub mod view;

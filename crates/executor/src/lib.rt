@@ -10,6 +10,3 @@ mod times;
 
 pub use monitor::Monitor;
 pub use phase::{NewFault, Phase, StepFault};
-
-#[cfg(test)]
-mod tests;

@@ -20,6 +20,3 @@ pub use path_ref::PathRef;
 pub use reading::{MAX_TEXT_BYTES, read_value};
 pub use walk::{field, flag, list, number, only, text};
 pub use words::{word_at, word_field};
-
-#[cfg(test)]
-mod tests;

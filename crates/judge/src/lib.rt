@@ -9,8 +9,6 @@ mod least;
 mod loads;
 mod next;
 mod standing;
-#[cfg(test)]
-mod tests;
 mod verdict;
 
 pub use loads::Loads;

@@ -16,7 +16,5 @@ pub mod plan;
 pub mod refutes;
 pub mod start;
 pub mod sure;
-#[cfg(test)]
-mod tests;
 pub mod totals;
 pub mod whole;

@@ -11,5 +11,3 @@ pub mod rule;
 pub mod slice;
 pub mod snapshot;
 pub mod stage;
-#[cfg(test)]
-mod tests;

@@ -6,6 +6,4 @@
 #![tactic(auto)]
 
 mod log;
-#[cfg(test)]
-mod tests;
 pub mod trail;

@@ -1,7 +1,6 @@
 //! Marks in one another, with a change of each sort, and back.
 ghost use Rattle.std.specs.Prelude.{◌≡◌, ◌<◌, [], ◌∷◌, IfOk, OnOk, length};
 
-use crate::trail::Trail;
 use cluster::choices::{Instant, Place};
 use cluster::ids::{Element, NodeId, VmId};
 use domains::domain::Domain;
@@ -11,6 +10,7 @@ use domains::undo::{Before, Lost};
 use std::alloc::Global;
 use std::process::Abort;
 use std::test::Fail;
+use trail::trail::Trail;
 
 const HERE: Place = Place::At(NodeId(0));
 

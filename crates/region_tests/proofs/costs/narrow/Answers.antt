@@ -2,7 +2,7 @@ use Rattle.cluster.specs.declared.ids.Element.{Element}
 use Rattle.cluster.specs.declared.ids.Element.TheVariants.{Vm}
 use Rattle.domains.specs.Parts.{on_side}
 use Rattle.bound.proofs.Public.{narrowing_tells}
-use Rattle.bound.proofs.tests.narrow.Goals as goal
+use Rattle.region_tests.proofs.costs.narrow.Goals as goal
 
 pub told-requires-clause-legal : goal.told-requires-clause-legal
 told-requires-clause-legal c =

@@ -5,35 +5,24 @@ ghost use Rattle.catalogue.specs.Limits.{max_horizon};
 ghost use Rattle.domains.specs.Sets.{sets};
 ghost use Rattle.relax.specs.Areas.{AreLegal, IsSized};
 
-use crate::plan::plan_of;
-use crate::refutes::{refutes, refutes_inside};
-use crate::start::start_region;
-use crate::whole::{least_end, least_use, may_be_usable, surely_on};
+use crate::fixtures::running;
 use catalogue::constraint::Constraint;
 use catalogue::lists::{Groups, Vms};
 use catalogue::problem::Problem;
 use cluster::choices::{Instant, Place};
-use cluster::durations::Duration;
 use cluster::ids::{Element, NodeId, VmId};
-use cluster::inventory::Cluster;
-use cluster::machines::Machine;
-use cluster::names::Name;
-use cluster::nodes::Node;
 use cluster::sets::NodeSet;
-use cluster::states::State;
 use domains::parts::{Change, Part, Side};
 use domains::region::Region;
 use reasons::reason::Reason;
+use relax::plan::plan_of;
+use relax::refutes::{refutes, refutes_inside};
+use relax::start::start_region;
+use relax::whole::{least_end, least_use, may_be_usable, surely_on};
 use slices::plan::cost;
 use std::alloc::Global;
 use std::process::Abort;
 use std::test::Fail;
-
-const THREE: Duration = Duration {
-    base: 3,
-    per: 0,
-    resource: None,
-};
 
 const V0: VmId = VmId(0);
 
@@ -49,25 +38,7 @@ const N1: NodeId = NodeId(1);
 fn problem(alloc: Global, horizon: Instant) -> Result<Problem, Fail>
     requires { horizon ≤ max_horizon }
 {
-    let mut resources = Vec::new(alloc);
-    resources.push(Name::new(alloc, b"cpu")?)?;
-    let mut cluster = Cluster::new(alloc, resources, [THREE; 10])?;
-    for (name, capacity) in [(b"n0", 6), (b"n1", 3)] {
-        cluster.add_node(Node {
-            name: Name::new(alloc, name)?,
-            online: true,
-            capacity: [capacity, 0, 0, 0, 0, 0, 0, 0],
-            own: [None; 10],
-        })?;
-    }
-    for name in [b"v0", b"v1", b"v2"] {
-        cluster.add_machine(Machine {
-            name: Name::new(alloc, name)?,
-            state: State::Running(N0),
-            usage: [2, 0, 0, 0, 0, 0, 0, 0],
-            own: [None; 10],
-        })?;
-    }
+    let cluster = running(alloc, &[6, 3], &[(N0, 2), (N0, 2), (N0, 2)])?;
     Ok(Problem::new(alloc, cluster, horizon))
 }
 

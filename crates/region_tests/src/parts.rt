@@ -1,15 +1,15 @@
 //! Rows at the edges, a region without an element, and each call once on its happy path.
 ghost use Rattle.std.specs.Prelude.{◌≡◌, ◌<◌, ◌≤◌, ℕ, min, IfOk, length, [], ◌∷◌};
-ghost use Rattle.domains.specs.Tests.{start_of};
+ghost use Rattle.region_tests.specs.Starts.{start_of};
 
-use crate::domain::Domain;
-use crate::measure::{Measure, lowest_lost};
-use crate::parts::{Change, Part, Row, Side};
-use crate::region::Region;
-use crate::undo::Lost;
-use crate::view::{Lens, View, lowest_seen};
 use cluster::choices::{Choice, Instant, Place};
 use cluster::ids::{Element, NodeId, VmId};
+use domains::domain::Domain;
+use domains::measure::{Measure, lowest_lost};
+use domains::parts::{Change, Part, Row, Side};
+use domains::region::Region;
+use domains::undo::Lost;
+use domains::view::{Lens, View, lowest_seen};
 use std::alloc::Global;
 use std::process::Abort;
 use std::test::Fail;
@@ -146,22 +146,49 @@ fn a_region_through_lenses(rt: HostRuntime) -> Result<(), Fail> {
     Ok(())
 }
 
+const UP_TO_3: Change = Change {
+    element: MACHINE,
+    part: Part::Upto(HERE, 3),
+    side: Side::Inside,
+};
+
+/// Whether the change leaves no choice; it is made.
+fn narrow(region: &mut Region) -> bool
+    requires { 0 < length region.old.machines }
+    ensures { length region.new.machines ≡ length region.old.machines }
+{
+    let leaves_none = region.leaves_none(UP_TO_3);
+    region.narrow(UP_TO_3);
+    leaves_none
+}
+
+/// The machine's domain, in whose place an empty one is put.
+fn take(alloc: Global, region: &mut Region) -> Domain
+    requires { 0 < length region.old.machines }
+{
+    region.set(MACHINE, Domain::new(alloc, false))
+}
+
 #[test]
 fn a_region_narrowed(rt: HostRuntime) -> Result<(), Fail> {
     let mut region = one_machine(rt.alloc())?;
-    let change = Change {
-        element: MACHINE,
-        part: Part::Upto(HERE, 3),
-        side: Side::Inside,
-    };
-    assert!(rt; !region.leaves_none(change));
-    region.narrow(change);
+    assert!(rt; !narrow(&mut region));
     assert!(rt; region.copy()?.is_fixed());
-    let old = region.set(MACHINE, Domain::new(rt.alloc(), false));
+    let old = take(rt.alloc(), &mut region);
     assert_eq!(rt; old.rows(), [row(HERE, 3, 3)].as_slice());
+    Ok(())
+}
+
+#[test]
+fn a_domain_copied(rt: HostRuntime) -> Result<(), Fail> {
+    let old = sample(rt.alloc())?;
     let mut kept = Domain::new(rt.alloc(), true);
     kept.copy_from(&old)?;
     assert_eq!(rt; kept.copy()?.rows(), old.rows());
-    assert_eq!(rt; lowest_lost(Lost::Row(row(HERE, 3, 7)), &Start), Some(3));
     Ok(())
+}
+
+#[test]
+fn what_was_lost_is_measured(rt: HostRuntime) {
+    assert_eq!(rt; lowest_lost(Lost::Row(row(HERE, 3, 7)), &Start), Some(3));
 }

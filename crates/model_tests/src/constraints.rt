@@ -1,62 +1,28 @@
 //! What no clause says: that calls succeed where there is memory, and the faults as they were meant.
-use crate::constraint::{Constraint, RuleFault};
-use crate::lists::{Groups, Parts, Vms};
-use crate::problem::Problem;
-use crate::targets::{Target, Wish};
-use cluster::durations::Duration;
+use crate::fixtures::{ONE, add_machine, add_node, base};
+use catalogue::constraint::{Constraint, RuleFault};
+use catalogue::lists::{Groups, Parts, Vms};
+use catalogue::problem::Problem;
+use catalogue::targets::{Target, Wish};
 use cluster::ids::{Element, NodeId, VmId};
 use cluster::inventory::Cluster;
-use cluster::machines::Machine;
-use cluster::names::Name;
-use cluster::nodes::Node;
 use cluster::sets::NodeSet;
 use cluster::states::State;
 use std::alloc::Global;
 use std::test::Fail;
 
-/// A cluster without elements, with one resource.
-fn base(alloc: Global) -> Result<Cluster, Fail> {
-    let one = Duration {
-        base: 1,
-        per: 0,
-        resource: None,
-    };
-    let mut resources = Vec::new(alloc);
-    resources.push(Name::new(alloc, b"cpu")?)?;
-    Ok(Cluster::new(alloc, resources, [one; 10])?)
-}
-
-/// A node of capacity 7.
-fn node(alloc: Global) -> Result<Node, Fail> {
-    Ok(Node {
-        name: Name::new(alloc, b"n0")?,
-        online: true,
-        capacity: [7, 0, 0, 0, 0, 0, 0, 0],
-        own: [None; 10],
-    })
-}
-
-/// A machine that runs on the node, with use 3.
-fn machine(alloc: Global, name: &str) -> Result<Machine, Fail> {
-    Ok(Machine {
-        name: Name::new(alloc, name.as_bytes())?,
-        state: State::Running(NodeId(0)),
-        usage: [3, 0, 0, 0, 0, 0, 0, 0],
-        own: [None; 10],
-    })
-}
-
+/// A node of capacity 7, and machines that run on it, with use 3.
 fn add_elements(alloc: Global, cluster: &mut Cluster) -> Result<(), Fail> {
-    cluster.add_node(node(alloc)?)?;
+    add_node(alloc, cluster, "n0", true, 7)?;
     for name in ["v0", "v1"] {
-        cluster.add_machine(machine(alloc, name)?)?;
+        add_machine(alloc, cluster, name, State::Running(NodeId(0)), 3)?;
     }
     Ok(())
 }
 
 /// One node and two machines, and no constraint.
 fn problem(alloc: Global) -> Result<Problem, Fail> {
-    let mut cluster = base(alloc)?;
+    let mut cluster = base(alloc, [ONE; 10])?;
     add_elements(alloc, &mut cluster)?;
     Ok(Problem::new(alloc, cluster, 20))
 }

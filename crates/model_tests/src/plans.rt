@@ -3,21 +3,19 @@
 ghost use Rattle.std.specs.Prelude.{IfOk, IfSome};
 ghost use Rattle.slices.specs.Plans.{IsPlanOf};
 
-use crate::actions::{duration, end_of, is_legal, kind_of, start};
-use crate::choice;
-use crate::plan::{Plan, cost, is_plan};
-use crate::snapshot::{action_at, image, powered, present, usable, used};
-use crate::stage::Progress;
+use crate::fixtures::{add_machine, add_node, base};
 use catalogue::problem::Problem;
 use cluster::choices::{Choice, Instant, Place};
 use cluster::durations::Duration;
 use cluster::ids::{Element, NodeId, VmId};
 use cluster::inventory::Cluster;
 use cluster::kinds::Kind;
-use cluster::machines::Machine;
-use cluster::names::Name;
-use cluster::nodes::Node;
 use cluster::states::State;
+use slices::actions::{duration, end_of, is_legal, kind_of, start};
+use slices::choice;
+use slices::plan::{Plan, cost, is_plan};
+use slices::snapshot::{action_at, image, powered, present, usable, used};
+use slices::stage::Progress;
 use std::alloc::Global;
 use std::test::Fail;
 
@@ -30,24 +28,15 @@ const COUNTED: Duration = Duration {
 
 /// Node 0 is online, node 1 is not, and the machine uses 2 on node 0.
 fn problem(alloc: Global) -> Result<Problem, Fail> {
-    let mut resources = Vec::new(alloc);
-    resources.push(Name::new(alloc, b"cpu")?)?;
-    let mut cluster = Cluster::new(alloc, resources, [COUNTED; 10])?;
-    for (name, online) in [(b"n0", true), (b"n1", false)] {
-        cluster.add_node(Node {
-            name: Name::new(alloc, name)?,
-            online,
-            capacity: [3, 0, 0, 0, 0, 0, 0, 0],
-            own: [None; 10],
-        })?;
-    }
-    cluster.add_machine(Machine {
-        name: Name::new(alloc, b"v0")?,
-        state: State::Running(NodeId(0)),
-        usage: [2, 0, 0, 0, 0, 0, 0, 0],
-        own: [None; 10],
-    })?;
+    let mut cluster = base(alloc, [COUNTED; 10])?;
+    add_elements(alloc, &mut cluster)?;
     Ok(Problem::new(alloc, cluster, 20))
+}
+
+fn add_elements(alloc: Global, cluster: &mut Cluster) -> Result<(), Fail> {
+    add_node(alloc, cluster, "n0", true, 3)?;
+    add_node(alloc, cluster, "n1", false, 3)?;
+    add_machine(alloc, cluster, "v0", State::Running(NodeId(0)), 2)
 }
 
 const MOVE: Choice = Choice::Act {

@@ -6,16 +6,11 @@ ghost use Rattle.reasons.specs.Sure.{least_cost as least_cost_of};
 ghost use Rattle.relax.specs.Areas.{AreLegal, IsSized};
 ghost use Rattle.slices.specs.Elements.{machine_count};
 
-use crate::lower_bound::LowerBound;
+use crate::fixtures::running;
+use bound::lower_bound::LowerBound;
 use catalogue::problem::Problem;
 use cluster::choices::Place;
-use cluster::durations::Duration;
 use cluster::ids::{Element, NodeId, VmId};
-use cluster::inventory::Cluster;
-use cluster::machines::Machine;
-use cluster::names::Name;
-use cluster::nodes::Node;
-use cluster::states::State;
 use domains::domain::Domain;
 use domains::parts::{Change, Part, Side};
 use relax::start::start_region;
@@ -23,31 +18,11 @@ use std::alloc::Global;
 use std::test::Fail;
 use trail::trail::Trail;
 
-const THREE: Duration = Duration {
-    base: 3,
-    per: 0,
-    resource: None,
-};
-
 const THERE: Place = Place::At(NodeId(1));
 
 /// A machine on node 0, which may move to node 1 or stay; each action lasts 3.
 fn problem(alloc: Global) -> Result<Problem, Fail> {
-    let mut cluster = Cluster::new(alloc, Vec::new(alloc), [THREE; 10])?;
-    for name in [b"n0", b"n1"] {
-        cluster.add_node(Node {
-            name: Name::new(alloc, name)?,
-            online: true,
-            capacity: [0; 8],
-            own: [None; 10],
-        })?;
-    }
-    cluster.add_machine(Machine {
-        name: Name::new(alloc, b"v0")?,
-        state: State::Running(NodeId(0)),
-        usage: [0; 8],
-        own: [None; 10],
-    })?;
+    let cluster = running(alloc, &[0, 0], &[(NodeId(0), 0)])?;
     Ok(Problem::new(alloc, cluster, 20))
 }
 

@@ -2,32 +2,21 @@
 ghost use Rattle.std.specs.Prelude.{◌≡◌, ◌<◌, ◌≤◌, length, IfOk};
 ghost use Rattle.relax.specs.Areas.{IsSized};
 
-use crate::closed::closed;
-use crate::look::Look;
-use crate::watch::{look_at_constraint, look_at_load, look_at_total_load, look_at_usable};
+use crate::fixtures::running;
 use catalogue::constraint::Constraint;
 use catalogue::lists::Vms;
 use catalogue::problem::Problem;
+use closing::closed::closed;
+use closing::look::Look;
+use closing::watch::{look_at_constraint, look_at_load, look_at_total_load, look_at_usable};
 use cluster::choices::{Choice, Instant, Place};
-use cluster::durations::Duration;
 use cluster::ids::{Element, NodeId, VmId};
-use cluster::inventory::Cluster;
-use cluster::machines::Machine;
-use cluster::names::Name;
-use cluster::nodes::Node;
-use cluster::states::State;
 use domains::parts::{Change, Part, Side};
 use domains::region::Region;
 use relax::start::start_region;
 use std::alloc::Global;
 use std::process::Abort;
 use std::test::Fail;
-
-const THREE: Duration = Duration {
-    base: 3,
-    per: 0,
-    resource: None,
-};
 
 const N0: NodeId = NodeId(0);
 
@@ -36,25 +25,7 @@ const N1: NodeId = NodeId(1);
 /// Machines 0 and 1 run on node 0 and machine 2 on node 1; each uses 2 of the 4 of its node, and each
 /// action lasts 3. The first two are to be on different nodes at the end.
 fn problem(alloc: Global) -> Result<Problem, Fail> {
-    let mut resources = Vec::new(alloc);
-    resources.push(Name::new(alloc, b"cpu")?)?;
-    let mut cluster = Cluster::new(alloc, resources, [THREE; 10])?;
-    for name in [b"n0", b"n1"] {
-        cluster.add_node(Node {
-            name: Name::new(alloc, name)?,
-            online: true,
-            capacity: [4, 0, 0, 0, 0, 0, 0, 0],
-            own: [None; 10],
-        })?;
-    }
-    for (name, host) in [(b"v0", N0), (b"v1", N0), (b"v2", N1)] {
-        cluster.add_machine(Machine {
-            name: Name::new(alloc, name)?,
-            state: State::Running(host),
-            usage: [2, 0, 0, 0, 0, 0, 0, 0],
-            own: [None; 10],
-        })?;
-    }
+    let cluster = running(alloc, &[4, 4], &[(N0, 2), (N0, 2), (N1, 2)])?;
     let mut p = Problem::new(alloc, cluster, 10);
     let both = Vec::from_slice(alloc, &[VmId(0), VmId(1)])?;
     p.add(Constraint::Spread {

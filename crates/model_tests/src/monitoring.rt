@@ -2,45 +2,28 @@
 ghost use Rattle.std.specs.Prelude.{◌≡◌, IfOk, IfSome};
 ghost use Rattle.slices.specs.Plans.{IsPlanOf};
 
-use crate::{Monitor, Phase, StepFault};
+use crate::fixtures::{ONE, add_machine, add_node, base};
 use catalogue::problem::Problem;
 use cluster::choices::{Choice, Place};
-use cluster::durations::Duration;
 use cluster::ids::{Element, NodeId, VmId};
 use cluster::inventory::Cluster;
-use cluster::machines::Machine;
-use cluster::names::Name;
-use cluster::nodes::Node;
 use cluster::states::State;
+use executor::{Monitor, Phase, StepFault};
 use slices::plan::{Plan, is_plan};
 use std::alloc::Global;
 use std::test::Fail;
 
-/// Each action takes 1 instant.
-const SHORT: Duration = Duration {
-    base: 1,
-    per: 0,
-    resource: None,
-};
-
-/// Node 0 is online, node 1 is not, and the machine is on node 0.
+/// Node 0 is online, node 1 is not, and the machine is on node 0; each action takes 1 instant.
 fn problem(alloc: Global) -> Result<Problem, Fail> {
-    let mut cluster = Cluster::new(alloc, Vec::new(alloc), [SHORT; 10])?;
-    for (name, online) in [(b"n0", true), (b"n1", false)] {
-        cluster.add_node(Node {
-            name: Name::new(alloc, name)?,
-            online,
-            capacity: [0; 8],
-            own: [None; 10],
-        })?;
-    }
-    cluster.add_machine(Machine {
-        name: Name::new(alloc, b"v0")?,
-        state: State::Running(NodeId(0)),
-        usage: [0; 8],
-        own: [None; 10],
-    })?;
+    let mut cluster = base(alloc, [ONE; 10])?;
+    add_elements(alloc, &mut cluster)?;
     Ok(Problem::new(alloc, cluster, 9))
+}
+
+fn add_elements(alloc: Global, cluster: &mut Cluster) -> Result<(), Fail> {
+    add_node(alloc, cluster, "n0", true, 0)?;
+    add_node(alloc, cluster, "n1", false, 0)?;
+    add_machine(alloc, cluster, "v0", State::Running(NodeId(0)), 0)
 }
 
 /// The plan that boots node 1 at 0 and moves the machine there at 1, if it is one.
@@ -106,19 +89,31 @@ fn moves(p: &Problem, m: &mut Monitor<'_>, fails: bool) -> Option<[bool; 5]>
     ])
 }
 
+/// What is seen of both actions.
+fn seen(
+    alloc: Global,
+    p: &Problem,
+    plan: &Plan,
+    fails: bool,
+) -> Result<(Option<[bool; 6]>, Option<[bool; 5]>), Fail>
+    requires { IsPlanOf p.now.given plan.now }
+{
+    let Ok(mut m) = Monitor::new(alloc, p, plan) else {
+        return Err("there is no monitor".into());
+    };
+    let booted = boots(p, &mut m);
+    Ok((booted, moves(p, &mut m, fails)))
+}
+
 #[test]
 fn one_after_the_other(rt: HostRuntime) -> Result<(), Fail> {
-    let alloc = rt.alloc();
-    let p = problem(alloc)?;
-    let Some(plan) = plan(alloc, &p)? else {
+    let p = problem(rt.alloc())?;
+    let Some(plan) = plan(rt.alloc(), &p)? else {
         return Err("the choices are no plan".into());
     };
     for fails in [false, true] {
-        let Ok(mut m) = Monitor::new(alloc, &p, &plan) else {
-            return Err("there is no monitor".into());
-        };
-        assert_eq!(rt; boots(&p, &mut m), Some([true; 6]));
-        assert_eq!(rt; moves(&p, &mut m, fails), Some([true; 5]), "{fails}");
+        let seen = seen(rt.alloc(), &p, &plan, fails)?;
+        assert_eq!(rt; seen, (Some([true; 6]), Some([true; 5])), "{fails}");
     }
     Ok(())
 }

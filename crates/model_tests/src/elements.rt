@@ -1,14 +1,14 @@
 //! Each public call, once.
-use crate::durations::Duration;
-use crate::ids::{NodeId, VmId};
-use crate::inventory::Cluster;
-use crate::kinds::{KIND_COUNT, KIND_WORDS, Kind};
-use crate::limits::MAX_RESOURCES;
-use crate::machines::Machine;
-use crate::names::{Name, is_name_text};
-use crate::nodes::Node;
-use crate::sets::{MachineSet, NodeSet};
-use crate::states::State;
+use cluster::durations::Duration;
+use cluster::ids::{NodeId, VmId};
+use cluster::inventory::Cluster;
+use cluster::kinds::{KIND_COUNT, KIND_WORDS, Kind};
+use cluster::limits::MAX_RESOURCES;
+use cluster::machines::Machine;
+use cluster::names::{Name, is_name_text};
+use cluster::nodes::Node;
+use cluster::sets::{MachineSet, NodeSet};
+use cluster::states::State;
 use std::alloc::Global;
 use std::test::Fail;
 

@@ -1,7 +1,7 @@
 //! The catalogue of constraints and the judge's answers on small plans, worked out by hand.
 ghost use Rattle.slices.specs.Plans.{IsPlanOf};
 
-use crate::judge;
+use crate::fixtures::{ONE, add_machine, add_node, base};
 use catalogue::constraint::Constraint;
 use catalogue::lists::{Groups, Parts, Vms};
 use catalogue::problem::Problem;
@@ -9,11 +9,9 @@ use cluster::choices::{Choice, Instant, Place};
 use cluster::durations::Duration;
 use cluster::ids::{NodeId, VmId};
 use cluster::inventory::Cluster;
-use cluster::machines::Machine;
-use cluster::names::Name;
-use cluster::nodes::Node;
 use cluster::sets::NodeSet;
 use cluster::states::State;
+use judge::judge;
 use placement_rules::holds;
 use slices::plan::{Plan, is_plan};
 use slices::rule::{Broken, Rule};
@@ -29,58 +27,24 @@ fn durations() -> [Duration; 10] {
         per: 0,
         resource: None,
     };
-    let one = lasting(1);
     [
-        one,
-        one,
-        one,
-        one,
-        one,
+        ONE,
+        ONE,
+        ONE,
+        ONE,
+        ONE,
         lasting(3),
-        one,
-        one,
+        ONE,
+        ONE,
         lasting(4),
         lasting(2),
     ]
 }
 
-fn name(alloc: Global, text: &str) -> Result<Name, Fail> {
-    Ok(Name::new(alloc, text.as_bytes())?)
-}
-
-/// A cluster without elements, with one resource.
-fn base(alloc: Global) -> Result<Cluster, Fail> {
-    let mut resources = Vec::new(alloc);
-    resources.push(name(alloc, "cpu")?)?;
-    Ok(Cluster::new(alloc, resources, durations())?)
-}
-
-/// Adds a node of capacity 4.
-fn add_node(alloc: Global, cluster: &mut Cluster, text: &str, online: bool) -> Result<(), Fail> {
-    cluster.add_node(Node {
-        name: name(alloc, text)?,
-        online,
-        capacity: [4, 0, 0, 0, 0, 0, 0, 0],
-        own: [None; 10],
-    })?;
-    Ok(())
-}
-
-/// Adds a machine of use 1.
-fn add_machine(alloc: Global, cluster: &mut Cluster, text: &str, state: State) -> Result<(), Fail> {
-    cluster.add_machine(Machine {
-        name: name(alloc, text)?,
-        state,
-        usage: [1, 0, 0, 0, 0, 0, 0, 0],
-        own: [None; 10],
-    })?;
-    Ok(())
-}
-
-fn cluster(alloc: Global) -> Result<Cluster, Fail> {
-    let mut cluster = base(alloc)?;
+/// Nodes of capacity 4, and machines of use 1.
+fn add_elements(alloc: Global, cluster: &mut Cluster) -> Result<(), Fail> {
     for (text, online) in [("n0", true), ("n1", true), ("n2", true), ("n3", false)] {
-        add_node(alloc, &mut cluster, text, online)?;
+        add_node(alloc, cluster, text, online, 4)?;
     }
     let machines = [
         ("v0", State::Running(NodeId(0))),
@@ -89,8 +53,14 @@ fn cluster(alloc: Global) -> Result<Cluster, Fail> {
         ("v3", State::Ready),
     ];
     for (text, state) in machines {
-        add_machine(alloc, &mut cluster, text, state)?;
+        add_machine(alloc, cluster, text, state, 1)?;
     }
+    Ok(())
+}
+
+fn cluster(alloc: Global) -> Result<Cluster, Fail> {
+    let mut cluster = base(alloc, durations())?;
+    add_elements(alloc, &mut cluster)?;
     Ok(cluster)
 }
 

@@ -1,0 +1,15 @@
+//! Tests of regions, of what refutes and closes them, and of what is kept beside them.
+#![tactic(auto)]
+
+#[cfg(test)]
+mod closed_regions;
+#[cfg(test)]
+mod costs;
+#[cfg(test)]
+mod fixtures;
+#[cfg(test)]
+mod parts;
+#[cfg(test)]
+mod refuted;
+#[cfg(test)]
+mod trails;
