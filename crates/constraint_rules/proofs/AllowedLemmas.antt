@@ -1,7 +1,7 @@
 -- Machines that are nowhere that a constraint forbids to them.
-use Rattle.std.proofs.Common.{◌≡◌, ◌≢◌, ◌⊎◌, inl, inr, ℕ, ◌<◌, ◌≤◌, Bool, true, false, ◌&&◌, ◌||◌, ◌==◌, nat_le, nat_lt, IsTrue, List, [], length, slice_index_or, Some, refl, sym, ap, ◌∙◌, arith}
+use Rattle.std.proofs.Common.{◌≡◌, ◌≢◌, ◌⊎◌, inl, inr, ℕ, ◌<◌, ◌≤◌, Bool, true, false, ◌&&◌, ◌||◌, ◌==◌, nat_lt, IsTrue, List, [], length, slice_index_or, Some, refl, sym, ◌∙◌, arith}
 use Rattle.std.proofs.lemmas.Bool.{and_parts, eqb-true, false≢true}
-use Rattle.std.proofs.lemmas.Bool.Decides.{Decides-eqb, nat_tests}
+use Rattle.std.proofs.lemmas.Bool.Decides.{nat_tests}
 use Rattle.cluster.specs.declared.choices.Choice.{Choice}
 use Rattle.cluster.specs.declared.choices.Choice.TheVariants.{Idle, Act}
 use Rattle.cluster.specs.declared.choices.Place.{Place}
@@ -24,7 +24,6 @@ use Rattle.domains.specs.Sets.{Sets, setting}
 use Rattle.domains.proofs.Public.{surely_each}
 use Rattle.reasons.specs.Closed.{IsEnd}
 use Rattle.reasons.specs.declared.reason.ReasonKind.TheVariants.{Place as PlaceKind}
-use Rattle.reasons.specs.Regions.{row_at}
 use Rattle.reasons.specs.Sure.{sure}
 use Rattle.reasons.proofs.Public.{end_is_choice, ends_of_rows, some_end}
 use Rattle.relax.specs.Areas.{hosted_in}

@@ -44,7 +44,6 @@ use Rattle.standing.specs.Standings.{IsStanding, base, comes_by, gain, has_come,
 use Rattle.standing.proofs.Public.{present_law}
 use Rattle.constraint_rules.specs.declared.clear.Seen.{Seen}
 use Rattle.constraint_rules.specs.declared.clear.Seen.TheVariants.{Clear, Doubtful, Unknown}
-use Rattle.constraint_rules.specs.declared.posts.Post.{Post}
 use Rattle.constraint_rules.specs.declared.posts.Posts.{Posts}
 use Rattle.constraint_rules.specs.declared.longest.Longest.{Longest}
 use Rattle.constraint_rules.specs.Apart.{HasPosts, IsAt, IsLate, IsTold, KeepsClear, KeepsOff, OnClear}

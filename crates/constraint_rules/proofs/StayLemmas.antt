@@ -1,25 +1,14 @@
 -- How long a machine stays that runs, and where it is until then.
-use Rattle.std.proofs.Common.{◌≡◌, ◌≢◌, ℕ, ◌+◌, ◌<◌, ◌≤◌, Bool, true, false, ◌&&◌, ◌==◌, nat_lt, cond, max, unwrap_or, Option, Some, None, List, [], ◌∷◌, refl, sym, ap, ◌∙◌, arith}
+use Rattle.std.proofs.Common.{◌≡◌, ℕ, ◌+◌, ◌<◌, ◌≤◌, Bool, true, false, ◌&&◌, ◌==◌, nat_lt, cond, max, unwrap_or, Option, None, List, [], ◌∷◌, refl, sym, ap, ◌∙◌, arith}
 use Rattle.std.specs.List.{filter}
-use Rattle.std.proofs.lemmas.Bool.{ne_eqb}
-use Rattle.std.proofs.lemmas.Bool.Decides.{Decides-eqb, nat_tests}
+use Rattle.std.proofs.lemmas.Bool.Decides.{Decides-eqb}
 use Rattle.sums.specs.Least.{least, lowest}
 use Rattle.cluster.specs.declared.choices.Choice.{Choice}
-use Rattle.cluster.specs.declared.choices.Choice.TheVariants.{Act}
-use Rattle.cluster.specs.declared.choices.Place.TheVariants.{At}
 use Rattle.cluster.specs.declared.ids.NodeId.{NodeId}
-use Rattle.cluster.specs.declared.kinds.Kind.{Kind}
-use Rattle.cluster.specs.declared.kinds.Kind.TheVariants.{Migrate}
-use Rattle.cluster.specs.declared.states.State.{State}
 use Rattle.cluster.specs.declared.states.State.TheVariants.{Running}
-use Rattle.catalogue.specs.declared.targets.Target.TheVariants.{Online as ToOnline, Offline as ToOffline, Running as ToRunning, Sleeping as ToSleeping, Ready as ToReady, Killed as ToKilled}
-use Rattle.catalogue.specs.declared.targets.Wish.{Wish}
-use Rattle.catalogue.specs.declared.targets.Wish.TheVariants.{Keep, To, Clash}
 use Rattle.catalogue.specs.Instance.{Instance}
 use Rattle.slices.specs.declared.slice.Weight.TheVariants.{Presence}
-use Rattle.slices.specs.Actions.{action_duration, duration_of, end_of, is_raised, kind_duration, kind_of, machine_kind, wanted_state}
-use Rattle.slices.specs.Elements.{node_count, state_of, vm}
-use Rattle.slices.specs.Limits.{max_action}
+use Rattle.slices.specs.Elements.{state_of, vm}
 use Rattle.slices.specs.Stages.{one}
 use Rattle.domains.specs.Choices.{DomainView, choices}
 use Rattle.domains.specs.Parts.{stays}
@@ -28,8 +17,7 @@ use Rattle.reasons.specs.Sure.{sure}
 use Rattle.standing.specs.declared.numbers.Standing.{Standing}
 use Rattle.standing.specs.Standings.{IsStanding, kept_use, leave_of, never}
 use Rattle.standing.proofs.Public.{present_law}
-use Rattle.constraint_rules.specs.declared.stays.Leaves.{Leaves}
-use Rattle.constraint_rules.specs.Stays.{AreLeaves, StandsWithin}
+use Rattle.constraint_rules.specs.Stays.{StandsWithin}
 
 -- ---- all choices
 

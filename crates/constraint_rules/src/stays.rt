@@ -1,10 +1,10 @@
-//! How long a machine stays on its host, told without the kind of the action to each node.
-ghost use Rattle.std.specs.Prelude.{◌≡◌, ◌≢◌, ℕ, ◌<◌, ◌≤◌, IfNone, IfSome, IsTrue, false, max, true};
+//! How long a machine stays on its host, and whether it is on a node.
+ghost use Rattle.std.specs.Prelude.{◌≡◌, ◌≤◌, IfSome, IsTrue, false, max, true};
 ghost use Rattle.sums.specs.Least.{least};
 ghost use Rattle.cluster.specs.declared.choices.Choice.{Choice as AnyChoice};
+ghost use Rattle.cluster.specs.declared.states.State.TheVariants.{Running};
 ghost use Rattle.catalogue.specs.Instance.{IsElement};
 ghost use Rattle.slices.specs.Elements.{state_of, vm};
-ghost use Rattle.slices.specs.Holds.{runs_elsewhere};
 ghost use Rattle.slices.specs.Stages.{one};
 ghost use Rattle.domains.specs.Choices.{choices};
 ghost use Rattle.domains.specs.Sets.{RegionView, sets};
@@ -131,7 +131,7 @@ fn is_narrowed(lens: Lens, v: VmId) -> bool
 // whether a machine may stay that runs on a node
 fn may_stay(p: &Problem, v: VmId, domain: &Domain, n: NodeId) -> bool
     requires { IsElement p.now.given (Element.Vm v) }
-    ensures { IsTrue result → (domain.now.idle ≡ true) × (state_of p.now.given v.0 ≡ State.Running n) }
+    ensures { IsTrue result → (domain.now.idle ≡ true) × (state_of p.now.given v.0 ≡ Running n) }
 {
     match runs_on(p, v) {
         None => false,

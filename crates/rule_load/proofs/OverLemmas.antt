@@ -1,5 +1,5 @@
 -- What machines surely use of a node in what is seen.
-use Rattle.std.proofs.Common.{◌≡◌, ◌≢◌, ℕ, zero, suc, ◌+◌, ◌-◌, ◌<◌, ◌≤◌, true, false, List, [], ◌∷◌, length, refl, sym, ap, ◌∙◌, append-nil, arith}
+use Rattle.std.proofs.Common.{◌≡◌, ◌≢◌, ℕ, zero, suc, ◌+◌, ◌-◌, ◌<◌, ◌≤◌, true, false, List, [], ◌∷◌, length, take, refl, sym, ap, ◌∙◌, append-nil, arith}
 use Rattle.std.specs.Prelude.{slice_index_or}
 use Rattle.std.specs.List.{Contains, sum_by}
 use Rattle.std.proofs.lemmas.List.{get_or_default}
@@ -67,6 +67,12 @@ pub host_holds : (p : Instance) (v r n t : ℕ) (cs : List Choice) (k : Standing
 host_holds p v r n t cs k short is = sym (kept_law p v (Amount r) n t cs k short is)
 
 -- ---- the machines of a list
+
+-- the first of a list are no more than all of it
+pub sum_front : (f : ℕ → ℕ) (xs : List ℕ) (k : ℕ) → sum_by f (take k xs) ≤ sum_by f xs
+sum_front f xs zero = omega arith
+sum_front f [] (suc k) = omega arith
+sum_front f (x ∷ xs) (suc k) = omega (arith, sum_front f xs k, sum_by-cons f x xs, sum_by-cons f x (take k xs))
 
 pub near_alone : (p : Instance) (s : Snapshot) (r n : ℕ) (xs : List ℕ) → AreMachines p xs → 0 + sum_by (λ v. s.held v (Amount r) (one n)) xs ≤ load p s r (one n)
 near_alone p s r n xs are = let all = over_once xs (machine_count p) (λ v. s.held v (Amount r) (one n)) are.once are.each in omega (arith, all)

@@ -40,6 +40,7 @@ use standing::numbers::{Standing, standing_of};
 use standing::uses::{base, comes_by, gain};
 
 // what a machine with these numbers surely uses of a node
+#[inline(always)]
 fn kept_use(p: &Problem, f: &Fixed, v: VmId, k: Standing, r: u8, n: NodeId, t: Instant) -> u64
     requires fixed { IsFixed p.now.given f.now }
     requires machine { IsElement p.now.given (Element.Vm v) }
@@ -156,8 +157,16 @@ fn is_narrowed(lens: Lens, v: VmId) -> bool
     }
 }
 
-// what those near it do
-fn near_use(p: &Problem, view: &View, kept: Kept<'_>, r: u8, n: NodeId, t: Instant) -> u64
+// what those near it do; once that is more than enough no more are asked
+fn near_use(
+    p: &Problem,
+    view: &View,
+    kept: Kept<'_>,
+    r: u8,
+    n: NodeId,
+    t: Instant,
+    enough: u64,
+) -> u64
     requires region { IsSized p.now.given view.now.region.now }
     requires kept { AreKeptAt p.now.given (sets view.now.region.now) n.0 kept.fixed.now kept.standings.now kept.near.now kept.firsts.now }
     requires resource { r < length p.now.given.resources }
@@ -167,6 +176,9 @@ fn near_use(p: &Problem, view: &View, kept: Kept<'_>, r: u8, n: NodeId, t: Insta
 {
     let mut total = 0;
     for i in 0..kept.near.len() {
+        if total > enough {
+            return total;
+        }
         total += near_one(p, view, kept, VmId(kept.near[i]), r, n, t);
     }
     total
@@ -211,8 +223,10 @@ pub(crate) fn is_over(
     requires within { t ≤ p.now.given.horizon }
     ensures { IsTrue result → IsOverload p.now.given (sure p.now.given (seen view.now.region.now view.now.lens) t) r (one n.0) }
 {
-    let used = use_beside(p, view, kept, r, n, t) + near_use(p, view, kept, r, n, t);
-    room_seen(p, view, r, n, t) < used
+    let room = room_seen(p, view, r, n, t);
+    let beside = use_beside(p, view, kept, r, n, t);
+    let near = near_use(p, view, kept, r, n, t, room.saturating_sub(beside));
+    room < beside + near
 }
 
 /// The first resource of which they do.

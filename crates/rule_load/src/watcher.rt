@@ -65,7 +65,7 @@ impl Watcher<Standings> for Loads {
     }
 
     fn names_all(&self, p: &Problem, i: usize) -> bool {
-        node_at(p, i).is_some()
+        i < node_total(p)
     }
 
     fn look(&self, k: &Standings, p: &Problem, g: &Region, i: usize) -> Look {

@@ -1,4 +1,3 @@
-use Rattle.std.proofs.Common.{refl}
 use Rattle.cluster.specs.Limits.{max_nodes}
 use Rattle.domains.specs.Sets.{sets}
 use Rattle.constraint_rules.proofs.ApartLemmas.{keeps_clear, on_clear}

@@ -2,7 +2,6 @@ use Rattle.std.proofs.Common.{ℕ, ◌<◌, get_or}
 use Rattle.cluster.specs.declared.ids.VmId.{VmId}
 use Rattle.domains.specs.Sets.{sets}
 use Rattle.constraint_rules.specs.Apart.{IsTold, part_of}
-use Rattle.constraint_rules.specs.Longest.{AreLonger, AreOrdered}
 use Rattle.constraint_rules.proofs.ApartLemmas.{AreTold}
 use Rattle.constraint_rules.proofs.clear.tell_machines.Given as goal
 

@@ -6,6 +6,7 @@ use Rattle.slices.specs.Stages.{one}
 use Rattle.domains.specs.Views.{seen}
 use Rattle.reasons.specs.Sure.{sure}
 use Rattle.near.proofs.Public.{few_once, sum_whole}
+use Rattle.rule_load.proofs.OverLemmas.{sum_front}
 use Rattle.rule_load.proofs.over.near_use.Goals as goal
 
 pub near_one-total-requires-clause-machine : goal.near_one-total-requires-clause-machine
@@ -15,6 +16,14 @@ pub overflow_add-total : goal.overflow_add-total
 overflow_add-total c =
     let few = few_once c.args.kept.near.now (machine_count c.args.p.now.given) c.requires.kept.near.machines.once c.requires.kept.near.machines.each in
     omega (arith, few, c.loop-i-test.true, c.loop-i.invariant.small, c.near_one-total.ensures.small, c.args.p.now.sound.inventory.few_machines)
+
+pub returns-then-total-enough-clause-sum : goal.returns-then-total-enough-clause-sum
+returns-then-total-enough-clause-sum c = omega (arith, c.loop-i.invariant.total, sum_front (λ v. (sure c.args.p.now.given (seen c.args.view.now.region.now c.args.view.now.lens) c.args.t).held v (Amount c.args.r) (one c.args.n.0)) c.args.kept.near.now c.loop-i.i)
+
+pub returns-then-total-enough-clause-small : goal.returns-then-total-enough-clause-small
+returns-then-total-enough-clause-small c =
+    let few = few_once c.args.kept.near.now (machine_count c.args.p.now.given) c.requires.kept.near.machines.once c.requires.kept.near.machines.each in
+    omega (arith, few, c.loop-i-test.true, c.loop-i.invariant.small, c.args.p.now.sound.inventory.few_machines)
 
 pub returns : goal.returns
 returns c =
