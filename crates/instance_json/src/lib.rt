@@ -18,6 +18,3 @@ mod states;
 
 pub use fault::InstanceFault;
 pub use read::read_instance;
-
-#[cfg(test)]
-mod tests;

@@ -13,6 +13,3 @@ mod rules;
 
 pub use generating::generate;
 pub use printing::print_instance;
-
-#[cfg(test)]
-mod tests;

@@ -14,6 +14,3 @@ mod reading;
 pub use fault::PlanFault;
 pub use printing::print_plan;
 pub use reading::read_plan;
-
-#[cfg(test)]
-mod tests;

@@ -1,6 +1,5 @@
 //! Texts of plans for one small problem, with the line that each gives.
 
-use super::*;
 use catalogue::constraint::Constraint;
 use catalogue::lists::Vms;
 use catalogue::problem::Problem;
@@ -12,6 +11,7 @@ use cluster::names::Name;
 use cluster::nodes::Node;
 use cluster::states::State;
 use memory::Memory;
+use plan_json::{print_plan, read_plan};
 use std::alloc::Global;
 use std::test::Fail;
 
@@ -41,11 +41,16 @@ fn cluster(alloc: Global) -> Result<Cluster, Fail> {
         resource: None,
     };
     let mut cluster = Cluster::new(alloc, Vec::new(alloc), [one; 10])?;
+    add_elements(alloc, &mut cluster)?;
+    Ok(cluster)
+}
+
+fn add_elements(alloc: Global, cluster: &mut Cluster) -> Result<(), Fail> {
     cluster.add_node(node(alloc, b"n0")?)?;
     cluster.add_node(node(alloc, b"n1")?)?;
     cluster.add_machine(machine(alloc, b"v0", State::Running(NodeId(0)))?)?;
     cluster.add_machine(machine(alloc, b"v1", State::Ready)?)?;
-    Ok(cluster)
+    Ok(())
 }
 
 /// v1 has to run at the end, which is 20.

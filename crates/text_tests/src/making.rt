@@ -1,7 +1,7 @@
 //! Texts of problems that are printed as they were read, and some places of generated ones.
 
-use super::*;
 use instance_json::read_instance;
+use instance_make::{generate, print_instance};
 use std::alloc::Global;
 use std::test::Fail;
 

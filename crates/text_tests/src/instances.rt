@@ -1,6 +1,6 @@
 //! Texts of instances, with the line that each gives.
 
-use super::*;
+use instance_json::read_instance;
 use std::alloc::Global;
 use std::test::Fail;
 
