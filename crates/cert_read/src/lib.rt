@@ -12,6 +12,3 @@ pub use cursor::{MAX_LINE, PIECE};
 pub use line::{Line, LineFault};
 pub use position::Position;
 pub use reader::CertReader;
-
-#[cfg(test)]
-mod tests;

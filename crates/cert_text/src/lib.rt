@@ -6,7 +6,5 @@ pub mod laws;
 pub mod number;
 pub mod parsing;
 pub mod printing;
-#[cfg(test)]
-mod tests;
 pub mod text;
 mod words;

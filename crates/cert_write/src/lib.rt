@@ -4,6 +4,3 @@
 mod writer;
 
 pub use writer::CertWriter;
-
-#[cfg(test)]
-mod tests;

@@ -3,17 +3,14 @@
 ghost use Rattle.std.specs.Prelude.{◌<◌, length};
 ghost use Rattle.reasons.specs.Reasons.{AreListed};
 
-use crate::parsing::{TextFault, parse_line};
-use crate::printing::{push_end_line, push_step_line};
-use crate::text::{LineText, NodesText, PartText, ReasonText, StepText};
+use crate::fixtures::{add_machine, add_node, base};
 use catalogue::problem::Problem;
+use cert_text::parsing::{TextFault, parse_line};
+use cert_text::printing::{push_end_line, push_step_line};
+use cert_text::text::{LineText, NodesText, PartText, ReasonText, StepText};
 use cluster::choices::Place;
-use cluster::durations::Duration;
 use cluster::ids::{Element, NodeId, VmId};
 use cluster::inventory::Cluster;
-use cluster::machines::Machine;
-use cluster::names::Name;
-use cluster::nodes::Node;
 use cluster::sets::NodeSet;
 use cluster::states::State;
 use domains::parts::Part;
@@ -123,36 +120,18 @@ fn a_line_says_what_it_names(rt: HostRuntime) -> Result<(), Fail> {
     Ok(())
 }
 
-fn cluster(alloc: Global) -> Result<Cluster, Fail> {
-    let one = Duration {
-        base: 1,
-        per: 0,
-        resource: None,
-    };
-    let mut resources = Vec::new(alloc);
-    resources.push(Name::new(alloc, b"cpu")?)?;
-    let mut cluster = Cluster::new(alloc, resources, [one; 10])?;
-    for name in ["n0", "n1", "n2"] {
-        cluster.add_node(Node {
-            name: Name::new(alloc, name.as_bytes())?,
-            online: true,
-            capacity: [0; 8],
-            own: [None; 10],
-        })?;
-    }
-    Ok(cluster)
-}
-
 /// Three nodes, and one machine on the first of them.
 fn problem(alloc: Global) -> Result<Problem, Fail> {
-    let mut cluster = cluster(alloc)?;
-    cluster.add_machine(Machine {
-        name: Name::new(alloc, b"v0")?,
-        state: State::Running(NodeId(0)),
-        usage: [0; 8],
-        own: [None; 10],
-    })?;
+    let mut cluster = base(alloc)?;
+    add_elements(alloc, &mut cluster)?;
     Ok(Problem::new(alloc, cluster, 20))
+}
+
+fn add_elements(alloc: Global, cluster: &mut Cluster) -> Result<(), Fail> {
+    for name in ["n0", "n1", "n2"] {
+        add_node(alloc, cluster, name, 0)?;
+    }
+    add_machine(alloc, cluster, "v0", State::Running(NodeId(0)), 0)
 }
 
 /// A cut of the first machine, and the end of a tree.

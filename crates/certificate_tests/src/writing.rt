@@ -1,24 +1,17 @@
 //! A certificate as it is written to desks in memory.
 
-use crate::CertWriter;
+use crate::fixtures::base;
 use catalogue::problem::Problem;
-use cluster::durations::Duration;
-use cluster::inventory::Cluster;
+use cert_write::CertWriter;
 use plan_io::{DeskMem, OutFault};
 use reasons::reason::Reason;
 use std::alloc::Global;
 use std::test::Fail;
 use trees::steps::{Goal, Step};
 
-/// A problem with nothing in it.
+/// A problem with one resource and no element.
 fn problem(alloc: Global) -> Result<Problem, Fail> {
-    let one = Duration {
-        base: 1,
-        per: 0,
-        resource: None,
-    };
-    let cluster = Cluster::new(alloc, Vec::new(alloc), [one; 10])?;
-    Ok(Problem::new(alloc, cluster, 5))
+    Ok(Problem::new(alloc, base(alloc)?, 5))
 }
 
 /// Writes the certificate that staying is best.

@@ -1,6 +1,6 @@
 //! Certificates as texts, with what reading them ends with.
 
-use crate::{CertReader, Line, LineFault};
+use cert_read::{CertReader, Line, LineFault};
 use plan_io::{DeskMem, DeskSure};
 use std::alloc::Global;
 use std::test::Fail;

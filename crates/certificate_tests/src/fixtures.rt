@@ -1,0 +1,54 @@
+//! What several tests stand on.
+
+use cluster::durations::Duration;
+use cluster::inventory::Cluster;
+use cluster::machines::Machine;
+use cluster::names::Name;
+use cluster::nodes::Node;
+use cluster::states::State;
+use std::alloc::Global;
+use std::test::Fail;
+
+const ONE: Duration = Duration {
+    base: 1,
+    per: 0,
+    resource: None,
+};
+
+/// A cluster without elements, with one resource; actions last 1.
+pub fn base(alloc: Global) -> Result<Cluster, Fail> {
+    let mut resources = Vec::new(alloc);
+    resources.push(Name::new(alloc, b"cpu")?)?;
+    Ok(Cluster::new(alloc, resources, [ONE; 10])?)
+}
+
+pub fn add_node(
+    alloc: Global,
+    cluster: &mut Cluster,
+    name: &str,
+    capacity: u64,
+) -> Result<(), Fail> {
+    cluster.add_node(Node {
+        name: Name::new(alloc, name.as_bytes())?,
+        online: true,
+        capacity: [capacity, 0, 0, 0, 0, 0, 0, 0],
+        own: [None; 10],
+    })?;
+    Ok(())
+}
+
+pub fn add_machine(
+    alloc: Global,
+    cluster: &mut Cluster,
+    name: &str,
+    state: State,
+    amount: u64,
+) -> Result<(), Fail> {
+    cluster.add_machine(Machine {
+        name: Name::new(alloc, name.as_bytes())?,
+        state,
+        usage: [amount, 0, 0, 0, 0, 0, 0, 0],
+        own: [None; 10],
+    })?;
+    Ok(())
+}
