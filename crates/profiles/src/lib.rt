@@ -3,5 +3,3 @@
 
 pub mod profile;
 pub mod share;
-#[cfg(test)]
-mod tests;

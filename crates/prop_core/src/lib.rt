@@ -5,5 +5,3 @@ pub mod all;
 pub mod asking;
 pub mod cover;
 pub mod propagator;
-#[cfg(test)]
-mod tests;

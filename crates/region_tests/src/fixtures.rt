@@ -56,11 +56,21 @@ pub fn running(
     machines: &[(NodeId, u64)],
 ) -> Result<Cluster, Fail> {
     let mut cluster = base(alloc)?;
+    add_elements(alloc, &mut cluster, capacities, machines)?;
+    Ok(cluster)
+}
+
+fn add_elements(
+    alloc: Global,
+    cluster: &mut Cluster,
+    capacities: &[u64],
+    machines: &[(NodeId, u64)],
+) -> Result<(), Fail> {
     for (name, capacity) in ["n0", "n1", "n2"].iter().zip(capacities.iter()) {
-        add_node(alloc, &mut cluster, name, *capacity)?;
+        add_node(alloc, cluster, name, *capacity)?;
     }
     for (name, (host, amount)) in ["v0", "v1", "v2"].iter().zip(machines.iter()) {
-        add_machine(alloc, &mut cluster, name, *host, *amount)?;
+        add_machine(alloc, cluster, name, *host, *amount)?;
     }
-    Ok(cluster)
+    Ok(())
 }

@@ -8,8 +8,14 @@ mod costs;
 #[cfg(test)]
 mod fixtures;
 #[cfg(test)]
+mod node_profiles;
+#[cfg(test)]
 mod parts;
 #[cfg(test)]
+mod propagators;
+#[cfg(test)]
 mod refuted;
+#[cfg(test)]
+mod rule_marks;
 #[cfg(test)]
 mod trails;

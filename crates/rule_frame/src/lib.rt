@@ -7,7 +7,5 @@ pub mod marks;
 pub mod no_cache;
 pub mod rule;
 pub mod suggestion;
-#[cfg(test)]
-mod tests;
 pub mod watcher;
 pub mod widen;

@@ -5,54 +5,25 @@ ghost use Rattle.domains.specs.Sets.{sets};
 ghost use Rattle.relax.specs.Areas.{IsSized};
 ghost use Rattle.profiles.specs.Profiles.{IsProfile};
 
-use crate::profile::Profile;
+use crate::fixtures::running;
 use catalogue::problem::Problem;
 use cluster::choices::{Instant, Place};
-use cluster::durations::Duration;
 use cluster::ids::{Element, NodeId, VmId};
-use cluster::inventory::Cluster;
-use cluster::machines::Machine;
-use cluster::names::Name;
-use cluster::nodes::Node;
-use cluster::states::State;
 use domains::domain::Domain;
 use domains::parts::{Change, Part, Side};
 use domains::region::Region;
 use domains::undo::Before;
+use profiles::profile::Profile;
 use relax::start::start_region;
 use std::alloc::Global;
 use std::process::Abort;
 use std::test::Fail;
 
-const THREE: Duration = Duration {
-    base: 3,
-    per: 0,
-    resource: None,
-};
-
 const V0: Element = Element::Vm(VmId(0));
 
 /// Three nodes of capacity 4, of which two have a machine of 3 each; each action lasts 3.
 fn problem(alloc: Global) -> Result<Problem, Fail> {
-    let mut resources = Vec::new(alloc);
-    resources.push(Name::new(alloc, b"cpu")?)?;
-    let mut cluster = Cluster::new(alloc, resources, [THREE; 10])?;
-    for name in [b"n0", b"n1", b"n2"] {
-        cluster.add_node(Node {
-            name: Name::new(alloc, name)?,
-            online: true,
-            capacity: [4, 0, 0, 0, 0, 0, 0, 0],
-            own: [None; 10],
-        })?;
-    }
-    for (name, host) in [(b"v0", 0), (b"v1", 1)] {
-        cluster.add_machine(Machine {
-            name: Name::new(alloc, name)?,
-            state: State::Running(NodeId(host)),
-            usage: [3, 0, 0, 0, 0, 0, 0, 0],
-            own: [None; 10],
-        })?;
-    }
+    let cluster = running(alloc, &[4, 4, 4], &[(NodeId(0), 3), (NodeId(1), 3)])?;
     Ok(Problem::new(alloc, cluster, 20))
 }
 
@@ -83,10 +54,52 @@ fn cut(
     Ok(())
 }
 
+/// The element may neither stay nor go to node 2.
+fn send(
+    alloc: Global,
+    p: &Problem,
+    g: &mut Region,
+    profile: &mut Profile,
+    x: Element,
+) -> Result<(), Fail>
+    requires sized { IsSized p.now.given g.old }
+    requires element { IsElement p.now.given x }
+    requires right { IsProfile p.now.given (sets g.old) profile.old }
+    ensures { profile.new.older ≡ profile.old.older }
+{
+    let kept = Domain::new(alloc, false);
+    cut(p, g, profile, x, Part::Idle, &kept)?;
+    let elsewhere = Part::From(Place::At(NodeId(2)), 0);
+    cut(p, g, profile, x, elsewhere, &kept)?;
+    Ok(())
+}
+
 fn assert_at(rt: &impl Abort, profile: &Profile, values: &[(Instant, u64)]) {
     for (t, value) in values {
         assert_eq!(rt; profile.at(*t), *value);
     }
+}
+
+/// The machine of the node may leave at once.
+const FIRST: [(Instant, u64); 4] = [(0, 3), (2, 3), (3, 0), (20, 0)];
+
+/// The other machine comes.
+const LATER: [(Instant, u64); 6] = [(0, 3), (2, 3), (3, 0), (16, 0), (17, 3), (20, 3)];
+
+/// The profile of node 1 at first, once the element may go nowhere else, and back at the mark.
+fn follow(rt: &impl Abort, alloc: Global, p: &Problem, x: Element) -> Result<(), Fail>
+    requires resource { 0 < length p.now.given.resources }
+    requires element { IsElement p.now.given x }
+{
+    let mut g = start_region(alloc, p)?;
+    let mut profile = Profile::new(alloc, p, &g, NodeId(1), 0)?;
+    assert_at(rt, &profile, &FIRST);
+    profile.mark()?;
+    send(alloc, p, &mut g, &mut profile, x)?;
+    assert_at(rt, &profile, &LATER);
+    profile.back();
+    assert_at(rt, &profile, &FIRST);
+    Ok(())
 }
 
 #[test]
@@ -95,27 +108,5 @@ fn profile_of_an_exchange(rt: HostRuntime) -> Result<(), Fail> {
     let p = problem(alloc)?;
     assert!(rt; p.cluster().resources().len() == 1);
     assert!(rt; p.cluster().machines().len() == 2);
-    let mut g = start_region(alloc, &p)?;
-    let mut profile = Profile::new(alloc, &p, &g, NodeId(1), 0)?;
-    let first = [(0, 3), (2, 3), (3, 0), (20, 0)];
-    assert_at(&rt, &profile, &first);
-    profile.mark()?;
-    let kept = Domain::new(alloc, false);
-    cut(&p, &mut g, &mut profile, V0, Part::Idle, &kept)?;
-    cut(
-        &p,
-        &mut g,
-        &mut profile,
-        V0,
-        Part::From(Place::At(NodeId(2)), 0),
-        &kept,
-    )?;
-    assert_at(
-        &rt,
-        &profile,
-        &[(0, 3), (2, 3), (3, 0), (16, 0), (17, 3), (20, 3)],
-    );
-    profile.back();
-    assert_at(&rt, &profile, &first);
-    Ok(())
+    follow(&rt, alloc, &p, V0)
 }

@@ -1,5 +1,5 @@
 use Rattle.prop_core.proofs.Public.{all_asked}
-use Rattle.prop_core.proofs.tests.fails.Goals as goal
+use Rattle.region_tests.proofs.propagators.fails.Goals as goal
 
 pub returns-in-Fail : goal.returns-in-Fail
 returns-in-Fail g c = all_asked _ _ c.args.trail.now _ _ c.requires.follow (rw c.region.ensures at c.ask_all.ensures.asked)

@@ -1,6 +1,6 @@
 //! Marks that go back.
 
-use crate::marks::Marks;
+use rule_frame::marks::Marks;
 use std::test::Fail;
 
 #[test]

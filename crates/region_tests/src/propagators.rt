@@ -6,24 +6,19 @@ ghost use Rattle.prop_core.specs.Levels.{AllFollow};
 ghost use Rattle.prop_core.specs.Propagators.{IsRegionOf, IsRight, counted};
 ghost use Rattle.prop_core.specs.Tests.{keeps_nothing};
 
-use crate::all::{back_all, mark_all, post_all, tell_all};
-use crate::asking::ask_all;
-use crate::cover::covered;
-use crate::propagator::{Answer, Propagator};
+use crate::fixtures::running;
 use catalogue::problem::Problem;
-use cluster::durations::Duration;
 use cluster::ids::{Element, NodeId, VmId};
-use cluster::inventory::Cluster;
-use cluster::machines::Machine;
-use cluster::names::Name;
-use cluster::nodes::Node;
 use cluster::sets::NodeSet;
-use cluster::states::State;
 use domains::domain::Domain;
 use domains::parts::{Change, Part, Side};
 use domains::region::Region;
 use domains::undo::Before;
 use memory::Memory;
+use prop_core::all::{back_all, mark_all, post_all, tell_all};
+use prop_core::asking::ask_all;
+use prop_core::cover::covered;
+use prop_core::propagator::{Answer, Propagator};
 use reasons::reason::{Reason, ReasonKind};
 use relax::refutes::refutes;
 use relax::start::start_region;
@@ -31,32 +26,10 @@ use std::alloc::Global;
 use std::test::Fail;
 use trail::trail::Trail;
 
-const THREE: Duration = Duration {
-    base: 3,
-    per: 0,
-    resource: None,
-};
-
 /// Machine 0 runs on node 0, and uses 2 of the 1 that this has; it may go to node 1. Each action lasts 3, and all
 /// end by 10.
 fn problem(alloc: Global) -> Result<Problem, Fail> {
-    let mut resources = Vec::new(alloc);
-    resources.push(Name::new(alloc, b"cpu")?)?;
-    let mut cluster = Cluster::new(alloc, resources, [THREE; 10])?;
-    for name in [b"n0", b"n1"] {
-        cluster.add_node(Node {
-            name: Name::new(alloc, name)?,
-            online: true,
-            capacity: [1, 0, 0, 0, 0, 0, 0, 0],
-            own: [None; 10],
-        })?;
-    }
-    cluster.add_machine(Machine {
-        name: Name::new(alloc, b"v")?,
-        state: State::Running(NodeId(0)),
-        usage: [2, 0, 0, 0, 0, 0, 0, 0],
-        own: [None; 10],
-    })?;
+    let cluster = running(alloc, &[1, 1], &[(NodeId(0), 2)])?;
     Ok(Problem::new(alloc, cluster, 10))
 }
 

@@ -3,7 +3,7 @@ use Rattle.domains.specs.Parts.{on_side}
 use Rattle.trail.specs.Logs.{Marked}
 use Rattle.prop_core.specs.Propagators.{IsRegionOf}
 use Rattle.prop_core.proofs.Public.{all_marked, region_stays, tops_before}
-use Rattle.prop_core.proofs.tests.step.Goals as goal
+use Rattle.region_tests.proofs.propagators.step.Goals as goal
 
 pub tell_all-requires-clause-region : goal.tell_all-requires-clause-region
 tell_all-requires-clause-region g c =
