@@ -6,8 +6,6 @@ pub mod laws;
 mod lines;
 mod named;
 mod take;
-#[cfg(test)]
-mod tests;
 mod verdict;
 
 pub use certificate::check;

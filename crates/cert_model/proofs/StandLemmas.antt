@@ -1,5 +1,5 @@
 -- A walk that stands for steps: what is due, and one more step.
-use Rattle.std.proofs.Common.{MatchOption, ◌≡◌, ◌≤◌, ◌<◌, ◌+◌, ◌^◌, ℕ, Bool, List, [], ◌∷◌, ◌++◌, map, length, refl, sym, ap, subst, ◌∙◌, arith, Option, Some, None, is_some}
+use Rattle.std.proofs.Common.{◌≡◌, ◌≤◌, ◌<◌, ◌+◌, ◌^◌, ℕ, Bool, List, [], ◌∷◌, ◌++◌, map, length, refl, sym, ap, subst, ◌∙◌, arith, Option, Some, None, is_some}
 use Rattle.std.specs.List.{Contains}
 use Rattle.std.proofs.lemmas.List.{map-append}
 use Rattle.sums.specs.Least.{lowest}
@@ -160,11 +160,6 @@ goal_kept p bound strict steps w stands =
 -- the same of what a walk is known to be
 pub stands_as : (p : Instance) (bound : Option ℕ) (strict : Bool) (steps : List Step) (w known : Kept) → w ≡ known → Stands p bound strict steps known → Stands p bound strict steps w
 stands_as p bound strict steps w known same stands = subst (Stands p bound strict steps) (sym same) stands
-
--- an answer that is no refusal says that the walk goes on
-pub goes_on : {A : Type 0} (o : Option A) (next : Type 0) (refused : A → Type 0) → ((x : A) → o ≡ Some x → ⊥) → MatchOption o next refused → next
-goes_on None next refused none answer = answer
-goes_on (Some x) next refused none answer = absurd (none x refl)
 
 -- what is not some value is none
 pub no_value : {A : Type 0} (o : Option A) → ((x : A) → o ≡ Some x → ⊥) → o ≡ None

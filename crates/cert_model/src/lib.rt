@@ -8,8 +8,6 @@ mod frontier;
 pub mod laws;
 mod lean;
 mod nearby;
-#[cfg(test)]
-mod tests;
 pub mod walk;
 mod weighed;
 pub mod why;

@@ -1,6 +1,10 @@
 //! What several tests stand on.
 
+use catalogue::constraint::Constraint;
+use catalogue::lists::Vms;
+use catalogue::problem::Problem;
 use cluster::durations::Duration;
+use cluster::ids::VmId;
 use cluster::inventory::Cluster;
 use cluster::machines::Machine;
 use cluster::names::Name;
@@ -51,4 +55,16 @@ pub fn add_machine(
         own: [None; 10],
     })?;
     Ok(())
+}
+
+/// A ready machine that is to run, and a node that may shut down; actions last 1, and all end by 3.
+pub fn one_boot(alloc: Global) -> Result<Problem, Fail> {
+    let mut cluster = base(alloc)?;
+    add_node(alloc, &mut cluster, "n", 1)?;
+    add_machine(alloc, &mut cluster, "v", State::Ready, 1)?;
+    let mut p = Problem::new(alloc, cluster, 3);
+    p.add(Constraint::Running {
+        machines: Vms::new(Vec::from_slice(alloc, &[VmId(0)])?),
+    })?;
+    Ok(p)
 }

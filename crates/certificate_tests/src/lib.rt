@@ -1,4 +1,4 @@
-//! Tests of the lines of certificates, and of their writer and reader.
+//! Tests of certificates: their lines, their writer and reader, the walk over their steps, and the verdict.
 #![tactic(auto)]
 
 #[cfg(test)]
@@ -7,5 +7,9 @@ mod fixtures;
 mod lines;
 #[cfg(test)]
 mod reading;
+#[cfg(test)]
+mod verdicts;
+#[cfg(test)]
+mod walks;
 #[cfg(test)]
 mod writing;

@@ -3,8 +3,8 @@ use Rattle.std.specs.Option.{option_copied}
 use Rattle.std.proofs.lemmas.List.{length-append}
 use Rattle.trees.specs.Certificates.{bound_of}
 use Rattle.cert_model.specs.Walks.{choices_handed}
-use Rattle.cert_model.proofs.StandLemmas.{goes_on}
-use Rattle.cert_model.proofs.tests.walked.Goals as goal
+use Rattle.certificate_tests.proofs.WalkLemmas.{goes_on}
+use Rattle.certificate_tests.proofs.walks.walked.Goals as goal
 
 pub loop-i-preserved : goal.loop-i-preserved
 loop-i-preserved c =

@@ -3,7 +3,7 @@ use Rattle.std.specs.Option.{option_copied}
 use Rattle.trees.specs.declared.steps.Step.{Step}
 use Rattle.trees.specs.Certificates.{bound_of}
 use Rattle.cert_model.specs.Walks.{Stands, choices_handed}
-use Rattle.cert_model.proofs.tests.walked.Given as goal
+use Rattle.certificate_tests.proofs.walks.walked.Given as goal
 
 abbrev pub invariant-loop-i : goal.invariant-loop-i
 invariant-loop-i l =

@@ -2,20 +2,13 @@
 ghost use Rattle.std.specs.Prelude.{IfSome};
 ghost use Rattle.slices.specs.Plans.{IsPlanOf};
 
-use crate::walk::Walk;
-use crate::why::Why;
-use catalogue::constraint::Constraint;
-use catalogue::lists::Vms;
+use crate::fixtures::one_boot;
 use catalogue::problem::Problem;
+use cert_model::walk::Walk;
+use cert_model::why::Why;
 use cluster::choices::{Choice, Instant, Place};
-use cluster::durations::Duration;
 use cluster::ids::{Element, NodeId, VmId};
-use cluster::inventory::Cluster;
-use cluster::machines::Machine;
-use cluster::names::Name;
-use cluster::nodes::Node;
 use cluster::sets::NodeSet;
-use cluster::states::State;
 use domains::parts::Part;
 use reasons::reason::Reason;
 use slices::plan::{Plan, is_plan};
@@ -23,41 +16,11 @@ use std::alloc::Global;
 use std::test::Fail;
 use trees::steps::{Goal, Step};
 
-const ONE: Duration = Duration {
-    base: 1,
-    per: 0,
-    resource: None,
-};
-
 const V: Element = Element::Vm(VmId(0));
 
 const N: Element = Element::Node(NodeId(0));
 
 const HERE: Place = Place::At(NodeId(0));
-
-/// A ready machine that is to run, and a node that may shut down; actions last 1, and all end by 3.
-fn problem(alloc: Global) -> Result<Problem, Fail> {
-    let mut resources = Vec::new(alloc);
-    resources.push(Name::new(alloc, b"cpu")?)?;
-    let mut cluster = Cluster::new(alloc, resources, [ONE; 10])?;
-    cluster.add_node(Node {
-        name: Name::new(alloc, b"n")?,
-        online: true,
-        capacity: [1, 0, 0, 0, 0, 0, 0, 0],
-        own: [None; 10],
-    })?;
-    cluster.add_machine(Machine {
-        name: Name::new(alloc, b"v")?,
-        state: State::Ready,
-        usage: [1, 0, 0, 0, 0, 0, 0, 0],
-        own: [None; 10],
-    })?;
-    let mut p = Problem::new(alloc, cluster, 3);
-    p.add(Constraint::Running {
-        machines: Vms::new(Vec::from_slice(alloc, &[VmId(0)])?),
-    })?;
-    Ok(p)
-}
 
 /// A step as data.
 #[derive(Clone, Copy)]
@@ -141,7 +104,7 @@ fn walked(
 }
 
 fn is_right(alloc: Global, case: &Case) -> Result<bool, Fail> {
-    let p = problem(alloc)?;
+    let p = one_boot(alloc)?;
     let boot = Choice::Act {
         place: HERE,
         start: 0,

@@ -2,55 +2,18 @@
 ghost use Rattle.std.specs.Prelude.{IfSome};
 ghost use Rattle.slices.specs.Plans.{IsPlanOf};
 
-use crate::{CheckFault, Verdict, check};
-use catalogue::constraint::Constraint;
-use catalogue::lists::Vms;
+use crate::fixtures::one_boot;
 use catalogue::problem::Problem;
+use cert_check::{CheckFault, Verdict, check};
 use cert_model::why::Why;
 use cert_read::LineFault;
 use cluster::choices::{Choice, Place};
-use cluster::durations::Duration;
-use cluster::ids::{NodeId, VmId};
-use cluster::inventory::Cluster;
-use cluster::machines::Machine;
-use cluster::names::Name;
-use cluster::nodes::Node;
-use cluster::states::State;
+use cluster::ids::NodeId;
 use plan_io::DeskSure;
 use slices::plan::{Plan, is_plan};
 use std::alloc::Global;
 use std::test::Fail;
 use trees::steps::Goal;
-
-const ONE: Duration = Duration {
-    base: 1,
-    per: 0,
-    resource: None,
-};
-
-/// A ready machine that is to run, and a node that may shut down; actions last 1, and all end by 3.
-fn problem(alloc: Global) -> Result<Problem, Fail> {
-    let mut resources = Vec::new(alloc);
-    resources.push(Name::new(alloc, b"cpu")?)?;
-    let mut cluster = Cluster::new(alloc, resources, [ONE; 10])?;
-    cluster.add_node(Node {
-        name: Name::new(alloc, b"n")?,
-        online: true,
-        capacity: [1, 0, 0, 0, 0, 0, 0, 0],
-        own: [None; 10],
-    })?;
-    cluster.add_machine(Machine {
-        name: Name::new(alloc, b"v")?,
-        state: State::Ready,
-        usage: [1, 0, 0, 0, 0, 0, 0, 0],
-        own: [None; 10],
-    })?;
-    let mut p = Problem::new(alloc, cluster, 3);
-    p.add(Constraint::Running {
-        machines: Vms::new(Vec::from_slice(alloc, &[VmId(0)])?),
-    })?;
-    Ok(p)
-}
 
 /// A certificate after its header, whether a plan is handed in, and what is to be answered.
 struct Case {
@@ -76,7 +39,7 @@ fn answered(
 }
 
 fn is_right(alloc: Global, case: &Case) -> Result<bool, Fail> {
-    let p = problem(alloc)?;
+    let p = one_boot(alloc)?;
     let boot = Choice::Act {
         place: Place::At(NodeId(0)),
         start: 0,
