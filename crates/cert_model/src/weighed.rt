@@ -1,4 +1,4 @@
-//! Whether some machines alone use too much of the nodes of a set.
+//! Whether a reason is seen to refute: some machines alone use too much of the nodes of a set, or two are on a node.
 ghost use Rattle.std.specs.Prelude.{◌≡◌, ℕ, ◌<◌, length, IsTrue, Option as AnyOption};
 ghost use Rattle.cluster.specs.Sets.{has_node};
 ghost use Rattle.slices.specs.Elements.{machine_count};
@@ -20,6 +20,7 @@ use relax::named::is_named;
 use relax::sure::least_held;
 use relax::totals::room;
 use slices::slice::Weight;
+use standing::pairs::pair_refutes;
 
 /// What some of the machines before a number surely use together.
 #[derive(Clone, Copy)]
@@ -96,13 +97,24 @@ fn is_over(p: &Problem, view: &View, r: u8, set: &NodeSet, t: Instant, list: &[u
     room(p, view, r, &area, t) < sum.total
 }
 
-/// Whether it is seen by the machines near the first node of a load that its reason refutes.
+/// Whether it is seen that a reason refutes: that of a load by the machines near its first node, that of a pair by how
+/// long machines stay.
 pub fn is_seen(p: &Problem, nearby: &Nearby, view: &View, reason: &Reason) -> bool
     requires region { IsSized p.now.given view.now.region.now }
     ensures { IsTrue result → (bound : AnyOption ℕ) → Refutes p.now.given bound (seen view.now.region.now view.now.lens) reason.now }
 {
-    let Reason::Load(t, r, set) = reason else {
-        return false;
-    };
-    is_named(p, reason) && is_over(p, view, *r, set, *t, nearby.of_first(set))
+    match reason {
+        Reason::Load(t, r, set) => {
+            is_named(p, reason) && is_over(p, view, *r, set, *t, nearby.of_first(set))
+        }
+        Reason::Pair(c, t, v, w, n) => pair_refutes(p, view, *c, *t, *v, *w, *n),
+        Reason::Empty(_)
+        | Reason::Bound
+        | Reason::Place(..)
+        | Reason::Group(..)
+        | Reason::SetLoad(..)
+        | Reason::Power(..)
+        | Reason::Usable(..)
+        | Reason::Hall(..) => false,
+    }
 }

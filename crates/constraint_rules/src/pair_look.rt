@@ -10,7 +10,6 @@ ghost use Rattle.closing.specs.Kinds.{constraint_watch};
 ghost use Rattle.closing.specs.Looks.{IsLook, broken_at};
 
 use crate::clear::{Doubt, Seen, look_over};
-use crate::pairs::is_pair;
 use crate::posts::is_hosted;
 use catalogue::problem::Problem;
 use closing::look::Look;
@@ -20,6 +19,7 @@ use cluster::ids::{Element, NodeId};
 use domains::domain::Domain;
 use domains::region::Region;
 use domains::view::{Lens, View};
+use standing::pairs::is_pair;
 
 // whether a place is a node
 fn is_at(place: Place, n: NodeId) -> bool {

@@ -1,5 +1,4 @@
 //! Two machines on one node that a constraint keeps apart, looked for.
-ghost use Rattle.catalogue.specs.Instance.{IsElement};
 ghost use Rattle.std.specs.Prelude.{◌≡◌, ℕ, ◌<◌, false, IfNone, IfSome, IsTrue};
 ghost use Rattle.slices.specs.Elements.{machine_count, node_count};
 ghost use Rattle.domains.specs.Views.{seen};
@@ -10,15 +9,15 @@ ghost use Rattle.catalogue.specs.Faults.{is_member};
 ghost use Rattle.slices.specs.Holds.{ForbidsPair, IsInPart};
 ghost use Rattle.closing.specs.Kinds.{HasPair};
 
-use crate::stays::surely_at;
 use catalogue::constraint::Constraint;
 use catalogue::lists::Vms;
 use catalogue::problem::Problem;
 use cluster::choices::{Choice, Instant, Place};
 use cluster::ids::{Element, NodeId, VmId};
 use domains::view::{Lens, View};
-use relax::forbidden::forbids_pair;
 use standing::leaves::runs_on;
+use standing::pairs::is_pair;
+use standing::stays::surely_at;
 
 /// Whether a machine is in a list.
 pub fn has(machines: &[VmId], v: VmId) -> bool
@@ -67,28 +66,6 @@ fn parts(constraint: &Constraint, v: VmId) -> bool
         | Constraint::Ready { .. }
         | Constraint::Killed { .. } => false,
     }
-}
-
-/// Whether two machines that a constraint keeps apart are surely on a node.
-pub fn is_pair(
-    p: &Problem,
-    view: &View,
-    constraint: &Constraint,
-    v: VmId,
-    w: VmId,
-    n: NodeId,
-    t: Instant,
-) -> bool
-    requires region { IsSized p.now.given view.now.region.now }
-    requires first { IsElement p.now.given (Element.Vm v) }
-    requires second { IsElement p.now.given (Element.Vm w) }
-    ensures yes { IsTrue result → IsPair p.now.given (sure p.now.given (seen view.now.region.now view.now.lens) t) constraint.now v.0 w.0 n.0 }
-    ensures no { result ≡ false → ¬ IsPair p.now.given (sure p.now.given (seen view.now.region.now view.now.lens) t) constraint.now v.0 w.0 n.0 }
-{
-    if v.0 == w.0 || !forbids_pair(constraint, v, w) {
-        return false;
-    }
-    surely_at(p, view, v, n, t) && surely_at(p, view, w, n, t)
 }
 
 // a machine that is on a node with this one

@@ -1,31 +1,21 @@
-//! How long a machine stays on its host, and whether it is on a node.
-ghost use Rattle.std.specs.Prelude.{◌≡◌, ◌≤◌, IfSome, IsTrue, false, max, true};
+//! How long a machine stays on its host.
+ghost use Rattle.std.specs.Prelude.{◌≤◌, IfSome, IsTrue, max};
 ghost use Rattle.sums.specs.Least.{least};
 ghost use Rattle.cluster.specs.declared.choices.Choice.{Choice as AnyChoice};
-ghost use Rattle.cluster.specs.declared.states.State.TheVariants.{Running};
 ghost use Rattle.catalogue.specs.Instance.{IsElement};
-ghost use Rattle.slices.specs.Elements.{state_of, vm};
-ghost use Rattle.slices.specs.Stages.{one};
+ghost use Rattle.slices.specs.Elements.{vm};
 ghost use Rattle.domains.specs.Choices.{choices};
-ghost use Rattle.domains.specs.Sets.{RegionView, sets};
-ghost use Rattle.domains.specs.Views.{seen};
 ghost use Rattle.reasons.specs.Closed.{IsEnd};
-ghost use Rattle.reasons.specs.Sure.{sure};
-ghost use Rattle.relax.specs.Areas.{IsSized};
 ghost use Rattle.standing.specs.Leaves.{AreLeaves};
 ghost use Rattle.standing.specs.Standings.{leave_of};
 
 use catalogue::problem::Problem;
-use cluster::choices::{Choice, Instant, Place};
-use cluster::ids::{Element, NodeId, VmId};
+use cluster::choices::{Choice, Instant};
+use cluster::ids::{Element, VmId};
 use domains::domain::Domain;
 use domains::measure::{Measure, lowest};
 use domains::parts::Row;
-use domains::view::{Lens, View};
-use near::over::narrowed;
-use relax::area::Area;
-use relax::sure::surely_in;
-use standing::leaves::{Leaves, leaves_of, runs_on};
+use standing::leaves::{Leaves, leaves_of};
 use standing::numbers::{Leaving, leave};
 
 /// Until when a choice keeps what its machine has on its host, raised to what an action keeps that starts at once. No
@@ -49,6 +39,11 @@ impl Measure for LeavingLate<'_> {
     ghost least_at_ends = { λ m place lo s hi l u. Prim.omega (arith, leave_at_ends m.leaving.problem.now.given m.leaving.machine.0 place lo s hi l u) };
 
     ghost above_floor = { λ m c. Prim.omega arith };
+
+    #[tactic(auto, using(standing::specs::Ends::leave_climbs))]
+    fn climbs(&self) -> bool {
+        true
+    }
 
     fn value(&self, c: Choice) -> u64 {
         self.leaving.value(c).max(self.lasts)
@@ -116,39 +111,4 @@ pub fn leaves_by(p: &Problem, v: VmId, domain: &Domain, end: Instant) -> bool
         }
     }
     true
-}
-
-// whether a lens may not show all choices of a machine
-fn is_narrowed(lens: Lens, v: VmId) -> bool
-    ensures { result ≡ false → (g : RegionView) → seen g lens (vm v.0) ≡ sets g (vm v.0) }
-{
-    match narrowed(lens) {
-        None => false,
-        Some(x) => x.0 == v.0,
-    }
-}
-
-// whether a machine may stay that runs on a node
-fn may_stay(p: &Problem, v: VmId, domain: &Domain, n: NodeId) -> bool
-    requires { IsElement p.now.given (Element.Vm v) }
-    ensures { IsTrue result → (domain.now.idle ≡ true) × (state_of p.now.given v.0 ≡ Running n) }
-{
-    match runs_on(p, v) {
-        None => false,
-        Some(h) => domain.idle() && h.0 == n.0,
-    }
-}
-
-/// Whether a machine is on a node under each of its choices that are seen.
-#[tactic(auto, using(crate::proofs::StayLemmas::stays_there))]
-pub fn surely_at(p: &Problem, view: &View, v: VmId, n: NodeId, t: Instant) -> bool
-    requires region { IsSized p.now.given view.now.region.now }
-    requires machine { IsElement p.now.given (Element.Vm v) }
-    ensures { result ≡ (sure p.now.given (seen view.now.region.now view.now.lens) t).present v.0 (one n.0) }
-{
-    let domain = view.region.domain(Element::Vm(v));
-    if !is_narrowed(view.lens, v) && may_stay(p, v, domain, n) {
-        return u64::from(t) < leave(p, v, domain);
-    }
-    surely_in(p, view, v, &Area::One(n), t)
 }

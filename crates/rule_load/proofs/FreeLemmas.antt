@@ -87,12 +87,12 @@ load_free p s ks r n x used free short are sum has fits machines nodes =
 
 -- the same of all nodes together
 pub total_free : (p : Instance) (g : RegionView) (ks : List Standing) (r : ℕ) (x : Period) (used free : ℕ) → x.to < never → AreStanding p (sets g) ks →
-    used ≡ sum_to (machine_count p) (λ v. most_anywhere p v r x (may_wait (sets g) x v) (slice_index_or ks v no_standing)) →
+    used ≡ sum_to (machine_count p) (λ v. most_anywhere p v r x (may_wait p (sets g) x v) (slice_index_or ks v no_standing)) →
     free ≡ sum_to (node_count p) (λ n. cond (is_steady p (sets g) x n) (capacity_of p n r) 0) → used ≤ free →
-    MachinesFit p (sets g) r (all_nodes p) x (λ v. most_anywhere p v r x (may_wait (sets g) x v) (slice_index_or ks v no_standing)) (free - used) →
+    MachinesFit p (sets g) r (all_nodes p) x (λ v. most_anywhere p v r x (may_wait p (sets g) x v) (slice_index_or ks v no_standing)) (free - used) →
     IsFreeDuring (λ b. IsOverload p b r (all_nodes p)) p (sets g) x
 total_free p g ks r x used free short are sum is fits machines =
-    free_during p (sets g) r (all_nodes p) x (λ v. most_anywhere p v r x (may_wait (sets g) x v) (slice_index_or ks v no_standing)) used free (free - used) sum (are_most p g ks r (all_nodes p) x short are)
+    free_during p (sets g) r (all_nodes p) x (λ v. most_anywhere p v r x (may_wait p (sets g) x v) (slice_index_or ks v no_standing)) used free (free - used) sum (are_most p g ks r (all_nodes p) x short are)
     (record { at = λ t h. omega (arith, is, steady-room p (sets g) x t h r) }) (omega (arith, fits)) machines
     (record { each = λ n c t l i h. omega (arith, is, fits, steady-fits p (sets g) x t h r n c i) })
 

@@ -12,3 +12,4 @@ pub mod StayLemmas
 mod StillLemmas
 pub mod TotalLemmas
 pub mod UseLemmas
+pub mod WaitLemmas

@@ -5,17 +5,14 @@ use Rattle.std.proofs.lemmas.Bool.Decides.{Decides-eqb, nat_tests}
 use Rattle.std.specs.List.{Contains, filter}
 use Rattle.cluster.specs.declared.choices.Choice.{Choice}
 use Rattle.cluster.specs.declared.choices.Choice.TheVariants.{Idle, Act}
-use Rattle.cluster.specs.declared.choices.Place.{Place}
 use Rattle.cluster.specs.declared.choices.Place.TheVariants.{Nowhere, At}
 use Rattle.cluster.specs.declared.ids.NodeId.{NodeId}
 use Rattle.catalogue.specs.Instance.{Instance}
 use Rattle.sums.specs.Least.{least, lowest}
 use Rattle.slices.specs.declared.slice.Weight.TheVariants.{Amount}
-use Rattle.slices.specs.Actions.{end_of, kind_of}
 use Rattle.slices.specs.Elements.{state_of, vm}
 use Rattle.slices.specs.Snapshots.{held_at}
 use Rattle.slices.specs.Stages.{one}
-use Rattle.slices.proofs.Public.{ends_by_duration}
 use Rattle.domains.specs.declared.parts.Part.TheVariants.{From}
 use Rattle.domains.specs.declared.parts.Row.{Row}
 use Rattle.domains.specs.declared.undo.Lost.{Lost}
@@ -30,10 +27,10 @@ use Rattle.reasons.specs.Closed.{IsEnd}
 use Rattle.relax.specs.Areas.{goes_in, hosted_in}
 use Rattle.closing.specs.Kinds.{load_scope}
 use Rattle.rule_frame.specs.Changes.{IsMachineLess, IsStill}
+use Rattle.standing.specs.Ends.{leave_climbs}
 use Rattle.standing.specs.declared.numbers.Arrival.{Arrival}
 use Rattle.standing.specs.Standings.{base, comes_by, gain, has_come, have_come, leave_of, never}
 use Rattle.rule_load.specs.Marking.{CameBefore, KeepsHost}
-use Rattle.rule_load.specs.Measured.{kept_longer}
 use Rattle.rule_load.proofs.StillLemmas.{cases_in, held_parts, last_of, least_above, least_attained}
 
 -- ---- until when the host is kept
@@ -75,13 +72,6 @@ none_at cs h n (Act (At m) s) none same there = by (one n m.0) refl
         let inside : in_part (From (At h) 0) (Act (At m) s) ≡ true = grind (arith, nat_tests, number) in
         let held = contains_filter (in_part (From (At h) 0)) cs (Act (At m) s) there inside in
         absurd (let none-there : Contains [] (Act (At m) s) = subst (λ xs. Contains xs (Act (At m) s)) none held in omega (arith, none-there.1))
-
--- ---- a later start
-
--- a later start at the same place keeps the host as long
-later-leaves : (p : Instance) (v : ℕ) (q : Place) (s u : ℕ) → s ≤ u → leave_of p v (Act q s) ≤ leave_of p v (Act q u)
-later-leaves p v q s u l =
-    kept_longer (kind_of p (vm v) q) (end_of p (vm v) (Act q s)) (end_of p (vm v) (Act q u)) (omega (arith, ends_by_duration p (vm v) q s, ends_by_duration p (vm v) q u, l))
 
 -- ---- a change
 
@@ -135,7 +125,7 @@ module _ (p : Instance) (v n : ℕ) (old now : List Choice) (leave : ℕ) (short
       let last = last_of old q s (fewer (Act q s) end.0) in (
         Act q last.0,
         (last.1, inr last.2),
-        less t (Act q s ∷ []) (Act q last.0 ∷ []) (λ r. no-more r t (Act q s) (Act q last.0) l (off-node (Act q s) t (away (Act q s) end.0)) (later-leaves p v q s last.0 (last.2 s (fewer (Act q s) end.0)))),
+        less t (Act q s ∷ []) (Act q last.0 ∷ []) (λ r. no-more r t (Act q s) (Act q last.0) l (off-node (Act q s) t (away (Act q s) end.0)) (leave_climbs p v q s last.0 (last.2 s (fewer (Act q s) end.0)))),
       )
 
   pub host_still : IsStill p (load_scope (one n)) (vm v) old now

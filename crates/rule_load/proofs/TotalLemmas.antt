@@ -1,7 +1,7 @@
 -- What one machine uses at the most on the nodes of any set.
 use Rattle.std.specs.Prelude.{slice_index_or}
 use Rattle.std.specs.List.{Contains, sum_by}
-use Rattle.std.proofs.Common.{◌≡◌, inl, inr, ℕ, suc, ◌+◌, ◌-◌, ◌<◌, ◌≤◌, Bool, true, false, not, ◌&&◌, nat_le, cond, Option, Some, None, List, [], ◌∷◌, refl, sym, ◌∙◌, arith}
+use Rattle.std.proofs.Common.{nat_lt, ◌≡◌, inl, inr, ℕ, suc, ◌+◌, ◌-◌, ◌<◌, ◌≤◌, Bool, true, false, not, ◌&&◌, nat_le, cond, Option, Some, None, List, [], ◌∷◌, refl, sym, ◌∙◌, arith}
 use Rattle.std.proofs.lemmas.Bool.{cases_lt, false≢true}
 use Rattle.std.proofs.lemmas.Bool.Decides.{nat_tests}
 use Rattle.sums.specs.Least.{least}
@@ -164,22 +164,23 @@ both true b e = (refl, e)
 both false b e = absurd (false≢true e)
 
 -- a choice that waits holds no more than the machine has
-held-waiting : (p : Instance) (v r : ℕ) (set : Nodes) (t last : ℕ) (c : Choice) → t ≤ last → waits last c ≡ true → held_at p v (Amount r) set t c ≤ base p v (Amount r)
-held-waiting p v r set t last Idle l e = held-idle p v r set t
-held-waiting p v r set t last (Act place s) l e = let late : last < s = grind (arith, nat_tests, e) in held-before p v r set t place s (omega (arith, l, late))
+held-waiting : (p : Instance) (v r : ℕ) (set : Nodes) (t to : ℕ) (c : Choice) → t ≤ to → waits p.horizon to c ≡ true → held_at p v (Amount r) set t c ≤ base p v (Amount r)
+held-waiting p v r set t to Idle l e = held-idle p v r set t
+held-waiting p v r set t to (Act place s) l e =
+    let late : to < s = let test = (both (nat_lt to p.horizon) (nat_lt to s) e).1 in grind (arith, nat_tests, test) in held-before p v r set t place s (omega (arith, l, late))
 
-some-waits : (last : ℕ) (cs : List Choice) → may (waits last) cs ≡ true → (c : Choice) × Contains cs c × (waits last c ≡ true)
-some-waits last [] e = absurd (false≢true e)
-some-waits last (c ∷ cs) e = by (waits last c) refl (λ rest. some-waits last cs rest)
+some-waits : (last to : ℕ) (cs : List Choice) → may (waits last to) cs ≡ true → (c : Choice) × Contains cs c × (waits last to c ≡ true)
+some-waits last to [] e = absurd (false≢true e)
+some-waits last to (c ∷ cs) e = by (waits last to c) refl (λ rest. some-waits last to cs rest)
   where
-    by : (b : Bool) → waits last c ≡ b → (may (waits last) cs ≡ true → (d : Choice) × Contains cs d × (waits last d ≡ true)) → (d : Choice) × Contains (c ∷ cs) d × (waits last d ≡ true)
+    by : (b : Bool) → waits last to c ≡ b → (may (waits last to) cs ≡ true → (d : Choice) × Contains cs d × (waits last to d ≡ true)) → (d : Choice) × Contains (c ∷ cs) d × (waits last to d ≡ true)
     by true is tail = (c, contains_here c cs, is)
     by false is tail = let rest = tail (rw is at e) in (rest.0, later c cs rest.0 rest.1, rest.2)
 
-sure-most : (p : Instance) (v r : ℕ) (set : Nodes) (x : Period) (t : ℕ) (cs : List Choice) (b : Bool) (k : Standing) → x.to < never → IsStanding p v cs k → may (waits x.to) cs ≡ b → IsDuring x t →
+sure-most : (p : Instance) (v r : ℕ) (set : Nodes) (x : Period) (t : ℕ) (cs : List Choice) (b : Bool) (k : Standing) → x.to < never → IsStanding p v cs k → may (waits p.horizon x.to) cs ≡ b → IsDuring x t →
     least (held_at p v (Amount r) set t) cs ≤ most_anywhere p v r x b k
 sure-most p v r set x t cs true k short is e h =
-    let one = some-waits x.to cs e in
+    let one = some-waits p.horizon x.to cs e in
     least-some (held_at p v (Amount r) set t) (base p v (Amount r)) cs one.0 one.1 (held-waiting p v r set t x.to one.0 h.1 one.2)
 sure-most p v r set x t cs false k short is e h = by (nat_le k.leave x.from) refl
   where
@@ -192,19 +193,19 @@ sure-most p v r set x t cs false k short is e h = by (nat_le k.leave x.from) ref
     by false e = least-all (held_at p v (Amount r) set t) (base p v (Amount r) + demand_of p v r) cs (held-ever p v r set t)
 
 pub are_most : (p : Instance) (g : RegionView) (ks : List Standing) (r : ℕ) (set : Nodes) (x : Period) → x.to < never → AreStanding p (sets g) ks →
-    AreMost p (sets g) r set x (λ v. most_anywhere p v r x (may_wait (sets g) x v) (slice_index_or ks v no_standing))
+    AreMost p (sets g) r set x (λ v. most_anywhere p v r x (may_wait p (sets g) x v) (slice_index_or ks v no_standing))
 unfolding sure
 are_most p g ks r set x short are = record {
-  each = λ v t l h. sure-most p v r set x t (sets g (vm v)) (may_wait (sets g) x v) (slice_index_or ks v no_standing) short (are.each v l) refl h;
+  each = λ v t l h. sure-most p v r set x t (sets g (vm v)) (may_wait p (sets g) x v) (slice_index_or ks v no_standing) short (are.each v l) refl h;
 }
 
 -- what all use is what they have at present, but for the machines that may not stay
 pub base_but_for : (p : Instance) (g : RegionView) (ks : List Standing) (r : ℕ) (x : Period) (xs : List ℕ) → AreMovers p (sets g) xs →
-    sum_to (machine_count p) (λ v. most_anywhere p v r x (may_wait (sets g) x v) (slice_index_or ks v no_standing)) + sum_by (λ v. base p v (Amount r) - most_anywhere p v r x (may_wait (sets g) x v) (slice_index_or ks v no_standing)) xs
-    ≡ sum_to (machine_count p) (λ v. base p v (Amount r)) + sum_by (λ v. most_anywhere p v r x (may_wait (sets g) x v) (slice_index_or ks v no_standing) - base p v (Amount r)) xs
+    sum_to (machine_count p) (λ v. most_anywhere p v r x (may_wait p (sets g) x v) (slice_index_or ks v no_standing)) + sum_by (λ v. base p v (Amount r) - most_anywhere p v r x (may_wait p (sets g) x v) (slice_index_or ks v no_standing)) xs
+    ≡ sum_to (machine_count p) (λ v. base p v (Amount r)) + sum_by (λ v. most_anywhere p v r x (may_wait p (sets g) x v) (slice_index_or ks v no_standing) - base p v (Amount r)) xs
 base_but_for p g ks r x xs are =
-    sum_but_for (machine_count p) (λ v. most_anywhere p v r x (may_wait (sets g) x v) (slice_index_or ks v no_standing)) (λ v. base p v (Amount r)) xs are.machines.once are.machines.each
-    (λ v low out. let stays : may_wait (sets g) x v ≡ true = may_each (waits x.to) (sets g (vm v)) Idle (are.others v low out) refl in rw stays refl)
+    sum_but_for (machine_count p) (λ v. most_anywhere p v r x (may_wait p (sets g) x v) (slice_index_or ks v no_standing)) (λ v. base p v (Amount r)) xs are.machines.once are.machines.each
+    (λ v low out. let stays : may_wait p (sets g) x v ≡ true = may_each (waits p.horizon x.to) (sets g (vm v)) Idle (are.others v low out) refl in rw stays refl)
 
 -- ---- under each of its choices
 

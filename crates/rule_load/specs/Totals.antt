@@ -12,14 +12,14 @@ use Rattle.standing.specs.declared.numbers.Standing.{Standing}
 use Rattle.standing.specs.Standings.{base}
 use Rattle.rule_load.specs.declared.period.Period.{Period}
 
--- whether a choice leaves a machine as it is up to an instant
-abbrev pub waits : ℕ → Choice → Bool
-waits t Idle = true
-waits t (Act place start) = nat_lt t start
+-- whether a choice leaves a machine as it is up to an instant t; of one that acts this is told before the last instant of all
+abbrev pub waits : ℕ → ℕ → Choice → Bool
+waits last t Idle = true
+waits last t (Act place start) = nat_lt t last && nat_lt t start
 
 -- 0 for such a choice
-abbrev pub hurry_count : ℕ → Choice → ℕ
-hurry_count t c = if waits t c then 0 else 1
+abbrev pub hurry_count : ℕ → ℕ → Choice → ℕ
+hurry_count last t c = if waits last t c then 0 else 1
 
 -- what machine v with these numbers surely uses at the most: what it has where it is, if it may wait until the period is over; its demand,
 -- if it may have left; else both
@@ -28,8 +28,8 @@ most_anywhere p v r x true k = base p v (Amount r)
 most_anywhere p v r x false k = if nat_le k.leave x.from then demand_of p v r else base p v (Amount r) + demand_of p v r
 
 -- whether machine v may
-abbrev pub may_wait : Sets → Period → ℕ → Bool
-may_wait s x v = may (waits x.to) (s (vm v))
+abbrev pub may_wait : Instance → Sets → Period → ℕ → Bool
+may_wait p s x v = may (waits p.horizon x.to) (s (vm v))
 
 -- whether a node is usable at both ends of the period under each of its choices, of which there is one
 abbrev pub is_steady : Instance → Sets → Period → ℕ → Bool

@@ -102,10 +102,12 @@ impl Measure for Start {
     }
 }
 
-/// 0 for a choice that leaves a machine as it is up to an instant, 1 for others.
+/// 0 for a choice that leaves a machine as it is up to an instant, 1 for others. Where that instant is the last of all,
+/// each choice that acts is one of the others.
 #[derive(Drop)]
 pub struct Hurries {
     pub by: Instant,
+    pub last: Instant,
 }
 
 impl Measure for Hurries {
@@ -114,18 +116,18 @@ impl Measure for Hurries {
 
     ghost ready = { λ _. Unit {0} };
 
-    ghost value_of = { λ m. hurry_count m.by };
+    ghost value_of = { λ m. hurry_count m.last m.by };
 
     ghost floor_of = { λ _. 0 };
 
-    ghost least_at_ends = { λ m. hurry_at_ends m.by };
+    ghost least_at_ends = { λ m. hurry_at_ends m.last m.by };
 
     ghost above_floor = { λ m c. Prim.omega arith };
 
     fn value(&self, c: Choice) -> u64 {
         match c {
             Choice::Idle => 0,
-            Choice::Act { place: _, start } => u64::from(start <= self.by),
+            Choice::Act { place: _, start } => u64::from(self.last <= self.by || start <= self.by),
         }
     }
 

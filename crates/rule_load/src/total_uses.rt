@@ -43,16 +43,21 @@ fn is_zero(lowest: Option<u64>) -> bool
     }
 }
 
-// whether a machine may wait until a period is over
-fn may_wait(g: &Region, v: VmId, x: Period) -> bool
+// whether a machine may wait until a period is over; where that is the last instant, only as it is
+fn may_wait(p: &Problem, g: &Region, v: VmId, x: Period) -> bool
     requires { v.0 < length g.now.machines }
-    ensures { result ≡ the_may_wait (sets g.now) x v.0 }
+    ensures { result ≡ the_may_wait p.now.given (sets g.now) x v.0 }
 {
+    let last = p.horizon();
+    if last <= x.to {
+        return g.domain(Element::Vm(v)).idle();
+    }
     let view = View {
         region: g,
         lens: Lens::Whole,
     };
-    is_zero(lowest_seen(&view, Element::Vm(v), &Hurries { by: x.to }))
+    let hurries = Hurries { by: x.to, last };
+    is_zero(lowest_seen(&view, Element::Vm(v), &hurries))
 }
 
 // what a machine with these numbers surely uses at the most
@@ -121,15 +126,15 @@ fn beside_bases(
     requires count { length ks.now ≡ machine_count p.now.given }
     requires machines { AreMachines p.now.given machines.now }
     requires resource { r < length p.now.given.resources }
-    ensures more { result.more ≡ sum_by (λ v. the_most_anywhere p.now.given v r x (the_may_wait (sets g.now) x v) (slice_index_or ks.now v no_standing) - the_base p.now.given v (AmountOf r)) machines.now }
-    ensures less { result.less ≡ sum_by (λ v. the_base p.now.given v (AmountOf r) - the_most_anywhere p.now.given v r x (the_may_wait (sets g.now) x v) (slice_index_or ks.now v no_standing)) machines.now }
+    ensures more { result.more ≡ sum_by (λ v. the_most_anywhere p.now.given v r x (the_may_wait p.now.given (sets g.now) x v) (slice_index_or ks.now v no_standing) - the_base p.now.given v (AmountOf r)) machines.now }
+    ensures less { result.less ≡ sum_by (λ v. the_base p.now.given v (AmountOf r) - the_most_anywhere p.now.given v r x (the_may_wait p.now.given (sets g.now) x v) (slice_index_or ks.now v no_standing)) machines.now }
     ensures small { result.more ≤ max_machines * max_amount }
 {
     let mut more = 0;
     let mut less = 0;
     for i in 0..machines.len() {
         let v = VmId(machines[i]);
-        let one = beside_base(p, v, r, x, may_wait(g, v, x), ks[v.0 as usize]);
+        let one = beside_base(p, v, r, x, may_wait(p, g, v, x), ks[v.0 as usize]);
         more += one.more;
         less += one.less;
     }
@@ -152,7 +157,7 @@ pub(crate) fn most_total(
     requires count { length ks.now ≡ machine_count p.now.given }
     requires movers { AreMovers p.now.given (sets g.now) movers.now }
     requires resource { r < length p.now.given.resources }
-    ensures sum { result ≡ sum_to (machine_count p.now.given) (λ v. the_most_anywhere p.now.given v r x (the_may_wait (sets g.now) x v) (slice_index_or ks.now v no_standing)) }
+    ensures sum { result ≡ sum_to (machine_count p.now.given) (λ v. the_most_anywhere p.now.given v r x (the_may_wait p.now.given (sets g.now) x v) (slice_index_or ks.now v no_standing)) }
     ensures small { result ≤ max_machines * (2 * max_amount) }
 {
     let beside = beside_bases(p, g, ks, movers, r, x);
@@ -210,7 +215,7 @@ pub(crate) fn machines_fit(
     requires resource { r < length p.now.given.resources }
     requires period { x.to ≤ p.now.given.horizon }
     requires small { spare ≤ max_nodes * max_capacity }
-    ensures { IsTrue result → MachinesFit p.now.given (sets g.now) r (all_nodes p.now.given) x (λ v. the_most_anywhere p.now.given v r x (the_may_wait (sets g.now) x v) (slice_index_or ks.now v no_standing)) spare }
+    ensures { IsTrue result → MachinesFit p.now.given (sets g.now) r (all_nodes p.now.given) x (λ v. the_most_anywhere p.now.given v r x (the_may_wait p.now.given (sets g.now) x v) (slice_index_or ks.now v no_standing)) spare }
 {
     // what any of them has and brings is spare
     if f.most(p, r) <= spare {
@@ -218,7 +223,7 @@ pub(crate) fn machines_fit(
     }
     for i in 0..p.cluster().machines().len() {
         let v = VmId(i as u32);
-        let bound = spare + most_anywhere(p, v, r, x, may_wait(g, v, x), ks[i]);
+        let bound = spare + most_anywhere(p, v, r, x, may_wait(p, g, v, x), ks[i]);
         if !is_below(p, g, v, r, x, bound) {
             return false;
         }

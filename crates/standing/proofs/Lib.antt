@@ -6,4 +6,5 @@ mod LeaveLemmas
 mod ListLemmas
 mod NumberLemmas
 mod RowLemmas
+mod StayLemmas
 mod TableLemmas

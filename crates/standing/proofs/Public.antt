@@ -1,4 +1,6 @@
--- What crates above may cite: the laws, by the names of their statements in specs/; and `each_push`, for lists that are filled in order.
+-- What crates above may cite: the laws, by the names of their statements in specs/; `each_push`, for lists that are filled in order; and
+-- `all_stay`, where nothing is left out.
+pub use Rattle.standing.proofs.RowLemmas.{all_stay}
 pub use Rattle.standing.proofs.TableLemmas.{each_push}
 use Rattle.std.specs.Prelude.{slice_index_or}
 use Rattle.std.proofs.Common.{◌≡◌, ◌≢◌, ℕ, ◌+◌, ◌<◌, Bool, true, false, ◌&&◌, nat_lt, cond, List, [], ◌∷◌, refl, sym, ap, subst, ◌∙◌, arith}

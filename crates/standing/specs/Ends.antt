@@ -1,9 +1,10 @@
--- Helping only: over the starts at one place, a choice keeps the host shortest at the first or the last.
+-- Helping only: of the choices at one place, one that starts later keeps the host no shorter.
 use Rattle.std.specs.Prelude.{ℕ, ◌≤◌, Option, Some, None}
 use Rattle.std.proofs.Common.{arith}
 use Rattle.cluster.specs.declared.kinds.Kind.{Kind}
 use Rattle.cluster.specs.declared.kinds.Kind.TheVariants.{Forge, Boot, Shutdown, Suspend, Resume, Migrate, Allocate, Kill, NodeBoot, NodeShutdown}
 use Rattle.cluster.specs.declared.choices.Choice.TheVariants.{Act}
+use Rattle.cluster.specs.declared.choices.Place.{Place}
 use Rattle.catalogue.specs.Instance.{Instance}
 use Rattle.slices.specs.Actions.{end_of, kind_of}
 use Rattle.slices.specs.Elements.{vm}
@@ -25,7 +26,10 @@ kept-longer (Some Kill) a b l = l
 kept-longer (Some NodeBoot) a b l = l
 kept-longer (Some NodeShutdown) a b l = l
 
+pub leave_climbs : (p : Instance) (v : ℕ) (place : Place) (lo hi : ℕ) → lo ≤ hi → leave_of p v (Act place lo) ≤ leave_of p v (Act place hi)
+leave_climbs p v place lo hi l =
+    let later : end_of p (vm v) (Act place lo) ≤ end_of p (vm v) (Act place hi) = omega (arith, ends_by_duration p (vm v) place lo, ends_by_duration p (vm v) place hi) in
+    kept-longer (kind_of p (vm v) place) (end_of p (vm v) (Act place lo)) (end_of p (vm v) (Act place hi)) later
+
 pub leave_at_ends : (p : Instance) (v : ℕ) → IsLeastAtEnds (leave_of p v)
-leave_at_ends p v place lo s hi l h =
-    let later : end_of p (vm v) (Act place lo) ≤ end_of p (vm v) (Act place s) = omega (arith, ends_by_duration p (vm v) place lo, ends_by_duration p (vm v) place s) in
-    omega (arith, kept-longer (kind_of p (vm v) place) (end_of p (vm v) (Act place lo)) (end_of p (vm v) (Act place s)) later)
+leave_at_ends p v place lo s hi l h = omega (arith, leave_climbs p v place lo s l)

@@ -4,5 +4,7 @@
 pub mod laws;
 pub mod leaves;
 pub mod numbers;
+pub mod pairs;
+pub mod stays;
 pub mod table;
 pub mod uses;

@@ -129,6 +129,11 @@ impl Measure for Leaving<'_> {
 
     ghost above_floor = { λ m c. Prim.omega arith };
 
+    #[tactic(auto, using(crate::specs::Ends::leave_climbs))]
+    fn climbs(&self) -> bool {
+        true
+    }
+
     fn value(&self, c: Choice) -> u64 {
         match left_as_known(self.problem, self.machine, self.leaves, c) {
             Some(left) => left,
@@ -162,6 +167,11 @@ impl Measure for LeavingFrom<'_> {
     ghost least_at_ends = { λ m place lo s hi l u. Prim.omega (arith, leave_at_ends m.leaving.problem.now.given m.leaving.machine.0 place lo s hi l u) };
 
     ghost above_floor = { λ m c. Prim.omega arith };
+
+    #[tactic(auto, using(crate::specs::Ends::leave_climbs))]
+    fn climbs(&self) -> bool {
+        true
+    }
 
     fn value(&self, c: Choice) -> u64 {
         self.leaving.value(c).max(self.floor)

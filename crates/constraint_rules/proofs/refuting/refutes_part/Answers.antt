@@ -1,4 +1,5 @@
+use Rattle.std.proofs.Common.{None}
 use Rattle.constraint_rules.proofs.refuting.refutes_part.Goals as goal
 
 pub returns-in-Pair : goal.returns-in-Pair
-returns-in-Pair c = λ yes. rw c.in-Pair.is (c.is_pair_inside.ensures yes)
+returns-in-Pair c = λ yes. rw c.in-Pair.is (c.pair_refutes.ensures yes None)

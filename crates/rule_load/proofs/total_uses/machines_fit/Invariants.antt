@@ -9,4 +9,4 @@ use Rattle.rule_load.proofs.total_uses.machines_fit.Given as goal
 
 abbrev pub invariant-loop-i : goal.invariant-loop-i
 invariant-loop-i l =
-    (v : ℕ) → v < l.i → IsMost l.p.given v (sets l.g (vm v)) l.r (all_nodes l.p.given) l.x (l.spare + most_anywhere l.p.given v l.r l.x (may_wait (sets l.g) l.x v) (slice_index_or l.ks v no_standing))
+    (v : ℕ) → v < l.i → IsMost l.p.given v (sets l.g (vm v)) l.r (all_nodes l.p.given) l.x (l.spare + most_anywhere l.p.given v l.r l.x (may_wait l.p.given (sets l.g) l.x v) (slice_index_or l.ks v no_standing))

@@ -1,10 +1,19 @@
-use Rattle.std.proofs.Common.{sym, ap, ◌∙◌}
+use Rattle.std.proofs.Common.{sym, ap, ◌∙◌, ◌≤◌, arith}
 use Rattle.slices.specs.Elements.{vm}
+use Rattle.domains.specs.Choices.{DomainView}
 use Rattle.domains.specs.Laws.{is_nought}
-use Rattle.domains.specs.Sets.{sets}
+use Rattle.domains.specs.Sets.{domain_at, may, sets}
 use Rattle.domains.proofs.Public.{may_by_least}
 use Rattle.rule_load.specs.Totals.{waits}
+use Rattle.rule_load.proofs.WaitLemmas.{waits_idle}
 use Rattle.rule_load.proofs.total_uses.may_wait.Goals as goal
 
 pub returns : goal.returns
-returns c = c.is_zero.ensures ∙ ap is_nought c.lowest_seen.ensures ∙ sym (may_by_least (waits c.args.x.to) (sets c.args.g.now (vm c.args.v.0)))
+returns c =
+    let all = sets c.args.g.now (vm c.args.v.0) in
+    c.is_zero.ensures ∙ ap is_nought c.lowest_seen.ensures ∙ sym (may_by_least (waits c.horizon-last.result c.args.x.to) all) ∙ ap (λ last. may (waits last c.args.x.to) all) c.horizon-last.ensures.horizon
+
+pub returns-then-last-x : goal.returns-then-last-x
+returns-then-last-x c =
+    let late : c.args.p.now.given.horizon ≤ c.args.x.to = omega (arith, c.if-last-x.true, c.horizon-last.ensures.horizon) in
+    c.idle.ensures ∙ ap (λ (d : DomainView). d.idle) c.domain.ensures.domain ∙ waits_idle (domain_at c.args.g.now (vm c.args.v.0)) c.args.p.now.given.horizon c.args.x.to late

@@ -1,0 +1,27 @@
+-- Who may wait until the last instant.
+use Rattle.std.proofs.Common.{◌≡◌, ℕ, zero, suc, ◌+◌, ◌≤◌, Bool, true, false, nat_lt, List, [], ◌∷◌, refl, arith}
+use Rattle.std.specs.List.{flat_map, list_any}
+use Rattle.std.proofs.lemmas.Bool.Decides.{nat_tests}
+use Rattle.std.proofs.lemmas.List.Folds.{list_any-append}
+use Rattle.cluster.specs.declared.choices.Place.{Place}
+use Rattle.domains.specs.declared.parts.Row.{Row}
+use Rattle.domains.specs.Choices.{DomainView, choices, row_choices, starts_from}
+use Rattle.domains.specs.Sets.{may}
+use Rattle.rule_load.specs.Totals.{waits}
+
+module _ (last to : ℕ) (over : nat_lt to last ≡ false) where
+  none-waits : (place : Place) (from count : ℕ) → list_any (waits last to) (starts_from place from count) ≡ false
+  none-waits place from zero = refl
+  none-waits place from (suc count) = rw (over, none-waits place (from + 1) count) refl
+
+  rows-wait : (rows : List Row) → list_any (waits last to) (flat_map row_choices rows) ≡ false
+  rows-wait [] = refl
+  rows-wait (r ∷ rs) = rw (list_any-append (waits last to) (row_choices r) (flat_map row_choices rs), none-waits r.place r.lo _, rows-wait rs) refl
+
+  by-idle : (d : DomainView) (b : Bool) → d.idle ≡ b → b ≡ may (waits last to) (choices d)
+  by-idle d true is = rw is refl
+  by-idle d false is = rw (is, rows-wait d.rows) refl
+
+-- those whose Idle is a choice
+pub waits_idle : (d : DomainView) (last to : ℕ) → last ≤ to → d.idle ≡ may (waits last to) (choices d)
+waits_idle d last to l = let over : nat_lt to last ≡ false = grind (arith, nat_tests, l) in by-idle last to over d d.idle refl
