@@ -164,8 +164,23 @@ impl Domain {
         ensures { IsTrue result ↔ (filter (on_side side part) (choices self.now) ≡ []) }
     {
         match side {
-            Side::Inside => self.inside(part).is_empty(),
+            Side::Inside => self.has_none_in(part),
             Side::Outside => match lowest(self, Some(part), &Nought) {
+                None => true,
+                Some(_) => false,
+            },
+        }
+    }
+
+    // whether no choice is in a part; of a row it is told without a domain of what is inside
+    fn has_none_in(&self, part: Part) -> bool
+        ensures { IsTrue result ↔ (filter (in_part part) (choices self.now) ≡ []) }
+    {
+        match part {
+            Part::Idle => self.inside(part).is_empty(),
+            Part::Upto(place, _) | Part::From(place, _) => match row_inside(
+                &self.rows, place, part,
+            ) {
                 None => true,
                 Some(_) => false,
             },
