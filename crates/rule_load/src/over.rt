@@ -25,6 +25,8 @@ ghost use Rattle.rule_load.specs.Kept.{AreKeptAt};
 use crate::fixed::Fixed;
 use crate::kept::Kept;
 use crate::nodes::resource_total;
+use crate::period::Period;
+use crate::uses::most_kept;
 use catalogue::problem::Problem;
 use cluster::choices::{Instant, Place};
 use cluster::ids::{Element, NodeId, VmId};
@@ -37,7 +39,7 @@ use relax::area::Area;
 use relax::sure::least_held;
 use slices::slice::Weight;
 use standing::numbers::{Standing, standing_of};
-use standing::uses::{base, comes_by, gain};
+use standing::uses::gain;
 
 // what a machine with these numbers surely uses of a node
 #[inline(always)]
@@ -48,18 +50,7 @@ fn kept_use(p: &Problem, f: &Fixed, v: VmId, k: Standing, r: u8, n: NodeId, t: I
     ensures uses { result ≡ the_kept_use p.now.given v.0 (AmountOf r) n.0 t k }
     ensures small { result ≤ max_held }
 {
-    let weight = Weight::Amount(r);
-    let kept = if f.is_host(p, v, n) && u64::from(t) < k.leave {
-        base(p, v, weight)
-    } else {
-        0
-    };
-    let come = if comes_by(k.come, n, t) {
-        gain(p, v, weight, n)
-    } else {
-        0
-    };
-    kept + come
+    most_kept(p, f, v, n, r, Period { from: t, to: t }, k)
 }
 
 // whether all choices of a machine have come to a node by an instant

@@ -12,7 +12,7 @@ use crate::nodes::{node_set, resource_total};
 use crate::period::Period;
 use crate::room::room_of;
 use crate::turns::next_change;
-use crate::uses::most_used;
+use crate::uses::{may_come, most_used};
 use catalogue::problem::Problem;
 use cluster::choices::{Choice, Instant, Place};
 use cluster::ids::{Element, NodeId, VmId};
@@ -44,36 +44,56 @@ struct Spare {
     amount: u64,
 }
 
-// what is spare of a resource on a node, from each change to the next
-fn spares(
+// the periods of a node, from each change to the next
+fn periods(
     alloc: Global,
     p: &Problem,
     g: &Region,
     kept: Kept<'_>,
     n: NodeId,
+) -> Result<Vec<Period>, Memory>
+    requires region { IsSized p.now.given g.now }
+    requires kept { AreKeptAt p.now.given (sets g.now) n.0 kept.fixed.now kept.standings.now kept.near.now kept.firsts.now }
+    requires node { n.0 < node_count p.now.given }
+{
+    let mut periods = Vec::new(alloc);
+    let mut from = 0u64;
+    'periods: while from <= u64::from(p.horizon()) {
+        let next = next_change(p, g, kept, n, from);
+        periods.push(Period {
+            from: from as u32,
+            to: (next - 1) as u32,
+        })?;
+        from = next;
+    }
+    Ok(periods)
+}
+
+// what is spare of a resource on a node in each of its periods
+fn spares(
+    p: &Problem,
+    g: &Region,
+    kept: Kept<'_>,
+    n: NodeId,
     r: u8,
-) -> Result<Vec<Spare>, Memory>
+    periods: &[Period],
+    spares: &mut Vec<Spare>,
+) -> Result<(), Memory>
     requires region { IsSized p.now.given g.now }
     requires kept { AreKeptAt p.now.given (sets g.now) n.0 kept.fixed.now kept.standings.now kept.near.now kept.firsts.now }
     requires node { n.0 < node_count p.now.given }
     requires resource { r < length p.now.given.resources }
 {
-    let mut spares = Vec::new(alloc);
-    let mut from = 0u64;
-    'periods: while from <= u64::from(p.horizon()) {
-        let next = next_change(p, g, kept, n, from);
-        let x = Period {
-            from: from as u32,
-            to: (next - 1) as u32,
-        };
+    spares.clear();
+    for i in 0..periods.len() {
+        let x = periods[i];
         let amount = room_of(p, g, n, r, x).saturating_sub(most_used(p, g, kept, n, r, x));
         spares.push(Spare {
             until: x.to,
             amount,
         })?;
-        from = next;
     }
-    Ok(spares)
+    Ok(())
 }
 
 // the last instant up to which an amount is more than is spare
@@ -85,6 +105,31 @@ fn last_without(spares: &[Spare], amount: u64) -> Option<Instant> {
         }
     }
     None
+}
+
+// the last instant up to which too little is spare for a machine, where it may come by then
+fn comes_without(
+    p: &Problem,
+    g: &Region,
+    kept: Kept<'_>,
+    machine: VmId,
+    node: NodeId,
+    r: u8,
+    spares: &[Spare],
+) -> Option<Instant>
+    requires kept { AreKeptAt p.now.given (sets g.now) node.0 kept.fixed.now kept.standings.now kept.near.now kept.firsts.now }
+    requires machine { IsElement p.now.given (Element.Vm machine) }
+    requires resource { r < length p.now.given.resources }
+{
+    if !may_come(p, kept, g, machine, node, p.horizon()) {
+        return None;
+    }
+    let at = last_without(spares, p.demand(machine, r))?;
+    if kept.firsts[machine.0 as usize] <= at {
+        Some(at)
+    } else {
+        None
+    }
 }
 
 // of one machine the starts at the node with which it would be there up to an instant, if it has any
@@ -123,6 +168,7 @@ fn suggest_arrivals(
     p: &Problem,
     g: &Region,
     kept: Kept<'_>,
+    spares: &[Spare],
     node: NodeId,
     r: u8,
     them: &mut Vec<Suggestion>,
@@ -132,14 +178,11 @@ fn suggest_arrivals(
     requires node { node.0 < node_count p.now.given }
     requires resource { r < length p.now.given.resources }
 {
-    let spares = spares(*them.allocator(), p, g, kept, node, r)?;
     let order = kept.fixed.order(p, r);
     for i in 0..order.len() {
         let machine = order[i].machine;
-        if let Some(at) = last_without(spares.as_slice(), p.demand(machine, r)) {
-            if kept.firsts[machine.0 as usize] <= at {
-                suggest_arrival(p, g, machine, node, r, at, them)?;
-            }
+        if let Some(at) = comes_without(p, g, kept, machine, node, r, spares) {
+            suggest_arrival(p, g, machine, node, r, at, them)?;
         }
     }
     Ok(())
@@ -235,8 +278,11 @@ fn suggest_all_arrivals(
     requires kept { AreKeptAt p.now.given (sets g.now) node.0 kept.fixed.now kept.standings.now kept.near.now kept.firsts.now }
     requires node { node.0 < node_count p.now.given }
 {
+    let periods = periods(*them.allocator(), p, g, kept, node)?;
+    let mut spare = Vec::with_capacity(*them.allocator(), periods.len())?;
     for r in 0..resource_total(p) {
-        suggest_arrivals(p, g, kept, node, r as u8, them)?;
+        spares(p, g, kept, node, r as u8, periods.as_slice(), &mut spare)?;
+        suggest_arrivals(p, g, kept, spare.as_slice(), node, r as u8, them)?;
     }
     Ok(())
 }

@@ -9,7 +9,7 @@ ghost use Rattle.slices.specs.Stages.{one};
 ghost use Rattle.slices.specs.declared.slice.Weight.TheVariants.{Amount as AmountOf};
 ghost use Rattle.domains.specs.Sets.{sets};
 ghost use Rattle.relax.specs.Areas.{IsSized, hosted_in};
-ghost use Rattle.standing.specs.Standings.{base as the_base};
+ghost use Rattle.standing.specs.Standings.{base as the_base, gain as the_gain};
 ghost use Rattle.standing.specs.Tables.{no_standing};
 ghost use Rattle.rule_load.specs.Fixed.{IsFixed};
 ghost use Rattle.rule_load.specs.Kept.{AreKeptAt};
@@ -31,26 +31,44 @@ use standing::leaves::leaves_of;
 use standing::numbers::{Arrival, Leaving, NEVER, Standing};
 use standing::uses::{base, comes_by, gain};
 
-// what a machine with these numbers surely uses at the most
-fn most_kept(p: &Problem, f: &Fixed, v: VmId, n: NodeId, r: u8, x: Period, k: Standing) -> u64
+// what a machine uses of a node on which it still is, or to which it has come, or both
+#[inline(never)]
+fn use_while(p: &Problem, v: VmId, n: NodeId, r: u8, stays: bool, comes: bool) -> u64
+    requires machine { IsElement p.now.given (Element.Vm v) }
+    requires resource { r < length p.now.given.resources }
+    ensures most { result ≡ (if stays then the_base p.now.given v.0 (AmountOf r) else 0) + (if comes then the_gain p.now.given v.0 (AmountOf r) n.0 else 0) }
+    ensures small { result ≤ 2 * max_amount }
+{
+    let weight = Weight::Amount(r);
+    let kept = if stays { base(p, v, weight) } else { 0 };
+    let come = if comes { gain(p, v, weight, n) } else { 0 };
+    kept + come
+}
+
+/// What a machine with these numbers surely uses at the most. Most of those that are asked for use nothing, so that comes
+/// first.
+#[inline(always)]
+pub(crate) fn most_kept(
+    p: &Problem,
+    f: &Fixed,
+    v: VmId,
+    n: NodeId,
+    r: u8,
+    x: Period,
+    k: Standing,
+) -> u64
     requires fixed { IsFixed p.now.given f.now }
     requires machine { IsElement p.now.given (Element.Vm v) }
     requires resource { r < length p.now.given.resources }
     ensures most { result ≡ the_most_kept p.now.given v.0 (AmountOf r) n.0 x k }
     ensures small { result ≤ 2 * max_amount }
 {
-    let weight = Weight::Amount(r);
-    let kept = if f.is_host(p, v, n) && u64::from(x.from) < k.leave {
-        base(p, v, weight)
-    } else {
-        0
-    };
-    let come = if comes_by(k.come, n, x.to) {
-        gain(p, v, weight, n)
-    } else {
-        0
-    };
-    kept + come
+    let stays = f.is_host(p, v, n) && u64::from(x.from) < k.leave;
+    let comes = comes_by(k.come, n, x.to);
+    if !stays && !comes {
+        return 0;
+    }
+    use_while(p, v, n, r, stays, comes)
 }
 
 /// What the machines surely use of a node at the most: those near it, since no other does.
@@ -176,9 +194,9 @@ fn goes_elsewhere(come: Option<Arrival>, n: NodeId) -> bool
     }
 }
 
-// whether a machine may start at a node by an instant
+/// Whether a machine may start at a node by an instant.
 #[tactic(auto, using(crate::proofs::UseLemmas::late_is_past, crate::proofs::UseLemmas::elsewhere_is_past))]
-fn may_come(p: &Problem, kept: Kept<'_>, _g: &Region, v: VmId, n: NodeId, by: Instant) -> bool
+pub(crate) fn may_come(p: &Problem, kept: Kept<'_>, _g: &Region, v: VmId, n: NodeId, by: Instant) -> bool
     requires kept { AreKeptAt p.now.given (sets _g.now) n.0 kept.fixed.now kept.standings.now kept.near.now kept.firsts.now }
     requires machine { IsElement p.now.given (Element.Vm v) }
     ensures { result ≡ false → StartsPast (sets _g.now (vm v.0)) n.0 by }

@@ -1,5 +1,5 @@
 //! Whether two machines that are to be kept apart surely are on a node.
-ghost use Rattle.std.specs.Prelude.{◌≡◌, ◌<◌, ◌≤◌, ℕ, IsTrue, Option as AnyOption, false, length};
+ghost use Rattle.std.specs.Prelude.{◌≡◌, ◌<◌, ◌≤◌, ◌↔◌, ℕ, IsTrue, Option as AnyOption, false, length};
 ghost use Rattle.catalogue.specs.Instance.{IsElement};
 ghost use Rattle.slices.specs.Elements.{machine_count, node_count};
 ghost use Rattle.domains.specs.Views.{seen};
@@ -40,7 +40,7 @@ pub fn is_pair(
 
 // whether a constraint, an instant, two machines and a node are those of the problem
 fn is_named(p: &Problem, c: u32, t: Instant, v: VmId, w: VmId, n: NodeId) -> bool
-    ensures { IsTrue result → (c < length p.now.given.constraints) × (t ≤ p.now.given.horizon) × (v.0 < machine_count p.now.given) × (w.0 < machine_count p.now.given) × (n.0 < node_count p.now.given) }
+    ensures { IsTrue result ↔ (c < length p.now.given.constraints) × (t ≤ p.now.given.horizon) × (v.0 < machine_count p.now.given) × (w.0 < machine_count p.now.given) × (n.0 < node_count p.now.given) }
 {
     let machines = p.cluster().machines().len();
     (c as usize) < p.constraints().len()
@@ -50,8 +50,8 @@ fn is_named(p: &Problem, c: u32, t: Instant, v: VmId, w: VmId, n: NodeId) -> boo
         && (n.0 as usize) < p.cluster().nodes().len()
 }
 
-/// Whether it is seen that a pair refutes what is seen of a region: its constraint applies, and keeps two machines
-/// apart that are on its node.
+/// Whether a pair refutes what is seen of a region: its constraint applies, and keeps two machines apart that surely are
+/// on its node. What is no longer due has no part in it.
 pub fn pair_refutes(
     p: &Problem,
     view: &View,
@@ -62,7 +62,8 @@ pub fn pair_refutes(
     n: NodeId,
 ) -> bool
     requires region { IsSized p.now.given view.now.region.now }
-    ensures { IsTrue result → (bound : AnyOption ℕ) → Refutes p.now.given bound (seen view.now.region.now view.now.lens) (Reason.Pair c t v w n) }
+    ensures yes { IsTrue result → (bound : AnyOption ℕ) → Refutes p.now.given bound (seen view.now.region.now view.now.lens) (Reason.Pair c t v w n) }
+    ensures no { result ≡ false → (bound : AnyOption ℕ) → ¬ Refutes p.now.given bound (seen view.now.region.now view.now.lens) (Reason.Pair c t v w n) }
 {
     if !is_named(p, c, t, v, w, n) || !p.applies(c, t) {
         return false;
