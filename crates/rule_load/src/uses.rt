@@ -196,7 +196,14 @@ fn goes_elsewhere(come: Option<Arrival>, n: NodeId) -> bool
 
 /// Whether a machine may start at a node by an instant.
 #[tactic(auto, using(crate::proofs::UseLemmas::late_is_past, crate::proofs::UseLemmas::elsewhere_is_past))]
-pub(crate) fn may_come(p: &Problem, kept: Kept<'_>, _g: &Region, v: VmId, n: NodeId, by: Instant) -> bool
+pub(crate) fn may_come(
+    p: &Problem,
+    kept: Kept<'_>,
+    _g: &Region,
+    v: VmId,
+    n: NodeId,
+    by: Instant,
+) -> bool
     requires kept { AreKeptAt p.now.given (sets _g.now) n.0 kept.fixed.now kept.standings.now kept.near.now kept.firsts.now }
     requires machine { IsElement p.now.given (Element.Vm v) }
     ensures { result ≡ false → StartsPast (sets _g.now (vm v.0)) n.0 by }
