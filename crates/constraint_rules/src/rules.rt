@@ -1,6 +1,6 @@
-//! The four rules of constraints.
+//! The five rules of constraints.
 ghost use Rattle.std.specs.Prelude.{refl};
-ghost use Rattle.constraint_rules.specs.Covers.{group_kinds, pair_kinds, place_kinds, set_kinds};
+ghost use Rattle.constraint_rules.specs.Covers.{group_kinds, pair_kinds, place_kinds, set_kinds, usable_kinds};
 
 use crate::amounts::{AmountKeeper, AmountWatcher};
 use crate::watcher::{ConstraintWatcher, Kinds};
@@ -22,7 +22,7 @@ impl Kinds for Pairs {
     ghost no_loads = { λ k. refl };
 }
 
-/// Machines on nodes where they may not be: `ban`, `fence`, `root`; and on nodes that are not usable.
+/// Machines on nodes where they may not be: `ban`, `fence`, `root`.
 #[derive(Clone, Copy, Default)]
 pub struct Places;
 
@@ -30,7 +30,21 @@ impl Kinds for Places {
     ghost kinds = { λ k. place_kinds };
 
     fn covers(&self, kind: ReasonKind) -> bool {
-        matches!(kind, ReasonKind::Place | ReasonKind::Usable)
+        matches!(kind, ReasonKind::Place)
+    }
+
+    ghost no_loads = { λ k. refl };
+}
+
+/// Machines on nodes that are not usable.
+#[derive(Clone, Copy, Default)]
+pub struct Usables;
+
+impl Kinds for Usables {
+    ghost kinds = { λ k. usable_kinds };
+
+    fn covers(&self, kind: ReasonKind) -> bool {
+        matches!(kind, ReasonKind::Usable)
     }
 
     ghost no_loads = { λ k. refl };
@@ -67,8 +81,11 @@ impl Kinds for Sets {
 /// The rule of the constraints that keep machines apart.
 pub type PairRule = Rule<ConstraintWatcher<Pairs>, ConstraintIndex>;
 
-/// The rule of the constraints on where machines may be, and of nodes that are needed.
+/// The rule of the constraints on where machines may be.
 pub type PlaceRule = Rule<ConstraintWatcher<Places>, ConstraintIndex>;
+
+/// The rule of nodes that are needed.
+pub type UsableRule = Rule<ConstraintWatcher<Usables>, ConstraintIndex>;
 
 /// The rule of the constraints on whole groups of machines.
 pub type GroupRule = Rule<ConstraintWatcher<Groups>, ConstraintIndex>;

@@ -1,15 +1,19 @@
 //! Marks on watches, with levels.
-ghost use Rattle.std.specs.Prelude.{◌≡◌, ◌<◌, [], ◌∷◌, ◌++◌, length, OnOk, OnErr, true, false, replicate, slice_index_or, slice_set};
+ghost use Rattle.std.specs.Prelude.{◌≡◌, ℕ, ◌<◌, [], ◌∷◌, ◌++◌, length, OnOk, OnErr, true, false, replicate, slice_index_or, slice_set};
 
 use memory::Memory;
 use std::alloc::Global;
 use std::marker::Model;
 
 /// A mark for each watch that has to be looked at again, and the marks of the levels below.
+///
+/// Beside the marks of the top it keeps a number before which none is set, so that most searches for one are short.
 #[derive(Drop)]
 pub struct Marks {
     older: Vec<Vec<bool>>,
     top: Vec<bool>,
+    first: usize,
+    ghost none_before: { (i : ℕ) → i < first → slice_index_or top.items i false ≡ false },
 }
 
 impl Model for Marks {
@@ -30,6 +34,7 @@ impl Marks {
         Marks {
             older: Vec::new(alloc),
             top: Vec::new(alloc),
+            first: 0,
         }
     }
 
@@ -51,6 +56,7 @@ impl Marks {
     pub fn reset(&mut self, count: usize) -> Result<(), Memory>
         ensures { OnOk result (self.new ≡ record { older = []; top = replicate count true }) }
     {
+        self.first = 0;
         self.older.clear();
         self.top.clear();
         self.top.resize(count, true)?;
@@ -65,11 +71,29 @@ impl Marks {
         self.top[i]
     }
 
+    /// A number before which no watch is marked.
+    pub fn first(&self) -> usize
+        ensures { (i : ℕ) → i < result → slice_index_or self.now.top i false ≡ false }
+    {
+        self.first
+    }
+
+    /// Keeps a number before which no watch is marked.
+    pub fn pass(&mut self, first: usize)
+        requires { (i : ℕ) → i < first → slice_index_or self.old.top i false ≡ false }
+        ensures { self.new ≡ self.old }
+    {
+        self.first = first;
+    }
+
     /// Marks a watch, or takes its mark away.
     pub fn put(&mut self, i: usize, marked: bool)
         requires { i < length self.old.top }
         ensures { self.new ≡ record self.old { top = slice_set self.old.top i marked } }
     {
+        if marked && i < self.first {
+            self.first = i;
+        }
         self.top[i] = marked;
     }
 
@@ -77,6 +101,7 @@ impl Marks {
     pub fn set_all(&mut self)
         ensures { self.new ≡ record self.old { top = replicate (length self.old.top) true } }
     {
+        self.first = 0;
         self.top.fill(true);
     }
 
@@ -95,6 +120,7 @@ impl Marks {
         requires { 0 < length self.old.older }
         ensures { self.old.older ≡ self.new.older ++ self.new.top ∷ [] }
     {
+        self.first = 0;
         if let Some(top) = self.older.pop() {
             self.top = top;
         }

@@ -182,8 +182,9 @@ pub fn ask<K: Keeper, W: Watcher<K>>(
     ensures kept { IsKept (W.watch w.now p.now.given) p.now.given (sets g.now) marks.old marks.new }
     ensures answer { IsAskedOf (W.watch w.now p.now.given) p.now.given (sets g.now) (W.count_of w.now p.now.given) result }
 {
-    for i in 0..marks.count() {
+    for i in marks.first()..marks.count() {
         if marks.is_set(i) {
+            marks.pass(i);
             if let Some(reason) = w.refuted(k, p, g, i) {
                 return Asked::Refuted(reason);
             }
@@ -194,5 +195,6 @@ pub fn ask<K: Keeper, W: Watcher<K>>(
             }
         }
     }
+    marks.pass(marks.count());
     Asked::Quiet
 }

@@ -30,17 +30,12 @@ use relax::refutes::refutes_inside;
 fn only_node(p: &Problem, set: &NodeSet) -> Option<NodeId>
     ensures { IfSome result (λ n. (n.0 < node_count p.now.given) × (has_node set.now ≡ one n.0)) }
 {
-    for i in 0..node_total(p) {
-        let n = NodeId(i as u32);
-        if set.has(n) {
-            return if *set == node_set(p, n) {
-                Some(n)
-            } else {
-                None
-            };
-        }
+    let n = set.first_from(0)?;
+    if (n.0 as usize) < node_total(p) && *set == node_set(p, n) {
+        Some(n)
+    } else {
+        None
     }
-    None
 }
 
 /// Whether it is seen that a reason does: the load of one node by the machines near it, all others exactly.

@@ -23,7 +23,7 @@ use reasons::reason::Reason;
 use relax::measures::end;
 use rule_frame::suggestion::Suggestion;
 use slices::slice::Weight;
-use standing::numbers::Standing;
+use standing::numbers::{NEVER, Standing};
 use standing::uses::{base, is_host};
 use std::alloc::Global;
 
@@ -37,74 +37,80 @@ struct Overload {
     reason: Reason,
 }
 
-/// What is spare of a resource on a node up to an instant, from the one after the entry before it on.
+/// What is spare of a resource on a node up to an instant, from the one after the entry before it on, and whether
+/// even what is surely used is too much.
 #[derive(Clone, Copy)]
 struct Spare {
     until: Instant,
     amount: u64,
+    lacks: bool,
 }
 
-// the periods of a node, from each change to the next
-fn periods(
+// what is spare of a resource on a node in each of its periods, from one change to the next
+fn spares(
     alloc: Global,
     p: &Problem,
     g: &Region,
     kept: Kept<'_>,
     n: NodeId,
-) -> Result<Vec<Period>, Memory>
-    requires region { IsSized p.now.given g.now }
-    requires kept { AreKeptAt p.now.given (sets g.now) n.0 kept.fixed.now kept.standings.now kept.near.now kept.firsts.now }
-    requires node { n.0 < node_count p.now.given }
-{
-    let mut periods = Vec::new(alloc);
-    let mut from = 0u64;
-    'periods: while from <= u64::from(p.horizon()) {
-        let next = next_change(p, g, kept, n, from);
-        periods.push(Period {
-            from: from as u32,
-            to: (next - 1) as u32,
-        })?;
-        from = next;
-    }
-    Ok(periods)
-}
-
-// what is spare of a resource on a node in each of its periods
-fn spares(
-    p: &Problem,
-    g: &Region,
-    kept: Kept<'_>,
-    n: NodeId,
     r: u8,
-    periods: &[Period],
-    spares: &mut Vec<Spare>,
-) -> Result<(), Memory>
+) -> Result<Vec<Spare>, Memory>
     requires region { IsSized p.now.given g.now }
     requires kept { AreKeptAt p.now.given (sets g.now) n.0 kept.fixed.now kept.standings.now kept.near.now kept.firsts.now }
     requires node { n.0 < node_count p.now.given }
     requires resource { r < length p.now.given.resources }
 {
-    spares.clear();
-    for i in 0..periods.len() {
-        let x = periods[i];
-        let amount = room_of(p, g, n, r, x).saturating_sub(most_used(p, g, kept, n, r, x));
+    let mut spares = Vec::new(alloc);
+    let mut from = 0u64;
+    'periods: while from <= u64::from(p.horizon()) {
+        let next = next_change(p, g, kept, n, from);
+        let x = Period {
+            from: from as u32,
+            to: (next - 1) as u32,
+        };
+        let room = room_of(p, g, n, r, x);
+        let used = most_used(p, g, kept, n, r, x);
         spares.push(Spare {
             until: x.to,
-            amount,
+            amount: room.saturating_sub(used),
+            lacks: used > room,
         })?;
+        from = next;
     }
-    Ok(())
+    Ok(spares)
 }
 
-// the last instant up to which an amount is more than is spare
-fn last_without(spares: &[Spare], amount: u64) -> Option<Instant> {
+// what is spare at all times
+fn least_spare(spares: &[Spare]) -> u64 {
+    let mut least = u64::MAX;
+    for spare in spares {
+        least = least.min(spare.amount);
+    }
+    least
+}
+
+// the last instant up to which too little is spare for an amount; from an instant on what is surely used has it already
+fn last_without(spares: &[Spare], amount: u64, there: u64) -> Option<Instant> {
     for i in 0..spares.len() {
         let spare = spares[spares.len() - 1 - i];
-        if spare.amount < amount {
+        let is_short = if u64::from(spare.until) < there {
+            spare.amount < amount
+        } else {
+            spare.lacks
+        };
+        if is_short {
             return Some(spare.until);
         }
     }
     None
+}
+
+// from when on what is surely used of a node has what a machine brings
+fn surely_there(k: Standing, node: NodeId) -> u64 {
+    match k.come {
+        Some(a) if a.node.0 == node.0 => u64::from(a.last),
+        _ => NEVER,
+    }
 }
 
 // the last instant up to which too little is spare for a machine, where it may come by then
@@ -124,7 +130,8 @@ fn comes_without(
     if !may_come(p, kept, g, machine, node, p.horizon()) {
         return None;
     }
-    let at = last_without(spares, p.demand(machine, r))?;
+    let there = surely_there(kept.standings[machine.0 as usize], node);
+    let at = last_without(spares, p.demand(machine, r), there)?;
     if kept.firsts[machine.0 as usize] <= at {
         Some(at)
     } else {
@@ -179,7 +186,10 @@ fn suggest_arrivals(
     requires resource { r < length p.now.given.resources }
 {
     let order = kept.fixed.order(p, r);
-    for i in 0..order.len() {
+    let scarce = least_spare(spares);
+    // what each before it brings is always spare
+    let first = order.partition_point(|x| x.most <= scarce);
+    for i in first..order.len() {
         let machine = order[i].machine;
         if let Some(at) = comes_without(p, g, kept, machine, node, r, spares) {
             suggest_arrival(p, g, machine, node, r, at, them)?;
@@ -266,25 +276,22 @@ fn are_known(p: &Problem, v: VmId, r: u8) -> bool
     (v.0 as usize) < p.cluster().machines().len() && (r as usize) < resource_total(p)
 }
 
-// the same of each resource
+// the same, by what is spare in each period of the node
 fn suggest_all_arrivals(
     p: &Problem,
     g: &Region,
     kept: Kept<'_>,
     node: NodeId,
+    r: u8,
     them: &mut Vec<Suggestion>,
 ) -> Result<(), Memory>
     requires region { IsSized p.now.given g.now }
     requires kept { AreKeptAt p.now.given (sets g.now) node.0 kept.fixed.now kept.standings.now kept.near.now kept.firsts.now }
     requires node { node.0 < node_count p.now.given }
+    requires resource { r < length p.now.given.resources }
 {
-    let periods = periods(*them.allocator(), p, g, kept, node)?;
-    let mut spare = Vec::with_capacity(*them.allocator(), periods.len())?;
-    for r in 0..resource_total(p) {
-        spares(p, g, kept, node, r as u8, periods.as_slice(), &mut spare)?;
-        suggest_arrivals(p, g, kept, spare.as_slice(), node, r as u8, them)?;
-    }
-    Ok(())
+    let spares = spares(*them.allocator(), p, g, kept, node, r)?;
+    suggest_arrivals(p, g, kept, spares.as_slice(), node, r, them)
 }
 
 // whether a part is of a place that is the node
@@ -327,7 +334,7 @@ pub(crate) fn suggest_on(
         reason: found.reason,
     };
     if is_at(found.part, node) {
-        suggest_all_arrivals(p, g, kept, node, them)
+        suggest_all_arrivals(p, g, kept, node, resource, them)
     } else {
         suggest_departures(p, g, kept.standings, over, them)
     }

@@ -31,6 +31,17 @@ least_stays f lost d old x fewer was some less =
     by None e = absurd (omega (arith, e))
     by (Some a) e = omega (arith, e)
 
+-- what is left gives the least value still
+pub least_met : (f : Choice → ℕ) (lost : Lost) (d : DomainView) (old x : ℕ) (c : Choice) → AreFewer (choices d) (choices (restored lost d)) → old ≡ least f (choices (restored lost d)) → lowest f (lost_choices lost) ≡ Some x →
+    Contains (choices d) c → f c ≤ old → old ≡ least f (choices d)
+least_met f lost d old x c fewer was some there low =
+    let both : lowest f (choices (restored lost d)) ≡ lower_option (lowest f (choices d)) (Some x) = rw some at (lowest_before f lost d fewer) in
+    by (choices d) there (least_of_each f (choices d) c there) (was ∙ ap (λ o. unwrap_or o 0) both)
+  where
+    by : (cs : List Choice) → Contains cs c → least f cs ≤ f c → old ≡ unwrap_or (lower_option (lowest f cs) (Some x)) 0 → old ≡ least f cs
+    by [] h most e = absurd (omega (arith, h.1))
+    by (a ∷ cs) h most e = omega (arith, most, e, low)
+
 -- no choice that is left gives less than the least of all before
 pub floor_before : (f : Choice → ℕ) (lost : Lost) (d : DomainView) (old : ℕ) → AreFewer (choices d) (choices (restored lost d)) → old ≡ least f (choices (restored lost d)) → (c : Choice) → Contains (choices d) c → old ≤ f c
 floor_before f lost d old fewer was c there = omega (arith, was, least_of_each f (choices (restored lost d)) c (fewer c there))

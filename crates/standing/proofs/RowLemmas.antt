@@ -1,6 +1,6 @@
 -- Where all choices of a domain go, by its rows.
-use Rattle.std.proofs.Common.{◌≡◌, ℕ, zero, suc, ◌+◌, ◌-◌, ◌<◌, ◌≤◌, Bool, true, false, ◌&&◌, ◌==◌, nat_le, cond, Option, Some, None, List, [], ◌∷◌, ◌++◌, length, slice_index_or, refl, sym, ap, ◌∙◌, arith}
-use Rattle.std.specs.List.{filter, flat_map}
+use Rattle.std.proofs.Common.{◌≡◌, inl, ℕ, zero, suc, ◌+◌, ◌-◌, ◌<◌, ◌≤◌, Bool, true, false, ◌&&◌, ◌==◌, nat_le, cond, Option, Some, None, List, [], ◌∷◌, ◌++◌, length, slice_index_or, refl, sym, ap, ◌∙◌, arith}
+use Rattle.std.specs.List.{Contains, filter, flat_map}
 use Rattle.std.proofs.lemmas.Bool.{false≢true}
 use Rattle.std.proofs.lemmas.Bool.Decides.{Decides-eqb, nat_tests}
 use Rattle.cluster.specs.declared.choices.Choice.{Choice}
@@ -10,9 +10,10 @@ use Rattle.cluster.specs.declared.choices.Place.TheVariants.{Nowhere, At}
 use Rattle.cluster.specs.declared.ids.NodeId.{NodeId}
 use Rattle.slices.specs.Stages.{one}
 use Rattle.domains.specs.declared.parts.Row.{Row}
-use Rattle.domains.specs.Choices.{Climbs, DomainView, choices, place_index, row_choices, starts_from}
+use Rattle.domains.specs.Choices.{Climbs, DomainView, choices, no_row, place_index, row_choices, starts_from}
 use Rattle.domains.specs.Parts.{stays}
 use Rattle.domains.specs.Sets.{surely}
+use Rattle.reasons.proofs.Public.{ends_of_rows}
 use Rattle.standing.specs.declared.numbers.Arrival.{Arrival}
 use Rattle.standing.specs.Standings.{comes_by, has_come, have_come}
 
@@ -114,3 +115,8 @@ come_idle d idle n t = rw idle refl
 pub all_stay : (cs : List Choice) → filter (stays None) cs ≡ cs
 all_stay [] = refl
 all_stay (c ∷ cs) = ap (λ xs. c ∷ xs) (all_stay cs)
+
+-- the first start of a row is one of the choices
+pub first_there : (d : DomainView) (rows : List Row) (i : ℕ) → rows ≡ d.rows → Climbs 0 rows → i < length rows → Contains (choices d) (Act (slice_index_or rows i no_row).place (slice_index_or rows i no_row).lo)
+first_there d rows i same climbs low =
+    rw same ((ends_of_rows d (rw same at climbs) (Act (slice_index_or d.rows i no_row).place (slice_index_or d.rows i no_row).lo)).1 (i, rw same at low, refl, inl refl)).0

@@ -239,8 +239,41 @@ pub fn standing_of(p: &Problem, v: VmId, domain: &Domain) -> Standing
     }
 }
 
+// the first start at the last place of a domain, if it has one
+fn last_place(domain: &Domain) -> Option<Choice>
+    ensures { IfSome result (λ c. Contains (choices domain.now) c) }
+{
+    let rows = domain.rows();
+    let count = rows.len();
+    if count == 0 {
+        return None;
+    }
+    let row = rows[count - 1];
+    Some(Choice::Act {
+        place: row.place,
+        start: row.lo,
+    })
+}
+
+// whether a choice at the last place gives the host up by a number: where place after place is taken away, that one stands longest
+fn is_left_by(p: &Problem, v: VmId, leaves: Option<Leaves>, domain: &Domain, by: u64) -> bool
+    requires machine { IsElement p.now.given (Element.Vm v) }
+    requires leaves { IfSome leaves (AreLeaves p.now.given v.0) }
+    ensures { IsTrue result → (c : AnyChoice) × Contains (choices domain.now) c × (leave_of p.now.given v.0 c ≤ by) }
+{
+    let leaving = Leaving {
+        problem: p,
+        machine: v,
+        leaves,
+    };
+    match last_place(domain) {
+        None => false,
+        Some(c) => leaving.value(c) <= by,
+    }
+}
+
 // until when each choice keeps the host, where it was `old` before some were lost; no row is read where those
-// that were lost keep it longer
+// that were lost keep it longer, and one where the last one gives it up as soon
 #[tactic(auto, using(crate::proofs::BeforeLemmas::least_kept, crate::proofs::BeforeLemmas::least_stays))]
 fn leave_after(p: &Problem, v: VmId, domain: &Domain, lost: Lost, old: u64) -> u64
     requires machine { IsElement p.now.given (Element.Vm v) }
@@ -248,18 +281,23 @@ fn leave_after(p: &Problem, v: VmId, domain: &Domain, lost: Lost, old: u64) -> u
     requires was { old ≡ least (leave_of p.now.given v.0) (choices (restored lost domain.now)) }
     ensures { result ≡ least (leave_of p.now.given v.0) (choices domain.now) }
 {
+    let leaves = leaves_of(p, v);
     let leaving = Leaving {
         problem: p,
         machine: v,
-        leaves: leaves_of(p, v),
+        leaves,
     };
     match lowest_lost(lost, &leaving) {
         None => old,
-        Some(first) => if old < first {
-            old
-        } else {
+        Some(first) => {
+            if old < first {
+                return old;
+            }
+            if is_left_by(p, v, leaves, domain, old) {
+                return old;
+            }
             leave_from(p, v, domain, old)
-        },
+        }
     }
 }
 

@@ -8,7 +8,7 @@ pub loop-i-preserved : goal.loop-i-preserved
 loop-i-preserved g c =
     elim c.if-is_set.branch [
       | then-is_set+in_default+in-Clean w ↦
-          rw (w.marks-is, w.put.ensures)
+          rw (w.marks-is, w.put.ensures, w.pass.ensures)
           (settled_clean (g.W.Watcher.watch c.args.w.now c.args.p.now.given) c.args.p.now.given (sets c.args.g.now) c.loop-i.i c.args.marks.now c.loop-i.marks c.loop-i.invariant
           (omega (arith, c.loop-i-test.true, c.count-i-end.ensures, c.loop-i.invariant.kept.count)) w.in-Clean.ensures)
       | else-is_set w ↦

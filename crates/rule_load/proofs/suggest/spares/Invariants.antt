@@ -1,5 +1,5 @@
 use Rattle.std.proofs.Common.{◌+◌, ◌-◌, ◌≤◌}
-use Rattle.rule_load.proofs.suggest.periods.Given as goal
+use Rattle.rule_load.proofs.suggest.spares.Given as goal
 
 abbrev pub invariant-periods : goal.invariant-periods
 invariant-periods l = l.from ≤ l.p.given.horizon + 1
