@@ -211,7 +211,7 @@ def measured(room, given, is_strict, limit):
         json.dump(given, it)
     line, planned = seconds(["plan", *paths], limit)
     if line == "given up":
-        return [line, "", "", "", f"{planned:.2f}", "", "", ""]
+        return [line, "", "", "", f"{planned:.3f}", "", "", ""]
     verdict, checked = seconds(["check", *paths], limit)
     strict = ""
     if is_strict:
@@ -220,7 +220,7 @@ def measured(room, given, is_strict, limit):
     if not verdict.startswith("yes"):
         line = f"{line}, but check: {verdict}"
     decides, cuts, size = counted(paths[2])
-    return [line, f"{decides:,}", f"{cuts:,}", f"{size:,}", f"{planned:.2f}", f"{checked:.2f}", strict,
+    return [line, f"{decides:,}", f"{cuts:,}", f"{size:,}", f"{planned:.3f}", f"{checked:.3f}", strict,
             peak(["plan", *paths])]
 
 
