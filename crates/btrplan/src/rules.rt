@@ -7,14 +7,14 @@ use crate::run::run;
 use crate::status::Status;
 use branching::brancher::Brancher;
 use branching::stay_first::StayFirst;
-use constraint_rules::rules::{GroupRule, PairRule, PlaceRule, SetRule, UsableRule};
+use constraint_rules::rules::{ForbiddenRule, GroupRule, PairRule, PlaceRule, SetRule};
 use memory::Memory;
 use plan_io::{Desk, Sink, Source};
 use prop_core::propagator::Propagator;
 use rule_load::rule::load_rule;
 use std::alloc::Global;
 
-/// Runs with the six rules and a brancher, where there is memory for the rules.
+/// Runs with the five rules, forbidden places before all else, and a brancher, where there is memory for the rules.
 fn run_boxed<D: Desk, I: Source, O: Sink>(
     alloc: Global,
     words: &[String],
@@ -26,18 +26,18 @@ fn run_boxed<D: Desk, I: Source, O: Sink>(
     requires names { MayRun D.reads D.writes (asked words.now) }
 {
     let mut rules: Vec<Box<dyn Propagator>> = Vec::new(alloc);
-    // The first that answers ends a round, so those that look at least come first. Where machines may not be is seen once and
-    // for all, and much else need not be looked at after it.
-    rules.push(Box::new(alloc, PlaceRule::new(alloc))?)?;
+    // The first that answers ends a round, so those that look at least come first. A place that is forbidden is cut for good,
+    // and then fewer loads are to be looked at.
+    rules.push(Box::new(alloc, ForbiddenRule::new(alloc))?)?;
     rules.push(Box::new(alloc, load_rule(alloc))?)?;
-    rules.push(Box::new(alloc, UsableRule::new(alloc))?)?;
+    rules.push(Box::new(alloc, PlaceRule::new(alloc))?)?;
     rules.push(Box::new(alloc, PairRule::new(alloc))?)?;
     rules.push(Box::new(alloc, SetRule::new(alloc))?)?;
     rules.push(Box::new(alloc, GroupRule::new(alloc))?)?;
     Ok(run(alloc, words, desk, input, out, rules, brancher))
 }
 
-/// Runs with the six rules and a brancher; `Memory` where there is no memory for the rules.
+/// Runs with the five rules and a brancher; `Memory` where there is no memory for the rules.
 pub fn run_with<D: Desk, I: Source, O: Sink>(
     alloc: Global,
     words: &[String],
@@ -54,7 +54,7 @@ pub fn run_with<D: Desk, I: Source, O: Sink>(
     }
 }
 
-/// Runs with the six rules and the brancher of the program; `Memory` where there is no memory for them.
+/// Runs with the five rules and the brancher of the program; `Memory` where there is no memory for them.
 pub fn run_by_rules<D: Desk, I: Source, O: Sink>(
     alloc: Global,
     words: &[String],

@@ -16,7 +16,7 @@ pair_kinds Power = false
 pair_kinds Usable = false
 pair_kinds Hall = false
 
--- machines where a constraint lets them not be
+-- machines where a constraint lets them not be, or where the node is not usable
 abbrev pub place_kinds : ReasonKind → Bool
 place_kinds Empty = false
 place_kinds Bound = false
@@ -26,21 +26,21 @@ place_kinds Place = true
 place_kinds Group = false
 place_kinds SetLoad = false
 place_kinds Power = false
-place_kinds Usable = false
+place_kinds Usable = true
 place_kinds Hall = false
 
--- machines where the node is not usable
-abbrev pub usable_kinds : ReasonKind → Bool
-usable_kinds Empty = false
-usable_kinds Bound = false
-usable_kinds Load = false
-usable_kinds Pair = false
-usable_kinds Place = false
-usable_kinds Group = false
-usable_kinds SetLoad = false
-usable_kinds Power = false
-usable_kinds Usable = true
-usable_kinds Hall = false
+-- machines where a constraint lets them not be
+abbrev pub forbidden_kinds : ReasonKind → Bool
+forbidden_kinds Empty = false
+forbidden_kinds Bound = false
+forbidden_kinds Load = false
+forbidden_kinds Pair = false
+forbidden_kinds Place = true
+forbidden_kinds Group = false
+forbidden_kinds SetLoad = false
+forbidden_kinds Power = false
+forbidden_kinds Usable = false
+forbidden_kinds Hall = false
 
 -- constraints on whole groups of machines
 abbrev pub group_kinds : ReasonKind → Bool

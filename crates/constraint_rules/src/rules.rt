@@ -1,6 +1,6 @@
-//! The five rules of constraints.
+//! The four rules of constraints, and a part of one of them that is worth asking first.
 ghost use Rattle.std.specs.Prelude.{refl};
-ghost use Rattle.constraint_rules.specs.Covers.{group_kinds, pair_kinds, place_kinds, set_kinds, usable_kinds};
+ghost use Rattle.constraint_rules.specs.Covers.{forbidden_kinds, group_kinds, pair_kinds, place_kinds, set_kinds};
 
 use crate::amounts::{AmountKeeper, AmountWatcher};
 use crate::watcher::{ConstraintWatcher, Kinds};
@@ -22,7 +22,7 @@ impl Kinds for Pairs {
     ghost no_loads = { λ k. refl };
 }
 
-/// Machines on nodes where they may not be: `ban`, `fence`, `root`.
+/// Machines on nodes where they may not be: `ban`, `fence`, `root`; and on nodes that are not usable.
 #[derive(Clone, Copy, Default)]
 pub struct Places;
 
@@ -30,21 +30,21 @@ impl Kinds for Places {
     ghost kinds = { λ k. place_kinds };
 
     fn covers(&self, kind: ReasonKind) -> bool {
-        matches!(kind, ReasonKind::Place)
+        matches!(kind, ReasonKind::Place | ReasonKind::Usable)
     }
 
     ghost no_loads = { λ k. refl };
 }
 
-/// Machines on nodes that are not usable.
+/// Machines on nodes where they may not be, alone.
 #[derive(Clone, Copy, Default)]
-pub struct Usables;
+pub struct ForbiddenPlaces;
 
-impl Kinds for Usables {
-    ghost kinds = { λ k. usable_kinds };
+impl Kinds for ForbiddenPlaces {
+    ghost kinds = { λ k. forbidden_kinds };
 
     fn covers(&self, kind: ReasonKind) -> bool {
-        matches!(kind, ReasonKind::Usable)
+        matches!(kind, ReasonKind::Place)
     }
 
     ghost no_loads = { λ k. refl };
@@ -81,11 +81,12 @@ impl Kinds for Sets {
 /// The rule of the constraints that keep machines apart.
 pub type PairRule = Rule<ConstraintWatcher<Pairs>, ConstraintIndex>;
 
-/// The rule of the constraints on where machines may be.
+/// The rule of the constraints on where machines may be, and of nodes that are needed.
 pub type PlaceRule = Rule<ConstraintWatcher<Places>, ConstraintIndex>;
 
-/// The rule of nodes that are needed.
-pub type UsableRule = Rule<ConstraintWatcher<Usables>, ConstraintIndex>;
+/// The part of `PlaceRule` that looks at no node: a place that is forbidden is cut for good, so a caller may ask for
+/// those before all else.
+pub type ForbiddenRule = Rule<ConstraintWatcher<ForbiddenPlaces>, ConstraintIndex>;
 
 /// The rule of the constraints on whole groups of machines.
 pub type GroupRule = Rule<ConstraintWatcher<Groups>, ConstraintIndex>;

@@ -9,7 +9,7 @@ mod standard;
 
 use cases::{CASES, Case};
 use catalogue::problem::Problem;
-use constraint_rules::rules::{GroupRule, PairRule, PlaceRule, SetRule, UsableRule};
+use constraint_rules::rules::{GroupRule, PairRule, PlaceRule, SetRule};
 use driving::run;
 use instance_json::read_instance;
 use plain::closed_plainly;
@@ -75,7 +75,6 @@ fn rules_close_regions(rt: HostRuntime) -> Result<(), Fail> {
     let mut rules: Vec<Box<dyn Propagator>> = Vec::new(alloc);
     rules.push(Box::new(alloc, PairRule::new(alloc))?)?;
     rules.push(Box::new(alloc, PlaceRule::new(alloc))?)?;
-    rules.push(Box::new(alloc, UsableRule::new(alloc))?)?;
     rules.push(Box::new(alloc, GroupRule::new(alloc))?)?;
     rules.push(Box::new(alloc, SetRule::new(alloc))?)?;
     rules.push(Box::new(alloc, load_rule(alloc))?)?;
