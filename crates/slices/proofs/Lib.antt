@@ -3,6 +3,7 @@ pub mod Public
 mod DurationLemmas
 mod PlaceLemmas
 mod HoldingLemmas
+mod FormLemmas
 mod FewerLemmas
 mod PartLemmas
 mod PlanLemmas

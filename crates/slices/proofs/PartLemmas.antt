@@ -7,7 +7,6 @@ use Rattle.cluster.specs.declared.choices.Choice.{Choice}
 use Rattle.cluster.specs.declared.choices.Choice.TheVariants.{Idle, Act}
 use Rattle.cluster.specs.Inventory.{is_online}
 use Rattle.catalogue.specs.declared.constraint.Constraint.{Constraint}
-use Rattle.catalogue.specs.declared.constraint.Constraint.TheVariants.{Spread, Ban, Fence, Gather, Lonely, Among, Split, Root, Precedence, Serialize, Preserve, ResourceCapacity, RunningCapacity, MaxOnline, Overbook, Online, Offline, Running, Sleeping, Ready, Killed}
 use Rattle.catalogue.specs.Instance.{Instance}
 use Rattle.catalogue.specs.Values.{continuous_at}
 use Rattle.slices.specs.declared.rule.Rule.{Rule}
@@ -21,7 +20,8 @@ use Rattle.slices.specs.declared.stage.Stage.{Stage}
 use Rattle.slices.specs.declared.slice.Weight.{Weight}
 use Rattle.slices.specs.declared.slice.Weight.TheVariants.{Amount, Presence, Image}
 use Rattle.slices.specs.Elements.{machine_count, node, vm}
-use Rattle.slices.specs.Fewer.{IsLessFor}
+use Rattle.slices.specs.Fewer.{IsLessForForm, IsLessSeparated}
+use Rattle.slices.specs.Forms.{Form, Apart, Allowed, Together, Ordered, InTurn, Bounded, Powered, Settled, Separation, Each, Between, FromOthers, form_of}
 use Rattle.slices.specs.Parts.{ExecutionKeeps, IsPartOf, PartsKeep, StagePartsArePart}
 use Rattle.slices.specs.Rules.{IsValid, Keeps}
 use Rattle.slices.specs.Snapshots.{Snapshot, held_by, snapshot, snapshot_at, stages_at}
@@ -48,35 +48,27 @@ or-part false b false d f g x = g x
 
 -- ---- a part keeps
 
-less_for-part : (p : Instance) (s big : Snapshot) → IsPartOf s big → (c : Constraint) → IsLessFor p c s big
-less_for-part p s big part (Spread vs b) = λ v i m. part.present v
-less_for-part p s big part (Ban vs ns b) = λ v i m. part.present v
-less_for-part p s big part (Fence vs ns b) = λ v i m. part.present v
-less_for-part p s big part (Gather vs b) = λ v i m. part.present v
-less_for-part p s big part (Lonely vs b) = λ v i. part.present v
-less_for-part p s big part (Among vs groups b) = λ v i m. part.present v
-less_for-part p s big part (Split parts b) = λ i v l m. part.present v
-less_for-part p s big part (Root vs) = λ v i m. part.present v
-less_for-part p s big part (Precedence before after) = (part.action after.0 Started, part.action before.0 Unended)
-less_for-part p s big part (Serialize vs) = λ v i m. part.action v Acting
-less_for-part p s big part (ResourceCapacity ns r amount b) = λ v i. part.held v (Amount r)
-less_for-part p s big part (RunningCapacity ns amount b) = λ v i. part.held v Presence
-less_for-part p s big part (MaxOnline ns amount b) = λ n i m. part.powered n
-less_for-part p s big part (Preserve vs r amount) = tt
-less_for-part p s big part (Overbook ns r num den) = tt
-less_for-part p s big part (Online ns) = tt
-less_for-part p s big part (Offline ns) = tt
-less_for-part p s big part (Running vs) = tt
-less_for-part p s big part (Sleeping vs) = tt
-less_for-part p s big part (Ready vs) = tt
-less_for-part p s big part (Killed vs) = tt
+less_apart-part : (p : Instance) (s big : Snapshot) → IsPartOf s big → (separation : Separation) → IsLessSeparated p separation s big
+less_apart-part p s big part (Each vs) = λ v i m. part.present v
+less_apart-part p s big part (Between parts) = λ i v l m. part.present v
+less_apart-part p s big part (FromOthers vs) = λ v i. part.present v
+
+less_for-part : (p : Instance) (s big : Snapshot) → IsPartOf s big → (f : Form) → IsLessForForm p f s big
+less_for-part p s big part (Apart separation) = less_apart-part p s big part separation
+less_for-part p s big part (Allowed vs places) = λ v i m. part.present v
+less_for-part p s big part (Together vs groups) = λ v i m. part.present v
+less_for-part p s big part (Ordered before after) = (part.action after.0 Started, part.action before.0 Unended)
+less_for-part p s big part (InTurn vs) = λ v i m. part.action v Acting
+less_for-part p s big part (Bounded weight ns amount) = λ v i. part.held v weight
+less_for-part p s big part (Powered ns amount) = λ n i m. part.powered n
+less_for-part p s big part Settled = tt
 
 pub parts_keep : PartsKeep
 parts_keep p s big part last (Load n r) h =
     omega (arith, sum_to-le (machine_count p) (λ v. s.held v (Amount r) (one n.0)) (λ v. big.held v (Amount r) (one n.0)) (λ v i. part.held v (Amount r) (one n.0)), h)
 parts_keep p s big part last (Usable v n) h =
     λ x. part.usable n.0 (h (or-part _ _ _ _ (part.present v.0 (one n.0)) (positive_above _ _ (part.held v.0 Image (one n.0))) x))
-parts_keep p s big part last (OfConstraint c) h = λ a k e. less_holds p s big k (less_for-part p s big part k) (h a k e)
+parts_keep p s big part last (OfConstraint c) h = λ a k e. less_holds p s big k (less_for-part p s big part (form_of k)) (h a k e)
 
 -- ---- where less has started and more has ended, there is only less
 

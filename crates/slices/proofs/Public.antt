@@ -1,6 +1,7 @@
 -- What crates above may cite: the laws, by the names of their statements in specs/.
 pub use Rattle.slices.proofs.DurationLemmas.{durations_last, ends_by_duration, legal_acts_last, legal_earlier}
 pub use Rattle.slices.proofs.PlanLemmas.{legal_is_plan, over_as_planned}
+pub use Rattle.slices.proofs.FormLemmas.{sound_form}
 pub use Rattle.slices.proofs.FewerLemmas.{less_holds}
 pub use Rattle.slices.proofs.PartLemmas.{execution_keeps, parts_keep, stage_parts_are_part}
 pub use Rattle.slices.proofs.FirstLemmas.{first_is_one}

@@ -13,7 +13,6 @@ use Rattle.cluster.specs.declared.ids.Element.TheVariants.{Vm, Node as TheNode}
 use Rattle.cluster.specs.declared.ids.VmId.{VmId}
 use Rattle.cluster.specs.Inventory.{is_online}
 use Rattle.catalogue.specs.declared.constraint.Constraint.{Constraint}
-use Rattle.catalogue.specs.declared.constraint.Constraint.TheVariants.{Spread, Ban, Fence, Gather, Lonely, Among, Split, Root, Precedence, Serialize, Preserve, ResourceCapacity, RunningCapacity, MaxOnline, Overbook, Online, Offline, Running, Sleeping, Ready, Killed}
 use Rattle.catalogue.specs.Faults.{all_of, is_member}
 use Rattle.catalogue.specs.Instance.{Instance, IsElement}
 use Rattle.slices.specs.declared.rule.Rule.{Rule}
@@ -24,13 +23,14 @@ use Rattle.slices.specs.declared.slice.Weight.{Weight}
 use Rattle.slices.specs.declared.slice.Weight.TheVariants.{Amount, Presence, Image}
 use Rattle.slices.specs.Actions.{action_duration, choice_duration}
 use Rattle.slices.specs.Elements.{machine_count, node_count, node, vm}
-use Rattle.slices.specs.Fewer.{IsLessFor}
+use Rattle.slices.specs.Fewer.{IsLessForForm, IsLessSeparated}
+use Rattle.slices.specs.Forms.{Form, Apart, Allowed, Together, Ordered, InTurn, Bounded, Powered, Settled, Separation, Each, Between, FromOthers, form_of}
 use Rattle.slices.specs.Holds.{Holds}
 use Rattle.slices.specs.Plans.{Choices, IsPlanOf, PlanChoices, choices_of}
 use Rattle.slices.specs.Rules.{Keeps}
 use Rattle.slices.specs.Snapshots.{action_at, held_at, powered_at, snapshot, snapshot_at, stage_at, stages_at, usable_at}
 use Rattle.slices.specs.Stages.{Nodes, one, stage_of}
-use Rattle.slices.specs.Starts.{ActionQuiet, HeldQuiet, IsQuiet, KeepsQuiet, MattersQuiet, PoweredQuiet, UsableQuiet, matters}
+use Rattle.slices.specs.Starts.{ActionQuiet, HeldQuiet, IsQuiet, KeepsQuiet, MattersQuiet, PoweredQuiet, UsableQuiet, machine_matters, matters, node_matters, separation_matters}
 use Rattle.slices.proofs.FewerLemmas.{less_holds}
 use Rattle.slices.proofs.PartLemmas.{held_by-part, not-part, or-part, powered_of-part, progress_of-part, usable_of-part}
 
@@ -114,32 +114,23 @@ module _ (p : Instance) (plan : Choices) (u t : ℕ) (l : u ≤ t) where
   unfolding snapshot stages_at action_at
   unended-then v = unended-earlier p v u t (plan (vm v)) l
 
-  less_for-quiet : (c : Constraint) → ((e : Element) → IsTrue (matters c e) → IsQuiet (plan e) u t) → IsLessFor p c (snapshot_at p plan t) (snapshot_at p plan u)
-  less_for-quiet (Spread vs b) q = λ v i m. present-then v (q (vm v) m)
-  less_for-quiet (Ban vs ns b) q = λ v i m. present-then v (q (vm v) m)
-  less_for-quiet (Fence vs ns b) q = λ v i m. present-then v (q (vm v) m)
-  less_for-quiet (Gather vs b) q = λ v i m. present-then v (q (vm v) m)
-  less_for-quiet (Lonely vs b) q = λ v i. present-then v (q (vm v) refl)
-  less_for-quiet (Among vs groups b) q = λ v i m. present-then v (q (vm v) m)
-  less_for-quiet (Split parts b) q = λ j v i m. present-then v (q (vm v) (part-listed parts j v m))
-  less_for-quiet (Root vs) q = λ v i m. present-then v (q (vm v) m)
-  less_for-quiet (Precedence before after) q =
-      (action-then after.0 (q (vm after.0) (same-number after.0)) Started, unended-then before.0)
-  less_for-quiet (Serialize vs) q = λ v i m. action-then v (q (vm v) m) Acting
-  less_for-quiet (ResourceCapacity ns r amount b) q = λ v i. held-then v (q (vm v) refl) (Amount r)
-  less_for-quiet (RunningCapacity ns amount b) q = λ v i. held-then v (q (vm v) refl) Presence
-  less_for-quiet (MaxOnline ns amount b) q = λ n i m. powered-then n (q (node n) m)
-  less_for-quiet (Preserve vs r amount) q = tt
-  less_for-quiet (Overbook ns r num den) q = tt
-  less_for-quiet (Online ns) q = tt
-  less_for-quiet (Offline ns) q = tt
-  less_for-quiet (Running vs) q = tt
-  less_for-quiet (Sleeping vs) q = tt
-  less_for-quiet (Ready vs) q = tt
-  less_for-quiet (Killed vs) q = tt
+  less_apart-quiet : (separation : Separation) → ((v : ℕ) → IsTrue (separation_matters separation v) → IsQuiet (plan (vm v)) u t) → IsLessSeparated p separation (snapshot_at p plan t) (snapshot_at p plan u)
+  less_apart-quiet (Each vs) q = λ v i m. present-then v (q v m)
+  less_apart-quiet (Between parts) q = λ j v i m. present-then v (q v (part-listed parts j v m))
+  less_apart-quiet (FromOthers vs) q = λ v i. present-then v (q v refl)
+
+  less_for-quiet : (f : Form) → ((v : ℕ) → IsTrue (machine_matters f v) → IsQuiet (plan (vm v)) u t) → ((n : ℕ) → IsTrue (node_matters f n) → IsQuiet (plan (node n)) u t) → IsLessForForm p f (snapshot_at p plan t) (snapshot_at p plan u)
+  less_for-quiet (Apart separation) q r = less_apart-quiet separation q
+  less_for-quiet (Allowed vs places) q r = λ v i m. present-then v (q v m)
+  less_for-quiet (Together vs groups) q r = λ v i m. present-then v (q v m)
+  less_for-quiet (Ordered before after) q r = (action-then after.0 (q after.0 (same-number after.0)) Started, unended-then before.0)
+  less_for-quiet (InTurn vs) q r = λ v i m. action-then v (q v m) Acting
+  less_for-quiet (Bounded weight ns amount) q r = λ v i. held-then v (q v refl) weight
+  less_for-quiet (Powered ns amount) q r = λ n i m. powered-then n (r n m)
+  less_for-quiet Settled q r = tt
 
   holds-quiet : (c : Constraint) → ((e : Element) → IsTrue (matters c e) → IsQuiet (plan e) u t) → Holds p (snapshot_at p plan u) c → Holds p (snapshot_at p plan t) c
-  holds-quiet c q = less_holds p (snapshot_at p plan t) (snapshot_at p plan u) c (less_for-quiet c q)
+  holds-quiet c q = less_holds p (snapshot_at p plan t) (snapshot_at p plan u) c (less_for-quiet (form_of c) (λ v m. q (vm v) m) (λ n m. q (node n) m))
 
   keeps-quiet : ((e : Element) → IsQuiet (plan e) u t) → (last : Bool) (r : Rule) → Keeps p (snapshot_at p plan u) last r → Keeps p (snapshot_at p plan t) last r
   keeps-quiet q last (Load n r) h =

@@ -4,6 +4,7 @@ pub mod Actions
 pub mod Plans
 pub mod Stages
 pub mod Snapshots
+pub mod Forms
 pub mod Holds
 pub mod Rules
 pub mod Costs

@@ -70,9 +70,13 @@ action_at p v far t c = progress_of far c (stage_at p (vm v) c t)
 
 -- ---- sums over a snapshot
 
+-- what all machines hold on the nodes of a set
+abbrev pub total : Instance → Snapshot → Weight → Nodes → ℕ
+total p s w set = sum_to (machine_count p) (λ v. s.held v w set)
+
 -- the uses of a resource on the nodes of a set
 abbrev pub load : Instance → Snapshot → ℕ → Nodes → ℕ
-load p s r set = sum_to (machine_count p) (λ v. s.held v (Amount r) set)
+load p s r set = total p s (Amount r) set
 
 -- the capacities for a resource of the usable nodes of a set
 abbrev pub room : Instance → Snapshot → ℕ → Nodes → ℕ
@@ -80,7 +84,7 @@ room p s r set = sum_to (node_count p) (λ n. if set n then (if s.usable n then 
 
 -- the number of presences on the nodes of a set
 abbrev pub presences : Instance → Snapshot → Nodes → ℕ
-presences p s set = sum_to (machine_count p) (λ v. s.held v Presence set)
+presences p s set = total p s Presence set
 
 -- the number of powered nodes of a set
 abbrev pub powered_nodes : Instance → Snapshot → Nodes → ℕ

@@ -7,12 +7,12 @@ use Rattle.cluster.specs.declared.ids.Element.{Element}
 use Rattle.cluster.specs.declared.ids.Element.TheVariants.{Vm, Node as TheNode}
 use Rattle.cluster.specs.Sets.{has_node}
 use Rattle.catalogue.specs.declared.constraint.Constraint.{Constraint}
-use Rattle.catalogue.specs.declared.constraint.Constraint.TheVariants.{Spread, Ban, Fence, Gather, Lonely, Among, Split, Root, Precedence, Serialize, Preserve, ResourceCapacity, RunningCapacity, MaxOnline, Overbook, Online, Offline, Running, Sleeping, Ready, Killed}
-use Rattle.catalogue.specs.Faults.{is_member, machines_in}
+use Rattle.catalogue.specs.Faults.{all_of, is_member}
 use Rattle.catalogue.specs.Instance.{Instance, IsElement}
 use Rattle.slices.specs.declared.rule.Rule.{Rule}
 use Rattle.slices.specs.declared.stage.Progress.{Progress}
 use Rattle.slices.specs.declared.slice.Weight.{Weight}
+use Rattle.slices.specs.Forms.{Form, Apart, Allowed, Together, Ordered, InTurn, Bounded, Powered, Settled, Separation, Each, Between, FromOthers, form_of}
 use Rattle.slices.specs.Holds.{Holds}
 use Rattle.slices.specs.Plans.{Choices, IsPlanOf, PlanChoices, choices_of}
 use Rattle.slices.specs.Rules.{Keeps}
@@ -54,43 +54,38 @@ ActionQuiet =
 
 -- ---- all choices
 
--- whether a start of the element can break the constraint: one of a machine that it lists, where it speaks of presences or actions of
--- those alone; of any machine, for a lonely and the two capacities; of the machine that acts after; of a node that a maxOnline lists
+-- whether a start of a machine can break what keeps machines apart: one of those, or any machine where others are kept off
+abbrev pub separation_matters : Separation → ℕ → Bool
+separation_matters (Each vs) v = is_member vs v
+separation_matters (Between parts) v = is_member (all_of parts) v
+separation_matters (FromOthers vs) v = true
+
+-- whether a start of a machine can break a form: one of a member, of any machine where it holds an amount, of the machine that acts after
+abbrev pub machine_matters : Form → ℕ → Bool
+machine_matters (Apart separation) v = separation_matters separation v
+machine_matters (Allowed vs places) v = is_member vs v
+machine_matters (Together vs groups) v = is_member vs v
+machine_matters (Ordered before after) v = v == after.0
+machine_matters (InTurn vs) v = is_member vs v
+machine_matters (Bounded weight ns amount) v = true
+machine_matters (Powered ns amount) v = false
+machine_matters Settled v = false
+
+-- whether a start of a node can: one of the nodes that are to be powered at most
+abbrev pub node_matters : Form → ℕ → Bool
+node_matters (Apart separation) n = false
+node_matters (Allowed vs places) n = false
+node_matters (Together vs groups) n = false
+node_matters (Ordered before after) n = false
+node_matters (InTurn vs) n = false
+node_matters (Bounded weight ns amount) n = false
+node_matters (Powered ns amount) n = has_node ns n
+node_matters Settled n = false
+
+-- whether a start of the element can break the constraint
 abbrev pub matters : Constraint → Element → Bool
-matters (Spread vs b) (Vm v) = is_member vs v.0
-matters (Spread vs b) (TheNode n) = false
-matters (Ban vs ns b) (Vm v) = is_member vs v.0
-matters (Ban vs ns b) (TheNode n) = false
-matters (Fence vs ns b) (Vm v) = is_member vs v.0
-matters (Fence vs ns b) (TheNode n) = false
-matters (Gather vs b) (Vm v) = is_member vs v.0
-matters (Gather vs b) (TheNode n) = false
-matters (Lonely vs b) (Vm v) = true
-matters (Lonely vs b) (TheNode n) = false
-matters (Among vs groups b) (Vm v) = is_member vs v.0
-matters (Among vs groups b) (TheNode n) = false
-matters (Split parts b) (Vm v) = is_member (machines_in (Split parts b)) v.0
-matters (Split parts b) (TheNode n) = false
-matters (Root vs) (Vm v) = is_member vs v.0
-matters (Root vs) (TheNode n) = false
-matters (Precedence before after) (Vm v) = v.0 == after.0
-matters (Precedence before after) (TheNode n) = false
-matters (Serialize vs) (Vm v) = is_member vs v.0
-matters (Serialize vs) (TheNode n) = false
-matters (ResourceCapacity ns r amount b) (Vm v) = true
-matters (ResourceCapacity ns r amount b) (TheNode n) = false
-matters (RunningCapacity ns amount b) (Vm v) = true
-matters (RunningCapacity ns amount b) (TheNode n) = false
-matters (MaxOnline ns amount b) (Vm v) = false
-matters (MaxOnline ns amount b) (TheNode n) = has_node ns n.0
-matters (Preserve vs r amount) e = false
-matters (Overbook ns r num den) e = false
-matters (Online ns) e = false
-matters (Offline ns) e = false
-matters (Running vs) e = false
-matters (Sleeping vs) e = false
-matters (Ready vs) e = false
-matters (Killed vs) e = false
+matters c (Vm v) = machine_matters (form_of c) v.0
+matters c (TheNode n) = node_matters (form_of c) n.0
 
 -- a constraint that holds goes on to hold until an element starts that matters to it
 abbrev pub MattersQuiet : Type 0

@@ -4,6 +4,7 @@
 pub mod actions;
 pub mod choice;
 mod elements;
+pub mod form;
 pub mod holding;
 pub mod laws;
 pub mod plan;

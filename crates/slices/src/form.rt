@@ -1,0 +1,116 @@
+//! The form of a constraint: what it asks of what is where, whatever its kind.
+ghost use Rattle.std.specs.Prelude.{◌≡◌, true};
+ghost use Rattle.catalogue.specs.Faults.{is_rule};
+ghost use Rattle.catalogue.specs.Instance.{Instance, inventory_of};
+ghost use Rattle.slices.specs.Forms.{IsSound, form_of as the_form_of, form_seen};
+
+use crate::slice::Weight;
+use catalogue::constraint::Constraint;
+use catalogue::lists::Vms;
+use cluster::ids::VmId;
+use cluster::sets::NodeSet;
+
+/// Which machines are kept apart.
+#[derive(Clone, Copy)]
+pub enum Separation<'a> {
+    /// Each member from each other one.
+    Each(&'a [VmId]),
+    /// The machines of a part from those of all other parts.
+    Between(&'a [Vms]),
+    /// The members from all other machines.
+    FromOthers(&'a [VmId]),
+}
+
+/// On which nodes a member may be.
+#[derive(Clone, Copy)]
+pub enum Places<'a> {
+    /// On those outside the set.
+    Outside(&'a NodeSet),
+    /// On those of the set.
+    Within(&'a NodeSet),
+    /// On its host, where it runs at present.
+    OnHost,
+}
+
+/// Groups of nodes of which one is to have all members.
+#[derive(Clone, Copy)]
+pub enum Groups<'a> {
+    /// Each node by itself.
+    AnyNode,
+    /// These sets.
+    AnyOf(&'a [NodeSet]),
+}
+
+/// What a constraint asks of what is where. A look at constraints goes by these few, so a new kind
+/// of one of these forms needs no new look.
+#[derive(Clone, Copy)]
+pub enum Form<'a> {
+    /// No node has presences of two machines that are kept apart.
+    Apart(Separation<'a>),
+    /// Members are present only where they may be.
+    Allowed(&'a [VmId], Places<'a>),
+    /// One group has all presences of members.
+    Together(&'a [VmId], Groups<'a>),
+    /// Where the second has started, the first has ended.
+    Ordered(VmId, VmId),
+    /// No two members act at the same instant.
+    InTurn(&'a [VmId]),
+    /// What all machines hold on the nodes of the set is at most the amount.
+    Bounded(Weight, &'a NodeSet, u64),
+    /// At most so many nodes of the set are powered.
+    Powered(&'a NodeSet, u64),
+    /// Part of the demand, of the capacity or of the legal choices: nothing is left to ask.
+    Settled,
+}
+
+/// The form of a constraint. That of one without a fault names what is there (`IsSound`).
+#[tactic(auto, using(crate::proofs::FormLemmas::sound_form))]
+pub fn form_of(constraint: &Constraint) -> Form<'_>
+    ensures form { form_seen result ≡ the_form_of constraint.now }
+    ensures sound { (p : Instance) → is_rule (inventory_of p) constraint.now ≡ true → IsSound p (form_seen result) }
+{
+    match constraint {
+        Constraint::Spread { machines, .. } => Form::Apart(Separation::Each(machines.items())),
+        Constraint::Split { parts, .. } => Form::Apart(Separation::Between(parts.items())),
+        Constraint::Lonely { machines, .. } => {
+            Form::Apart(Separation::FromOthers(machines.items()))
+        }
+        Constraint::Ban {
+            machines,
+            nodes,
+            ..
+        } => { Form::Allowed(machines.items(), Places::Outside(nodes)) }
+        Constraint::Fence {
+            machines,
+            nodes,
+            ..
+        } => { Form::Allowed(machines.items(), Places::Within(nodes)) }
+        Constraint::Root { machines } => Form::Allowed(machines.items(), Places::OnHost),
+        Constraint::Gather { machines, .. } => { Form::Together(machines.items(), Groups::AnyNode) }
+        Constraint::Among {
+            machines,
+            groups,
+            ..
+        } => { Form::Together(machines.items(), Groups::AnyOf(groups.items())) }
+        Constraint::Precedence { before, after } => Form::Ordered(*before, *after),
+        Constraint::Serialize { machines } => Form::InTurn(machines.items()),
+        Constraint::ResourceCapacity {
+            nodes,
+            resource,
+            amount,
+            ..
+        } => { Form::Bounded(Weight::Amount(*resource), nodes, *amount) }
+        Constraint::RunningCapacity { nodes, amount, .. } => {
+            Form::Bounded(Weight::Presence, nodes, *amount)
+        }
+        Constraint::MaxOnline { nodes, amount, .. } => Form::Powered(nodes, *amount),
+        Constraint::Preserve { .. }
+        | Constraint::Overbook { .. }
+        | Constraint::Online { .. }
+        | Constraint::Offline { .. }
+        | Constraint::Running { .. }
+        | Constraint::Sleeping { .. }
+        | Constraint::Ready { .. }
+        | Constraint::Killed { .. } => Form::Settled,
+    }
+}
