@@ -4,15 +4,14 @@ use Rattle.std.proofs.lemmas.Bool.{and_parts, ltb-true, true_from_ne_false, true
 use Rattle.sums.proofs.Sums.{sum_to-none}
 use Rattle.cluster.specs.Sets.{has_node}
 use Rattle.catalogue.specs.declared.constraint.Constraint.{Constraint}
-use Rattle.catalogue.specs.declared.constraint.Constraint.TheVariants.{Spread, Ban, Fence, Gather, Lonely, Among, Split, Root, Precedence, Serialize, Preserve, ResourceCapacity, RunningCapacity, MaxOnline, Overbook, Online, Offline, Running, Sleeping, Ready, Killed}
 use Rattle.catalogue.specs.Instance.{Instance, IsInstance}
 use Rattle.catalogue.specs.Kinds.{is_continuous}
 use Rattle.slices.specs.declared.rule.Rule.{Rule}
 use Rattle.slices.specs.declared.rule.Rule.TheVariants.{Load as OfLoad, Usable as OfUsable, Constraint as OfConstraint}
-use Rattle.slices.specs.declared.slice.Weight.TheVariants.{Amount, Presence}
 use Rattle.slices.specs.Elements.{machine_count, node_count}
 use Rattle.slices.specs.Ends.{snapshot_of}
-use Rattle.slices.specs.Holds.{Holds}
+use Rattle.slices.specs.Forms.{Form, Apart, Allowed, Together, Ordered, InTurn, Bounded, Powered, Settled, IsSound, Separation, form_of}
+use Rattle.slices.specs.Holds.{AreApart, IsKept}
 use Rattle.slices.specs.Plans.{Choices}
 use Rattle.slices.specs.Rules.{InRange, IsValid, Keeps}
 use Rattle.slices.specs.Snapshots.{Snapshot}
@@ -24,7 +23,7 @@ use Rattle.reasons.specs.Laws.{FreeStays}
 use Rattle.reasons.proofs.LoadLemmas.{no_overload, not_overload-le}
 use Rattle.reasons.proofs.PartLemmas.{group-part, overload-part, pair-part, place-part, power-part, set_load-part, unusable-part}
 use Rattle.reasons.proofs.PlanLemmas.{holds-no_group, holds-no_pair, holds-no_place, holds-no_power, holds-no_set_load, unbroken-holds}
-use Rattle.reasons.proofs.RuleLemmas.{IsSoundRule, sound_rule}
+use Rattle.reasons.proofs.RuleLemmas.{sound_rule}
 use Rattle.reasons.proofs.ValidLemmas.{holds-of, keeps-of}
 
 -- a part of a snapshot that is free is free
@@ -86,30 +85,20 @@ free-keeps p sound plan t last free (OfConstraint c) i =
 -- ---- where the instance has no element
 
 module _ (p : Instance) (s : Snapshot) (machines : machine_count p ≡ 0) (nodes : node_count p ≡ 0) where
-  holds-none : (k : Constraint) → IsSoundRule p k → Holds p s k
-  holds-none (Spread vs b) rule = λ n v w i. absurd (omega (arith, i, nodes))
-  holds-none (Ban vs ns b) rule = λ v n i. absurd (omega (arith, i, machines))
-  holds-none (Fence vs ns b) rule = λ v n i. absurd (omega (arith, i, machines))
-  holds-none (Gather vs b) rule = inl (λ v n i. absurd (omega (arith, i, machines)))
-  holds-none (Lonely vs b) rule = λ n v w i. absurd (omega (arith, i, nodes))
-  holds-none (Among vs groups b) rule = inl (λ v n i. absurd (omega (arith, i, machines)))
-  holds-none (Split parts b) rule = λ n v w i. absurd (omega (arith, i, nodes))
-  holds-none (Root vs) rule = λ v n i. absurd (omega (arith, i, machines))
-  holds-none (Precedence before after) rule = absurd (omega (arith, machines, ltb-true before.0 (machine_count p) (and_parts _ _ rule.listed).0))
-  holds-none (Serialize vs) rule = λ v w i. absurd (omega (arith, i, machines))
-  holds-none (Preserve vs r amount) rule = tt
-  holds-none (ResourceCapacity ns r amount b) rule = omega (arith, sum_to-none (machine_count p) (λ v. s.held v (Amount r) (has_node ns)) (λ v i. absurd (omega (arith, i, machines))))
-  holds-none (RunningCapacity ns amount b) rule = omega (arith, sum_to-none (machine_count p) (λ v. s.held v Presence (has_node ns)) (λ v i. absurd (omega (arith, i, machines))))
-  holds-none (MaxOnline ns amount b) rule = omega (arith, sum_to-none (node_count p) (λ n. cond (has_node ns n) (cond (s.powered n) 1 0) 0) (λ n i. absurd (omega (arith, i, nodes))))
-  holds-none (Overbook ns r num den) rule = tt
-  holds-none (Online ns) rule = tt
-  holds-none (Offline ns) rule = tt
-  holds-none (Running vs) rule = tt
-  holds-none (Sleeping vs) rule = tt
-  holds-none (Ready vs) rule = tt
-  holds-none (Killed vs) rule = tt
+  apart-none : (separation : Separation) → AreApart p s separation
+  apart-none separation = λ n v w i. absurd (omega (arith, i, nodes))
+
+  kept-none : (f : Form) → IsSound p f → IsKept p s f
+  kept-none (Apart separation) rule = apart-none separation
+  kept-none (Allowed vs places) rule = λ v n i. absurd (omega (arith, i, machines))
+  kept-none (Together vs groups) rule = inl (λ v n i. absurd (omega (arith, i, machines)))
+  kept-none (Ordered before after) rule = absurd (omega (arith, machines, ltb-true before.0 (machine_count p) (and_parts _ _ rule.listed).0))
+  kept-none (InTurn vs) rule = λ v w i. absurd (omega (arith, i, machines))
+  kept-none (Bounded weight ns amount) rule = omega (arith, sum_to-none (machine_count p) (λ v. s.held v weight (has_node ns)) (λ v i. absurd (omega (arith, i, machines))))
+  kept-none (Powered ns amount) rule = omega (arith, sum_to-none (node_count p) (λ n. cond (has_node ns n) (cond (s.powered n) 1 0) 0) (λ n i. absurd (omega (arith, i, nodes))))
+  kept-none Settled rule = tt
 
   pub keeps-none : IsInstance p → (last : Bool) (r : Rule) → InRange p r → Keeps p s last r
   keeps-none sound last (OfLoad n r) i = absurd (omega (arith, i.0, nodes))
   keeps-none sound last (OfUsable v n) i = absurd (omega (arith, i.0, machines))
-  keeps-none sound last (OfConstraint c) i = λ a k e. holds-none k (sound_rule p sound c k e)
+  keeps-none sound last (OfConstraint c) i = λ a k e. kept-none (form_of k) (sound_rule p sound c k e)

@@ -8,18 +8,18 @@ use Rattle.sums.proofs.Sums.{sum_to-le}
 use Rattle.sums.proofs.Tests.{cond-le}
 use Rattle.cluster.specs.declared.ids.VmId.{VmId}
 use Rattle.catalogue.specs.declared.constraint.Constraint.{Constraint}
-use Rattle.catalogue.specs.declared.constraint.Constraint.TheVariants.{Spread, Ban, Fence, Gather, Lonely, Among, Split, Root, Precedence, Serialize, Preserve, ResourceCapacity, RunningCapacity, MaxOnline, Overbook, Online, Offline, Running, Sleeping, Ready, Killed}
 use Rattle.catalogue.specs.Faults.{are_below, differ, is_member}
 use Rattle.catalogue.specs.Instance.{Instance, IsInstance}
 use Rattle.slices.specs.Elements.{machine_count, node_count, vm}
 use Rattle.slices.specs.Ends.{snapshot_of}
-use Rattle.slices.specs.Holds.{Holds, IsMember}
+use Rattle.slices.specs.Forms.{Form, Apart, Allowed, Together, Ordered, InTurn, Bounded, Powered, Settled, IsSound, Separation, Each, Between, FromOthers, form_of}
+use Rattle.slices.specs.Holds.{AreApart, Holds, IsKept, IsMember}
 use Rattle.slices.specs.Plans.{Choices}
 use Rattle.slices.specs.Snapshots.{present_at}
 use Rattle.slices.specs.Stages.{Nodes, one}
 use Rattle.slices.proofs.Public.{present_somewhere}
-use Rattle.reasons.specs.Reasons.{IsHall, nodes_in}
-use Rattle.reasons.proofs.RuleLemmas.{IsSoundRule, member_below}
+use Rattle.reasons.specs.Reasons.{ExceedsNodes, ExceedsSeparated, IsHall, nodes_in}
+use Rattle.reasons.proofs.RuleLemmas.{member_below}
 
 -- terms that are no less, and one that is more
 sum_to-more : (n : ℕ) (f g : ℕ → ℕ) (place : ℕ) → place < n → ((k : ℕ) → k < n → f k ≤ g k) → f place < g place → sum_to n f < sum_to n g
@@ -98,25 +98,20 @@ module _ (p : Instance) (sound : IsInstance p) (plan : Choices) (t : ℕ) (vs : 
       omega (arith, by_nodes set vs, sum_to-le (node_count p) (λ n. cond (set n) (count (is_on (one n)) vs) 0) (λ n. cond (set n) 1 0) (λ n l. cond-le (set n) _ 1 (λ h. one_at_most n l vs d (λ v m. m))))
 
 module _ (p : Instance) (sound : IsInstance p) (plan : Choices) (t : ℕ) where
-  pub holds-no_hall : (set : Nodes) (k : Constraint) → IsSoundRule p k → Holds p (snapshot_of p plan t) k → ¬ IsHall p (snapshot_of p plan t) set k
-  holds-no_hall set (Spread vs b) rule h = λ x. omega (arith, x, no_more_than_nodes p sound plan t vs rule.listed (λ n v w l i j m k d x. h n v w l i j (m, k, d) x) rule.differ set)
-  holds-no_hall set (Ban vs ns b) rule h = λ x. x
-  holds-no_hall set (Fence vs ns b) rule h = λ x. x
-  holds-no_hall set (Gather vs b) rule h = λ x. x
-  holds-no_hall set (Lonely vs b) rule h = λ x. x
-  holds-no_hall set (Among vs groups b) rule h = λ x. x
-  holds-no_hall set (Split parts b) rule h = λ x. x
-  holds-no_hall set (Root vs) rule h = λ x. x
-  holds-no_hall set (Precedence before after) rule h = λ x. x
-  holds-no_hall set (Serialize vs) rule h = λ x. x
-  holds-no_hall set (Preserve vs r amount) rule h = λ x. x
-  holds-no_hall set (ResourceCapacity ns r amount b) rule h = λ x. x
-  holds-no_hall set (RunningCapacity ns amount b) rule h = λ x. x
-  holds-no_hall set (MaxOnline ns amount b) rule h = λ x. x
-  holds-no_hall set (Overbook ns r num den) rule h = λ x. x
-  holds-no_hall set (Online ns) rule h = λ x. x
-  holds-no_hall set (Offline ns) rule h = λ x. x
-  holds-no_hall set (Running vs) rule h = λ x. x
-  holds-no_hall set (Sleeping vs) rule h = λ x. x
-  holds-no_hall set (Ready vs) rule h = λ x. x
-  holds-no_hall set (Killed vs) rule h = λ x. x
+  apart-no_hall : (set : Nodes) (separation : Separation) → IsSound p (Apart separation) → AreApart p (snapshot_of p plan t) separation → ¬ ExceedsSeparated p (snapshot_of p plan t) set separation
+  apart-no_hall set (Each vs) rule h = λ x. omega (arith, x, no_more_than_nodes p sound plan t vs rule.listed (λ n v w l i j m k d x. h n v w l i j (m, k, d) x) rule.differ set)
+  apart-no_hall set (Between parts) rule h = λ x. x
+  apart-no_hall set (FromOthers vs) rule h = λ x. x
+
+  kept-no_hall : (set : Nodes) (f : Form) → IsSound p f → IsKept p (snapshot_of p plan t) f → ¬ ExceedsNodes p (snapshot_of p plan t) set f
+  kept-no_hall set (Apart separation) rule h = apart-no_hall set separation rule h
+  kept-no_hall set (Allowed vs places) rule h = λ x. x
+  kept-no_hall set (Together vs groups) rule h = λ x. x
+  kept-no_hall set (Ordered before after) rule h = λ x. x
+  kept-no_hall set (InTurn vs) rule h = λ x. x
+  kept-no_hall set (Bounded weight ns amount) rule h = λ x. x
+  kept-no_hall set (Powered ns amount) rule h = λ x. x
+  kept-no_hall set Settled rule h = λ x. x
+
+  pub holds-no_hall : (set : Nodes) (k : Constraint) → IsSound p (form_of k) → Holds p (snapshot_of p plan t) k → ¬ IsHall p (snapshot_of p plan t) set k
+  holds-no_hall set k rule h = kept-no_hall set (form_of k) rule h

@@ -9,16 +9,17 @@ use Rattle.sums.proofs.Tests.{cond-implied, cond-le, fails_below, positive_above
 use Rattle.cluster.specs.declared.ids.VmId.{VmId}
 use Rattle.cluster.specs.Sets.{has_node}
 use Rattle.catalogue.specs.declared.constraint.Constraint.{Constraint}
-use Rattle.catalogue.specs.declared.constraint.Constraint.TheVariants.{Spread, Ban, Fence, Gather, Lonely, Among, Split, Root, Precedence, Serialize, Preserve, ResourceCapacity, RunningCapacity, MaxOnline, Overbook, Online, Offline, Running, Sleeping, Ready, Killed}
 use Rattle.catalogue.specs.Instance.{Instance}
 use Rattle.catalogue.specs.Values.{capacity_of}
 use Rattle.slices.specs.declared.stage.Progress.TheVariants.{Started, Unended, Acting}
-use Rattle.slices.specs.declared.slice.Weight.TheVariants.{Amount, Presence, Image}
+use Rattle.slices.specs.declared.slice.Weight.{Weight}
+use Rattle.slices.specs.declared.slice.Weight.TheVariants.{Amount, Image}
 use Rattle.slices.specs.Elements.{machine_count, node_count}
-use Rattle.slices.specs.Snapshots.{Snapshot, load, room}
+use Rattle.slices.specs.Forms.{Form, Apart, Allowed, Together, Ordered, InTurn, Bounded, Powered, Settled, Separation, Each, Between, FromOthers, form_of}
+use Rattle.slices.specs.Snapshots.{Snapshot, room, total}
 use Rattle.slices.specs.Stages.{Nodes, one}
 use Rattle.reasons.specs.Laws.{IsPartIn, PartsAreIn, PartsBreak}
-use Rattle.reasons.specs.Reasons.{AreBothActing, AreScattered, HasOutside, IsGroup, IsHall, IsOverload, IsPair, IsPlace, IsPower, IsSetLoad, IsUnusable}
+use Rattle.reasons.specs.Reasons.{AreBothActing, AreScattered, BreaksGroup, ExceedsAmount, ExceedsNodes, ExceedsPower, ExceedsSeparated, HasOutside, IsGroup, IsHall, IsOverload, IsPair, IsPlace, IsPower, IsSetLoad, IsUnusable}
 
 pub parts_are_in : PartsAreIn
 parts_are_in p s big part = record {
@@ -52,9 +53,8 @@ filter-implied f g (v ∷ vs) h = at (f v) (g v) (h v) (filter-implied f g vs h)
     at false false i l = l
 
 module _ (p : Instance) (s big : Snapshot) (part : IsPartIn p s big) where
-  load-part : (r : ℕ) (set : Nodes) → load p s r set ≤ load p big r set
-  load-part r set =
-      sum_to-le (machine_count p) (λ v. s.held v (Amount r) set) (λ v. big.held v (Amount r) set) (λ v i. part.held v i (Amount r) set)
+  total-part : (w : Weight) (set : Nodes) → total p s w set ≤ total p big w set
+  total-part w set = sum_to-le (machine_count p) (λ v. s.held v w set) (λ v. big.held v w set) (λ v i. part.held v i w set)
 
   room-part : (r : ℕ) (set : Nodes) → room p big r set ≤ room p s r set
   room-part r set =
@@ -62,7 +62,7 @@ module _ (p : Instance) (s big : Snapshot) (part : IsPartIn p s big) where
       (λ n i. cond-le (set n) _ _ (λ x. cond-implied (big.usable n) (s.usable n) (capacity_of p n r) (part.usable n)))
 
   pub overload-part : (r : ℕ) (set : Nodes) → IsOverload p s r set → IsOverload p big r set
-  overload-part r set over = omega (arith, over, room-part r set, load-part r set)
+  overload-part r set over = omega (arith, over, room-part r set, total-part (Amount r) set)
 
   pub pair-part : (k : Constraint) (v w n : ℕ) → IsPair p s k v w n → IsPair p big k v w n
   pair-part k v w n h = record {
@@ -92,74 +92,44 @@ module _ (p : Instance) (s big : Snapshot) (part : IsPartIn p s big) where
     second = part.action h.w Acting h.second;
   }
 
+  group_form-part : (f : Form) → BreaksGroup p s f → BreaksGroup p big f
+  group_form-part (Apart separation) h = h
+  group_form-part (Allowed vs places) h = h
+  group_form-part (Together vs groups) h = scattered-part vs _ h
+  group_form-part (Ordered before after) h = (part.action after.0 Started h.0, part.action before.0 Unended h.1)
+  group_form-part (InTurn vs) h = acting-part vs h
+  group_form-part (Bounded weight ns amount) h = h
+  group_form-part (Powered ns amount) h = h
+  group_form-part Settled h = h
+
   pub group-part : (k : Constraint) → IsGroup p s k → IsGroup p big k
-  group-part (Spread vs b) h = h
-  group-part (Ban vs ns b) h = h
-  group-part (Fence vs ns b) h = h
-  group-part (Gather vs b) h = scattered-part vs _ h
-  group-part (Lonely vs b) h = h
-  group-part (Among vs groups b) h = scattered-part vs _ h
-  group-part (Split parts b) h = h
-  group-part (Root vs) h = h
-  group-part (Precedence before after) h = (part.action after.0 Started h.0, part.action before.0 Unended h.1)
-  group-part (Serialize vs) h = acting-part vs h
-  group-part (Preserve vs r amount) h = h
-  group-part (ResourceCapacity ns r amount b) h = h
-  group-part (RunningCapacity ns amount b) h = h
-  group-part (MaxOnline ns amount b) h = h
-  group-part (Overbook ns r num den) h = h
-  group-part (Online ns) h = h
-  group-part (Offline ns) h = h
-  group-part (Running vs) h = h
-  group-part (Sleeping vs) h = h
-  group-part (Ready vs) h = h
-  group-part (Killed vs) h = h
+  group-part k h = group_form-part (form_of k) h
+
+  amount-part : (f : Form) → ExceedsAmount p s f → ExceedsAmount p big f
+  amount-part (Apart separation) h = h
+  amount-part (Allowed vs places) h = h
+  amount-part (Together vs groups) h = h
+  amount-part (Ordered before after) h = h
+  amount-part (InTurn vs) h = h
+  amount-part (Bounded weight ns amount) h = omega (arith, h, total-part weight (has_node ns))
+  amount-part (Powered ns amount) h = h
+  amount-part Settled h = h
 
   pub set_load-part : (k : Constraint) → IsSetLoad p s k → IsSetLoad p big k
-  set_load-part (Spread vs b) h = h
-  set_load-part (Ban vs ns b) h = h
-  set_load-part (Fence vs ns b) h = h
-  set_load-part (Gather vs b) h = h
-  set_load-part (Lonely vs b) h = h
-  set_load-part (Among vs groups b) h = h
-  set_load-part (Split parts b) h = h
-  set_load-part (Root vs) h = h
-  set_load-part (Precedence before after) h = h
-  set_load-part (Serialize vs) h = h
-  set_load-part (Preserve vs r amount) h = h
-  set_load-part (ResourceCapacity ns r amount b) h = omega (arith, h, load-part r (has_node ns))
-  set_load-part (RunningCapacity ns amount b) h = omega (arith, h, sum_to-le (machine_count p) (λ v. s.held v Presence (has_node ns)) (λ v. big.held v Presence (has_node ns)) (λ v i. part.held v i Presence (has_node ns)))
-  set_load-part (MaxOnline ns amount b) h = h
-  set_load-part (Overbook ns r num den) h = h
-  set_load-part (Online ns) h = h
-  set_load-part (Offline ns) h = h
-  set_load-part (Running vs) h = h
-  set_load-part (Sleeping vs) h = h
-  set_load-part (Ready vs) h = h
-  set_load-part (Killed vs) h = h
+  set_load-part k h = amount-part (form_of k) h
+
+  powered-part : (f : Form) → ExceedsPower p s f → ExceedsPower p big f
+  powered-part (Apart separation) h = h
+  powered-part (Allowed vs places) h = h
+  powered-part (Together vs groups) h = h
+  powered-part (Ordered before after) h = h
+  powered-part (InTurn vs) h = h
+  powered-part (Bounded weight ns amount) h = h
+  powered-part (Powered ns amount) h = omega (arith, h, sum_to-le (node_count p) (λ n. cond (has_node ns n) (cond (s.powered n) 1 0) 0) (λ n. cond (has_node ns n) (cond (big.powered n) 1 0) 0) (λ n i. cond-le (has_node ns n) _ _ (λ x. cond-implied (s.powered n) (big.powered n) 1 (part.powered n))))
+  powered-part Settled h = h
 
   pub power-part : (k : Constraint) → IsPower p s k → IsPower p big k
-  power-part (Spread vs b) h = h
-  power-part (Ban vs ns b) h = h
-  power-part (Fence vs ns b) h = h
-  power-part (Gather vs b) h = h
-  power-part (Lonely vs b) h = h
-  power-part (Among vs groups b) h = h
-  power-part (Split parts b) h = h
-  power-part (Root vs) h = h
-  power-part (Precedence before after) h = h
-  power-part (Serialize vs) h = h
-  power-part (Preserve vs r amount) h = h
-  power-part (ResourceCapacity ns r amount b) h = h
-  power-part (RunningCapacity ns amount b) h = h
-  power-part (MaxOnline ns amount b) h = omega (arith, h, sum_to-le (node_count p) (λ n. cond (has_node ns n) (cond (s.powered n) 1 0) 0) (λ n. cond (has_node ns n) (cond (big.powered n) 1 0) 0) (λ n i. cond-le (has_node ns n) _ _ (λ x. cond-implied (s.powered n) (big.powered n) 1 (part.powered n))))
-  power-part (Overbook ns r num den) h = h
-  power-part (Online ns) h = h
-  power-part (Offline ns) h = h
-  power-part (Running vs) h = h
-  power-part (Sleeping vs) h = h
-  power-part (Ready vs) h = h
-  power-part (Killed vs) h = h
+  power-part k h = powered-part (form_of k) h
 
   pub unusable-part : (v n : ℕ) → v < machine_count p → IsUnusable s v n → IsUnusable big v n
   unusable-part v n i h = record {
@@ -167,28 +137,23 @@ module _ (p : Instance) (s big : Snapshot) (part : IsPartIn p s big) where
     unusable = fails_below _ _ (part.usable n) h.unusable;
   }
 
+  separated-part : (set : Nodes) (separation : Separation) → ExceedsSeparated p s set separation → ExceedsSeparated p big set separation
+  separated-part set (Each vs) h = omega (arith, h, filter-implied (λ v. s.present v.0 set) (λ v. big.present v.0 set) vs (λ v. part.present v.0 set))
+  separated-part set (Between parts) h = h
+  separated-part set (FromOthers vs) h = h
+
+  nodes-part : (set : Nodes) (f : Form) → ExceedsNodes p s set f → ExceedsNodes p big set f
+  nodes-part set (Apart separation) h = separated-part set separation h
+  nodes-part set (Allowed vs places) h = h
+  nodes-part set (Together vs groups) h = h
+  nodes-part set (Ordered before after) h = h
+  nodes-part set (InTurn vs) h = h
+  nodes-part set (Bounded weight ns amount) h = h
+  nodes-part set (Powered ns amount) h = h
+  nodes-part set Settled h = h
+
   pub hall-part : (set : Nodes) (k : Constraint) → IsHall p s set k → IsHall p big set k
-  hall-part set (Spread vs b) h = omega (arith, h, filter-implied (λ v. s.present v.0 set) (λ v. big.present v.0 set) vs (λ v. part.present v.0 set))
-  hall-part set (Ban vs ns b) h = h
-  hall-part set (Fence vs ns b) h = h
-  hall-part set (Gather vs b) h = h
-  hall-part set (Lonely vs b) h = h
-  hall-part set (Among vs groups b) h = h
-  hall-part set (Split parts b) h = h
-  hall-part set (Root vs) h = h
-  hall-part set (Precedence before after) h = h
-  hall-part set (Serialize vs) h = h
-  hall-part set (Preserve vs r amount) h = h
-  hall-part set (ResourceCapacity ns r amount b) h = h
-  hall-part set (RunningCapacity ns amount b) h = h
-  hall-part set (MaxOnline ns amount b) h = h
-  hall-part set (Overbook ns r num den) h = h
-  hall-part set (Online ns) h = h
-  hall-part set (Offline ns) h = h
-  hall-part set (Running vs) h = h
-  hall-part set (Sleeping vs) h = h
-  hall-part set (Ready vs) h = h
-  hall-part set (Killed vs) h = h
+  hall-part set k h = nodes-part set (form_of k) h
 
 pub parts_break : PartsBreak
 parts_break p s big part = record {

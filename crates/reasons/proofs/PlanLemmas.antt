@@ -9,18 +9,18 @@ use Rattle.cluster.specs.declared.ids.VmId.{VmId}
 use Rattle.cluster.specs.declared.sets.NodeSet.{NodeSet}
 use Rattle.cluster.specs.Sets.{has_node}
 use Rattle.catalogue.specs.declared.constraint.Constraint.{Constraint}
-use Rattle.catalogue.specs.declared.constraint.Constraint.TheVariants.{Spread, Ban, Fence, Gather, Lonely, Among, Split, Root, Precedence, Serialize, Preserve, ResourceCapacity, RunningCapacity, MaxOnline, Overbook, Online, Offline, Running, Sleeping, Ready, Killed}
 use Rattle.catalogue.specs.Faults.{are_below, is_member}
 use Rattle.catalogue.specs.Instance.{Instance, IsInstance}
 use Rattle.slices.specs.Elements.{machine_count, node_count, vm}
 use Rattle.slices.specs.Ends.{snapshot_of}
-use Rattle.slices.specs.Holds.{AreAllowed, AreApart, AreGrouped, AreWithin, ForbidsPair, Holds, IsMember, TakeTurns}
+use Rattle.slices.specs.Forms.{Form, Apart, Allowed, Together, Ordered, InTurn, Bounded, Powered, Settled, Groups, AnyNode, AnyOf, IsGroupsFit, IsSound, Separation, Each, Between, FromOthers, form_of}
+use Rattle.slices.specs.Holds.{AreGrouped, AreWithin, FormForbidsPair, FormForbidsPlace, Holds, IsKept, IsMember, Separates, TakeTurns, group_sets}
 use Rattle.slices.specs.Plans.{Choices}
 use Rattle.slices.specs.Snapshots.{Snapshot, present_at}
 use Rattle.slices.specs.Stages.{Nodes, one}
 use Rattle.slices.proofs.Public.{present_on_set, present_somewhere}
-use Rattle.reasons.specs.Reasons.{AreBothActing, AreScattered, HasOutside, IsGroup, IsPair, IsPlace, IsPower, IsSetLoad}
-use Rattle.reasons.proofs.RuleLemmas.{IsSoundRule, member_below, parts_differ}
+use Rattle.reasons.specs.Reasons.{AreBothActing, AreScattered, BreaksGroup, ExceedsAmount, ExceedsPower, HasOutside, IsGroup, IsPair, IsPlace, IsPower, IsSetLoad}
+use Rattle.reasons.proofs.RuleLemmas.{member_below, parts_differ}
 
 -- a constraint is broken in no way
 pub record IsUnbroken (p : Instance) (s : Snapshot) (k : Constraint) : Type 0 where
@@ -33,103 +33,57 @@ pub record IsUnbroken (p : Instance) (s : Snapshot) (k : Constraint) : Type 0 wh
 -- ---- what holds is not broken
 
 module _ (p : Instance) (s : Snapshot) where
-  apart-no_pair : (k : Constraint) (v w n : ℕ) → v < machine_count p → w < machine_count p → n < node_count p → AreApart p s k → ¬ IsPair p s k v w n
-  apart-no_pair k v w n i j l h x = true≢false (sym x.second ∙ h n v w l i j x.forbidden x.first)
+  kept-no_pair : (f : Form) (v w n : ℕ) → v < machine_count p → w < machine_count p → n < node_count p → IsKept p s f → FormForbidsPair f v w → IsTrue (s.present v (one n)) → s.present w (one n) ≡ false
+  kept-no_pair (Apart separation) v w n i j l h f = h n v w l i j f
+  kept-no_pair (Allowed vs places) v w n i j l h f = absurd f
+  kept-no_pair (Together vs groups) v w n i j l h f = absurd f
+  kept-no_pair (Ordered before after) v w n i j l h f = absurd f
+  kept-no_pair (InTurn vs) v w n i j l h f = absurd f
+  kept-no_pair (Bounded weight ns amount) v w n i j l h f = absurd f
+  kept-no_pair (Powered ns amount) v w n i j l h f = absurd f
+  kept-no_pair Settled v w n i j l h f = absurd f
 
   pub holds-no_pair : (k : Constraint) (v w n : ℕ) → v < machine_count p → w < machine_count p → n < node_count p → Holds p s k → ¬ IsPair p s k v w n
-  holds-no_pair (Spread vs b) v w n i j l h = apart-no_pair (Spread vs b) v w n i j l h
-  holds-no_pair (Ban vs ns b) v w n i j l h = λ x. x.forbidden
-  holds-no_pair (Fence vs ns b) v w n i j l h = λ x. x.forbidden
-  holds-no_pair (Gather vs b) v w n i j l h = λ x. x.forbidden
-  holds-no_pair (Lonely vs b) v w n i j l h = apart-no_pair (Lonely vs b) v w n i j l h
-  holds-no_pair (Among vs groups b) v w n i j l h = λ x. x.forbidden
-  holds-no_pair (Split parts b) v w n i j l h = apart-no_pair (Split parts b) v w n i j l h
-  holds-no_pair (Root vs) v w n i j l h = λ x. x.forbidden
-  holds-no_pair (Precedence before after) v w n i j l h = λ x. x.forbidden
-  holds-no_pair (Serialize vs) v w n i j l h = λ x. x.forbidden
-  holds-no_pair (Preserve vs r amount) v w n i j l h = λ x. x.forbidden
-  holds-no_pair (ResourceCapacity ns r amount b) v w n i j l h = λ x. x.forbidden
-  holds-no_pair (RunningCapacity ns amount b) v w n i j l h = λ x. x.forbidden
-  holds-no_pair (MaxOnline ns amount b) v w n i j l h = λ x. x.forbidden
-  holds-no_pair (Overbook ns r num den) v w n i j l h = λ x. x.forbidden
-  holds-no_pair (Online ns) v w n i j l h = λ x. x.forbidden
-  holds-no_pair (Offline ns) v w n i j l h = λ x. x.forbidden
-  holds-no_pair (Running vs) v w n i j l h = λ x. x.forbidden
-  holds-no_pair (Sleeping vs) v w n i j l h = λ x. x.forbidden
-  holds-no_pair (Ready vs) v w n i j l h = λ x. x.forbidden
-  holds-no_pair (Killed vs) v w n i j l h = λ x. x.forbidden
+  holds-no_pair k v w n i j l h x = true≢false (sym x.second ∙ kept-no_pair (form_of k) v w n i j l h x.forbidden x.first)
 
-  allowed-no_place : (k : Constraint) (v n : ℕ) → v < machine_count p → n < node_count p → AreAllowed p s k → ¬ IsPlace p s k v n
-  allowed-no_place k v n i l h x = true≢false (sym x.present ∙ h v n i l x.forbidden)
+  kept-no_place : (f : Form) (v n : ℕ) → v < machine_count p → n < node_count p → IsKept p s f → FormForbidsPlace p f v n → s.present v (one n) ≡ false
+  kept-no_place (Apart separation) v n i l h f = absurd f
+  kept-no_place (Allowed vs places) v n i l h f = h v n i l f
+  kept-no_place (Together vs groups) v n i l h f = absurd f
+  kept-no_place (Ordered before after) v n i l h f = absurd f
+  kept-no_place (InTurn vs) v n i l h f = absurd f
+  kept-no_place (Bounded weight ns amount) v n i l h f = absurd f
+  kept-no_place (Powered ns amount) v n i l h f = absurd f
+  kept-no_place Settled v n i l h f = absurd f
 
   pub holds-no_place : (k : Constraint) (v n : ℕ) → v < machine_count p → n < node_count p → Holds p s k → ¬ IsPlace p s k v n
-  holds-no_place (Spread vs b) v n i l h = λ x. x.forbidden
-  holds-no_place (Ban vs ns b) v n i l h = allowed-no_place (Ban vs ns b) v n i l h
-  holds-no_place (Fence vs ns b) v n i l h = allowed-no_place (Fence vs ns b) v n i l h
-  holds-no_place (Gather vs b) v n i l h = λ x. x.forbidden
-  holds-no_place (Lonely vs b) v n i l h = λ x. x.forbidden
-  holds-no_place (Among vs groups b) v n i l h = λ x. x.forbidden
-  holds-no_place (Split parts b) v n i l h = λ x. x.forbidden
-  holds-no_place (Root vs) v n i l h = allowed-no_place (Root vs) v n i l h
-  holds-no_place (Precedence before after) v n i l h = λ x. x.forbidden
-  holds-no_place (Serialize vs) v n i l h = λ x. x.forbidden
-  holds-no_place (Preserve vs r amount) v n i l h = λ x. x.forbidden
-  holds-no_place (ResourceCapacity ns r amount b) v n i l h = λ x. x.forbidden
-  holds-no_place (RunningCapacity ns amount b) v n i l h = λ x. x.forbidden
-  holds-no_place (MaxOnline ns amount b) v n i l h = λ x. x.forbidden
-  holds-no_place (Overbook ns r num den) v n i l h = λ x. x.forbidden
-  holds-no_place (Online ns) v n i l h = λ x. x.forbidden
-  holds-no_place (Offline ns) v n i l h = λ x. x.forbidden
-  holds-no_place (Running vs) v n i l h = λ x. x.forbidden
-  holds-no_place (Sleeping vs) v n i l h = λ x. x.forbidden
-  holds-no_place (Ready vs) v n i l h = λ x. x.forbidden
-  holds-no_place (Killed vs) v n i l h = λ x. x.forbidden
+  holds-no_place k v n i l h x = true≢false (sym x.present ∙ kept-no_place (form_of k) v n i l h x.forbidden)
+
+  kept-no_amount : (f : Form) → IsKept p s f → ¬ ExceedsAmount p s f
+  kept-no_amount (Apart separation) h = λ x. x
+  kept-no_amount (Allowed vs places) h = λ x. x
+  kept-no_amount (Together vs groups) h = λ x. x
+  kept-no_amount (Ordered before after) h = λ x. x
+  kept-no_amount (InTurn vs) h = λ x. x
+  kept-no_amount (Bounded weight ns amount) h = λ x. omega (arith, h, x)
+  kept-no_amount (Powered ns amount) h = λ x. x
+  kept-no_amount Settled h = λ x. x
 
   pub holds-no_set_load : (k : Constraint) → Holds p s k → ¬ IsSetLoad p s k
-  holds-no_set_load (Spread vs b) h = λ x. x
-  holds-no_set_load (Ban vs ns b) h = λ x. x
-  holds-no_set_load (Fence vs ns b) h = λ x. x
-  holds-no_set_load (Gather vs b) h = λ x. x
-  holds-no_set_load (Lonely vs b) h = λ x. x
-  holds-no_set_load (Among vs groups b) h = λ x. x
-  holds-no_set_load (Split parts b) h = λ x. x
-  holds-no_set_load (Root vs) h = λ x. x
-  holds-no_set_load (Precedence before after) h = λ x. x
-  holds-no_set_load (Serialize vs) h = λ x. x
-  holds-no_set_load (Preserve vs r amount) h = λ x. x
-  holds-no_set_load (ResourceCapacity ns r amount b) h = λ x. omega (arith, h, x)
-  holds-no_set_load (RunningCapacity ns amount b) h = λ x. omega (arith, h, x)
-  holds-no_set_load (MaxOnline ns amount b) h = λ x. x
-  holds-no_set_load (Overbook ns r num den) h = λ x. x
-  holds-no_set_load (Online ns) h = λ x. x
-  holds-no_set_load (Offline ns) h = λ x. x
-  holds-no_set_load (Running vs) h = λ x. x
-  holds-no_set_load (Sleeping vs) h = λ x. x
-  holds-no_set_load (Ready vs) h = λ x. x
-  holds-no_set_load (Killed vs) h = λ x. x
+  holds-no_set_load k h = kept-no_amount (form_of k) h
+
+  kept-no_power : (f : Form) → IsKept p s f → ¬ ExceedsPower p s f
+  kept-no_power (Apart separation) h = λ x. x
+  kept-no_power (Allowed vs places) h = λ x. x
+  kept-no_power (Together vs groups) h = λ x. x
+  kept-no_power (Ordered before after) h = λ x. x
+  kept-no_power (InTurn vs) h = λ x. x
+  kept-no_power (Bounded weight ns amount) h = λ x. x
+  kept-no_power (Powered ns amount) h = λ x. omega (arith, h, x)
+  kept-no_power Settled h = λ x. x
 
   pub holds-no_power : (k : Constraint) → Holds p s k → ¬ IsPower p s k
-  holds-no_power (Spread vs b) h = λ x. x
-  holds-no_power (Ban vs ns b) h = λ x. x
-  holds-no_power (Fence vs ns b) h = λ x. x
-  holds-no_power (Gather vs b) h = λ x. x
-  holds-no_power (Lonely vs b) h = λ x. x
-  holds-no_power (Among vs groups b) h = λ x. x
-  holds-no_power (Split parts b) h = λ x. x
-  holds-no_power (Root vs) h = λ x. x
-  holds-no_power (Precedence before after) h = λ x. x
-  holds-no_power (Serialize vs) h = λ x. x
-  holds-no_power (Preserve vs r amount) h = λ x. x
-  holds-no_power (ResourceCapacity ns r amount b) h = λ x. x
-  holds-no_power (RunningCapacity ns amount b) h = λ x. x
-  holds-no_power (MaxOnline ns amount b) h = λ x. omega (arith, h, x)
-  holds-no_power (Overbook ns r num den) h = λ x. x
-  holds-no_power (Online ns) h = λ x. x
-  holds-no_power (Offline ns) h = λ x. x
-  holds-no_power (Running vs) h = λ x. x
-  holds-no_power (Sleeping vs) h = λ x. x
-  holds-no_power (Ready vs) h = λ x. x
-  holds-no_power (Killed vs) h = λ x. x
+  holds-no_power k h = kept-no_power (form_of k) h
 
   turns-no_acting : (vs : List VmId) → are_below (machine_count p) vs ≡ true → TakeTurns p s vs → ¬ AreBothActing s vs
   turns-no_acting vs below h x =
@@ -218,64 +172,50 @@ module _ (p : Instance) (sound : IsInstance p) (plan : Choices) (t : ℕ) (vs : 
 -- ---- a constraint of a plan's snapshot
 
 module _ (p : Instance) (sound : IsInstance p) (plan : Choices) (t : ℕ) where
-  pub holds-no_group : (k : Constraint) → IsSoundRule p k → Holds p (snapshot_of p plan t) k → ¬ IsGroup p (snapshot_of p plan t) k
-  holds-no_group (Spread vs b) rule h = λ x. x
-  holds-no_group (Ban vs ns b) rule h = λ x. x
-  holds-no_group (Fence vs ns b) rule h = λ x. x
-  holds-no_group (Gather vs b) rule h = grouped-no_scattered p sound plan t vs rule.listed _ h
-  holds-no_group (Lonely vs b) rule h = λ x. x
-  holds-no_group (Among vs groups b) rule h = grouped-no_scattered p sound plan t vs rule.listed _ h
-  holds-no_group (Split parts b) rule h = λ x. x
-  holds-no_group (Root vs) rule h = λ x. x
-  holds-no_group (Precedence before after) rule h = λ x. true≢false (sym x.1 ∙ h x.0)
-  holds-no_group (Serialize vs) rule h = turns-no_acting p (snapshot_of p plan t) vs rule.listed h
-  holds-no_group (Preserve vs r amount) rule h = λ x. x
-  holds-no_group (ResourceCapacity ns r amount b) rule h = λ x. x
-  holds-no_group (RunningCapacity ns amount b) rule h = λ x. x
-  holds-no_group (MaxOnline ns amount b) rule h = λ x. x
-  holds-no_group (Overbook ns r num den) rule h = λ x. x
-  holds-no_group (Online ns) rule h = λ x. x
-  holds-no_group (Offline ns) rule h = λ x. x
-  holds-no_group (Running vs) rule h = λ x. x
-  holds-no_group (Sleeping vs) rule h = λ x. x
-  holds-no_group (Ready vs) rule h = λ x. x
-  holds-no_group (Killed vs) rule h = λ x. x
+  kept-no_group : (f : Form) → IsSound p f → IsKept p (snapshot_of p plan t) f → ¬ BreaksGroup p (snapshot_of p plan t) f
+  kept-no_group (Apart separation) rule h = λ x. x
+  kept-no_group (Allowed vs places) rule h = λ x. x
+  kept-no_group (Together vs groups) rule h = grouped-no_scattered p sound plan t vs rule.listed _ h
+  kept-no_group (Ordered before after) rule h = λ x. true≢false (sym x.1 ∙ h x.0)
+  kept-no_group (InTurn vs) rule h = turns-no_acting p (snapshot_of p plan t) vs rule.listed h
+  kept-no_group (Bounded weight ns amount) rule h = λ x. x
+  kept-no_group (Powered ns amount) rule h = λ x. x
+  kept-no_group Settled rule h = λ x. x
 
-  apart-from : (k : Constraint) → ((v w : ℕ) → ForbidsPair k v w → v ≢ w) → IsUnbroken p (snapshot_of p plan t) k → AreApart p (snapshot_of p plan t) k
-  apart-from k differ unbroken n v w l i j f x =
-      false_from_ne_true _ (λ y. unbroken.pair v w n i j l (record { forbidden = f; differ = differ v w f; first = x; second = y }))
-
-  allowed-from : (k : Constraint) → IsUnbroken p (snapshot_of p plan t) k → AreAllowed p (snapshot_of p plan t) k
-  allowed-from k unbroken v n i l f = false_from_ne_true _ (λ y. unbroken.place v n i l (record { forbidden = f; present = y }))
+  pub holds-no_group : (k : Constraint) → IsSound p (form_of k) → Holds p (snapshot_of p plan t) k → ¬ IsGroup p (snapshot_of p plan t) k
+  holds-no_group k rule h = kept-no_group (form_of k) rule h
 
   at_most : (a b : ℕ) → ¬ (a < b) → b ≤ a
   at_most a b within = elim (cases_lt a b) [ inl over ↦ absurd (within over) | inr le ↦ le ]
 
-  no_among : (groups : List NodeSet) → nat_lt 0 (length groups) ≡ true → map has_node groups ≡ [] → ⊥
-  no_among groups some e = omega (arith, ltb-true 0 (length groups) some, length-map groups has_node, ap length e)
+  -- two machines that are kept apart differ
+  separated_differ : (separation : Separation) → IsSound p (Apart separation) → (v w : ℕ) → Separates separation v w → v ≢ w
+  separated_differ (Each vs) rule v w f e = f.2 e
+  separated_differ (Between parts) rule v w f e = parts_differ parts f.0 f.1 v rule.differ f.2 f.3 (rw e f.4)
+  separated_differ (FromOthers vs) rule v w f e = f.1 (subst (IsMember vs) e f.0)
 
-  no_groups : (groups : List Nodes) (n : ℕ) → length groups ≡ n → groups ≡ [] → n ≡ 0
-  no_groups groups n size e = sym size ∙ ap length e
+  no_groups : (groups : Groups) → IsGroupsFit groups → group_sets p groups ≡ [] → node_count p ≡ 0
+  no_groups AnyNode fit e = sym (length-map-range_with_len one 0 (node_count p)) ∙ ap length e
+  no_groups (AnyOf groups) fit e = absurd (omega (arith, ltb-true 0 (length groups) fit, length-map groups has_node, ap length e))
 
-  pub unbroken-holds : (k : Constraint) → IsSoundRule p k → IsUnbroken p (snapshot_of p plan t) k → Holds p (snapshot_of p plan t) k
-  unbroken-holds (Spread vs b) rule unbroken = apart-from (Spread vs b) (λ v w f. f.2) unbroken
-  unbroken-holds (Ban vs ns b) rule unbroken = allowed-from (Ban vs ns b) unbroken
-  unbroken-holds (Fence vs ns b) rule unbroken = allowed-from (Fence vs ns b) unbroken
-  unbroken-holds (Gather vs b) rule unbroken = no_scattered-grouped p sound plan t vs _ (no_groups _ (node_count p) (length-map-range_with_len one 0 (node_count p))) unbroken.group
-  unbroken-holds (Lonely vs b) rule unbroken = apart-from (Lonely vs b) (λ v w f e. f.1 (subst (IsMember vs) e f.0)) unbroken
-  unbroken-holds (Among vs groups b) rule unbroken = no_scattered-grouped p sound plan t vs _ (λ e. absurd (no_among groups (and_parts _ _ rule.fitting).0 e)) unbroken.group
-  unbroken-holds (Split parts b) rule unbroken = apart-from (Split parts b) (λ v w f e. parts_differ parts f.0 f.1 v rule.differ f.2 f.3 (rw e f.4)) unbroken
-  unbroken-holds (Root vs) rule unbroken = allowed-from (Root vs) unbroken
-  unbroken-holds (Precedence before after) rule unbroken = λ x. false_from_ne_true _ (λ y. unbroken.group (x, y))
-  unbroken-holds (Serialize vs) rule unbroken = λ v w i j d m k x. false_from_ne_true _ (λ y. unbroken.group (record { v = v; w = w; differ = d; first_member = m; second_member = k; first = x; second = y }))
-  unbroken-holds (Preserve vs r amount) rule unbroken = tt
-  unbroken-holds (ResourceCapacity ns r amount b) rule unbroken = at_most amount _ unbroken.set_load
-  unbroken-holds (RunningCapacity ns amount b) rule unbroken = at_most amount _ unbroken.set_load
-  unbroken-holds (MaxOnline ns amount b) rule unbroken = at_most amount _ unbroken.power
-  unbroken-holds (Overbook ns r num den) rule unbroken = tt
-  unbroken-holds (Online ns) rule unbroken = tt
-  unbroken-holds (Offline ns) rule unbroken = tt
-  unbroken-holds (Running vs) rule unbroken = tt
-  unbroken-holds (Sleeping vs) rule unbroken = tt
-  unbroken-holds (Ready vs) rule unbroken = tt
-  unbroken-holds (Killed vs) rule unbroken = tt
+  -- where a form is broken in no way, it is kept
+  unbroken-kept : (f : Form) → IsSound p f →
+      ((v w n : ℕ) → v < machine_count p → w < machine_count p → n < node_count p → FormForbidsPair f v w → v ≢ w → IsTrue ((snapshot_of p plan t).present v (one n)) → ¬ IsTrue ((snapshot_of p plan t).present w (one n))) →
+      ((v n : ℕ) → v < machine_count p → n < node_count p → FormForbidsPlace p f v n → ¬ IsTrue ((snapshot_of p plan t).present v (one n))) →
+      ¬ BreaksGroup p (snapshot_of p plan t) f → ¬ ExceedsAmount p (snapshot_of p plan t) f → ¬ ExceedsPower p (snapshot_of p plan t) f →
+      IsKept p (snapshot_of p plan t) f
+  unbroken-kept (Apart separation) rule pair place group amount power =
+      λ n v w l i j f x. false_from_ne_true _ (λ y. pair v w n i j l f (separated_differ separation rule v w f) x y)
+  unbroken-kept (Allowed vs places) rule pair place group amount power = λ v n i l f. false_from_ne_true _ (λ y. place v n i l f y)
+  unbroken-kept (Together vs groups) rule pair place group amount power = no_scattered-grouped p sound plan t vs _ (no_groups groups rule.fit) group
+  unbroken-kept (Ordered before after) rule pair place group amount power = λ x. false_from_ne_true _ (λ y. group (x, y))
+  unbroken-kept (InTurn vs) rule pair place group amount power =
+      λ v w i j d m k x. false_from_ne_true _ (λ y. group (record { v = v; w = w; differ = d; first_member = m; second_member = k; first = x; second = y }))
+  unbroken-kept (Bounded weight ns amount) rule pair place group over power = at_most amount _ over
+  unbroken-kept (Powered ns amount) rule pair place group over power = at_most amount _ power
+  unbroken-kept Settled rule pair place group amount power = tt
+
+  pub unbroken-holds : (k : Constraint) → IsSound p (form_of k) → IsUnbroken p (snapshot_of p plan t) k → Holds p (snapshot_of p plan t) k
+  unbroken-holds k rule unbroken =
+      unbroken-kept (form_of k) rule (λ v w n i j l f d x y. unbroken.pair v w n i j l (record { forbidden = f; differ = d; first = x; second = y }))
+      (λ v n i l f y. unbroken.place v n i l (record { forbidden = f; present = y })) unbroken.group unbroken.set_load unbroken.power

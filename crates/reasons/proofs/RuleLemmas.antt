@@ -1,4 +1,4 @@
--- What a constraint without a fault says of the machines that it names.
+-- What a sound form says of the machines that it names.
 use Rattle.std.proofs.Common.{◌≡◌, ◌≢◌, inl, inr, ℕ, zero, suc, ◌<◌, Bool, true, false, ◌&&◌, ◌==◌, nat_lt, not, List, [], ◌∷◌, ◌++◌, slice_get, Some, refl, sym, ap, ◌∙◌, arith}
 use Rattle.std.proofs.lemmas.Bool.{and_parts, eqb-true, false≢true, ltb-true, not-true, or_cases, or_left, or_right, true≢false}
 use Rattle.std.proofs.lemmas.List.Elements.{All-get_or}
@@ -6,32 +6,16 @@ use Rattle.std.proofs.lemmas.List.Folds.{list_any-append}
 use Rattle.std.proofs.lemmas.Option.{get_or_from_slice_get, slice_get_within}
 use Rattle.cluster.specs.declared.ids.VmId.{VmId}
 use Rattle.catalogue.specs.declared.constraint.Constraint.{Constraint}
-use Rattle.catalogue.specs.Faults.{all_of, are_below, are_named_machines, are_named_nodes, differ, is_fitting, is_member, is_named_resource, is_rule, machines_in}
+use Rattle.catalogue.specs.Faults.{all_of, are_below, differ, is_member, is_rule}
 use Rattle.catalogue.specs.Instance.{Instance, IsInstance, inventory_of}
-use Rattle.slices.specs.Elements.{machine_count}
+use Rattle.slices.specs.Forms.{IsSound, form_of}
 use Rattle.slices.specs.Holds.{IsInPart, IsMember}
+use Rattle.slices.proofs.Public.{sound_form}
 
--- its machines are listed and differ, and its numbers are in range
-pub record IsSoundRule (p : Instance) (k : Constraint) : Type 0 where
-  pub listed : are_below (machine_count p) (machines_in k) ≡ true
-  pub differ : differ (machines_in k) ≡ true
-  pub fitting : is_fitting k ≡ true
-
-parts-of : (a b c d e : Bool) → (a && b && c && d && e) ≡ true → (a ≡ true) × (d ≡ true) × (e ≡ true)
-parts-of true true true true true h = (refl, refl, refl)
-parts-of true true true true false h = absurd (false≢true h)
-parts-of true true true false e h = absurd (false≢true h)
-parts-of true true false d e h = absurd (false≢true h)
-parts-of true false c d e h = absurd (false≢true h)
-parts-of false b c d e h = absurd (false≢true h)
-
--- each constraint of an instance is one
-pub sound_rule : (p : Instance) → IsInstance p → (c : ℕ) (k : Constraint) → slice_get p.constraints c ≡ Some k → IsSoundRule p k
+-- the form of each constraint of an instance is sound
+pub sound_rule : (p : Instance) → IsInstance p → (c : ℕ) (k : Constraint) → slice_get p.constraints c ≡ Some k → IsSound p (form_of k)
 sound_rule p sound c k e =
-    let rule : is_rule (inventory_of p) k ≡ true =
-    rw (get_or_from_slice_get p.constraints c k k e) at (All-get_or (λ x. is_rule (inventory_of p) x ≡ true) p.constraints c k (slice_get_within p.constraints c k e) sound.rules) in
-    let parts = parts-of (are_named_machines (inventory_of p) k) (are_named_nodes (inventory_of p) k) (is_named_resource (inventory_of p) k) (differ (machines_in k)) (is_fitting k) rule in
-    record { listed = parts.0; differ = parts.1; fitting = parts.2 }
+    sound_form p k (rw (get_or_from_slice_get p.constraints c k k e) at (All-get_or (λ x. is_rule (inventory_of p) x ≡ true) p.constraints c k (slice_get_within p.constraints c k e) sound.rules))
 
 -- a member of listed machines is listed
 pub member_below : (n : ℕ) (vs : List VmId) (v : ℕ) → are_below n vs ≡ true → IsMember vs v → v < n

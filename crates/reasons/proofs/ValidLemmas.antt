@@ -8,12 +8,13 @@ use Rattle.catalogue.specs.Kinds.{is_continuous}
 use Rattle.slices.specs.declared.rule.Rule.{Rule}
 use Rattle.slices.specs.declared.rule.Rule.TheVariants.{Constraint as OfConstraint}
 use Rattle.slices.specs.Ends.{snapshot_of}
+use Rattle.slices.specs.Forms.{IsSound, form_of}
 use Rattle.slices.specs.Holds.{Holds}
 use Rattle.slices.specs.Plans.{Choices}
 use Rattle.slices.specs.Rules.{InRange, IsValid, Keeps, applies}
 use Rattle.slices.proofs.Public.{is_pointwise}
 use Rattle.reasons.specs.Reasons.{Applies}
-use Rattle.reasons.proofs.RuleLemmas.{IsSoundRule, sound_rule}
+use Rattle.reasons.proofs.RuleLemmas.{sound_rule}
 
 module _ (p : Instance) (sound : IsInstance p) (plan : Choices) (valid : IsValid p plan) (t : ℕ) (within : t ≤ p.horizon) where
   pub keeps-of : (r : Rule) → InRange p r → Keeps p (snapshot_of p plan t) (t == p.horizon) r
@@ -26,7 +27,7 @@ module _ (p : Instance) (sound : IsInstance p) (plan : Choices) (valid : IsValid
       keeps-of (OfConstraint c) (slice_get_within p.constraints c k e) on k e
 
   -- no constraint that applies passes a test that none passes that holds
-  pub none_applies : (P : Constraint → Type 0) (c : ℕ) → ((k : Constraint) → IsSoundRule p k → Holds p (snapshot_of p plan t) k → ¬ P k) → ¬ Applies p c t P
+  pub none_applies : (P : Constraint → Type 0) (c : ℕ) → ((k : Constraint) → IsSound p (form_of k) → Holds p (snapshot_of p plan t) k → ¬ P k) → ¬ Applies p c t P
   none_applies P c none = at (slice_get p.constraints c) refl
     where
       at : (o : Option Constraint) → slice_get p.constraints c ≡ o → ¬ IsSomeAnd o (λ k. IsTrue (is_continuous k || (t == p.horizon)) × P k)

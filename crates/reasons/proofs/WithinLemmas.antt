@@ -4,17 +4,17 @@ use Rattle.std.proofs.lemmas.Bool.{false≢true}
 use Rattle.sums.proofs.Sums.{sum_to-same}
 use Rattle.cluster.specs.declared.choices.Choice.TheVariants.{Idle}
 use Rattle.catalogue.specs.declared.constraint.Constraint.{Constraint}
-use Rattle.catalogue.specs.declared.constraint.Constraint.TheVariants.{Spread, Ban, Fence, Gather, Lonely, Among, Split, Root, Precedence, Serialize, Preserve, ResourceCapacity, RunningCapacity, MaxOnline, Overbook, Online, Offline, Running, Sleeping, Ready, Killed}
 use Rattle.catalogue.specs.Instance.{Instance}
 use Rattle.slices.specs.declared.rule.Rule.{Rule}
 use Rattle.slices.specs.declared.rule.Rule.TheVariants.{Load, Usable, Constraint as OfConstraint}
 use Rattle.slices.specs.declared.slice.Weight.{Weight}
-use Rattle.slices.specs.declared.slice.Weight.TheVariants.{Amount, Presence, Image}
+use Rattle.slices.specs.declared.slice.Weight.TheVariants.{Amount, Image}
 use Rattle.slices.specs.declared.stage.Progress.{Progress}
 use Rattle.slices.specs.declared.stage.Progress.TheVariants.{Started, Unended, Acting}
 use Rattle.slices.specs.Elements.{machine_count, node, node_count, vm}
 use Rattle.slices.specs.Ends.{snapshot_of}
-use Rattle.slices.specs.Fewer.{IsLessFor}
+use Rattle.slices.specs.Fewer.{IsLessForForm, IsLessSeparated}
+use Rattle.slices.specs.Forms.{Form, Apart, Allowed, Together, Ordered, InTurn, Bounded, Powered, Settled, Separation, Each, Between, FromOthers, form_of}
 use Rattle.slices.specs.Plans.{Choices}
 use Rattle.slices.specs.Rules.{InRange, IsValid, Keeps}
 use Rattle.slices.specs.Snapshots.{action_at, held_at, powered_at, present_at, usable_at}
@@ -46,28 +46,20 @@ module _ (p : Instance) (plan : Choices) (t : ℕ) where
       at true x = x
       at false x = absurd (false≢true x)
 
-  less_for-within : (k : Constraint) → IsLessFor p k (snapshot_of p (within p plan) t) (snapshot_of p plan t)
-  less_for-within (Spread vs b) = λ v l m. present v l
-  less_for-within (Ban vs ns b) = λ v l m. present v l
-  less_for-within (Fence vs ns b) = λ v l m. present v l
-  less_for-within (Gather vs b) = λ v l m. present v l
-  less_for-within (Lonely vs b) = λ v l. present v l
-  less_for-within (Among vs groups b) = λ v l m. present v l
-  less_for-within (Split parts b) = λ i v l m. present v l
-  less_for-within (Root vs) = λ v l m. present v l
-  less_for-within (Precedence before after) = (action after.0 Started, action before.0 Unended)
-  less_for-within (Serialize vs) = λ v l m. action v Acting
-  less_for-within (Preserve vs r amount) = tt
-  less_for-within (ResourceCapacity ns r amount b) = λ v l. held-le v l (Amount r)
-  less_for-within (RunningCapacity ns amount b) = λ v l. held-le v l Presence
-  less_for-within (MaxOnline ns amount b) = λ n l m. powered n l
-  less_for-within (Overbook ns r num den) = tt
-  less_for-within (Online ns) = tt
-  less_for-within (Offline ns) = tt
-  less_for-within (Running vs) = tt
-  less_for-within (Sleeping vs) = tt
-  less_for-within (Ready vs) = tt
-  less_for-within (Killed vs) = tt
+  less_apart-within : (separation : Separation) → IsLessSeparated p separation (snapshot_of p (within p plan) t) (snapshot_of p plan t)
+  less_apart-within (Each vs) = λ v l m. present v l
+  less_apart-within (Between parts) = λ i v l m. present v l
+  less_apart-within (FromOthers vs) = λ v l. present v l
+
+  less_for-within : (f : Form) → IsLessForForm p f (snapshot_of p (within p plan) t) (snapshot_of p plan t)
+  less_for-within (Apart separation) = less_apart-within separation
+  less_for-within (Allowed vs places) = λ v l m. present v l
+  less_for-within (Together vs groups) = λ v l m. present v l
+  less_for-within (Ordered before after) = (action after.0 Started, action before.0 Unended)
+  less_for-within (InTurn vs) = λ v l m. action v Acting
+  less_for-within (Bounded weight ns amount) = λ v l. held-le v l weight
+  less_for-within (Powered ns amount) = λ n l m. powered n l
+  less_for-within Settled = tt
 
   keeps-within : (last : Bool) (r : Rule) → InRange p r → Keeps p (snapshot_of p plan t) last r → Keeps p (snapshot_of p (within p plan) t) last r
   keeps-within last (Load n r) i h =
@@ -78,7 +70,7 @@ module _ (p : Instance) (plan : Choices) (t : ℕ) where
       let stands = subst (λ c. IsTrue (present_at p v.0 (one n.0) t c || nat_lt 0 (held_at p v.0 Image (one n.0) t c))) (within-same p plan (vm v.0) i.0) x in
       ap (usable_at p n.0 t) (within-same p plan (node n.0) i.1) ∙ h stands
   keeps-within last (OfConstraint c) i h =
-      λ a k e. less_holds p (snapshot_of p (within p plan) t) (snapshot_of p plan t) k (less_for-within k) (h a k e)
+      λ a k e. less_holds p (snapshot_of p (within p plan) t) (snapshot_of p plan t) k (less_for-within (form_of k)) (h a k e)
 
 pub within_valid : WithinValid
 unfolding IsValid

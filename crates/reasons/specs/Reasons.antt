@@ -4,14 +4,14 @@ use Rattle.cluster.specs.Sets.{has_node, IsWithin}
 use Rattle.cluster.specs.declared.ids.VmId.{VmId}
 use Rattle.cluster.specs.declared.sets.NodeSet.{NodeSet}
 use Rattle.catalogue.specs.declared.constraint.Constraint.{Constraint}
-use Rattle.catalogue.specs.declared.constraint.Constraint.TheVariants.{Spread, Ban, Fence, Gather, Lonely, Among, Split, Root, Precedence, Serialize, Preserve, ResourceCapacity, RunningCapacity, MaxOnline, Overbook, Online, Offline, Running, Sleeping, Ready, Killed}
 use Rattle.catalogue.specs.Instance.{Instance, IsElement}
 use Rattle.catalogue.specs.Kinds.{is_continuous}
 use Rattle.sums.specs.Sums.{sum_to}
 use Rattle.slices.specs.declared.stage.Progress.TheVariants.{Started, Unended, Acting}
 use Rattle.slices.specs.Elements.{machine_count, node_count}
-use Rattle.slices.specs.Holds.{ForbidsPair, ForbidsPlace, IsMember, groups_of}
-use Rattle.slices.specs.Snapshots.{Snapshot, load, presences, powered_nodes, room, stands_on}
+use Rattle.slices.specs.Forms.{Form, Apart, Allowed, Together, Ordered, InTurn, Bounded, Powered, Settled, Separation, Each, Between, FromOthers, form_of}
+use Rattle.slices.specs.Holds.{ForbidsPair, ForbidsPlace, IsMember, group_sets}
+use Rattle.slices.specs.Snapshots.{Snapshot, load, powered_nodes, room, stands_on, total}
 use Rattle.slices.specs.Stages.{Nodes, one}
 use Rattle.domains.specs.Sets.{Sets}
 use Rattle.reasons.specs.declared.reason.Reason.{Reason}
@@ -55,77 +55,48 @@ pub record AreBothActing (s : Snapshot) (vs : List VmId) : Type 0 where
   pub first : IsTrue (s.action v Acting)
   pub second : IsTrue (s.action w Acting)
 
--- gather and among: no group has all members; precedence: `after` has started and `before` is unended; serialize: two members act
+-- no group has all members; the second has started and the first is unended; two members act
+abbrev pub BreaksGroup : Instance → Snapshot → Form → Type 0
+BreaksGroup p s (Apart separation) = ⊥
+BreaksGroup p s (Allowed vs places) = ⊥
+BreaksGroup p s (Together vs groups) = AreScattered s vs (group_sets p groups)
+BreaksGroup p s (Ordered before after) = IsTrue (s.action after.0 Started) × IsTrue (s.action before.0 Unended)
+BreaksGroup p s (InTurn vs) = AreBothActing s vs
+BreaksGroup p s (Bounded weight ns amount) = ⊥
+BreaksGroup p s (Powered ns amount) = ⊥
+BreaksGroup p s Settled = ⊥
+
+-- what machines hold on the nodes of the set exceeds the amount
+abbrev pub ExceedsAmount : Instance → Snapshot → Form → Type 0
+ExceedsAmount p s (Apart separation) = ⊥
+ExceedsAmount p s (Allowed vs places) = ⊥
+ExceedsAmount p s (Together vs groups) = ⊥
+ExceedsAmount p s (Ordered before after) = ⊥
+ExceedsAmount p s (InTurn vs) = ⊥
+ExceedsAmount p s (Bounded weight ns amount) = amount < total p s weight (has_node ns)
+ExceedsAmount p s (Powered ns amount) = ⊥
+ExceedsAmount p s Settled = ⊥
+
+-- more nodes of the set are powered than the amount
+abbrev pub ExceedsPower : Instance → Snapshot → Form → Type 0
+ExceedsPower p s (Apart separation) = ⊥
+ExceedsPower p s (Allowed vs places) = ⊥
+ExceedsPower p s (Together vs groups) = ⊥
+ExceedsPower p s (Ordered before after) = ⊥
+ExceedsPower p s (InTurn vs) = ⊥
+ExceedsPower p s (Bounded weight ns amount) = ⊥
+ExceedsPower p s (Powered ns amount) = amount < powered_nodes p s (has_node ns)
+ExceedsPower p s Settled = ⊥
+
+-- and so of a constraint of that form
 abbrev pub IsGroup : Instance → Snapshot → Constraint → Type 0
-IsGroup p s (Spread vs b) = ⊥
-IsGroup p s (Ban vs ns b) = ⊥
-IsGroup p s (Fence vs ns b) = ⊥
-IsGroup p s (Gather vs b) = AreScattered s vs (groups_of p (Gather vs b))
-IsGroup p s (Lonely vs b) = ⊥
-IsGroup p s (Among vs groups b) = AreScattered s vs (groups_of p (Among vs groups b))
-IsGroup p s (Split parts b) = ⊥
-IsGroup p s (Root vs) = ⊥
-IsGroup p s (Precedence before after) = IsTrue (s.action after.0 Started) × IsTrue (s.action before.0 Unended)
-IsGroup p s (Serialize vs) = AreBothActing s vs
-IsGroup p s (Preserve vs r amount) = ⊥
-IsGroup p s (ResourceCapacity ns r amount b) = ⊥
-IsGroup p s (RunningCapacity ns amount b) = ⊥
-IsGroup p s (MaxOnline ns amount b) = ⊥
-IsGroup p s (Overbook ns r num den) = ⊥
-IsGroup p s (Online ns) = ⊥
-IsGroup p s (Offline ns) = ⊥
-IsGroup p s (Running vs) = ⊥
-IsGroup p s (Sleeping vs) = ⊥
-IsGroup p s (Ready vs) = ⊥
-IsGroup p s (Killed vs) = ⊥
+IsGroup p s c = BreaksGroup p s (form_of c)
 
--- the uses, or the presences, on the nodes of the constraint exceed its amount
 abbrev pub IsSetLoad : Instance → Snapshot → Constraint → Type 0
-IsSetLoad p s (Spread vs b) = ⊥
-IsSetLoad p s (Ban vs ns b) = ⊥
-IsSetLoad p s (Fence vs ns b) = ⊥
-IsSetLoad p s (Gather vs b) = ⊥
-IsSetLoad p s (Lonely vs b) = ⊥
-IsSetLoad p s (Among vs groups b) = ⊥
-IsSetLoad p s (Split parts b) = ⊥
-IsSetLoad p s (Root vs) = ⊥
-IsSetLoad p s (Precedence before after) = ⊥
-IsSetLoad p s (Serialize vs) = ⊥
-IsSetLoad p s (Preserve vs r amount) = ⊥
-IsSetLoad p s (ResourceCapacity ns r amount b) = amount < load p s r (has_node ns)
-IsSetLoad p s (RunningCapacity ns amount b) = amount < presences p s (has_node ns)
-IsSetLoad p s (MaxOnline ns amount b) = ⊥
-IsSetLoad p s (Overbook ns r num den) = ⊥
-IsSetLoad p s (Online ns) = ⊥
-IsSetLoad p s (Offline ns) = ⊥
-IsSetLoad p s (Running vs) = ⊥
-IsSetLoad p s (Sleeping vs) = ⊥
-IsSetLoad p s (Ready vs) = ⊥
-IsSetLoad p s (Killed vs) = ⊥
+IsSetLoad p s c = ExceedsAmount p s (form_of c)
 
--- more nodes of the constraint are powered than its amount
 abbrev pub IsPower : Instance → Snapshot → Constraint → Type 0
-IsPower p s (Spread vs b) = ⊥
-IsPower p s (Ban vs ns b) = ⊥
-IsPower p s (Fence vs ns b) = ⊥
-IsPower p s (Gather vs b) = ⊥
-IsPower p s (Lonely vs b) = ⊥
-IsPower p s (Among vs groups b) = ⊥
-IsPower p s (Split parts b) = ⊥
-IsPower p s (Root vs) = ⊥
-IsPower p s (Precedence before after) = ⊥
-IsPower p s (Serialize vs) = ⊥
-IsPower p s (Preserve vs r amount) = ⊥
-IsPower p s (ResourceCapacity ns r amount b) = ⊥
-IsPower p s (RunningCapacity ns amount b) = ⊥
-IsPower p s (MaxOnline ns amount b) = amount < powered_nodes p s (has_node ns)
-IsPower p s (Overbook ns r num den) = ⊥
-IsPower p s (Online ns) = ⊥
-IsPower p s (Offline ns) = ⊥
-IsPower p s (Running vs) = ⊥
-IsPower p s (Sleeping vs) = ⊥
-IsPower p s (Ready vs) = ⊥
-IsPower p s (Killed vs) = ⊥
+IsPower p s c = ExceedsPower p s (form_of c)
 
 -- a machine is present on a node, or has its image there, and the node is not usable
 pub record IsUnusable (s : Snapshot) (v n : ℕ) : Type 0 where
@@ -136,29 +107,24 @@ pub record IsUnusable (s : Snapshot) (v n : ℕ) : Type 0 where
 abbrev pub nodes_in : Instance → Nodes → ℕ
 nodes_in p set = sum_to (node_count p) (λ n. if set n then 1 else 0)
 
--- more members of a spread are on nodes of a set than it has nodes
+-- more members, each kept apart from each other one, are on nodes of a set than it has nodes
+abbrev pub ExceedsSeparated : Instance → Snapshot → Nodes → Separation → Type 0
+ExceedsSeparated p s set (Each vs) = nodes_in p set < length (filter (λ v. s.present v.0 set) vs)
+ExceedsSeparated p s set (Between parts) = ⊥
+ExceedsSeparated p s set (FromOthers vs) = ⊥
+
+abbrev pub ExceedsNodes : Instance → Snapshot → Nodes → Form → Type 0
+ExceedsNodes p s set (Apart separation) = ExceedsSeparated p s set separation
+ExceedsNodes p s set (Allowed vs places) = ⊥
+ExceedsNodes p s set (Together vs groups) = ⊥
+ExceedsNodes p s set (Ordered before after) = ⊥
+ExceedsNodes p s set (InTurn vs) = ⊥
+ExceedsNodes p s set (Bounded weight ns amount) = ⊥
+ExceedsNodes p s set (Powered ns amount) = ⊥
+ExceedsNodes p s set Settled = ⊥
+
 abbrev pub IsHall : Instance → Snapshot → Nodes → Constraint → Type 0
-IsHall p s set (Spread vs b) = nodes_in p set < length (filter (λ v. s.present v.0 set) vs)
-IsHall p s set (Ban vs ns b) = ⊥
-IsHall p s set (Fence vs ns b) = ⊥
-IsHall p s set (Gather vs b) = ⊥
-IsHall p s set (Lonely vs b) = ⊥
-IsHall p s set (Among vs groups b) = ⊥
-IsHall p s set (Split parts b) = ⊥
-IsHall p s set (Root vs) = ⊥
-IsHall p s set (Precedence before after) = ⊥
-IsHall p s set (Serialize vs) = ⊥
-IsHall p s set (Preserve vs r amount) = ⊥
-IsHall p s set (ResourceCapacity ns r amount b) = ⊥
-IsHall p s set (RunningCapacity ns amount b) = ⊥
-IsHall p s set (MaxOnline ns amount b) = ⊥
-IsHall p s set (Overbook ns r num den) = ⊥
-IsHall p s set (Online ns) = ⊥
-IsHall p s set (Offline ns) = ⊥
-IsHall p s set (Running vs) = ⊥
-IsHall p s set (Sleeping vs) = ⊥
-IsHall p s set (Ready vs) = ⊥
-IsHall p s set (Killed vs) = ⊥
+IsHall p s set c = ExceedsNodes p s set (form_of c)
 
 -- ---- what reasons refute
 
