@@ -24,7 +24,8 @@ use Rattle.trees.specs.Trees.{Leads, Tree, children, steps_of}
 use Rattle.trees.specs.Proving.{IsPlanLeaf, Proves, StepHolds}
 use Rattle.trees.specs.Goals.{decisions, goal_of}
 use Rattle.trees.specs.Certificates.{IsHandedIn, bound_of}
-use Rattle.trees.proofs.Public.{leads_tree, only_in, start_is_plan}
+use Rattle.reasons.proofs.Public.{start_is_plan}
+use Rattle.trees.proofs.Public.{leads_tree, only_in}
 use Rattle.cert_text.specs.Spelling.{HasStep, step_text}
 use Rattle.cert_text.specs.Texts.{IsGoal, IsNumber}
 use Rattle.cert_text.proofs.Public.{named_reason}

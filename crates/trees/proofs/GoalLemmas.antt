@@ -5,7 +5,7 @@ use Rattle.catalogue.specs.Instance.{Instance, IsInstance}
 use Rattle.slices.specs.Costs.{cost_of}
 use Rattle.slices.specs.Plans.{Choices, IsPlan}
 use Rattle.slices.specs.Rules.{IsValid}
-use Rattle.reasons.specs.Start.{start_sets}
+use Rattle.reasons.specs.Start.{start_sets, within}
 use Rattle.trees.specs.declared.steps.Goal.{Goal}
 use Rattle.trees.specs.declared.steps.Goal.TheVariants.{Optimal, Infeasible, Undecided}
 use Rattle.trees.specs.Trees.{Tree, steps_of}
@@ -15,8 +15,7 @@ use Rattle.trees.specs.Certificates.{bound_of, GoalHolds, IsHandedIn, least_of, 
 use Rattle.trees.specs.Laws.{CertificatesHold}
 use Rattle.trees.proofs.LeaveLemmas.{proved_excludes}
 use Rattle.trees.proofs.LeastLemmas.{least_holds, number_shown}
-use Rattle.trees.proofs.StartLemmas.{start_has}
-use Rattle.trees.proofs.WithinLemmas.{cost_within, within, within_valid}
+use Rattle.reasons.proofs.Public.{cost_within, start_has, within_valid}
 
 is_optimal : (some : Bool) (count known cost : ℕ) → goal_of some count (Some known) ≡ Optimal cost → (some ≡ false) × (known ≡ cost)
 is_optimal true count known cost h = absurd (cc)

@@ -6,8 +6,6 @@ mod TurnLemmas
 mod CountLemmas
 mod LeaveLemmas
 mod LeastLemmas
-mod WithinLemmas
-mod StartLemmas
 mod GoalLemmas
 mod PlanLemmas
 mod GatherLemmas

@@ -17,7 +17,7 @@ use Rattle.trees.specs.Proving.{IsPlanLeaf, StepHolds}
 use Rattle.trees.specs.Searching.{IsPlanOfSome, plan_sets}
 use Rattle.trees.specs.Laws.{PlansFoundHold}
 use Rattle.trees.proofs.LeaveLemmas.{at_plan, only_plan}
-use Rattle.trees.proofs.StartLemmas.{start_is_plan}
+use Rattle.reasons.proofs.Public.{start_is_plan}
 
 pub only_in : (s : Sets) (plan : Choices) → IsOnly s plan → IsIn s plan
 only_in s plan only e = subst (λ cs. Contains cs (plan e)) (sym (only e)) (contains_here (plan e) [])

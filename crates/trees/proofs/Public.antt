@@ -4,8 +4,6 @@ pub use Rattle.trees.proofs.LeastLemmas.{least_holds, least_is_shown}
 pub use Rattle.trees.proofs.GoalLemmas.{certificates_hold}
 pub use Rattle.trees.proofs.PlanLemmas.{only_in, plan_at_last, plan_in_front, plans_found_hold}
 pub use Rattle.trees.proofs.FitLemmas.{lean_trees_fit}
-pub use Rattle.trees.proofs.StartLemmas.{start_has, start_is_plan}
-pub use Rattle.trees.proofs.WithinLemmas.{cost_within, within, within_same, within_valid}
 pub use Rattle.trees.proofs.StepLemmas.{leads_append, leads_push, leads_same, leads_split, leads_tree}
 pub use Rattle.trees.proofs.GrowLemmas.{IsOneTree, tree_of}
 pub use Rattle.trees.proofs.TurnLemmas.{at_each_both, at_each_map, at_each_turn, leads_map, leads_turn}
