@@ -5,7 +5,7 @@ use Rattle.catalogue.specs.declared.constraint.Constraint.{Constraint}
 use Rattle.catalogue.specs.declared.constraint.Constraint.TheVariants.{Spread, Ban, Fence, Gather, Lonely, Among, Split, Root, Precedence, Serialize, Preserve, ResourceCapacity, RunningCapacity, MaxOnline, Overbook, Online, Offline, Running, Sleeping, Ready, Killed}
 use Rattle.catalogue.specs.Faults.{are_named_machines, are_named_nodes, differ, is_fitting, is_named_resource, is_rule, machines_in}
 use Rattle.catalogue.specs.Instance.{Instance, inventory_of}
-use Rattle.slices.specs.Forms.{IsFit, IsSound, SoundForm, form_of}
+use Rattle.slices.specs.Forms.{IsSound, SoundForm, form_of}
 
 -- the parts of a constraint without a fault
 record IsRule (p : Instance) (c : Constraint) : Type 0 where

@@ -6,7 +6,6 @@ use Rattle.sums.proofs.Tests.{cond-implied, positive_above}
 use Rattle.cluster.specs.declared.choices.Choice.{Choice}
 use Rattle.cluster.specs.declared.choices.Choice.TheVariants.{Idle, Act}
 use Rattle.cluster.specs.Inventory.{is_online}
-use Rattle.catalogue.specs.declared.constraint.Constraint.{Constraint}
 use Rattle.catalogue.specs.Instance.{Instance}
 use Rattle.catalogue.specs.Values.{continuous_at}
 use Rattle.slices.specs.declared.rule.Rule.{Rule}

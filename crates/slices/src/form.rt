@@ -1,14 +1,19 @@
 //! The form of a constraint: what it asks of what is where, whatever its kind.
-ghost use Rattle.std.specs.Prelude.{◌≡◌, true};
+ghost use Rattle.std.specs.Prelude.{◌≡◌, ◌↔◌, ◌<◌, true, IsTrue};
 ghost use Rattle.catalogue.specs.Faults.{is_rule};
 ghost use Rattle.catalogue.specs.Instance.{Instance, inventory_of};
-ghost use Rattle.slices.specs.Forms.{IsSound, form_of as the_form_of, form_seen};
+ghost use Rattle.slices.specs.Elements.{machine_count};
+ghost use Rattle.slices.specs.Forms.{IsSound, form_of as the_form_of, form_seen, places_seen};
+ghost use Rattle.slices.specs.Holds.{IsOffLimits, runs_elsewhere as the_runs_elsewhere};
 
+use crate::elements::state_of;
 use crate::slice::Weight;
 use catalogue::constraint::Constraint;
 use catalogue::lists::Vms;
-use cluster::ids::VmId;
+use catalogue::problem::Problem;
+use cluster::ids::{NodeId, VmId};
 use cluster::sets::NodeSet;
+use cluster::states::State;
 
 /// Which machines are kept apart.
 #[derive(Clone, Copy)]
@@ -112,5 +117,27 @@ pub fn form_of(constraint: &Constraint) -> Form<'_>
         | Constraint::Sleeping { .. }
         | Constraint::Ready { .. }
         | Constraint::Killed { .. } => Form::Settled,
+    }
+}
+
+/// Whether a machine in this state runs at present, on another node.
+fn runs_elsewhere(state: State, n: NodeId) -> bool
+    ensures { result ≡ the_runs_elsewhere state n.0 }
+{
+    match state {
+        State::Running(h) => h.0 != n.0,
+        State::Init | State::Ready | State::Sleeping(_) | State::Gone => false,
+    }
+}
+
+/// Whether a node is off limits for a member of those that may be on these places only.
+pub fn is_off_limits(p: &Problem, places: &Places, v: VmId, n: NodeId) -> bool
+    requires { v.0 < machine_count p.now.given }
+    ensures { IsTrue result ↔ IsOffLimits p.now.given (places_seen places.now) v.0 n.0 }
+{
+    match places {
+        Places::Outside(nodes) => nodes.has(n),
+        Places::Within(nodes) => !nodes.has(n),
+        Places::OnHost => runs_elsewhere(state_of(p, v), n),
     }
 }
