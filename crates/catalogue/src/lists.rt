@@ -23,6 +23,8 @@ impl Model for Vms {
 }
 
 impl Vms {
+    ghost use Rattle.catalogue.specs.Faults.{is_member};
+
     /// The list of these machines, made without memory.
     pub fn new(ids: Vec<VmId>) -> Vms
         ensures { result ≡ ids.items }
@@ -35,6 +37,13 @@ impl Vms {
         ensures { result.now ≡ self.now }
     {
         &self.ids
+    }
+
+    /// Whether a machine is in the list.
+    pub fn has(&self, v: VmId) -> bool
+        ensures { result ≡ is_member self.now v.0 }
+    {
+        self.ids.iter().any(|x| x.0 == v.0)
     }
 
     /// An equal list, made with the allocator of this one; the only error is want of memory.

@@ -9,7 +9,7 @@ ghost use Rattle.slices.specs.Holds.{IsOffLimits, runs_elsewhere as the_runs_els
 use crate::elements::state_of;
 use crate::slice::Weight;
 use catalogue::constraint::Constraint;
-use catalogue::lists::Vms;
+use catalogue::lists::{self, Parts, Vms};
 use catalogue::problem::Problem;
 use cluster::ids::{NodeId, VmId};
 use cluster::sets::NodeSet;
@@ -19,11 +19,11 @@ use cluster::states::State;
 #[derive(Clone, Copy)]
 pub enum Separation<'a> {
     /// Each member from each other one.
-    Each(&'a [VmId]),
+    Each(&'a Vms),
     /// The machines of a part from those of all other parts.
-    Between(&'a [Vms]),
+    Between(&'a Parts),
     /// The members from all other machines.
-    FromOthers(&'a [VmId]),
+    FromOthers(&'a Vms),
 }
 
 /// On which nodes a member may be.
@@ -43,7 +43,7 @@ pub enum Groups<'a> {
     /// Each node by itself.
     AnyNode,
     /// These sets.
-    AnyOf(&'a [NodeSet]),
+    AnyOf(&'a lists::Groups),
 }
 
 /// What a constraint asks of what is where. A look at constraints goes by these few, so a new kind
@@ -53,13 +53,13 @@ pub enum Form<'a> {
     /// No node has presences of two machines that are kept apart.
     Apart(Separation<'a>),
     /// Members are present only where they may be.
-    Allowed(&'a [VmId], Places<'a>),
+    Allowed(&'a Vms, Places<'a>),
     /// One group has all presences of members.
-    Together(&'a [VmId], Groups<'a>),
+    Together(&'a Vms, Groups<'a>),
     /// Where the second has started, the first has ended.
     Ordered(VmId, VmId),
     /// No two members act at the same instant.
-    InTurn(&'a [VmId]),
+    InTurn(&'a Vms),
     /// What all machines hold on the nodes of the set is at most the amount.
     Bounded(Weight, &'a NodeSet, u64),
     /// At most so many nodes of the set are powered.
@@ -75,30 +75,28 @@ pub fn form_of(constraint: &Constraint) -> Form<'_>
     ensures sound { (p : Instance) → is_rule (inventory_of p) constraint.now ≡ true → IsSound p (form_seen result) }
 {
     match constraint {
-        Constraint::Spread { machines, .. } => Form::Apart(Separation::Each(machines.items())),
-        Constraint::Split { parts, .. } => Form::Apart(Separation::Between(parts.items())),
-        Constraint::Lonely { machines, .. } => {
-            Form::Apart(Separation::FromOthers(machines.items()))
-        }
+        Constraint::Spread { machines, .. } => Form::Apart(Separation::Each(machines)),
+        Constraint::Split { parts, .. } => Form::Apart(Separation::Between(parts)),
+        Constraint::Lonely { machines, .. } => { Form::Apart(Separation::FromOthers(machines)) }
         Constraint::Ban {
             machines,
             nodes,
             ..
-        } => { Form::Allowed(machines.items(), Places::Outside(nodes)) }
+        } => { Form::Allowed(machines, Places::Outside(nodes)) }
         Constraint::Fence {
             machines,
             nodes,
             ..
-        } => { Form::Allowed(machines.items(), Places::Within(nodes)) }
-        Constraint::Root { machines } => Form::Allowed(machines.items(), Places::OnHost),
-        Constraint::Gather { machines, .. } => { Form::Together(machines.items(), Groups::AnyNode) }
+        } => { Form::Allowed(machines, Places::Within(nodes)) }
+        Constraint::Root { machines } => Form::Allowed(machines, Places::OnHost),
+        Constraint::Gather { machines, .. } => { Form::Together(machines, Groups::AnyNode) }
         Constraint::Among {
             machines,
             groups,
             ..
-        } => { Form::Together(machines.items(), Groups::AnyOf(groups.items())) }
+        } => { Form::Together(machines, Groups::AnyOf(groups)) }
         Constraint::Precedence { before, after } => Form::Ordered(*before, *after),
-        Constraint::Serialize { machines } => Form::InTurn(machines.items()),
+        Constraint::Serialize { machines } => Form::InTurn(machines),
         Constraint::ResourceCapacity {
             nodes,
             resource,
