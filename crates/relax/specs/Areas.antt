@@ -1,5 +1,5 @@
 -- Sets of nodes as they are asked for, and what may be asked.
-use Rattle.std.specs.Prelude.{◌≡◌, ◌<◌, Bool, false, not, length, IsTrue}
+use Rattle.std.specs.Prelude.{◌≡◌, Bool, false, not, length, IsTrue}
 use Rattle.std.specs.List.{Contains}
 use Rattle.cluster.specs.declared.choices.Choice.{Choice}
 use Rattle.cluster.specs.declared.choices.Choice.TheVariants.{Idle, Act}
@@ -9,10 +9,9 @@ use Rattle.cluster.specs.declared.states.State.{State}
 use Rattle.cluster.specs.declared.states.State.TheVariants.{Init, Ready as IsReady, Running as Runs, Sleeping as Sleeps, Gone}
 use Rattle.cluster.specs.Sets.{has_node}
 use Rattle.catalogue.specs.Instance.{Instance, IsElement}
-use Rattle.slices.specs.declared.slice.Weight.{Weight}
-use Rattle.slices.specs.declared.slice.Weight.TheVariants.{Amount, Presence, Image}
 use Rattle.slices.specs.Actions.{is_legal}
 use Rattle.slices.specs.Elements.{machine_count, node_count}
+pub use Rattle.slices.specs.Snapshots.{IsWeight}
 use Rattle.slices.specs.Stages.{Nodes, one}
 use Rattle.domains.specs.Sets.{RegionView, Sets}
 use Rattle.reasons.specs.Closed.{all_nodes}
@@ -26,12 +25,6 @@ nodes_of p All = all_nodes p
 nodes_of p (In set) = has_node set
 nodes_of p (OutsideOne n) = λ m. not (one n.0 m)
 nodes_of p (Outside set) = λ m. not (has_node set m)
-
--- a resource whose amount is asked for is one of the instance
-abbrev pub IsWeight : Instance → Weight → Type 0
-IsWeight p (Amount r) = r < length p.resources
-IsWeight p Presence = Unit {0}
-IsWeight p Image = Unit {0}
 
 -- the region has a domain for each element of the instance, and no more
 pub record IsSized (p : Instance) (g : RegionView) : Type 0 where

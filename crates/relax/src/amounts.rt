@@ -6,20 +6,22 @@ ghost use Rattle.cluster.specs.Sets.{has_node};
 ghost use Rattle.catalogue.specs.Faults.{is_rule};
 ghost use Rattle.catalogue.specs.Instance.{inventory_of};
 ghost use Rattle.slices.specs.Elements.{machine_count};
+ghost use Rattle.slices.specs.Forms.{separated, separation_seen};
 ghost use Rattle.domains.specs.Views.{seen};
-ghost use Rattle.reasons.specs.Reasons.{IsHall, IsOverload, IsPower, IsSetLoad, nodes_in as the_nodes_in};
+ghost use Rattle.reasons.specs.Reasons.{ExceedsSeparated, IsHall, IsOverload, IsPower, IsSetLoad, nodes_in as the_nodes_in};
 ghost use Rattle.reasons.specs.Sure.{least_cost as the_least_cost, sure};
 ghost use Rattle.relax.specs.Areas.{IsSized, nodes_of};
 
 use crate::area::{Area, area_of};
 use crate::sure::surely_in;
-use crate::totals::{least_cost, load, powered_nodes, presences, room};
+use crate::totals::{least_cost, load, powered_nodes, room, total};
 use catalogue::constraint::Constraint;
 use catalogue::problem::Problem;
 use cluster::choices::Instant;
 use cluster::ids::{NodeId, VmId};
 use cluster::sets::NodeSet;
 use domains::view::View;
+use slices::form::{Form, Separation, form_of};
 
 /// Whether a plan of a cost is handed in, and the sum of the least ends is no less. The sum is added up
 /// where it is not handed in as well.
@@ -64,35 +66,17 @@ pub fn is_set_load(p: &Problem, view: &View, constraint: &Constraint, t: Instant
     requires rule { is_rule (inventory_of p.now.given) constraint.now ≡ true }
     ensures { IsTrue result ↔ IsSetLoad p.now.given (sure p.now.given (seen view.now.region.now view.now.lens) t) constraint.now }
 {
-    match constraint {
-        Constraint::ResourceCapacity {
-            nodes,
-            resource,
-            amount,
-            ..
-        } => *amount < load(p, view, *resource, &area_of(p, nodes), t),
-        Constraint::RunningCapacity { nodes, amount, .. } => {
-            *amount < presences(p, view, &area_of(p, nodes), t)
+    match form_of(constraint) {
+        Form::Bounded(weight, nodes, amount) => {
+            amount < total(p, view, weight, &area_of(p, nodes), t)
         }
-        Constraint::Spread { .. }
-        | Constraint::Ban { .. }
-        | Constraint::Fence { .. }
-        | Constraint::Gather { .. }
-        | Constraint::Lonely { .. }
-        | Constraint::Among { .. }
-        | Constraint::Split { .. }
-        | Constraint::Root { .. }
-        | Constraint::Precedence { .. }
-        | Constraint::Serialize { .. }
-        | Constraint::Preserve { .. }
-        | Constraint::MaxOnline { .. }
-        | Constraint::Overbook { .. }
-        | Constraint::Online { .. }
-        | Constraint::Offline { .. }
-        | Constraint::Running { .. }
-        | Constraint::Sleeping { .. }
-        | Constraint::Ready { .. }
-        | Constraint::Killed { .. } => false,
+        Form::Apart(..)
+        | Form::Allowed(..)
+        | Form::Together(..)
+        | Form::Ordered(..)
+        | Form::InTurn(..)
+        | Form::Powered(..)
+        | Form::Settled => false,
     }
 }
 
@@ -101,30 +85,15 @@ pub fn is_power(p: &Problem, view: &View, constraint: &Constraint, t: Instant) -
     requires region { IsSized p.now.given view.now.region.now }
     ensures { IsTrue result ↔ IsPower p.now.given (sure p.now.given (seen view.now.region.now view.now.lens) t) constraint.now }
 {
-    match constraint {
-        Constraint::MaxOnline { nodes, amount, .. } => {
-            *amount < powered_nodes(p, view, &Area::In(*nodes), t)
-        }
-        Constraint::Spread { .. }
-        | Constraint::Ban { .. }
-        | Constraint::Fence { .. }
-        | Constraint::Gather { .. }
-        | Constraint::Lonely { .. }
-        | Constraint::Among { .. }
-        | Constraint::Split { .. }
-        | Constraint::Root { .. }
-        | Constraint::Precedence { .. }
-        | Constraint::Serialize { .. }
-        | Constraint::Preserve { .. }
-        | Constraint::ResourceCapacity { .. }
-        | Constraint::RunningCapacity { .. }
-        | Constraint::Overbook { .. }
-        | Constraint::Online { .. }
-        | Constraint::Offline { .. }
-        | Constraint::Running { .. }
-        | Constraint::Sleeping { .. }
-        | Constraint::Ready { .. }
-        | Constraint::Killed { .. } => false,
+    match form_of(constraint) {
+        Form::Powered(nodes, amount) => amount < powered_nodes(p, view, &Area::In(*nodes), t),
+        Form::Apart(..)
+        | Form::Allowed(..)
+        | Form::Together(..)
+        | Form::Ordered(..)
+        | Form::InTurn(..)
+        | Form::Bounded(..)
+        | Form::Settled => false,
     }
 }
 
@@ -152,35 +121,34 @@ fn present_in(p: &Problem, view: &View, machines: &[VmId], area: &Area, t: Insta
     total
 }
 
+// whether more members, each kept apart from each other one, are surely present on nodes of a set than it has nodes
+fn is_crowded(p: &Problem, view: &View, separation: &Separation, set: &NodeSet, t: Instant) -> bool
+    requires region { IsSized p.now.given view.now.region.now }
+    requires machines { list_all (λ x. nat_lt x.0 (machine_count p.now.given)) (separated (separation_seen separation.now)) ≡ true }
+    ensures { IsTrue result ↔ ExceedsSeparated p.now.given (sure p.now.given (seen view.now.region.now view.now.lens) t) (has_node set.now) (separation_seen separation.now) }
+{
+    match separation {
+        Separation::Each(machines) => {
+            nodes_in(p, set) < present_in(p, view, machines.items(), &Area::In(*set), t)
+        }
+        Separation::Between(_) | Separation::FromOthers(_) => false,
+    }
+}
+
 /// Whether more members of a spread are surely present on nodes of a set than it has nodes.
 pub fn is_hall(p: &Problem, view: &View, constraint: &Constraint, set: &NodeSet, t: Instant) -> bool
     requires region { IsSized p.now.given view.now.region.now }
     requires rule { is_rule (inventory_of p.now.given) constraint.now ≡ true }
     ensures { IsTrue result ↔ IsHall p.now.given (sure p.now.given (seen view.now.region.now view.now.lens) t) (has_node set.now) constraint.now }
 {
-    match constraint {
-        Constraint::Spread { machines, .. } => {
-            nodes_in(p, set) < present_in(p, view, machines.items(), &Area::In(*set), t)
-        }
-        Constraint::Ban { .. }
-        | Constraint::Fence { .. }
-        | Constraint::Gather { .. }
-        | Constraint::Lonely { .. }
-        | Constraint::Among { .. }
-        | Constraint::Split { .. }
-        | Constraint::Root { .. }
-        | Constraint::Precedence { .. }
-        | Constraint::Serialize { .. }
-        | Constraint::Preserve { .. }
-        | Constraint::ResourceCapacity { .. }
-        | Constraint::RunningCapacity { .. }
-        | Constraint::MaxOnline { .. }
-        | Constraint::Overbook { .. }
-        | Constraint::Online { .. }
-        | Constraint::Offline { .. }
-        | Constraint::Running { .. }
-        | Constraint::Sleeping { .. }
-        | Constraint::Ready { .. }
-        | Constraint::Killed { .. } => false,
+    match form_of(constraint) {
+        Form::Apart(separation) => is_crowded(p, view, &separation, set, t),
+        Form::Allowed(..)
+        | Form::Together(..)
+        | Form::Ordered(..)
+        | Form::InTurn(..)
+        | Form::Bounded(..)
+        | Form::Powered(..)
+        | Form::Settled => false,
     }
 }

@@ -22,6 +22,7 @@ use cluster::choices::Instant;
 use cluster::ids::{NodeId, VmId};
 use cluster::sets::NodeSet;
 use domains::view::View;
+use slices::form::{Form, Groups, form_of};
 use slices::stage::Progress;
 
 // the place in a list of a machine that is surely present on nodes of an area; the first place that is
@@ -144,31 +145,17 @@ pub fn is_group(p: &Problem, view: &View, constraint: &Constraint, t: Instant) -
     ensures yes { IsTrue result → IsGroup p.now.given (sure p.now.given (seen view.now.region.now view.now.lens) t) constraint.now }
     ensures no { result ≡ false → ¬ IsGroup p.now.given (sure p.now.given (seen view.now.region.now view.now.lens) t) constraint.now }
 {
-    match constraint {
-        Constraint::Gather { machines, .. } => are_apart(p, view, machines.items(), t),
-        Constraint::Among {
-            machines,
-            groups,
-            ..
-        } => are_outside(p, view, machines.items(), groups.items(), t),
-        Constraint::Precedence { before, after } => is_early(p, view, *before, *after, t),
-        Constraint::Serialize { machines } => are_both_acting(p, view, machines.items(), t),
-        Constraint::Spread { .. }
-        | Constraint::Ban { .. }
-        | Constraint::Fence { .. }
-        | Constraint::Lonely { .. }
-        | Constraint::Split { .. }
-        | Constraint::Root { .. }
-        | Constraint::Preserve { .. }
-        | Constraint::ResourceCapacity { .. }
-        | Constraint::RunningCapacity { .. }
-        | Constraint::MaxOnline { .. }
-        | Constraint::Overbook { .. }
-        | Constraint::Online { .. }
-        | Constraint::Offline { .. }
-        | Constraint::Running { .. }
-        | Constraint::Sleeping { .. }
-        | Constraint::Ready { .. }
-        | Constraint::Killed { .. } => false,
+    match form_of(constraint) {
+        Form::Together(machines, Groups::AnyNode) => are_apart(p, view, machines.items(), t),
+        Form::Together(machines, Groups::AnyOf(groups)) => {
+            are_outside(p, view, machines.items(), groups.items(), t)
+        }
+        Form::Ordered(before, after) => is_early(p, view, before, after, t),
+        Form::InTurn(machines) => are_both_acting(p, view, machines.items(), t),
+        Form::Apart(..)
+        | Form::Allowed(..)
+        | Form::Bounded(..)
+        | Form::Powered(..)
+        | Form::Settled => false,
     }
 }

@@ -8,10 +8,10 @@ ghost use Rattle.catalogue.specs.Limits.{max_capacity};
 ghost use Rattle.catalogue.specs.Values.{capacity_of};
 ghost use Rattle.slices.specs.Actions.{end_of};
 ghost use Rattle.slices.specs.Elements.{machine_count, node, node_count, vm};
-ghost use Rattle.slices.specs.Snapshots.{load as load_of, powered_nodes as powered_nodes_of, presences as presences_of, room as room_of};
+ghost use Rattle.slices.specs.Snapshots.{load as load_of, powered_nodes as powered_nodes_of, presences as presences_of, room as room_of, total as total_of};
 ghost use Rattle.domains.specs.Views.{seen};
 ghost use Rattle.reasons.specs.Sure.{least_cost as least_cost_of, sure};
-ghost use Rattle.relax.specs.Areas.{IsSized, nodes_of};
+ghost use Rattle.relax.specs.Areas.{IsSized, IsWeight, nodes_of};
 
 use crate::area::{Area, has};
 use crate::one_node;
@@ -22,6 +22,19 @@ use cluster::ids::{Element, NodeId, VmId};
 use domains::view::View;
 use slices::slice::Weight;
 
+/// The sum of the least that machines hold on the nodes of an area.
+pub fn total(p: &Problem, view: &View, weight: Weight, area: &Area, t: Instant) -> u64
+    requires region { IsSized p.now.given view.now.region.now }
+    requires weight { IsWeight p.now.given weight }
+    ensures { result ≡ total_of p.now.given (sure p.now.given (seen view.now.region.now view.now.lens) t) weight (nodes_of p.now.given area.now) }
+{
+    let mut total = 0;
+    for v in 0..p.cluster().machines().len() {
+        total += least_held(p, view, VmId(v as u32), weight, area, t);
+    }
+    total
+}
+
 /// The sum of the least uses of a resource on the nodes of an area. Of one node it is told in a quicker way.
 pub fn load(p: &Problem, view: &View, r: u8, area: &Area, t: Instant) -> u64
     requires region { IsSized p.now.given view.now.region.now }
@@ -31,11 +44,7 @@ pub fn load(p: &Problem, view: &View, r: u8, area: &Area, t: Instant) -> u64
     if let Area::One(n) = area {
         return one_node::load(p, view, r, *n, t);
     }
-    let mut total = 0;
-    for v in 0..p.cluster().machines().len() {
-        total += least_held(p, view, VmId(v as u32), Weight::Amount(r), area, t);
-    }
-    total
+    total(p, view, Weight::Amount(r), area, t)
 }
 
 /// The sum of the least numbers of presences on the nodes of an area.
@@ -43,11 +52,7 @@ pub fn presences(p: &Problem, view: &View, area: &Area, t: Instant) -> u64
     requires region { IsSized p.now.given view.now.region.now }
     ensures { result ≡ presences_of p.now.given (sure p.now.given (seen view.now.region.now view.now.lens) t) (nodes_of p.now.given area.now) }
 {
-    let mut total = 0;
-    for v in 0..p.cluster().machines().len() {
-        total += least_held(p, view, VmId(v as u32), Weight::Presence, area, t);
-    }
-    total
+    total(p, view, Weight::Presence, area, t)
 }
 
 // the capacity of a node for a resource, 0 where it is not in the area or cannot be usable

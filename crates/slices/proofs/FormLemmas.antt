@@ -1,6 +1,6 @@
 -- The form of a constraint without a fault is sound.
-use Rattle.std.proofs.Common.{◌≡◌, Bool, true, false, ◌&&◌, refl}
-use Rattle.std.proofs.lemmas.Bool.{and_parts, false≢true}
+use Rattle.std.proofs.Common.{◌≡◌, Bool, true, false, ◌&&◌, length, refl}
+use Rattle.std.proofs.lemmas.Bool.{and_parts, false≢true, ltb-true}
 use Rattle.catalogue.specs.declared.constraint.Constraint.{Constraint}
 use Rattle.catalogue.specs.declared.constraint.Constraint.TheVariants.{Spread, Ban, Fence, Gather, Lonely, Among, Split, Root, Precedence, Serialize, Preserve, ResourceCapacity, RunningCapacity, MaxOnline, Overbook, Online, Offline, Running, Sleeping, Ready, Killed}
 use Rattle.catalogue.specs.Faults.{are_named_machines, are_named_nodes, differ, is_fitting, is_named_resource, is_rule, machines_in}
@@ -39,7 +39,7 @@ sound-by p (Gather vs b) r = record { listed = r.machines; differ = r.twice; fit
 sound-by p (Among vs groups b) r = record { listed = r.machines; differ = r.twice; fit = (and_parts _ _ r.fitting).0 }
 sound-by p (Precedence before after) r = record { listed = r.machines; differ = r.twice; fit = tt }
 sound-by p (Serialize vs) r = record { listed = r.machines; differ = r.twice; fit = tt }
-sound-by p (ResourceCapacity ns q amount b) r = record { listed = refl; differ = refl; fit = r.resource }
+sound-by p (ResourceCapacity ns q amount b) r = record { listed = refl; differ = refl; fit = ltb-true q (length p.resources) r.resource }
 sound-by p (RunningCapacity ns amount b) r = record { listed = refl; differ = refl; fit = tt }
 sound-by p (MaxOnline ns amount b) r = record { listed = refl; differ = refl; fit = tt }
 sound-by p (Preserve vs q amount) r = record { listed = refl; differ = refl; fit = tt }

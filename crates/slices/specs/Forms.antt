@@ -16,8 +16,9 @@ use Rattle.slices.specs.declared.form.Places.TheVariants.{Outside as LentOutside
 use Rattle.slices.specs.declared.form.Separation.{Separation as LentSeparation}
 use Rattle.slices.specs.declared.form.Separation.TheVariants.{Each as LentEach, Between as LentBetween, FromOthers as LentFromOthers}
 use Rattle.slices.specs.declared.slice.Weight.{Weight}
-use Rattle.slices.specs.declared.slice.Weight.TheVariants.{Amount, Presence, Image}
+use Rattle.slices.specs.declared.slice.Weight.TheVariants.{Amount, Presence}
 use Rattle.slices.specs.Elements.{machine_count}
+use Rattle.slices.specs.Snapshots.{IsWeight}
 
 -- which machines are kept apart: each member from each other one, those of a part from those of another part, or the members from all
 -- other machines
@@ -93,23 +94,19 @@ members (Bounded weight ns amount) = []
 members (Powered ns amount) = []
 members Settled = []
 
--- there is a group; the resource is listed
+-- there is a group
 abbrev pub IsGroupsFit : Groups → Type 0
 IsGroupsFit AnyNode = Unit {0}
 IsGroupsFit (AnyOf groups) = nat_lt 0 (length groups) ≡ true
 
-abbrev pub IsWeightFit : Instance → Weight → Type 0
-IsWeightFit p (Amount r) = nat_lt r (length p.resources) ≡ true
-IsWeightFit p Presence = Unit {0}
-IsWeightFit p Image = Unit {0}
-
+-- what a form names beside its members is there
 abbrev pub IsFit : Instance → Form → Type 0
 IsFit p (Apart separation) = Unit {0}
 IsFit p (Allowed vs places) = Unit {0}
 IsFit p (Together vs groups) = IsGroupsFit groups
 IsFit p (Ordered before after) = Unit {0}
 IsFit p (InTurn vs) = Unit {0}
-IsFit p (Bounded weight ns amount) = IsWeightFit p weight
+IsFit p (Bounded weight ns amount) = IsWeight p weight
 IsFit p (Powered ns amount) = Unit {0}
 IsFit p Settled = Unit {0}
 

@@ -1,5 +1,5 @@
 -- What is where at one moment.
-use Rattle.std.specs.Prelude.{ℕ, ◌+◌, Bool, ◌||◌, nat_lt, if◌then◌else◌}
+use Rattle.std.specs.Prelude.{ℕ, ◌+◌, ◌<◌, Bool, ◌||◌, length, nat_lt, if◌then◌else◌}
 use Rattle.cluster.specs.declared.choices.Choice.{Choice}
 use Rattle.cluster.specs.declared.ids.Element.{Element}
 use Rattle.cluster.specs.Inventory.{is_online}
@@ -69,6 +69,12 @@ unfoldable pub action_at : Instance → ℕ → Progress → ℕ → Choice → 
 action_at p v far t c = progress_of far c (stage_at p (vm v) c t)
 
 -- ---- sums over a snapshot
+
+-- a resource whose amount is asked for is one of the instance
+abbrev pub IsWeight : Instance → Weight → Type 0
+IsWeight p (Amount r) = r < length p.resources
+IsWeight p Presence = Unit {0}
+IsWeight p Image = Unit {0}
 
 -- what all machines hold on the nodes of a set
 abbrev pub total : Instance → Snapshot → Weight → Nodes → ℕ
