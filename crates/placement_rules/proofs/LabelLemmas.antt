@@ -1,13 +1,13 @@
--- The labels that the kinds give to machines: which of them share no node.
+-- The labels that machines have where they are kept apart: which of them share no node.
 use Rattle.std.proofs.Common.{◌≡◌, inl, inr, ℕ, ◌+◌, ◌<◌, ◌≤◌, true, false, ◌||◌, ◌&&◌, ◌==◌, List, [], length, take, if◌then◌else◌, Option, IsTrue, slice_index_or, refl, ◌∙◌, arith, get_or, nat_lt}
 use Rattle.std.specs.List.{list_all}
 use Rattle.std.proofs.lemmas.Bool.{both_ways, or_cases, or_left, or_right, cases_eq, ltb-true, lt-ltb, cases_Bool, le-ltb, false_from_ne_true, true_from_ne_false, and_parts, and_from, eqb-true, eq-eqb}
 use Rattle.std.proofs.lemmas.List.{take_all}
 use Rattle.cluster.specs.declared.ids.VmId.{VmId}
-use Rattle.catalogue.specs.declared.constraint.Constraint.TheVariants.{Spread, Split, Lonely}
 use Rattle.catalogue.specs.Faults.{is_member}
 use Rattle.catalogue.specs.Instance.{Instance}
 use Rattle.slices.specs.Elements.{machine_count, node_count}
+use Rattle.slices.specs.Forms.{Between, Each, FromOthers}
 use Rattle.slices.specs.Holds.{AreApart}
 use Rattle.slices.specs.Snapshots.{Snapshot}
 use Rattle.slices.specs.Stages.{one}
@@ -31,12 +31,12 @@ spread_more vs i d k = record {
   here = and_from (is_member (take (i + 1) vs) (get_or vs i d).0) _ (member_here vs i d k) (eq-eqb (get_or vs i d).0 (get_or vs i d).0 refl);
 }
 
-pub spread_apart : (p : Instance) (s : Snapshot) (vs : List VmId) (i : ℕ) (table : List (Option ℕ)) → length vs ≤ i → AreNoted s (spread_labels vs i) table → AreApart p s (Spread vs true)
+pub spread_apart : (p : Instance) (s : Snapshot) (vs : List VmId) (i : ℕ) (table : List (Option ℕ)) → length vs ≤ i → AreNoted s (spread_labels vs i) table → AreApart p s (Each vs)
 spread_apart p s vs i table all noted = λ n v w a b c f x.
     let label : (u : ℕ) → IsTrue (is_member vs u) → IsTrue (spread_labels vs i u u) = λ u h. and_from (is_member (take i vs) u) (u == u) (rw (take_all i vs all) h) (eq-eqb u u refl) in
     noted_apart s (spread_labels vs i) table v v w w n noted (label v f.0) (label w f.1) f.2 x
 
-pub spread_meets : (p : Instance) (s : Snapshot) (vs : List VmId) (i : ℕ) (d : VmId) → i < length vs → list_all (λ x. nat_lt x.0 (machine_count p)) vs ≡ true → Meets s (spread_labels vs i) (node_count p) (get_or vs i d).0 (get_or vs i d).0 → ¬ AreApart p s (Spread vs true)
+pub spread_meets : (p : Instance) (s : Snapshot) (vs : List VmId) (i : ℕ) (d : VmId) → i < length vs → list_all (λ x. nat_lt x.0 (machine_count p)) vs ≡ true → Meets s (spread_labels vs i) (node_count p) (get_or vs i d).0 (get_or vs i d).0 → ¬ AreApart p s (Each vs)
 spread_meets p s vs i d k all m apart =
     let parts = and_parts (is_member (take i vs) m.other) (m.label == m.other) m.labelled in
     let other = prefix_member vs i m.other parts.0 in
@@ -103,13 +103,13 @@ part_end s parts i vs k table all is noted =
 pub split_none : (s : Snapshot) (parts : List (List VmId)) (v l : ℕ) → split_labels parts 0 v l ≡ false
 split_none s parts v l = rw (le-ltb l 0 (omega arith)) refl
 
-pub split_apart : (p : Instance) (s : Snapshot) (parts : List (List VmId)) (k : ℕ) (table : List (Option ℕ)) → length parts ≤ k → AreNoted s (split_labels parts k) table → AreApart p s (Split parts true)
+pub split_apart : (p : Instance) (s : Snapshot) (parts : List (List VmId)) (k : ℕ) (table : List (Option ℕ)) → length parts ≤ k → AreNoted s (split_labels parts k) table → AreApart p s (Between parts)
 split_apart p s parts k table all noted = λ n v w a b c f x.
     let label : (i u : ℕ) → IsTrue (is_member (slice_index_or parts i []) u) → IsTrue (split_labels parts k u i) = λ i u h.
     and_from (nat_lt i k) (is_member (slice_index_or parts i []) u) (lt-ltb i k (omega (arith, part_listed parts i u h))) h in
     noted_apart s (split_labels parts k) table v f.0 w f.1 n noted (label f.0 v f.3) (label f.1 w f.4) f.2 x
 
-pub split_meets : (p : Instance) (s : Snapshot) (parts : List (List VmId)) (i : ℕ) (vs : List VmId) (k : ℕ) (d : VmId) → k < length vs → vs ≡ slice_index_or parts i [] → list_all (list_all (λ x. nat_lt x.0 (machine_count p))) parts ≡ true → Meets s (part_labels parts i vs k) (node_count p) (get_or vs k d).0 i → ¬ AreApart p s (Split parts true)
+pub split_meets : (p : Instance) (s : Snapshot) (parts : List (List VmId)) (i : ℕ) (vs : List VmId) (k : ℕ) (d : VmId) → k < length vs → vs ≡ slice_index_or parts i [] → list_all (list_all (λ x. nat_lt x.0 (machine_count p))) parts ≡ true → Meets s (part_labels parts i vs k) (node_count p) (get_or vs k d).0 i → ¬ AreApart p s (Between parts)
 split_meets p s parts i vs k d low is all m apart =
     elim (or_cases (split_labels parts i m.other m.label) ((m.label == i) && is_member (take k vs) m.other) m.labelled) [
       | inl a ↦
@@ -144,14 +144,14 @@ lonely_more vs i = record {
 pub lonely_none : (vs : List VmId) (v l : ℕ) → lonely_labels vs 0 v l ≡ false
 lonely_none vs v l = rw (le-ltb v 0 (omega arith)) refl
 
-pub lonely_apart : (p : Instance) (s : Snapshot) (vs : List VmId) (k : ℕ) (table : List (Option ℕ)) → machine_count p ≤ k → AreNoted s (lonely_labels vs k) table → AreApart p s (Lonely vs true)
+pub lonely_apart : (p : Instance) (s : Snapshot) (vs : List VmId) (k : ℕ) (table : List (Option ℕ)) → machine_count p ≤ k → AreNoted s (lonely_labels vs k) table → AreApart p s (FromOthers vs)
 lonely_apart p s vs k table all noted = λ n v w a b c f x.
     let one_there : IsTrue (lonely_labels vs k v 1) = rw (lt-ltb v k (omega arith), f.0) refl in
     let out : is_member vs w ≡ false = false_from_ne_true (is_member vs w) f.1 in
     let none_there : IsTrue (lonely_labels vs k w 0) = rw (lt-ltb w k (omega arith), out) refl in
     noted_apart s (lonely_labels vs k) table v 1 w 0 n noted one_there none_there (λ e. omega arith) x
 
-pub lonely_meets : (p : Instance) (s : Snapshot) (vs : List VmId) (i : ℕ) → i < machine_count p → Meets s (lonely_labels vs i) (node_count p) i (if is_member vs i then 1 else 0) → ¬ AreApart p s (Lonely vs true)
+pub lonely_meets : (p : Instance) (s : Snapshot) (vs : List VmId) (i : ℕ) → i < machine_count p → Meets s (lonely_labels vs i) (node_count p) i (if is_member vs i then 1 else 0) → ¬ AreApart p s (FromOthers vs)
 lonely_meets p s vs i low m apart =
     let both = and_parts (nat_lt m.other i) (m.label == (if is_member vs m.other then 1 else 0)) m.labelled in
     let before : m.other < i = ltb-true m.other i both.0 in

@@ -3,16 +3,16 @@ use Rattle.std.specs.Prelude.{◌≡◌, ℕ, ◌<◌, false, List, IsTrue}
 use Rattle.cluster.specs.declared.ids.VmId.{VmId}
 use Rattle.cluster.specs.declared.sets.NodeSet.{NodeSet}
 use Rattle.cluster.specs.Sets.{has_node}
-use Rattle.catalogue.specs.declared.constraint.Constraint.{Constraint}
 use Rattle.catalogue.specs.Instance.{Instance}
 use Rattle.slices.specs.Elements.{node_count}
-use Rattle.slices.specs.Holds.{ForbidsPlace, IsMember}
+use Rattle.slices.specs.Forms.{Places}
+use Rattle.slices.specs.Holds.{IsMember, IsOffLimits}
 use Rattle.slices.specs.Snapshots.{Snapshot}
 use Rattle.slices.specs.Stages.{one}
 
--- the machine is present on no node that the constraint forbids to it
-abbrev pub IsAllowed : Instance → Snapshot → Constraint → ℕ → Type 0
-IsAllowed p s c v = (n : ℕ) → n < node_count p → ForbidsPlace p c v n → s.present v (one n) ≡ false
+-- the machine is present on no node that is off limits for it
+abbrev pub IsAllowed : Instance → Snapshot → Places → ℕ → Type 0
+IsAllowed p s places v = (n : ℕ) → n < node_count p → IsOffLimits p places v n → s.present v (one n) ≡ false
 
 -- the set has the nodes on which machines of the list are present, and no other
 pub record AreReached (s : Snapshot) (vs : List VmId) (set : NodeSet) : Type 0 where

@@ -1,18 +1,17 @@
 //! Which machines share a node.
 ghost use Rattle.std.specs.Prelude.{◌≡◌, ◌↔◌, ◌⊎◌, ◌≢◌, ℕ, ◌+◌, ◌<◌, ◌≤◌, false, true, Some, None, nat_lt, length, if◌then◌else◌, IsTrue, slice_index_or};
 ghost use Rattle.std.specs.List.{list_all};
-ghost use Rattle.catalogue.specs.declared.constraint.Constraint.TheVariants.{Spread, Split, Lonely};
 ghost use Rattle.catalogue.specs.Faults.{is_member};
-ghost use Rattle.catalogue.specs.Limits.{max_parts};
 ghost use Rattle.cluster.specs.Limits.{max_nodes};
 ghost use Rattle.cluster.specs.Sets.{has_machine};
 ghost use Rattle.slices.specs.Elements.{machine_count};
+ghost use Rattle.slices.specs.Forms.{Between, Each, FromOthers, separated, separation_seen};
+ghost use Rattle.slices.specs.Holdings.{IsHeldWithin, is_in};
 ghost use Rattle.slices.specs.Holds.{AreApart};
 ghost use Rattle.slices.specs.Plans.{IsPlanOf, choices_of};
 ghost use Rattle.slices.specs.Snapshots.{snapshot_at};
 ghost use Rattle.slices.specs.Stages.{one};
 ghost use Rattle.placement_rules.specs.Labels.{IsClaim, AreNoted, label_on, split_labels};
-ghost use Rattle.slices.specs.Holdings.{IsHeldWithin, is_in};
 
 use crate::counts::machines_of;
 use catalogue::lists::Vms;
@@ -21,19 +20,20 @@ use cluster::choices::Instant;
 use cluster::ids::VmId;
 use cluster::limits::MAX_NODES;
 use cluster::sets::MachineSet;
+use slices::form::Separation;
 use slices::holding::{Held, Holding};
 use slices::plan::Plan;
 use slices::snapshot::holding_at;
 
 /// A table of nodes without labels.
-fn no_labels() -> [Option<u32>; MAX_NODES]
+fn no_labels() -> [Option<usize>; MAX_NODES]
     ensures { (n : ℕ) → label_on result n ≡ None }
 {
     [None; MAX_NODES]
 }
 
 /// Notes a label where something is held. False where another label is noted there.
-fn claim(table: &mut [Option<u32>; MAX_NODES], held: Option<Held>, label: u32) -> bool
+fn claim(table: &mut [Option<usize>; MAX_NODES], held: Option<Held>, label: usize) -> bool
     requires within { IsHeldWithin max_nodes held }
     ensures others { (n : ℕ) → is_in (one n) held ≡ false → label_on table.new n ≡ label_on table.old n }
     ensures taken { IsTrue result → (n : ℕ) → IsTrue (is_in (one n) held) → label_on table.new n ≡ Some label }
@@ -56,7 +56,7 @@ fn claim(table: &mut [Option<u32>; MAX_NODES], held: Option<Held>, label: u32) -
 }
 
 /// Notes a label on the nodes of a machine. False where another label is noted on one of them.
-fn claim_both(table: &mut [Option<u32>; MAX_NODES], now: Holding, label: u32) -> bool
+fn claim_both(table: &mut [Option<usize>; MAX_NODES], now: Holding, label: usize) -> bool
     requires source { IsHeldWithin max_nodes now.source }
     requires target { IsHeldWithin max_nodes now.target }
     ensures { IsClaim now label table.old table.new result }
@@ -65,15 +65,15 @@ fn claim_both(table: &mut [Option<u32>; MAX_NODES], now: Holding, label: u32) ->
 }
 
 /// Whether no node has presences of two of the machines.
-pub fn is_spread(p: &Problem, plan: &Plan, machines: &[VmId], t: Instant) -> bool
+fn is_spread(p: &Problem, plan: &Plan, machines: &[VmId], t: Instant) -> bool
     requires plan { IsPlanOf p.now.given plan.now }
     requires machines { list_all (λ x. nat_lt x.0 (machine_count p.now.given)) machines.now ≡ true }
-    ensures { IsTrue result ↔ AreApart p.now.given (snapshot_at p.now.given (choices_of plan.now) t) (Spread machines.now true) }
+    ensures { IsTrue result ↔ AreApart p.now.given (snapshot_at p.now.given (choices_of plan.now) t) (Each machines.now) }
 {
     let mut table = no_labels();
     for v in machines {
         let now = holding_at(p, plan, *v, t);
-        if !claim_both(&mut table, now, v.0) {
+        if !claim_both(&mut table, now, v.0 as usize) {
             return false;
         }
     }
@@ -83,7 +83,7 @@ pub fn is_spread(p: &Problem, plan: &Plan, machines: &[VmId], t: Instant) -> boo
 /// Notes the number of a part on the nodes of its machines. False where another number is noted
 /// on one of them.
 fn claim_part(
-    table: &mut [Option<u32>; MAX_NODES],
+    table: &mut [Option<usize>; MAX_NODES],
     p: &Problem,
     plan: &Plan,
     parts: &[Vms],
@@ -93,14 +93,13 @@ fn claim_part(
     requires plan { IsPlanOf p.now.given plan.now }
     requires machines { list_all (list_all (λ x. nat_lt x.0 (machine_count p.now.given))) parts.now ≡ true }
     requires part { i < length parts.now }
-    requires few { length parts.now ≤ max_parts }
     requires noted { AreNoted (snapshot_at p.now.given (choices_of plan.now) t) (split_labels parts.now i) table.old }
     ensures noted { IsTrue result → AreNoted (snapshot_at p.now.given (choices_of plan.now) t) (split_labels parts.now (i + 1)) table.new }
-    ensures met { result ≡ false → ¬ AreApart p.now.given (snapshot_at p.now.given (choices_of plan.now) t) (Split parts.now true) }
+    ensures met { result ≡ false → ¬ AreApart p.now.given (snapshot_at p.now.given (choices_of plan.now) t) (Between parts.now) }
 {
     for v in parts[i].items() {
         let now = holding_at(p, plan, *v, t);
-        if !claim_both(table, now, i as u32) {
+        if !claim_both(table, now, i) {
             return false;
         }
     }
@@ -108,11 +107,10 @@ fn claim_part(
 }
 
 /// Whether no node has presences of machines of two parts.
-pub fn is_split(p: &Problem, plan: &Plan, parts: &[Vms], t: Instant) -> bool
+fn is_split(p: &Problem, plan: &Plan, parts: &[Vms], t: Instant) -> bool
     requires plan { IsPlanOf p.now.given plan.now }
     requires machines { list_all (list_all (λ x. nat_lt x.0 (machine_count p.now.given))) parts.now ≡ true }
-    requires few { length parts.now ≤ max_parts }
-    ensures { IsTrue result ↔ AreApart p.now.given (snapshot_at p.now.given (choices_of plan.now) t) (Split parts.now true) }
+    ensures { IsTrue result ↔ AreApart p.now.given (snapshot_at p.now.given (choices_of plan.now) t) (Between parts.now) }
 {
     let mut table = no_labels();
     for i in 0..parts.len() {
@@ -136,17 +134,17 @@ fn members(p: &Problem, machines: &[VmId]) -> MachineSet
 }
 
 /// The label of a member, and that of another machine.
-fn label_of(is_member: bool) -> u32
+fn label_of(is_member: bool) -> usize
     ensures { result ≡ (if is_member then 1 else 0) }
 {
     if is_member { 1 } else { 0 }
 }
 
 /// Whether no node has presences of one of the machines and of another machine.
-pub fn is_lonely(p: &Problem, plan: &Plan, machines: &[VmId], t: Instant) -> bool
+fn is_lonely(p: &Problem, plan: &Plan, machines: &[VmId], t: Instant) -> bool
     requires plan { IsPlanOf p.now.given plan.now }
     requires machines { list_all (λ x. nat_lt x.0 (machine_count p.now.given)) machines.now ≡ true }
-    ensures { IsTrue result ↔ AreApart p.now.given (snapshot_at p.now.given (choices_of plan.now) t) (Lonely machines.now true) }
+    ensures { IsTrue result ↔ AreApart p.now.given (snapshot_at p.now.given (choices_of plan.now) t) (FromOthers machines.now) }
 {
     let members = members(p, machines);
     let mut table = no_labels();
@@ -158,4 +156,17 @@ pub fn is_lonely(p: &Problem, plan: &Plan, machines: &[VmId], t: Instant) -> boo
         }
     }
     true
+}
+
+/// Whether no node has presences of two machines that are kept apart.
+pub fn are_apart(p: &Problem, plan: &Plan, separation: &Separation, t: Instant) -> bool
+    requires plan { IsPlanOf p.now.given plan.now }
+    requires machines { list_all (λ x. nat_lt x.0 (machine_count p.now.given)) (separated (separation_seen separation.now)) ≡ true }
+    ensures { IsTrue result ↔ AreApart p.now.given (snapshot_at p.now.given (choices_of plan.now) t) (separation_seen separation.now) }
+{
+    match separation {
+        Separation::Each(machines) => is_spread(p, plan, machines, t),
+        Separation::Between(parts) => is_split(p, plan, parts, t),
+        Separation::FromOthers(machines) => is_lonely(p, plan, machines, t),
+    }
 }

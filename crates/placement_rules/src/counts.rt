@@ -3,9 +3,11 @@ ghost use Rattle.std.specs.Prelude.{◌≡◌, ◌≤◌, ◌<◌, length};
 ghost use Rattle.cluster.specs.Limits.{max_amount};
 ghost use Rattle.cluster.specs.Sets.{has_node};
 ghost use Rattle.slices.specs.Elements.{machine_count, node_count};
+ghost use Rattle.slices.specs.Forms.{IsWeightFit};
+ghost use Rattle.slices.specs.Limits.{max_held};
 ghost use Rattle.slices.specs.Plans.{IsPlanOf, choices_of};
-ghost use Rattle.slices.specs.Snapshots.{snapshot_at, load, presences, powered_nodes};
-ghost use Rattle.slices.specs.Holdings.{amount_in, count_in};
+ghost use Rattle.slices.specs.Snapshots.{snapshot_at, total, powered_nodes};
+ghost use Rattle.slices.specs.Holdings.{amount_in, count_in, image_in as the_image_in};
 
 use catalogue::problem::Problem;
 use cluster::choices::Instant;
@@ -13,6 +15,7 @@ use cluster::ids::{NodeId, VmId};
 use cluster::sets::NodeSet;
 use slices::holding::{Held, amount};
 use slices::plan::Plan;
+use slices::slice::Weight;
 use slices::snapshot::{holding_at, powered};
 
 /// How many machines there are.
@@ -48,21 +51,6 @@ fn use_in(p: &Problem, v: VmId, held: Option<Held>, r: u8, nodes: &NodeSet) -> u
     }
 }
 
-/// The sum of all uses of a resource on the nodes of a set.
-pub fn use_on(p: &Problem, plan: &Plan, nodes: &NodeSet, r: u8, t: Instant) -> u64
-    requires plan { IsPlanOf p.now.given plan.now }
-    requires resource { r < length p.now.given.resources }
-    ensures { result ≡ load p.now.given (snapshot_at p.now.given (choices_of plan.now) t) r (has_node nodes.now) }
-{
-    let mut total = 0;
-    for i in 0..machines_of(p) {
-        let v = VmId(i as u32);
-        let now = holding_at(p, plan, v, t);
-        total += use_in(p, v, now.source, r, nodes) + use_in(p, v, now.target, r, nodes);
-    }
-    total
-}
-
 /// 1 where the presence is on a node of the set.
 fn presence_in(held: Option<Held>, nodes: &NodeSet) -> u64
     ensures value { result ≡ count_in (has_node nodes.now) held }
@@ -74,17 +62,46 @@ fn presence_in(held: Option<Held>, nodes: &NodeSet) -> u64
     }
 }
 
-/// The number of all presences on the nodes of a set.
-pub fn presences_on(p: &Problem, plan: &Plan, nodes: &NodeSet, t: Instant) -> u64
-    requires plan { IsPlanOf p.now.given plan.now }
-    ensures { result ≡ presences p.now.given (snapshot_at p.now.given (choices_of plan.now) t) (has_node nodes.now) }
+/// 1 where the image is on a node of the set.
+fn image_in(image: Option<NodeId>, nodes: &NodeSet) -> u64
+    ensures value { result ≡ the_image_in (has_node nodes.now) image }
+    ensures small { result ≤ 1 }
 {
-    let mut count = 0;
-    for v in 0..machines_of(p) {
-        let now = holding_at(p, plan, VmId(v as u32), t);
-        count += presence_in(now.source, nodes) + presence_in(now.target, nodes);
+    match image {
+        Some(n) => { if nodes.has(n) { 1 } else { 0 } }
+        None => 0,
     }
-    count
+}
+
+/// What a machine holds on the nodes of a set.
+fn held_on(p: &Problem, plan: &Plan, v: VmId, weight: Weight, nodes: &NodeSet, t: Instant) -> u64
+    requires plan { IsPlanOf p.now.given plan.now }
+    requires machine { v.0 < machine_count p.now.given }
+    requires weight { IsWeightFit p.now.given weight }
+    ensures value { result ≡ (snapshot_at p.now.given (choices_of plan.now) t).held v.0 weight (has_node nodes.now) }
+    ensures small { result ≤ max_held }
+{
+    let now = holding_at(p, plan, v, t);
+    match weight {
+        Weight::Amount(r) => {
+            use_in(p, v, now.source, r, nodes) + use_in(p, v, now.target, r, nodes)
+        }
+        Weight::Presence => presence_in(now.source, nodes) + presence_in(now.target, nodes),
+        Weight::Image => image_in(now.image, nodes),
+    }
+}
+
+/// What all machines hold on the nodes of a set.
+pub fn total_on(p: &Problem, plan: &Plan, weight: Weight, nodes: &NodeSet, t: Instant) -> u64
+    requires plan { IsPlanOf p.now.given plan.now }
+    requires weight { IsWeightFit p.now.given weight }
+    ensures { result ≡ total p.now.given (snapshot_at p.now.given (choices_of plan.now) t) weight (has_node nodes.now) }
+{
+    let mut total = 0;
+    for v in 0..machines_of(p) {
+        total += held_on(p, plan, VmId(v as u32), weight, nodes, t);
+    }
+    total
 }
 
 /// The number of powered nodes of a set.

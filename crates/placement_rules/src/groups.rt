@@ -1,21 +1,23 @@
 //! Where the machines of a list are all together.
-ghost use Rattle.std.specs.Prelude.{◌≡◌, ◌↔◌, ◌<◌, ◌≤◌, ◌||◌, ℕ, false, true, map, nat_lt, Any, IsTrue, MatchOption};
-ghost use Rattle.std.specs.List.{list_all, range_with_len};
+ghost use Rattle.std.specs.Prelude.{◌≡◌, ◌↔◌, ◌<◌, ◌≤◌, ◌||◌, ℕ, false, true, nat_lt, Any, IsTrue, MatchOption};
+ghost use Rattle.std.specs.List.{list_all};
 ghost use Rattle.cluster.specs.Limits.{max_nodes};
 ghost use Rattle.cluster.specs.Sets.{has_node};
-ghost use Rattle.slices.specs.Elements.{machine_count, node_count};
-ghost use Rattle.slices.specs.Holds.{AreGrouped};
+ghost use Rattle.slices.specs.Elements.{machine_count};
+ghost use Rattle.slices.specs.Forms.{groups_seen};
+ghost use Rattle.slices.specs.Holdings.{IsHeldWithin, is_in};
+ghost use Rattle.slices.specs.Holds.{AreGrouped, group_sets};
 ghost use Rattle.slices.specs.Plans.{IsPlanOf, choices_of};
 ghost use Rattle.slices.specs.Snapshots.{snapshot_at};
 ghost use Rattle.slices.specs.Stages.{one};
 ghost use Rattle.placement_rules.specs.Places.{AreReached};
-ghost use Rattle.slices.specs.Holdings.{IsHeldWithin, is_in};
 
 use crate::counts::nodes_of;
 use catalogue::problem::Problem;
 use cluster::choices::Instant;
 use cluster::ids::{NodeId, VmId};
 use cluster::sets::NodeSet;
+use slices::form::Groups;
 use slices::holding::Held;
 use slices::plan::Plan;
 use slices::snapshot::holding_at;
@@ -97,37 +99,19 @@ fn is_inside_some(set: &NodeSet, groups: &[NodeSet], count: usize) -> bool
     false
 }
 
-/// Whether one node has all presences of the machines, or there is none.
-pub fn are_together(p: &Problem, plan: &Plan, machines: &[VmId], t: Instant) -> bool
-    requires plan { IsPlanOf p.now.given plan.now }
-    requires machines { list_all (λ x. nat_lt x.0 (machine_count p.now.given)) machines.now ≡ true }
-    ensures { let single_nodes = map one (range_with_len 0 (node_count p.now.given)) in
-        IsTrue result ↔ AreGrouped p.now.given (snapshot_at p.now.given (choices_of plan.now) t) machines.now single_nodes }
-{
-    let nodes = reached(p, plan, machines, t);
-    let count = nodes_of(p);
-    match first_node(&nodes, count) {
-        Some(n) => is_inside(&nodes, &only(n), count),
-        None => true,
-    }
-}
-
 /// Whether one of the groups has all presences of the machines, or there is none.
-pub fn are_among(
-    p: &Problem,
-    plan: &Plan,
-    machines: &[VmId],
-    groups: &[NodeSet],
-    t: Instant,
-) -> bool
+pub fn are_grouped(p: &Problem, plan: &Plan, machines: &[VmId], groups: &Groups, t: Instant) -> bool
     requires plan { IsPlanOf p.now.given plan.now }
     requires machines { list_all (λ x. nat_lt x.0 (machine_count p.now.given)) machines.now ≡ true }
-    ensures { IsTrue result ↔ AreGrouped p.now.given (snapshot_at p.now.given (choices_of plan.now) t) machines.now (map has_node groups.now) }
+    ensures { IsTrue result ↔ AreGrouped p.now.given (snapshot_at p.now.given (choices_of plan.now) t) machines.now (group_sets p.now.given (groups_seen groups.now)) }
 {
     let nodes = reached(p, plan, machines, t);
     let count = nodes_of(p);
     match first_node(&nodes, count) {
-        Some(_) => is_inside_some(&nodes, groups, count),
+        Some(first) => match groups {
+            Groups::AnyNode => is_inside(&nodes, &only(first), count),
+            Groups::AnyOf(sets) => is_inside_some(&nodes, sets, count),
+        },
         None => true,
     }
 }

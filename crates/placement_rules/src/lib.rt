@@ -1,4 +1,4 @@
-//! Whether a constraint holds of a plan at an instant, for every kind of constraint.
+//! Whether a constraint holds of a plan at an instant, whatever its form.
 //!
 //! `holds` makes one pass over the members of a constraint, over the machines or over the nodes,
 //! with a local table of nodes; it takes no memory.
@@ -7,8 +7,8 @@
 mod actions;
 mod apart;
 mod counts;
+mod forms;
 mod groups;
-mod kinds;
 mod places;
 
-pub use kinds::holds;
+pub use forms::holds;

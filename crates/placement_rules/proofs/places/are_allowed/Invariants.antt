@@ -1,5 +1,6 @@
 use Rattle.std.proofs.Common.{ℕ, take, IsTrue}
 use Rattle.catalogue.specs.Faults.{is_member}
+use Rattle.slices.specs.Forms.{places_seen}
 use Rattle.slices.specs.Plans.{choices_of}
 use Rattle.slices.specs.Snapshots.{snapshot_at}
 use Rattle.placement_rules.specs.Places.{IsAllowed}
@@ -7,4 +8,4 @@ use Rattle.placement_rules.proofs.places.are_allowed.Given as goal
 
 abbrev pub invariant-loop-v : goal.invariant-loop-v
 invariant-loop-v l =
-    (v : ℕ) → IsTrue (is_member (take l.v-index l.machines) v) → IsAllowed l.p.given (snapshot_at l.p.given (choices_of l.plan) l.t) l.constraint v
+    (v : ℕ) → IsTrue (is_member (take l.v-index l.machines) v) → IsAllowed l.p.given (snapshot_at l.p.given (choices_of l.plan) l.t) (places_seen l.places) v

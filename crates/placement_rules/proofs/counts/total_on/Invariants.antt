@@ -1,11 +1,10 @@
 use Rattle.std.proofs.Common.{◌≡◌, ◌*◌, ◌≤◌}
 use Rattle.cluster.specs.Sets.{has_node}
 use Rattle.sums.specs.Sums.{sum_to}
-use Rattle.slices.specs.declared.slice.Weight.TheVariants.{Presence}
 use Rattle.slices.specs.Plans.{choices_of}
 use Rattle.slices.specs.Snapshots.{snapshot_at}
-use Rattle.placement_rules.proofs.counts.presences_on.Given as goal
+use Rattle.placement_rules.proofs.counts.total_on.Given as goal
 
 abbrev pub invariant-loop-v : goal.invariant-loop-v
 invariant-loop-v l =
-    (l.count ≡ sum_to l.v (λ v. (snapshot_at l.p.given (choices_of l.plan) l.t).held v Presence (has_node l.nodes))) × (l.count ≤ l.v * 2)
+    (l.total ≡ sum_to l.v (λ v. (snapshot_at l.p.given (choices_of l.plan) l.t).held v l.weight (has_node l.nodes))) × (l.total ≤ l.v * 2_000_000_000)
