@@ -5,6 +5,7 @@ use Rattle.cluster.specs.declared.ids.Element.{Element}
 use Rattle.catalogue.specs.declared.constraint.Constraint.{Constraint}
 use Rattle.catalogue.specs.Instance.{Instance, IsElement}
 use Rattle.slices.specs.declared.rule.Rule.TheVariants.{Load, Usable}
+use Rattle.slices.specs.Forms.{form_of}
 use Rattle.slices.specs.Plans.{Choices, IsPlanOf, PlanChoices, choices_of}
 use Rattle.slices.specs.Starts.{IsQuiet}
 use Rattle.slices.proofs.Public.{keeps_quiet, matters_quiet}
@@ -21,9 +22,9 @@ until P plan those t b next step before is u low =
     ]
 
 -- a constraint that holds up to an instant holds up to the next start that matters to it
-pub holds_until : (p : Instance) (plan : PlanChoices) → IsPlanOf p plan → (t b next c : ℕ) (k : Constraint) → slice_get p.constraints c ≡ Some k → ((u : ℕ) → u < t → HoldsAt p (choices_of plan) u c) → HoldsAt p (choices_of plan) t c → IsNext (choices_of plan) (Matters p k) t b next → (u : ℕ) → u < next → HoldsAt p (choices_of plan) u c
+pub holds_until : (p : Instance) (plan : PlanChoices) → IsPlanOf p plan → (t b next c : ℕ) (k : Constraint) → slice_get p.constraints c ≡ Some k → ((u : ℕ) → u < t → HoldsAt p (choices_of plan) u c) → HoldsAt p (choices_of plan) t c → IsNext (choices_of plan) (Matters p (form_of k)) t b next → (u : ℕ) → u < next → HoldsAt p (choices_of plan) u c
 holds_until p plan legal t b next c k is before here then =
-    until (λ u. HoldsAt p (choices_of plan) u c) (choices_of plan) (Matters p k) t b next (λ u late quiet x e.
+    until (λ u. HoldsAt p (choices_of plan) u c) (choices_of plan) (Matters p (form_of k)) t b next (λ u late quiet x e.
     let same : k ≡ x = cc in
     matters_quiet p plan legal t u x late (λ y there m. quiet y (there, rw same m)) (here x e))
     before then

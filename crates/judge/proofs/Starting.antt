@@ -7,15 +7,14 @@ use Rattle.cluster.specs.declared.ids.Element.{Element}
 use Rattle.cluster.specs.declared.ids.Element.TheVariants.{Vm, Node as TheNode}
 use Rattle.cluster.specs.declared.ids.NodeId.{NodeId}
 use Rattle.cluster.specs.declared.ids.VmId.{VmId}
-use Rattle.catalogue.specs.declared.constraint.Constraint.{Constraint}
-use Rattle.catalogue.specs.declared.constraint.Constraint.TheVariants.{Split}
 use Rattle.catalogue.specs.Faults.{all_of, is_member}
 use Rattle.cluster.specs.Elements.{element_number}
 use Rattle.catalogue.specs.Instance.{Instance, IsElement, inventory_of}
 use Rattle.slices.specs.Elements.{machine_count, vm}
+use Rattle.slices.specs.Forms.{Apart, Between, Form}
 use Rattle.slices.specs.Holds.{IsInPart, IsMember}
 use Rattle.slices.specs.Plans.{Choices}
-use Rattle.slices.specs.Starts.{matters}
+use Rattle.slices.specs.Starts.{form_matters}
 use Rattle.placement_rules.proofs.Public.{member_here, member_kept, member_split, member_within}
 use Rattle.judge.specs.Starts.{AreMachines, IsInSome, IsNext, Matters}
 
@@ -88,22 +87,22 @@ parts_more parts k = record {
 abbrev pub AreNumbered : Instance → ℕ → Element → Type 0
 AreNumbered p k e = IsElement p e × (element_number (inventory_of p) e < k)
 
--- ---- what matters to a constraint
+-- ---- what matters to a form
 
 none_at : {A : Type 0} (b : Bool) → b ≡ false → IsTrue b → A
 none_at b off on = absurd (both_ways b off on)
 
 -- some machines of the instance, and no node
-machines_matter : (p : Instance) (plan : Choices) (t old new : ℕ) (k : Constraint) (among : ℕ → Type 0) → ((n : NodeId) → matters k (TheNode n) ≡ false) → ((v : VmId) → among v.0 → (v.0 < machine_count p) × IsTrue (matters k (Vm v))) → ((v : VmId) → v.0 < machine_count p → IsTrue (matters k (Vm v)) → among v.0) → IsNext plan (AreMachines among) t old new → IsNext plan (Matters p k) t old new
-machines_matter p plan t old new k among none there back = next_of_same plan (AreMachines among) (Matters p k) t old new into from
+machines_matter : (p : Instance) (plan : Choices) (t old new : ℕ) (f : Form) (among : ℕ → Type 0) → ((n : NodeId) → form_matters f (TheNode n) ≡ false) → ((v : VmId) → among v.0 → (v.0 < machine_count p) × IsTrue (form_matters f (Vm v))) → ((v : VmId) → v.0 < machine_count p → IsTrue (form_matters f (Vm v)) → among v.0) → IsNext plan (AreMachines among) t old new → IsNext plan (Matters p f) t old new
+machines_matter p plan t old new f among none there back = next_of_same plan (AreMachines among) (Matters p f) t old new into from
   where
-    into : (e : Element) → AreMachines among e → Matters p k e
+    into : (e : Element) → AreMachines among e → Matters p f e
     into (Vm v) x = there v x
     into (TheNode n) x = absurd x
 
-    from : (e : Element) → Matters p k e → AreMachines among e
+    from : (e : Element) → Matters p f e → AreMachines among e
     from (Vm v) m = back v m.0 m.1
-    from (TheNode n) m = none_at (matters k (TheNode n)) (none n) m.1
+    from (TheNode n) m = none_at (form_matters f (TheNode n)) (none n) m.1
 
 -- a machine of all parts is in one of them, and the other way round
 in_part : (parts : List (List VmId)) (v : ℕ) → IsTrue (is_member (all_of parts) v) → IsInSome parts (length parts) v
@@ -119,9 +118,9 @@ of_part [] i v h = h
 of_part (vs ∷ parts) zero v h = list_any-append (λ x. x.0 == v) vs (all_of parts) ∙ or_left (is_member vs v) (is_member (all_of parts) v) h
 of_part (vs ∷ parts) (suc i) v h = list_any-append (λ x. x.0 == v) vs (all_of parts) ∙ or_right (is_member vs v) (is_member (all_of parts) v) (of_part parts i v h)
 
--- the machines of the parts of a split
-pub parts_matter : (p : Instance) (plan : Choices) (t old new : ℕ) (parts : List (List VmId)) (b : Bool) → list_all (λ x. nat_lt x.0 (machine_count p)) (all_of parts) ≡ true → IsNext plan (AreMachines (IsInSome parts (length parts))) t old new → IsNext plan (Matters p (Split parts b)) t old new
-parts_matter p plan t old new parts b all =
-    machines_matter p plan t old new (Split parts b) (IsInSome parts (length parts)) (λ n. refl)
+-- the machines of parts that are kept apart
+pub parts_matter : (p : Instance) (plan : Choices) (t old new : ℕ) (parts : List (List VmId)) → list_all (λ x. nat_lt x.0 (machine_count p)) (all_of parts) ≡ true → IsNext plan (AreMachines (IsInSome parts (length parts))) t old new → IsNext plan (Matters p (Apart (Between parts))) t old new
+parts_matter p plan t old new parts all =
+    machines_matter p plan t old new (Apart (Between parts)) (IsInSome parts (length parts)) (λ n. refl)
     (λ v m. let there = of_part parts m.0 v.0 m.2 in (member_within (all_of parts) (machine_count p) v.0 all there, there))
     (λ v low m. in_part parts v.0 m)

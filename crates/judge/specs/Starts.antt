@@ -5,11 +5,11 @@ use Rattle.cluster.specs.declared.choices.Choice.{Choice}
 use Rattle.cluster.specs.declared.ids.Element.{Element}
 use Rattle.cluster.specs.declared.ids.Element.TheVariants.{Vm, Node as TheNode}
 use Rattle.cluster.specs.declared.ids.VmId.{VmId}
-use Rattle.catalogue.specs.declared.constraint.Constraint.{Constraint}
 use Rattle.catalogue.specs.Instance.{Instance, IsElement}
+use Rattle.slices.specs.Forms.{Form}
 use Rattle.slices.specs.Holds.{IsInPart}
-use Rattle.slices.specs.Starts.{matters, start_of}
 use Rattle.slices.specs.Plans.{Choices}
+use Rattle.slices.specs.Starts.{form_matters, start_of}
 
 -- ---- sets of elements
 
@@ -26,9 +26,9 @@ AreNodes among (TheNode n) = among n.0
 abbrev pub IsInSome : List (List VmId) → ℕ → ℕ → Type 0
 IsInSome parts k v = (i : ℕ) × (i < k) × IsInPart parts i v
 
--- the elements of the instance whose starts can break the constraint
-abbrev pub Matters : Instance → Constraint → Element → Type 0
-Matters p c e = IsElement p e × IsTrue (matters c e)
+-- the elements of the instance whose starts can break the form
+abbrev pub Matters : Instance → Form → Element → Type 0
+Matters p f e = IsElement p e × IsTrue (form_matters f e)
 
 -- ---- starts
 

@@ -12,6 +12,7 @@ use crate::next::{next_start, next_that_matters};
 use crate::standing::stands;
 use catalogue::problem::Problem;
 use placement_rules::holds;
+use slices::form::form_of;
 use slices::plan::Plan;
 
 /// The least instant at which a load exceeds a capacity or a machine stands on a node that is not
@@ -40,13 +41,13 @@ fn least_held(p: &Problem, plan: &Plan, c: u32, best: u32) -> u32
     ensures lower { IsLower p.now.given (choices_of plan.now) best result }
     ensures met { IsMetBefore p.now.given (choices_of plan.now) result c }
 {
-    let constraint = &p.constraints()[c as usize];
+    let form = form_of(&p.constraints()[c as usize]);
     let mut at = 0;
     while at < best {
         if !holds(p, c, plan, at) {
             return at;
         }
-        at = next_that_matters(p, plan, constraint, at);
+        at = next_that_matters(p, plan, &form, at);
     }
     best
 }

@@ -1,22 +1,22 @@
-//! The next start after an instant: of all elements, or of those alone that matter to a constraint.
+//! The next start after an instant: of all elements, or of those alone that matter to a form.
 ghost use Rattle.std.specs.Prelude.{◌≡◌, ◌+◌, ◌<◌, ◌≤◌, true, length, nat_lt, IsTrue};
 ghost use Rattle.std.specs.List.{list_all};
 ghost use Rattle.cluster.specs.Sets.{has_node};
-ghost use Rattle.catalogue.specs.Faults.{is_rule};
-ghost use Rattle.catalogue.specs.Instance.{IsElement, inventory_of};
+ghost use Rattle.catalogue.specs.Instance.{IsElement};
 ghost use Rattle.slices.specs.Elements.{machine_count, node, node_count};
+ghost use Rattle.slices.specs.Forms.{Apart, IsSound, form_seen, separated, separation_seen};
 ghost use Rattle.slices.specs.Holds.{IsMember};
 ghost use Rattle.slices.specs.Plans.{IsPlanOf, choices_of};
 ghost use Rattle.judge.specs.Starts.{AreMachines, AreNodes, IsInSome, IsNext, Matters};
 
 use crate::standing::{machines_of, nodes_of};
-use catalogue::constraint::Constraint;
 use catalogue::lists::Vms;
 use catalogue::problem::Problem;
 use cluster::choices::Instant;
 use cluster::ids::{Element, NodeId, VmId};
 use cluster::sets::NodeSet;
 use slices::actions::start;
+use slices::form::{Form, Separation};
 use slices::plan::Plan;
 
 /// The start of an element's action, where that is after t and before next, or else next.
@@ -100,42 +100,38 @@ fn next_node(p: &Problem, plan: &Plan, nodes: &NodeSet, t: Instant, next: u32) -
     least
 }
 
-/// The least start after t of an element that matters to the constraint, or one past the horizon
-/// where there is none.
-pub(crate) fn next_that_matters(
-    p: &Problem,
-    plan: &Plan,
-    constraint: &Constraint,
-    t: Instant,
-) -> u32
+/// The same of the machines that can come together with one that they are kept apart from.
+fn next_apart(p: &Problem, plan: &Plan, separation: &Separation, t: Instant, next: u32) -> u32
     requires plan { IsPlanOf p.now.given plan.now }
-    requires rule { is_rule (inventory_of p.now.given) constraint.now ≡ true }
+    requires machines { list_all (λ x. nat_lt x.0 (machine_count p.now.given)) (separated (separation_seen separation.now)) ≡ true }
+    requires later { t < next }
+    ensures { IsNext (choices_of plan.now) (Matters p.now.given (Apart (separation_seen separation.now))) t next result }
+{
+    match separation {
+        Separation::Each(machines) => next_member(p, plan, machines, t, next),
+        Separation::Between(parts) => next_in_parts(p, plan, parts, t, next),
+        Separation::FromOthers(_) => next_machine(p, plan, t, next),
+    }
+}
+
+/// The least start after t of an element that matters to the form, or one past the horizon where
+/// there is none.
+pub(crate) fn next_that_matters(p: &Problem, plan: &Plan, form: &Form, t: Instant) -> u32
+    requires plan { IsPlanOf p.now.given plan.now }
+    requires sound { IsSound p.now.given (form_seen form.now) }
     requires in_time { t ≤ p.now.given.horizon }
-    ensures { IsNext (choices_of plan.now) (Matters p.now.given constraint.now) t (p.now.given.horizon + 1) result }
+    ensures { IsNext (choices_of plan.now) (Matters p.now.given (form_seen form.now)) t (p.now.given.horizon + 1) result }
 {
     let past = p.horizon() + 1;
-    match constraint {
-        Constraint::Spread { machines, .. }
-        | Constraint::Ban { machines, .. }
-        | Constraint::Fence { machines, .. }
-        | Constraint::Gather { machines, .. }
-        | Constraint::Among { machines, .. }
-        | Constraint::Root { machines }
-        | Constraint::Serialize { machines } => next_member(p, plan, machines.items(), t, past),
-        Constraint::Precedence { after, .. } => sooner(p, plan, Element::Vm(*after), t, past),
-        Constraint::Split { parts, .. } => next_in_parts(p, plan, parts.items(), t, past),
-        Constraint::Lonely { .. }
-        | Constraint::ResourceCapacity { .. }
-        | Constraint::RunningCapacity { .. } => next_machine(p, plan, t, past),
-        Constraint::MaxOnline { nodes, .. } => next_node(p, plan, nodes, t, past),
-        Constraint::Preserve { .. }
-        | Constraint::Overbook { .. }
-        | Constraint::Online { .. }
-        | Constraint::Offline { .. }
-        | Constraint::Running { .. }
-        | Constraint::Sleeping { .. }
-        | Constraint::Ready { .. }
-        | Constraint::Killed { .. } => past,
+    match form {
+        Form::Apart(separation) => next_apart(p, plan, separation, t, past),
+        Form::Allowed(machines, _) | Form::Together(machines, _) | Form::InTurn(machines) => {
+            next_member(p, plan, machines, t, past)
+        }
+        Form::Ordered(_, after) => sooner(p, plan, Element::Vm(*after), t, past),
+        Form::Bounded(..) => next_machine(p, plan, t, past),
+        Form::Powered(nodes, _) => next_node(p, plan, nodes, t, past),
+        Form::Settled => past,
     }
 }
 

@@ -82,10 +82,13 @@ node_matters (Bounded weight ns amount) n = false
 node_matters (Powered ns amount) n = has_node ns n
 node_matters Settled n = false
 
--- whether a start of the element can break the constraint
+-- whether a start of the element can break a form, and a constraint of that form
+abbrev pub form_matters : Form → Element → Bool
+form_matters f (Vm v) = machine_matters f v.0
+form_matters f (TheNode n) = node_matters f n.0
+
 abbrev pub matters : Constraint → Element → Bool
-matters c (Vm v) = machine_matters (form_of c) v.0
-matters c (TheNode n) = node_matters (form_of c) n.0
+matters c = form_matters (form_of c)
 
 -- a constraint that holds goes on to hold until an element starts that matters to it
 abbrev pub MattersQuiet : Type 0

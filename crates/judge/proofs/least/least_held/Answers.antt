@@ -20,7 +20,7 @@ loop-at-preserved c =
     let p = c.args.p.now.given in
     let found : slice_get p.constraints c.args.c ≡ Some c.index-constraints-c.result =
     slice_get_read p.constraints (length p.constraints) c.args.c c.index-constraints-c.result refl c.requires.constraint.in_range (rw c.constraints.ensures.constraints at c.index-constraints-c.is) in
-    holds_until p c.args.plan.now c.requires.plan c.loop-at.at (p.horizon + 1) c.next_that_matters-at.result c.args.c c.index-constraints-c.result found c.loop-at.invariant (c.holds.ensures.0 c.if-not-holds.false) c.next_that_matters-at.ensures
+    holds_until p c.args.plan.now c.requires.plan c.loop-at.at (p.horizon + 1) c.next_that_matters-at.result c.args.c c.index-constraints-c.result found c.loop-at.invariant (c.holds.ensures.0 c.if-not-holds.false) (rw c.form_of-form.ensures.form at c.next_that_matters-at.ensures)
 
 pub returns-clause-met : goal.returns-clause-met
 returns-clause-met c = continuous_met c.args.p.now.given (choices_of c.args.plan.now) c.args.best c.args.c (λ u low. c.loop-at.invariant u (omega arith))
