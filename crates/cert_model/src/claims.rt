@@ -25,6 +25,7 @@ use memory::Memory;
 use reasons::reason::Reason;
 use relax::plan::plan_of;
 use relax::refutes::refutes_seen;
+use slices::elements::has_element;
 use std::alloc::Global;
 use trees::steps::Step;
 
@@ -64,19 +65,8 @@ fn part_holds(p: &Problem, g: &Region, step: &Step) -> bool
 {
     match step {
         Step::Decide(x, part) => is_split(p, g, *x, *part),
-        Step::Cut(x, _, _) => is_element(p, *x),
+        Step::Cut(x, _, _) => has_element(p, *x),
         Step::Fail(_) | Step::Plan(_) | Step::Left => true,
-    }
-}
-
-// whether the problem has an element
-fn is_element(p: &Problem, e: Element) -> bool
-    ensures yes { IsTrue result → IsElement p.now.given e }
-    ensures no { result ≡ false → ¬ IsElement p.now.given e }
-{
-    match e {
-        Element::Vm(v) => (v.0 as usize) < p.cluster().machines().len(),
-        Element::Node(n) => (n.0 as usize) < p.cluster().nodes().len(),
     }
 }
 
@@ -86,7 +76,7 @@ fn is_split(p: &Problem, g: &Region, x: Element, part: Part) -> bool
     ensures yes { IsTrue result → IsSplit p.now.given (sets g.now) x part }
     ensures no { result ≡ false → ¬ IsSplit p.now.given (sets g.now) x part }
 {
-    if !is_element(p, x) {
+    if !has_element(p, x) {
         return false;
     }
     if leaves_none(g, x, part, Side::Inside) {

@@ -1,7 +1,16 @@
--- The words of states.
-use Rattle.std.specs.Prelude.{ℕ, List, [], ◌∷◌, codes, slice_index_or}
+-- The hosts of states, and their words.
+use Rattle.std.specs.Prelude.{ℕ, List, [], ◌∷◌, codes, slice_index_or, Option, Some, None}
+use Rattle.cluster.specs.declared.ids.NodeId.{NodeId}
 use Rattle.cluster.specs.declared.states.State.{State}
 use Rattle.cluster.specs.declared.states.State.TheVariants.{Init, Ready, Running, Sleeping, Gone}
+
+-- the node on which a machine in the state runs, or on which its image lies
+abbrev pub host_of : State → Option NodeId
+host_of (Running host) = Some host
+host_of (Sleeping host) = Some host
+host_of Init = None
+host_of Ready = None
+host_of Gone = None
 
 -- the place of a state, whatever its host, among the five
 abbrev pub state_number : State → ℕ

@@ -1,6 +1,6 @@
 //! The states of machines.
 ghost use Rattle.std.specs.Prelude.{◌≡◌};
-ghost use Rattle.cluster.specs.States.{state_number, state_word};
+ghost use Rattle.cluster.specs.States.{host_of, state_number, state_word};
 
 use crate::ids::NodeId;
 use crate::words::word_at;
@@ -20,6 +20,16 @@ pub enum State {
 pub const STATE_WORDS: [&str; 5] = ["init", "ready", "running", "sleeping", "gone"];
 
 impl State {
+    /// The node on which a machine in this state runs, or on which its image lies.
+    pub fn host(self) -> Option<NodeId>
+        ensures { result ≡ host_of self }
+    {
+        match self {
+            State::Running(host) | State::Sleeping(host) => Some(host),
+            State::Init | State::Ready | State::Gone => None,
+        }
+    }
+
     /// The word of the state, without its host.
     pub fn word(self) -> &'static str
         ensures { result.now ≡ state_word self }

@@ -1,12 +1,13 @@
 -- Sets of nodes as they are asked for, and what may be asked.
-use Rattle.std.specs.Prelude.{◌≡◌, Bool, false, not, length, IsTrue}
+use Rattle.std.specs.Prelude.{◌≡◌, Bool, false, not, length, IsTrue, Option, Some, None}
 use Rattle.std.specs.List.{Contains}
 use Rattle.cluster.specs.declared.choices.Choice.{Choice}
 use Rattle.cluster.specs.declared.choices.Choice.TheVariants.{Idle, Act}
 use Rattle.cluster.specs.declared.choices.Place.TheVariants.{Nowhere, At}
 use Rattle.cluster.specs.declared.ids.Element.{Element}
+use Rattle.cluster.specs.declared.ids.NodeId.{NodeId}
 use Rattle.cluster.specs.declared.states.State.{State}
-use Rattle.cluster.specs.declared.states.State.TheVariants.{Init, Ready as IsReady, Running as Runs, Sleeping as Sleeps, Gone}
+use Rattle.cluster.specs.States.{host_of}
 use Rattle.cluster.specs.Sets.{has_node}
 use Rattle.catalogue.specs.Instance.{Instance, IsElement}
 use Rattle.slices.specs.Actions.{is_legal}
@@ -38,12 +39,12 @@ AreLegal p s = (e : Element) → IsElement p e → (c : Choice) → Contains (s 
 -- ---- where a machine may hold something: on its host, and where it goes
 
 -- its host, if it has one, is in the set
+abbrev pub is_node_in : Option NodeId → Nodes → Bool
+is_node_in None set = false
+is_node_in (Some n) set = set n.0
+
 abbrev pub hosted_in : State → Nodes → Bool
-hosted_in (Runs h) set = set h.0
-hosted_in (Sleeps h) set = set h.0
-hosted_in Init set = false
-hosted_in IsReady set = false
-hosted_in Gone set = false
+hosted_in state set = is_node_in (host_of state) set
 
 -- the choice acts at a node of the set
 abbrev pub goes_in : Choice → Nodes → Bool

@@ -20,7 +20,6 @@ ghost use Rattle.reasons.specs.Closed.{all_nodes};
 ghost use Rattle.relax.specs.Areas.{IsSized, IsWeight, nodes_of};
 
 use crate::area::{Area, has, node_total};
-use crate::measures::state;
 use crate::moves::{is_out_by, is_to_run, move_time};
 use catalogue::problem::Problem;
 use catalogue::targets::{Target, Wish};
@@ -31,6 +30,7 @@ use domains::domain::Domain;
 use domains::parts::Row;
 use domains::view::{Sight, View, shown};
 use slices::actions::kind_of;
+use slices::elements::state_of;
 use slices::holding::amount;
 use slices::slice::{Weight, What};
 
@@ -213,7 +213,7 @@ pub(crate) fn floor(
     requires weight { IsWeight p.now.given weight }
     ensures { (c : AnyChoice) → Contains (seen view.now.region.now view.now.lens (vm v.0)) c → result ≤ held_at p.now.given v.0 weight (nodes_of p.now.given area.now) t c }
 {
-    match state(p, v) {
+    match state_of(p, v) {
         State::Running(host) => if keeps_use(p, view, v, host, area, t) {
             use_weight(p, v, weight)
         } else {

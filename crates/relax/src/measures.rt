@@ -20,6 +20,7 @@ use cluster::states::State;
 use domains::measure::Measure;
 use slices::actions::{duration, kind_of};
 use slices::choice::{action, holding, powered, usable};
+use slices::elements::state_of;
 use slices::holding::{Held, amount};
 use slices::slice::Weight;
 use slices::stage::Progress;
@@ -63,9 +64,9 @@ fn image_on(p: &Problem, area: &Area, image: Option<NodeId>) -> u64
 pub(crate) fn is_hosted_in(p: &Problem, state: State, area: &Area) -> bool
     ensures { result ≡ hosted_in state (nodes_of p.now.given area.now) }
 {
-    match state {
-        State::Running(h) | State::Sleeping(h) => has(p, area, h),
-        State::Init | State::Ready | State::Gone => false,
+    match state.host() {
+        Some(host) => has(p, area, host),
+        None => false,
     }
 }
 
@@ -82,21 +83,13 @@ pub(crate) fn goes_in(p: &Problem, c: Choice, area: &Area) -> bool
     }
 }
 
-/// The state of a machine at present.
-pub(crate) fn state(p: &Problem, v: VmId) -> State
-    requires { IsElement p.now.given (Element.Vm v) }
-    ensures { result ≡ state_of p.now.given v.0 }
-{
-    p.cluster().machines()[v.0 as usize].state
-}
-
 // whether a machine is hosted in an area or goes there, as it does where it holds something there; this
 // is told without the kind of its action
 fn is_near(p: &Problem, v: VmId, area: &Area, c: Choice) -> bool
     requires { IsElement p.now.given (Element.Vm v) }
     ensures { result ≡ false → (w : AnyWeight) (t : ℕ) → held_at p.now.given v.0 w (nodes_of p.now.given area.now) t c ≡ 0 }
 {
-    is_hosted_in(p, state(p, v), area) || goes_in(p, c, area)
+    is_hosted_in(p, state_of(p, v), area) || goes_in(p, c, area)
 }
 
 /// What a machine holds on the nodes of an area at an instant of a choice.

@@ -16,7 +16,7 @@ ghost use Rattle.slices.specs.declared.slice.Weight.{Weight as AnyWeight};
 ghost use Rattle.relax.specs.Areas.{IsSized, goes_in as the_goes_in, nodes_of};
 
 use crate::area::{Area, has};
-use crate::measures::{goes_in, state};
+use crate::measures::goes_in;
 use catalogue::problem::Problem;
 use catalogue::targets::{Target, Wish};
 use cluster::choices::{Choice, Instant};
@@ -26,6 +26,7 @@ use cluster::states::State;
 use domains::parts::Row;
 use domains::view::{Sight, View, shown};
 use slices::actions::duration;
+use slices::elements::state_of;
 
 /// Whether a machine that runs is to run on.
 pub(crate) fn is_to_run(p: &Problem, v: VmId) -> bool
@@ -129,7 +130,7 @@ pub(crate) fn may_have_left(p: &Problem, view: &View, v: VmId, area: &Area, t: I
     if matches!(area, Area::All) {
         return false;
     }
-    match state(p, v) {
+    match state_of(p, v) {
         State::Running(host) => may_be_out(p, view, v, host, area, t),
         State::Init | State::Ready | State::Sleeping(_) | State::Gone => false,
     }

@@ -12,22 +12,13 @@ use cluster::choices::Instant;
 use cluster::ids::{Element, NodeId, VmId};
 use cluster::sets::NodeSet;
 use reasons::reason::Reason;
+use slices::elements::has_element;
 
 // whether a machine is listed
 fn is_machine(p: &Problem, v: VmId) -> bool
     ensures { IsTrue result ↔ IsElement p.now.given (Element.Vm v) }
 {
     (v.0 as usize) < p.cluster().machines().len()
-}
-
-// whether an element is listed
-fn is_element(p: &Problem, e: Element) -> bool
-    ensures { IsTrue result ↔ IsElement p.now.given e }
-{
-    match e {
-        Element::Vm(v) => is_machine(p, v),
-        Element::Node(n) => is_node(p, n),
-    }
 }
 
 // whether a set has one of the first nodes
@@ -76,7 +67,7 @@ pub fn is_named(p: &Problem, reason: &Reason) -> bool
     ensures no { result ≡ false → ¬ IsNamed p.now.given reason.now }
 {
     match reason {
-        Reason::Empty(e) => is_element(p, *e),
+        Reason::Empty(e) => has_element(p, *e),
         Reason::Bound => true,
         Reason::Load(t, r, set) => {
             *t <= p.horizon() && (*r as usize) < p.cluster().resources().len() && are_listed(p, set)

@@ -16,7 +16,6 @@ ghost use Rattle.reasons.specs.Sure.{sure};
 ghost use Rattle.relax.specs.Areas.{IsSized, goes_in, hosted_in};
 
 use crate::area::{Area, is_node};
-use crate::measures::state;
 use crate::sure::{least_held, may_be_usable};
 use catalogue::problem::Problem;
 use cluster::choices::{Instant, Place};
@@ -24,6 +23,7 @@ use cluster::ids::{Element, NodeId, VmId};
 use cluster::states::State;
 use domains::domain::Domain;
 use domains::view::{Lens, View};
+use slices::elements::state_of;
 use slices::slice::Weight;
 
 // ---- one machine
@@ -32,9 +32,9 @@ use slices::slice::Weight;
 fn is_hosted(state: State, n: NodeId) -> bool
     ensures { result ≡ hosted_in state (one n.0) }
 {
-    match state {
-        State::Running(h) | State::Sleeping(h) => h.0 == n.0,
-        State::Init | State::Ready | State::Gone => false,
+    match state.host() {
+        Some(host) => host.0 == n.0,
+        None => false,
     }
 }
 
@@ -69,7 +69,7 @@ fn is_elsewhere(p: &Problem, view: &View, v: VmId, n: NodeId) -> bool
     requires machine { IsElement p.now.given (Element.Vm v) }
     ensures { IsTrue result → (w : AnyWeight) (t : ℕ) → least (held_at p.now.given v.0 w (one n.0) t) (sets view.now.region.now (vm v.0)) ≡ 0 }
 {
-    if is_hosted(state(p, v), n) {
+    if is_hosted(state_of(p, v), n) {
         return false;
     }
     may_stay_out(view.region.domain(Element::Vm(v)), n)

@@ -20,7 +20,7 @@ ghost use Rattle.relax.specs.Areas.{IsSized, IsWeight, goes_in as the_goes_in, n
 use crate::area::Area;
 use crate::floors::floor;
 use crate::measures::{
-    EndOf, HeldFrom, HeldIn, IsPowered, IsSoFar, IsUnusable, goes_in, is_hosted_in, state,
+    EndOf, HeldFrom, HeldIn, IsPowered, IsSoFar, IsUnusable, goes_in, is_hosted_in,
 };
 use crate::moves::may_have_left;
 use catalogue::problem::Problem;
@@ -30,6 +30,7 @@ use domains::domain::Domain;
 use domains::measure::Nought;
 use domains::parts::Row;
 use domains::view::{Sight, View, lowest_seen, shown};
+use slices::elements::state_of;
 use slices::slice::Weight;
 use slices::stage::Progress;
 
@@ -102,7 +103,7 @@ fn is_away(p: &Problem, view: &View, v: VmId, area: &Area) -> bool
     requires machine { IsElement p.now.given (Element.Vm v) }
     ensures { IsTrue result → (w : AnyWeight) (t : ℕ) → least (held_at p.now.given v.0 w (nodes_of p.now.given area.now) t) (seen view.now.region.now view.now.lens (vm v.0)) ≡ 0 }
 {
-    if is_hosted_in(p, state(p, v), area) {
+    if is_hosted_in(p, state_of(p, v), area) {
         return false;
     }
     may_stay_out(p, view, v, area)

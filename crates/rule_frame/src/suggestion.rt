@@ -15,6 +15,7 @@ use cluster::ids::Element;
 use domains::parts::{Change, Part, Side};
 use domains::region::Region;
 use reasons::reason::Reason;
+use slices::elements::has_element;
 
 /// A cut that may hold: a part of an element's choices, and why they may be taken away.
 #[derive(Clone, Copy)]
@@ -22,16 +23,6 @@ pub struct Suggestion {
     pub element: Element,
     pub part: Part,
     pub reason: Reason,
-}
-
-// whether an element is one of the problem
-fn is_element(p: &Problem, e: Element) -> bool
-    ensures { IsTrue result → IsElement p.now.given e }
-{
-    match e {
-        Element::Vm(v) => (v.0 as usize) < p.cluster().machines().len(),
-        Element::Node(n) => (n.0 as usize) < p.cluster().nodes().len(),
-    }
 }
 
 // whether a propagator may answer with a reason
@@ -73,7 +64,7 @@ fn holds<K: Keeper, W: Watcher<K>>(w: &W, k: &K, p: &Problem, g: &Region, it: Su
     ensures { IsTrue result → CutHolds p.now.given (sets g.now) it.element it.part it.reason }
 {
     may_answer(it.reason)
-        && is_element(p, it.element)
+        && has_element(p, it.element)
         && has_any(p, g, it.element, it.part)
         && w.refutes(k, p, g, it.element, it.part, &it.reason)
 }

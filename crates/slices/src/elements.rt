@@ -1,5 +1,5 @@
 //! What is asked of one element of a problem.
-ghost use Rattle.std.specs.Prelude.{◌≡◌};
+ghost use Rattle.std.specs.Prelude.{◌≡◌, ◌↔◌, IsTrue};
 ghost use Rattle.cluster.specs.Inventory.{is_online};
 ghost use Rattle.catalogue.specs.Instance.{IsElement};
 ghost use Rattle.slices.specs.Elements.{state_of, is_place};
@@ -9,8 +9,18 @@ use cluster::choices::Place;
 use cluster::ids::{Element, NodeId, VmId};
 use cluster::states::State;
 
+/// Whether an element is one of the problem.
+pub fn has_element(p: &Problem, e: Element) -> bool
+    ensures { IsTrue result ↔ IsElement p.now.given e }
+{
+    match e {
+        Element::Vm(v) => (v.0 as usize) < p.cluster().machines().len(),
+        Element::Node(n) => (n.0 as usize) < p.cluster().nodes().len(),
+    }
+}
+
 /// The state of a machine at present.
-pub(crate) fn state_of(p: &Problem, v: VmId) -> State
+pub fn state_of(p: &Problem, v: VmId) -> State
     requires { IsElement p.now.given (Element.Vm v) }
     ensures { result ≡ state_of p.now.given v.0 }
 {

@@ -3,7 +3,7 @@
 
 pub mod actions;
 pub mod choice;
-mod elements;
+pub mod elements;
 pub mod form;
 pub mod holding;
 pub mod laws;
