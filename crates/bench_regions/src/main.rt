@@ -5,12 +5,12 @@
 ghost use Rattle.std.specs.Prelude.{◌≡◌, ◌<◌, ◌≤◌, ◌^◌, IfOk, OnOk, length};
 ghost use Rattle.trail.specs.Logs.{Marked};
 
+use base::memory::Memory;
 use cluster::choices::Place;
 use cluster::ids::{Element, NodeId, VmId};
 use domains::domain::Domain;
 use domains::parts::{Change, Part, Row, Side};
 use domains::region::Region;
-use memory::Memory;
 use std::alloc::Global;
 use std::env;
 use std::process::ExitCode;

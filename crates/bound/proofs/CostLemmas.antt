@@ -3,8 +3,8 @@ use Rattle.std.proofs.Common.{◌≡◌, ◌≢◌, ℕ, ◌+◌, ◌≤◌, Lis
 use Rattle.std.specs.List.{Contains, filter}
 use Rattle.std.proofs.lemmas.Bool.Decides.{Decides-eqb}
 use Rattle.std.proofs.lemmas.List.{get_or-set_same, get_or-set_other}
-use Rattle.sums.specs.Least.{least}
-use Rattle.sums.proofs.Sums.{sum_to-bound, sum_to-change, sum_to-same, sum_to-term}
+use Rattle.base.specs.Least.{least}
+use Rattle.base.proofs.Sums.{sum_to-bound, sum_to-change, sum_to-same, sum_to-term}
 use Rattle.cluster.specs.declared.choices.Choice.{Choice}
 use Rattle.cluster.specs.declared.choices.Choice.TheVariants.{Idle, Act}
 use Rattle.cluster.specs.declared.ids.Element.{Element}

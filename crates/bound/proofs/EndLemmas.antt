@@ -1,7 +1,7 @@
 -- The least end of an element before it lost choices, and after.
 use Rattle.std.proofs.Common.{◌≡◌, ℕ, ◌+◌, ◌≤◌, max, unwrap_or, Option, Some, None, List, [], ◌∷◌, refl, sym, ap, ◌∙◌, arith}
 use Rattle.std.specs.List.{filter}
-use Rattle.sums.specs.Least.{lower, lowest, least}
+use Rattle.base.specs.Least.{lower, lowest, least}
 use Rattle.cluster.specs.declared.choices.Choice.{Choice}
 use Rattle.domains.specs.declared.undo.Lost.{Lost}
 use Rattle.domains.specs.Choices.{DomainView, choices}

@@ -1,6 +1,6 @@
 //! The least end of one element, and what a change of its domain makes of a sum of least ends.
 ghost use Rattle.std.specs.Prelude.{◌≡◌, ◌+◌, ◌≤◌, filter, max};
-ghost use Rattle.sums.specs.Least.{least, lowest as lowest_of};
+ghost use Rattle.base.specs.Least.{least, lowest as lowest_of};
 ghost use Rattle.catalogue.specs.Instance.{IsElement};
 ghost use Rattle.slices.specs.Actions.{end_of};
 ghost use Rattle.slices.specs.Limits.{max_cost};

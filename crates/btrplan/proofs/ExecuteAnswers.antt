@@ -2,7 +2,7 @@
 use Rattle.std.proofs.Common.{◌≡◌, ℕ, List, ◌++◌, Bool, true, false, Option, Some, None, Result, Ok, Err, IsTrue, String, string_bytes, refl, sym, subst, ◌∙◌, inl, inr}
 use Rattle.std.specs.declared.alloc.Global.{Global}
 use Rattle.std.specs.Io.{StartsWith}
-use Rattle.sums.proofs.Prefixes.{whole, longer, longer_text}
+use Rattle.base.proofs.Prefixes.{whole, longer, longer_text}
 use Rattle.catalogue.specs.Instance.{Instance}
 use Rattle.plan_io.specs.Files.{Files}
 use Rattle.slices.specs.declared.rule.Broken.{Broken}

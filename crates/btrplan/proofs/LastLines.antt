@@ -1,7 +1,7 @@
 -- How a part ends that has a last line, and what is so however it ends.
 use Rattle.std.proofs.Common.{◌≡◌, ℕ, Bool, List, ◌++◌, Option, Some, None, Result, Ok, Err, option_map, String, string_bytes, refl, sym, subst}
 use Rattle.std.specs.declared.alloc.Global.{Global}
-use Rattle.sums.proofs.Prefixes.{whole, longer}
+use Rattle.base.proofs.Prefixes.{whole, longer}
 use Rattle.btrplan.specs.Words.{Command, plan, check, replay}
 use Rattle.btrplan.specs.Answer.{Outside, outside}
 use Rattle.btrplan.specs.Commands.{Takes}

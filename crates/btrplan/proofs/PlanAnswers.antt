@@ -5,9 +5,9 @@ use Rattle.std.specs.Io.{StartsWith}
 use Rattle.std.specs.Fmt.{decimal}
 use Rattle.std.specs.List.{flat_map}
 use Rattle.plan_io.specs.Files.{Files, OthersStay, IsCut, bytes_of}
-use Rattle.sums.specs.Sums.{sum_to}
-use Rattle.sums.proofs.Prefixes.{longer_text}
-use Rattle.sums.proofs.Sums.{sum_to-none}
+use Rattle.base.specs.Sums.{sum_to}
+use Rattle.base.proofs.Prefixes.{longer_text}
+use Rattle.base.proofs.Sums.{sum_to-none}
 use Rattle.cluster.specs.declared.choices.Choice.TheVariants.{Idle}
 use Rattle.cluster.specs.declared.ids.Element.{Element}
 use Rattle.catalogue.specs.Instance.{Instance, IsInstance}

@@ -2,7 +2,7 @@
 use Rattle.std.proofs.Common.{◌≡◌, ℕ, List, ◌++◌, Option, refl, inl, inr}
 use Rattle.std.specs.Io.{StartsWith}
 use Rattle.plan_io.specs.Files.{Files}
-use Rattle.sums.proofs.Prefixes.{whole, further}
+use Rattle.base.proofs.Prefixes.{whole, further}
 use Rattle.btrplan.specs.Words.{Command}
 use Rattle.btrplan.specs.Answer.{Outside, outside}
 use Rattle.btrplan.specs.Commands.{IsAnswer}

@@ -5,10 +5,10 @@ ghost use Rattle.btrplan.specs.Words.{asked};
 
 use crate::run::run;
 use crate::status::Status;
+use base::memory::Memory;
 use branching::brancher::Brancher;
 use branching::stay_first::StayFirst;
 use constraint_rules::rules::{ForbiddenRule, GroupRule, PairRule, PlaceRule, SetRule};
-use memory::Memory;
 use plan_io::{Desk, Sink, Source};
 use prop_core::propagator::Propagator;
 use rule_load::rule::load_rule;

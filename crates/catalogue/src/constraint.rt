@@ -4,10 +4,10 @@ ghost use Rattle.catalogue.specs.Kinds.{is_continuous};
 ghost use Rattle.catalogue.specs.Words.{constraint_number, constraint_word};
 
 use crate::lists::{Groups, Parts, Vms};
+use base::memory::Memory;
 use cluster::ids::VmId;
 use cluster::sets::NodeSet;
 use cluster::words::word_at;
-use memory::Memory;
 use std::alloc::AllocError;
 use thiserror::Error;
 

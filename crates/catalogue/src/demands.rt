@@ -6,9 +6,9 @@ ghost use Rattle.catalogue.specs.Values.{preserved_with};
 ghost use Rattle.catalogue.specs.Cells.{HasRows, cell};
 ghost use Rattle.catalogue.specs.declared.constraint.Constraint.TheVariants.{Preserve};
 
+use base::memory::Memory;
 use cluster::ids::VmId;
 use cluster::limits::MAX_RESOURCES;
-use memory::Memory;
 
 /// Notes an amount that is to be preserved for machines: the greater of it and the noted one stays.
 pub fn note_preserve(

@@ -1,9 +1,9 @@
 //! The lists of constraints: machines, sets of nodes, and parts of machines.
 ghost use Rattle.std.specs.Prelude.{◌≡◌, IfOk};
 
+use base::memory::Memory;
 use cluster::ids::VmId;
 use cluster::sets::NodeSet;
-use memory::Memory;
 use std::alloc::Global;
 use std::marker::Model;
 

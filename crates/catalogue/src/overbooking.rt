@@ -7,11 +7,11 @@ ghost use Rattle.catalogue.specs.Values.{lesser_of, limit_with, written_of};
 ghost use Rattle.catalogue.specs.Cells.{HasRows, limit_cell};
 ghost use Rattle.catalogue.specs.declared.constraint.Constraint.TheVariants.{Overbook};
 
+use base::memory::Memory;
 use cluster::ids::NodeId;
 use cluster::inventory::Cluster;
 use cluster::limits::MAX_RESOURCES;
 use cluster::sets::NodeSet;
-use memory::Memory;
 
 /// Notes that nodes may be used up to `num / den` of their written capacity, rounded down: the
 /// lesser of this and the noted limit stays.

@@ -12,10 +12,10 @@ use crate::lists::Vms;
 use crate::overbooking::note_overbook;
 use crate::targets::{Target, Wish};
 use crate::wishes::{note_machines, note_nodes};
+use base::memory::Memory;
 use cluster::inventory::Cluster;
 use cluster::limits::MAX_RESOURCES;
 use cluster::sets::NodeSet;
-use memory::Memory;
 use std::alloc::Global;
 
 /// Four tables, by the numbers of the elements. A table takes memory with the first constraint

@@ -1,6 +1,6 @@
 -- What is written of a tree is accepted, and there is no other verdict on it.
 use Rattle.std.proofs.Common.{◌≡◌, ◌∙◌, inl, inr, ℕ, Bool, true, false, List, [], ◌∷◌, ◌++◌, map, Option, Some, None, Result, Ok, Err, refl, sym, ap, subst, append-nil}
-use Rattle.sums.specs.Least.{lowest}
+use Rattle.base.specs.Least.{lowest}
 use Rattle.catalogue.specs.Instance.{Instance, IsInstance}
 use Rattle.slices.specs.Plans.{Choices}
 use Rattle.domains.specs.Sets.{Sets}

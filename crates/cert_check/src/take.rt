@@ -5,11 +5,11 @@ ghost use Rattle.cert_check.specs.Names.{named_step};
 ghost use Rattle.cert_check.specs.Turns.{TextAnswers};
 
 use crate::named::step_of;
+use base::memory::Memory;
 use catalogue::problem::Problem;
 use cert_model::walk::Walk;
 use cert_model::why::Why;
 use cert_text::text::StepText;
-use memory::Memory;
 use trees::steps::Step;
 
 /// Takes the step of a text where it is due, its names are the problem's, and it holds; else says the

@@ -1,9 +1,9 @@
 //! What a check answers.
 ghost use Rattle.std.specs.Prelude.{◌≡◌};
 
+use base::memory::Memory;
 use cert_model::why::Why;
 use cert_read::LineFault;
-use memory::Memory;
 use trees::steps::Goal;
 
 /// The verdict on a certificate.

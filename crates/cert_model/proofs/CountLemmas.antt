@@ -1,6 +1,6 @@
 -- What is counted of steps, with one more step.
 use Rattle.std.proofs.Common.{◌≡◌, ℕ, List, [], ◌∷◌, ◌++◌, sym, ap, ◌∙◌, Option, Some, append-nil}
-use Rattle.sums.specs.Least.{lower, lowest}
+use Rattle.base.specs.Least.{lower, lowest}
 use Rattle.trees.specs.declared.steps.Step.{Step}
 use Rattle.trees.specs.declared.steps.Step.TheVariants.{Plan, Left}
 use Rattle.domains.specs.Sets.{Sets}

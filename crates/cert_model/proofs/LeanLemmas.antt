@@ -1,7 +1,7 @@
 -- Undecided sets, by what is kept of the steps before.
 use Rattle.std.proofs.Common.{◌≡◌, ℕ, ◌<◌, List, sym, subst, Option, Some, None}
 use Rattle.std.specs.Prelude.{IfSome}
-use Rattle.sums.specs.Least.{lowest}
+use Rattle.base.specs.Least.{lowest}
 use Rattle.cluster.specs.declared.ids.Element.TheVariants.{Vm, Node}
 use Rattle.catalogue.specs.Instance.{Instance}
 use Rattle.domains.specs.Sets.{IsFixed, RegionView, sets}

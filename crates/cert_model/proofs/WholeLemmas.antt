@@ -1,6 +1,6 @@
 -- Steps that leave nothing open are a proof, and what they show holds.
 use Rattle.std.proofs.Common.{◌≡◌, ℕ, Bool, true, false, List, [], ◌∷◌, refl, sym, ap, subst, ◌∙◌, Option}
-use Rattle.sums.specs.Least.{lowest}
+use Rattle.base.specs.Least.{lowest}
 use Rattle.catalogue.specs.Instance.{Instance}
 use Rattle.domains.specs.Sets.{Sets}
 use Rattle.reasons.specs.Start.{start_sets}

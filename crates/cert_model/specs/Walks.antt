@@ -1,7 +1,7 @@
 -- What a walk over the steps of a certificate keeps, and what its answers mean.
 use Rattle.std.specs.Prelude.{◌≡◌, ◌≢◌, ◌⊎◌, ℕ, ◌+◌, ◌<◌, ◌^◌, Bool, true, List, [], ◌∷◌, ◌++◌, length, map, Option, Some, None, MatchOption}
 use Rattle.catalogue.specs.Instance.{Instance, IsElement}
-use Rattle.sums.specs.Least.{lowest}
+use Rattle.base.specs.Least.{lowest}
 use Rattle.slices.specs.Elements.{machine_count, node_count}
 use Rattle.slices.specs.Plans.{Choices, PlanChoices, choices_of}
 use Rattle.domains.specs.Sets.{RegionView, Sets, sets}

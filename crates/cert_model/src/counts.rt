@@ -1,6 +1,6 @@
 //! What is counted of steps: decisions, the cheapest plan, and the least of what is left.
 ghost use Rattle.std.specs.Prelude.{◌≡◌, ◌↔◌, ℕ, ◌+◌, ◌<◌, ◌^◌, ◌++◌, ◌∷◌, [], List, IsTrue};
-ghost use Rattle.sums.specs.Least.{lower as the_lower, lowest};
+ghost use Rattle.base.specs.Least.{lower as the_lower, lowest};
 ghost use Rattle.domains.specs.Sets.{Sets};
 ghost use Rattle.trees.specs.declared.steps.Step.{Step as AnyStep};
 ghost use Rattle.trees.specs.Goals.{decisions, goal_of, left_set, lower_of};

@@ -1,7 +1,7 @@
 //! The sum of the least ends of a region, kept from step to step.
 ghost use Rattle.std.specs.Prelude.{◌≡◌, ◌≤◌};
 ghost use Rattle.catalogue.specs.Instance.{IsElement};
-ghost use Rattle.sums.specs.Least.{lowest};
+ghost use Rattle.base.specs.Least.{lowest};
 ghost use Rattle.slices.specs.Actions.{end_of};
 ghost use Rattle.slices.specs.Limits.{max_cost};
 ghost use Rattle.domains.specs.Parts.{on_side};

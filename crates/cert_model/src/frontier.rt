@@ -5,10 +5,10 @@ ghost use Rattle.trees.specs.Trees.{inside, outside};
 ghost use Rattle.cert_model.specs.Frontiers.{AreSame, AreSameSize, IsEntered, IsKept, later_sets, later_sums, open_sets, open_sums};
 
 use crate::nearby::Nearby;
+use base::memory::Memory;
 use cluster::ids::Element;
 use domains::parts::{Change, Part, Side};
 use domains::region::Region;
-use memory::Memory;
 use std::alloc::Global;
 use trail::trail::Trail;
 

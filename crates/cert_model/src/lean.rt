@@ -1,6 +1,6 @@
 //! Whether a step is lean.
 ghost use Rattle.std.specs.Prelude.{◌≡◌, ◌↔◌, ◌<◌, false, List, IfSome, IsTrue};
-ghost use Rattle.sums.specs.Least.{lowest};
+ghost use Rattle.base.specs.Least.{lowest};
 ghost use Rattle.domains.specs.Sets.{sets};
 ghost use Rattle.reasons.specs.Sure.{least_cost};
 ghost use Rattle.trees.specs.declared.steps.Step.{Step as AnyStep};

@@ -1,11 +1,11 @@
 //! For each node machines that may surely have something there.
+use base::memory::Memory;
 use catalogue::problem::Problem;
 use cluster::choices::Place;
 use cluster::ids::{Element, NodeId, VmId};
 use cluster::sets::NodeSet;
 use cluster::states::State;
 use domains::domain::Domain;
-use memory::Memory;
 use std::alloc::Global;
 
 /// For each node, in ascending order, the machines that it hosts, and those of which once all choices went there.

@@ -4,7 +4,7 @@ use Rattle.std.proofs.lemmas.Bool.{cases_lt}
 use Rattle.std.proofs.lemmas.Bool.Decides.{nat_tests}
 use Rattle.std.proofs.lemmas.List.{take-append-le}
 use Rattle.std.specs.Io.{StartsWith}
-use Rattle.sums.proofs.Prefixes.{all_of}
+use Rattle.base.proofs.Prefixes.{all_of}
 use Rattle.cert_text.specs.Texts.{max_line}
 use Rattle.cert_read.specs.declared.line.Line.TheVariants.{Over}
 use Rattle.cert_read.specs.declared.line.LineFault.{LineFault}

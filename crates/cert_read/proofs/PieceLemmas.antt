@@ -3,7 +3,7 @@ use Rattle.std.proofs.Common.{◌≡◌, ◌∙◌, ℕ, ◌+◌, ◌-◌, ◌�
 use Rattle.std.proofs.lemmas.List.{drop-drop, take-append-le}
 use Rattle.std.specs.Io.{StartsWith}
 use Rattle.plan_io.specs.Files.{ReadsAt}
-use Rattle.sums.proofs.Prefixes.{grown}
+use Rattle.base.proofs.Prefixes.{grown}
 
 -- what was read after the bytes that were held goes on from them
 pub read_more : (file held new buf rest : List ℕ) (place at n : ℕ) → at ≡ place + length held → StartsWith (drop place file) held → ReadsAt file at n buf → n ≤ length buf → new ≡ held ++ take n (buf ++ rest) →

@@ -4,7 +4,7 @@ use Rattle.std.proofs.lemmas.Bool.Decides.{nat_tests}
 use Rattle.std.proofs.lemmas.List.{drop-append-le, drop-drop}
 use Rattle.std.specs.Io.{StartsWith}
 use Rattle.std.specs.Str.{bytes_eq}
-use Rattle.sums.proofs.Prefixes.{longer}
+use Rattle.base.proofs.Prefixes.{longer}
 use Rattle.cert_text.specs.declared.text.LineText.{LineText}
 use Rattle.cert_text.specs.Reading.{reading}
 use Rattle.cert_text.specs.Texts.{header}

@@ -11,9 +11,9 @@ ghost use Rattle.cert_read.specs.Reader.{CountsLine, Gives, IsMoved, IsOutside, 
 use crate::held::Held;
 use crate::line::{Line, LineFault};
 use crate::position::Position;
+use base::memory::Memory;
 use cert_text::parsing::{TextFault, parse_line};
 use cert_text::text::LineText;
-use memory::Memory;
 use plan_io::Desk;
 use std::alloc::Global;
 use std::marker::Model;

@@ -2,7 +2,7 @@
 use Rattle.std.proofs.Common.{◌≡◌, inl, inr, ℕ, zero, suc, ◌+◌, ◌<◌, ◌≤◌, Bool, true, false, IsTrue, List, [], ◌∷◌, ◌++◌, map, refl, sym, ap, ◌∙◌, append-nil, arith, if◌then◌else◌}
 use Rattle.std.specs.List.{filter, flat_map, range_with_len}
 use Rattle.std.proofs.lemmas.Bool.{cases_eq}
-use Rattle.sums.proofs.Ranges.{flat_map_more, text_more}
+use Rattle.base.proofs.Ranges.{flat_map_more, text_more}
 use Rattle.cluster.specs.Sets.{has_node}
 use Rattle.cluster.specs.declared.sets.NodeSet.{NodeSet}
 use Rattle.catalogue.specs.Instance.{Instance}

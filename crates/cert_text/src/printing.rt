@@ -10,12 +10,12 @@ ghost use Rattle.cert_text.specs.Spelling.{HasPart, HasPlace, HasReason, HasStep
 ghost use Rattle.cert_text.specs.Texts.{goal_words, joined, nodes_words, part_words, place_word, reason_words, step_words};
 
 use crate::kinds::{GoalKind, LineKind, PartKind, reason_word};
+use base::memory::Memory;
 use catalogue::problem::Problem;
 use cluster::choices::Place;
 use cluster::ids::{Element, NodeId, VmId};
 use cluster::sets::NodeSet;
 use domains::parts::Part;
-use memory::Memory;
 use reasons::reason::{Reason, ReasonKind};
 use trees::steps::{Goal, Step};
 

@@ -1,7 +1,7 @@
 -- How long a machine stays that runs.
 use Rattle.std.proofs.Common.{◌≡◌, ℕ, ◌≤◌, true, max, unwrap_or, Option, None, List, [], ◌∷◌, refl, arith}
 use Rattle.std.specs.List.{filter}
-use Rattle.sums.specs.Least.{least, lowest}
+use Rattle.base.specs.Least.{least, lowest}
 use Rattle.cluster.specs.declared.choices.Choice.{Choice}
 use Rattle.catalogue.specs.Instance.{Instance}
 use Rattle.domains.specs.Choices.{DomainView, choices}

@@ -7,7 +7,7 @@ use Rattle.cluster.specs.declared.choices.Choice.{Choice}
 use Rattle.catalogue.specs.declared.constraint.Constraint.{Constraint}
 use Rattle.catalogue.specs.declared.constraint.Constraint.TheVariants.{ResourceCapacity, RunningCapacity}
 use Rattle.catalogue.specs.Instance.{Instance}
-use Rattle.sums.specs.Sums.{sum_to}
+use Rattle.base.specs.Sums.{sum_to}
 use Rattle.slices.specs.declared.slice.Weight.{Weight}
 use Rattle.slices.specs.declared.slice.Weight.TheVariants.{Amount, Presence}
 use Rattle.slices.specs.Elements.{machine_count, state_of, vm}

@@ -1,6 +1,6 @@
 -- Helping only: how long a machine may stay on its host.
 use Rattle.std.specs.Prelude.{◌≡◌, ℕ, ◌≤◌, List}
-use Rattle.sums.specs.Least.{least}
+use Rattle.base.specs.Least.{least}
 use Rattle.cluster.specs.declared.choices.Choice.{Choice}
 use Rattle.catalogue.specs.Instance.{Instance}
 use Rattle.standing.specs.declared.numbers.Standing.{Standing}

@@ -11,10 +11,10 @@ ghost use Rattle.constraint_rules.specs.Amounts.{AreAllStayers, AreStayersOf, Ar
 
 use crate::bounds::{Bound, bound_of};
 use crate::nodes::host;
+use base::memory::Memory;
 use catalogue::constraint::Constraint;
 use catalogue::problem::Problem;
 use cluster::ids::VmId;
-use memory::Memory;
 use slices::slice::Weight;
 use standing::uses::base;
 use std::alloc::Global;

@@ -1,6 +1,6 @@
 //! How long a machine stays on its host.
 ghost use Rattle.std.specs.Prelude.{◌≤◌, IfSome, IsTrue, max};
-ghost use Rattle.sums.specs.Least.{least};
+ghost use Rattle.base.specs.Least.{least};
 ghost use Rattle.cluster.specs.declared.choices.Choice.{Choice as AnyChoice};
 ghost use Rattle.catalogue.specs.Instance.{IsElement};
 ghost use Rattle.slices.specs.Elements.{vm};

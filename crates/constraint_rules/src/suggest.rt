@@ -7,6 +7,7 @@ ghost use Rattle.slices.specs.Elements.{machine_count};
 ghost use Rattle.relax.specs.Areas.{IsSized};
 
 use crate::pairs::has;
+use base::memory::Memory;
 use catalogue::constraint::Constraint;
 use catalogue::lists::Vms;
 use catalogue::problem::Problem;
@@ -14,7 +15,6 @@ use cluster::choices::{Instant, Place};
 use cluster::ids::{Element, NodeId, VmId};
 use domains::parts::{Change, Part, Side};
 use domains::region::Region;
-use memory::Memory;
 use reasons::reason::Reason;
 use rule_frame::suggestion::Suggestion;
 

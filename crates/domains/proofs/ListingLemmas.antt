@@ -4,8 +4,8 @@ use Rattle.std.specs.Prelude.{◌^◌}
 use Rattle.std.proofs.lemmas.Bool.Decides.{nat_tests, Decides-eqb}
 use Rattle.std.proofs.lemmas.List.{length-set, get_or-set_same, get_or-set_other, get_or-replicate, get_or_read}
 use Rattle.std.proofs.lemmas.List.Elements.{All-set}
-use Rattle.sums.specs.Sums.{sum_to}
-use Rattle.sums.proofs.Sums.{sum_to-same, sum_to-term, sum_to-bound, sum_to-change}
+use Rattle.base.specs.Sums.{sum_to}
+use Rattle.base.proofs.Sums.{sum_to-same, sum_to-term, sum_to-bound, sum_to-change}
 use Rattle.domains.specs.Choices.{DomainView, is_one, staying, Climbs}
 use Rattle.domains.specs.Kept.{block_of, block_count, unfixed, unfixed_in, AreCounted, AreListed, AreFixed, IsFirstFrom}
 

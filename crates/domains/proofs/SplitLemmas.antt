@@ -4,9 +4,9 @@ use Rattle.std.specs.List.{filter, Contains}
 use Rattle.std.proofs.Math.Nat.{mul-add, add-mul, mul-le-mul_left, mul-le-mul_right, le_trans}
 use Rattle.std.proofs.lemmas.Bool.Decides.{Decides-eqb, nat_tests}
 use Rattle.std.proofs.lemmas.List.Filters.{length-filter_both}
-use Rattle.sums.specs.Sums.{product_to}
-use Rattle.sums.proofs.Sums.{sum_to-le, sum_to-change}
-use Rattle.sums.proofs.Products.{product_to-split}
+use Rattle.base.specs.Sums.{product_to}
+use Rattle.base.proofs.Sums.{sum_to-le, sum_to-change}
+use Rattle.base.proofs.Products.{product_to-split}
 use Rattle.cluster.specs.declared.ids.Element.{Element}
 use Rattle.cluster.specs.declared.ids.Element.TheVariants.{Vm, Node}
 use Rattle.cluster.specs.declared.choices.Choice.{Choice}

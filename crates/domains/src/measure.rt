@@ -1,6 +1,6 @@
 //! The least value of a measure over a set of choices.
 ghost use Rattle.std.specs.Prelude.{◌≡◌, ℕ, ◌≤◌, min, filter, Option, Some, IfSome, IsTrue};
-ghost use Rattle.sums.specs.Least.{lowest as lowest_of};
+ghost use Rattle.base.specs.Least.{lowest as lowest_of};
 ghost use Rattle.cluster.specs.declared.choices.Choice.{Choice as AnyChoice};
 ghost use Rattle.cluster.specs.declared.choices.Choice.TheVariants.{Idle, Act};
 ghost use Rattle.cluster.specs.declared.choices.Place.{Place as AnyPlace};

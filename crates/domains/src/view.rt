@@ -1,6 +1,6 @@
 //! A region seen as it is, on one side of a part, or with one element set to one choice; nothing is copied.
 ghost use Rattle.std.specs.Prelude.{◌≡◌, ◌<◌, ◌≤◌, IfSome, filter, length, slice_index_or};
-ghost use Rattle.sums.specs.Least.{lowest as lowest_of};
+ghost use Rattle.base.specs.Least.{lowest as lowest_of};
 ghost use Rattle.domains.specs.Choices.{no_row, row_choices};
 ghost use Rattle.domains.specs.Rows.{option_choices, row_of};
 ghost use Rattle.domains.specs.Sets.{RegionView, HasElement, domain_at, same_element, sets};

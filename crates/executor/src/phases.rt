@@ -8,10 +8,10 @@ ghost use Rattle.executor.specs.Phases.{Moves, first_phase, phase_at, phases_in}
 ghost use Rattle.executor.specs.Tables.{IsFirstPlace};
 
 use crate::phase::Phase;
+use base::memory::Memory;
 use catalogue::problem::Problem;
 use cluster::choices::Choice;
 use cluster::ids::Element;
-use memory::Memory;
 use slices::plan::Plan;
 use std::alloc::Global;
 

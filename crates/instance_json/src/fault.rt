@@ -2,8 +2,8 @@
 
 ghost use Rattle.std.specs.Prelude.{◌≡◌, ◌++◌, IfOk, codes, string_bytes};
 
+use base::memory::Memory;
 use json_walk::{Fault, PathText, WalkFault};
-use memory::Memory;
 use std::alloc::{AllocFailed, Global};
 
 /// The first fault of an instance, with the path at which it stands.

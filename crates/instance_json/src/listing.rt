@@ -5,10 +5,10 @@ ghost use Rattle.catalogue.specs.Faults.{is_member, differ, all_of};
 ghost use Rattle.cluster.specs.Limits.{max_machines};
 ghost use Rattle.instance_json.specs.Listed.{listed_machines};
 
+use base::memory::Memory;
 use catalogue::lists::{Parts, Vms};
 use cluster::ids::VmId;
 use cluster::sets::MachineSet;
-use memory::Memory;
 use std::alloc::Global;
 use std::marker::Model;
 use std::mem;

@@ -20,13 +20,13 @@ use crate::keys::{HOSTED_KEYS, MACHINE_KEYS};
 use crate::names;
 use crate::nodes::element_name;
 use crate::states::{STATES, StateWord};
+use base::memory::Memory;
 use cluster::ids::NodeId;
 use cluster::inventory::{AddFault, Cluster};
 use cluster::limits::MAX_MACHINES;
 use cluster::machines::Machine;
 use cluster::states::{STATE_WORDS, State};
 use json_walk::PathRef;
-use memory::Memory;
 use serde_json::Value;
 use std::alloc::Global;
 

@@ -14,12 +14,12 @@ ghost use Rattle.instance_json.specs.Walk.{instance_fault_of};
 ghost use Rattle.instance_json.specs.Names.{name_from, new_name_from, resource_step, resources_from, listed_machine, listed_node, listed_resource};
 
 use crate::fault::InstanceFault;
+use base::memory::Memory;
 use cluster::ids::{Element, NodeId, VmId};
 use cluster::inventory::Cluster;
 use cluster::limits::MAX_RESOURCES;
 use cluster::names::{Name, NameFault, is_name_text};
 use json_walk::{FaultKind, PathRef};
-use memory::Memory;
 use serde_json::Value;
 use std::alloc::Global;
 

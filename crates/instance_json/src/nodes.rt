@@ -18,12 +18,12 @@ use crate::durations::{Owner, own_durations};
 use crate::fault::InstanceFault;
 use crate::keys::NODE_KEYS;
 use crate::names;
+use base::memory::Memory;
 use cluster::inventory::{AddFault, Cluster};
 use cluster::limits::MAX_NODES;
 use cluster::names::Name;
 use cluster::nodes::Node;
 use json_walk::PathRef;
-use memory::Memory;
 use serde_json::Value;
 use std::alloc::Global;
 

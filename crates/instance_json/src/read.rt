@@ -22,6 +22,7 @@ use crate::machines::add_machines;
 use crate::names;
 use crate::nodes::add_nodes;
 use crate::rules::add_constraints;
+use base::memory::Memory;
 use catalogue::limits::MAX_HORIZON;
 use catalogue::problem::Problem;
 use cluster::durations::Duration;
@@ -29,7 +30,6 @@ use cluster::inventory::{AddFault, Cluster};
 use cluster::kinds::KIND_COUNT;
 use cluster::names::Name;
 use json_walk::{JsonFault, MAX_TEXT_BYTES, PathRef};
-use memory::Memory;
 use serde_json::Value;
 use std::alloc::Global;
 

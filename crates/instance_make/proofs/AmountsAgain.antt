@@ -8,8 +8,8 @@ use Rattle.std.proofs.lemmas.List.FromFn.{get_or-range_with_len, length-range_wi
 use Rattle.std.proofs.lemmas.Slice.Eq.{bytes_eq-Decides}
 use Rattle.std.specs.List.{list_all, list_any, range_with_len}
 use Rattle.std.specs.Str.{bytes_eq}
-use Rattle.sums.proofs.Lists.{item_passes}
-use Rattle.sums.proofs.Ranges.{all_pass}
+use Rattle.base.proofs.Lists.{item_passes}
+use Rattle.base.proofs.Ranges.{all_pass}
 use Rattle.serde_json.specs.Data.{Data, string, number, unsigned}
 use Rattle.serde_json.specs.Find.{get, get_member}
 use Rattle.json_walk.specs.Members.{optional_number}

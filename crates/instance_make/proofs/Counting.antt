@@ -3,9 +3,9 @@ use Rattle.std.proofs.Common.{◌≡◌, ◌≢◌, ℕ, zero, suc, ◌+◌, ◌
 use Rattle.std.proofs.lemmas.Bool.{cases_eq, leb-true}
 use Rattle.std.proofs.lemmas.Bool.Decides.{Decides-eqb, nat_tests}
 use Rattle.std.specs.List.{list_all, range_with_len}
-use Rattle.sums.specs.Sums.{sum_to}
-use Rattle.sums.proofs.Ranges.{each_passes}
-use Rattle.sums.proofs.Sums.{sum_to-same, sum_to-none, sum_to-add}
+use Rattle.base.specs.Sums.{sum_to}
+use Rattle.base.proofs.Ranges.{each_passes}
+use Rattle.base.proofs.Sums.{sum_to-same, sum_to-none, sum_to-add}
 use Rattle.slices.specs.Stages.{Nodes, one}
 use Rattle.instance_make.specs.Generated.{machine_total, host_of}
 use Rattle.instance_make.specs.Emptying.{goes_to}

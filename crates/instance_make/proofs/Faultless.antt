@@ -8,7 +8,7 @@ use Rattle.std.proofs.lemmas.Slice.Eq.{bytes_eq-Decides}
 use Rattle.std.specs.List.{list_all, list_any, range_with_len}
 use Rattle.std.specs.Fmt.{decimal, digits}
 use Rattle.std.specs.Str.{bytes_eq}
-use Rattle.sums.proofs.Ranges.{each_passes}
+use Rattle.base.proofs.Ranges.{each_passes}
 use Rattle.cluster.specs.declared.inventory.AddFault.TheVariants.{TooMany, Twice, BadHost, TooGreat}
 use Rattle.cluster.specs.Inventory.{node_fault, machine_fault, is_taken, is_online, host_is_online, machine_fits, names_of_machines, names_of_nodes}
 use Rattle.cluster.specs.Limits.{max_amount}

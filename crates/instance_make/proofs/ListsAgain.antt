@@ -8,7 +8,7 @@ use Rattle.std.proofs.lemmas.List.{length-map}
 use Rattle.std.proofs.lemmas.List.Folds.{list_any-append, list_all-append}
 use Rattle.std.proofs.lemmas.List.Sums.{AllPass-from_list_all}
 use Rattle.std.specs.List.{filter, fold, list_all, range_with_len}
-use Rattle.sums.proofs.Tests.{same_either_way}
+use Rattle.base.proofs.Tests.{same_either_way}
 use Rattle.json_walk.specs.Path.{item_path}
 use Rattle.json_walk.specs.Walk.{list_of}
 use Rattle.json_walk.specs.Each.{each}

@@ -12,7 +12,7 @@ use Rattle.std.specs.List.{fold, filter, list_any, list_all, range_with_len}
 use Rattle.std.specs.Ordering.{nat_cmp, match_ordering}
 use Rattle.std.specs.Cmp.Lexicographic.{slice_cmp}
 use Rattle.std.specs.Str.{bytes_eq}
-use Rattle.sums.proofs.Ranges.{range_more, each_passes}
+use Rattle.base.proofs.Ranges.{range_more, each_passes}
 use Rattle.serde_json.specs.Data.{Data, number, unsigned, Members, no_members, member, put}
 use Rattle.serde_json.specs.Find.{get_member}
 use Rattle.serde_json.proofs.Views.{get_member-put, get_member-put_other}

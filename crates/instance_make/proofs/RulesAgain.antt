@@ -3,7 +3,7 @@ use Rattle.std.proofs.Common.{◌≡◌, ℕ, ◌<◌, ◌==◌, ◌&&◌, ◌||
 use Rattle.std.proofs.lemmas.Grind.{common_steps}
 use Rattle.std.proofs.lemmas.Bool.{and_parts, ltb-true, leb-true, not-true}
 use Rattle.std.specs.List.{list_all}
-use Rattle.sums.proofs.Tests.{same_either_way}
+use Rattle.base.proofs.Tests.{same_either_way}
 use Rattle.serde_json.specs.Data.{string}
 use Rattle.json_walk.specs.Path.{key_path}
 use Rattle.json_walk.specs.Walk.{optional, field_of, number_of, number_field_of, flag_of, only_of}

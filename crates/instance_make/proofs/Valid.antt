@@ -5,8 +5,8 @@ use Rattle.std.proofs.lemmas.Bool.{cases_eq, le-leb, leb-true, eqb-true}
 use Rattle.std.proofs.lemmas.Bool.Decides.{nat_tests}
 use Rattle.std.specs.List.{list_any}
 use Rattle.std.specs.Option.{ForSome}
-use Rattle.sums.specs.Sums.{sum_to}
-use Rattle.sums.proofs.Sums.{sum_to-le, sum_to-same}
+use Rattle.base.specs.Sums.{sum_to}
+use Rattle.base.proofs.Sums.{sum_to-le, sum_to-same}
 use Rattle.cluster.specs.declared.choices.Place.TheVariants.{At}
 use Rattle.cluster.specs.Sets.{has_node}
 use Rattle.catalogue.specs.declared.constraint.Constraint.{Constraint}

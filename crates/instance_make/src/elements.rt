@@ -9,12 +9,12 @@ ghost use Rattle.instance_make.specs.Elements.{node_data, host_data, machine_dat
 
 use crate::amounts::{amounts_value, put_own};
 use crate::names::node_name;
+use base::memory::Memory;
 use cluster::inventory::Cluster;
 use cluster::machines::Machine;
 use cluster::nodes::Node;
 use cluster::states::State;
 use json_text::{ObjectOut, flag, word};
-use memory::Memory;
 use serde_json::Value;
 use std::alloc::Global;
 

@@ -10,6 +10,7 @@ ghost use Rattle.instance_make.specs.Generated.{node_total, machine_total, amoun
 ghost use Rattle.instance_make.specs.Generated.{generated_duration, generated_node, generated_machine};
 ghost use Rattle.instance_make.specs.Generated.{cpu_of, mem_of};
 
+use base::memory::Memory;
 use cluster::durations::Duration;
 use cluster::ids::NodeId;
 use cluster::inventory::{AddFault, Cluster};
@@ -19,7 +20,6 @@ use cluster::machines::Machine;
 use cluster::names::{Name, NameFault};
 use cluster::nodes::Node;
 use cluster::states::State;
-use memory::Memory;
 use std::alloc::Global;
 
 /// How many nodes there are.

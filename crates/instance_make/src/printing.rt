@@ -12,6 +12,7 @@ ghost use Rattle.instance_make.specs.Text.{instance_data, instance_text};
 use crate::amounts::base_durations_value;
 use crate::elements::{machine_value, node_value};
 use crate::rules::constraint_value;
+use base::memory::Memory;
 use catalogue::constraint::Constraint;
 use catalogue::problem::Problem;
 use cluster::inventory::Cluster;
@@ -19,7 +20,6 @@ use cluster::machines::Machine;
 use cluster::names::Name;
 use cluster::nodes::Node;
 use json_text::{ListOut, ObjectOut, number, print, word};
-use memory::Memory;
 use serde_json::Value;
 use std::alloc::Global;
 

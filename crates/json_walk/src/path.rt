@@ -2,7 +2,7 @@
 
 ghost use Rattle.std.specs.Prelude.{◌≡◌, IfOk};
 
-use memory::Memory;
+use base::memory::Memory;
 use std::alloc::Global;
 use std::marker::Model;
 

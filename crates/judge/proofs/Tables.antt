@@ -3,8 +3,8 @@ use Rattle.std.proofs.Common.{◌≡◌, inl, inr, ℕ, ◌+◌, add-one, List, 
 use Rattle.std.proofs.lemmas.Bool.{cases_lt}
 use Rattle.std.proofs.lemmas.List.{get_or-replicate, get_or_past, length-replicate}
 use Rattle.catalogue.specs.Cells.{cell}
-use Rattle.sums.specs.Sums.{sum_to}
-use Rattle.sums.proofs.Lists.{copies_at}
+use Rattle.base.specs.Sums.{sum_to}
+use Rattle.base.proofs.Lists.{copies_at}
 
 -- a table that repeats a row of zeros
 pub cell_none : (k m n r : ℕ) → cell (replicate k (replicate m 0)) n r ≡ 0

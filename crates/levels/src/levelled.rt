@@ -1,7 +1,7 @@
 //! A list of so many items, with levels.
 ghost use Rattle.std.specs.Prelude.{◌≡◌, ◌<◌, [], ◌∷◌, ◌++◌, length, OnOk, OnErr, slice_set};
 
-use memory::Memory;
+use base::memory::Memory;
 use std::alloc::Global;
 use std::marker::Model;
 

@@ -1,7 +1,7 @@
 -- A sum that differs from another for the numbers of a list alone.
 use Rattle.std.proofs.Common.{◌≡◌, ℕ, zero, suc, ◌+◌, ◌-◌, ◌<◌, List, refl, arith}
 use Rattle.std.specs.List.{Contains, sum_by}
-use Rattle.sums.specs.Sums.{sum_to}
+use Rattle.base.specs.Sums.{sum_to}
 use Rattle.near.specs.Near.{IsEachOnce}
 use Rattle.near.proofs.Public.{all_over}
 

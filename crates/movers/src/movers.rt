@@ -8,10 +8,10 @@ ghost use Rattle.domains.specs.Sets.{sets};
 ghost use Rattle.relax.specs.Areas.{IsSized};
 ghost use Rattle.movers.specs.Movers.{AreMovers, IsGrown, IsListedOrStays, IsToldOf};
 
+use base::memory::Memory;
 use catalogue::problem::Problem;
 use cluster::ids::{Element, VmId};
 use domains::region::Region;
-use memory::Memory;
 use std::alloc::Global;
 use std::marker::Model;
 

@@ -7,10 +7,10 @@ ghost use Rattle.relax.specs.Areas.{hosted_in};
 ghost use Rattle.near.specs.Near.{AreNear, IsNear, IsPut, list_at};
 
 use crate::number_lists::NumberLists;
+use base::memory::Memory;
 use catalogue::problem::Problem;
 use cluster::ids::{Element, NodeId, VmId};
 use cluster::states::State;
-use memory::Memory;
 use std::alloc::Global;
 use std::marker::Model;
 

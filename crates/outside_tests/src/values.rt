@@ -1,11 +1,11 @@
 //! Texts from outside, with the line that each gives.
 
+use base::memory::Memory;
 use json_walk::{
     JsonFault, Keys, PathRef, PathText, WalkFault, field, field_at, flag, flag_at, list,
     list_field, number, number_field, object_at, only, only_at, optional_flag, optional_number,
     read_value, text, text_at, text_field, word_field,
 };
-use memory::Memory;
 use serde_json::Value;
 use std::alloc::{AllocError, Global};
 use std::test::Fail;

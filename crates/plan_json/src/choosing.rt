@@ -8,10 +8,10 @@ ghost use Rattle.plan_json.specs.Plans.{as_choice, choices_for, is_idle, first_t
 
 use crate::actions::as_choice;
 use crate::fields::Action;
+use base::memory::Memory;
 use catalogue::problem::Problem;
 use cluster::choices::Choice;
 use cluster::ids::Element;
-use memory::Memory;
 use slices::actions::is_legal;
 use std::alloc::Global;
 
@@ -53,7 +53,7 @@ fn is_idle(choice: Choice) -> bool
 }
 
 /// The first element that is idle and may not be.
-#[tactic(auto, using(sums::proofs::Ranges::find_rules), unfolding(crate::specs::Plans::first_to_act))]
+#[tactic(auto, using(base::proofs::Ranges::find_rules), unfolding(crate::specs::Plans::first_to_act))]
 pub(crate) fn first_to_act(p: &Problem, choices: &[Choice]) -> Option<Element>
     requires { length choices.now ≡ element_count (inventory_of p.now.given) }
     ensures { result ≡ first_to_act p.now.given choices.now }

@@ -3,10 +3,10 @@
 ghost use Rattle.std.specs.Prelude.{◌≡◌, ◌++◌, IfOk, codes, string_bytes};
 
 use crate::names::name;
+use base::memory::Memory;
 use catalogue::problem::Problem;
 use cluster::ids::Element;
 use json_walk::{Fault, PathText, WalkFault};
-use memory::Memory;
 use std::alloc::{AllocError, AllocFailed, Global};
 
 /// The first fault of a plan, with the path at which it stands, or the element that it leaves out.

@@ -6,9 +6,9 @@ ghost use Rattle.plan_json.specs.Plans.{action_for, is_same};
 ghost use Rattle.plan_json.specs.Marks.{IsWithinLimits};
 
 use crate::fields::Action;
+use base::memory::Memory;
 use cluster::ids::Element;
 use cluster::sets::{MachineSet, NodeSet};
-use memory::Memory;
 use std::alloc::Global;
 use std::marker::Model;
 

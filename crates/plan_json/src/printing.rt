@@ -10,11 +10,11 @@ ghost use Rattle.plan_json.specs.Plans.{plan_of};
 ghost use Rattle.plan_json.specs.Print.{name_data, word_at, action_data, choice_data, actions_data, plan_data, plan_text};
 
 use crate::names::name;
+use base::memory::Memory;
 use catalogue::problem::Problem;
 use cluster::choices::{Choice, Instant, Place};
 use cluster::ids::Element;
 use json_text::{ListOut, ObjectOut, number, print, word};
-use memory::Memory;
 use serde_json::Value;
 use slices::actions::kind_of;
 use slices::plan::Plan;
@@ -78,7 +78,7 @@ fn push_choice(
 }
 
 /// All actions in the order of the elements.
-#[tactic(auto, using(sums::proofs::Ranges::pieces_more), unfolding(crate::specs::Print::actions_data))]
+#[tactic(auto, using(base::proofs::Ranges::pieces_more), unfolding(crate::specs::Print::actions_data))]
 fn actions_list(alloc: Global, p: &Problem, plan: &Plan) -> Result<ListOut, Memory>
     requires { IsPlanOf p.now.given plan.now }
     ensures { IfOk result (λ list. items list ≡ actions_data p.now.given plan.now) }

@@ -4,8 +4,8 @@ use Rattle.std.specs.Prelude.{slice_index_or}
 use Rattle.std.proofs.lemmas.List.{length-append}
 use Rattle.cluster.specs.Limits.{max_machines}
 use Rattle.catalogue.specs.Instance.{Instance}
-use Rattle.sums.specs.Sums.{sum_to}
-use Rattle.sums.proofs.Sums.{sum_to-same}
+use Rattle.base.specs.Sums.{sum_to}
+use Rattle.base.proofs.Sums.{sum_to-same}
 use Rattle.slices.specs.declared.slice.Weight.TheVariants.{Amount}
 use Rattle.slices.specs.Elements.{machine_count, state_of}
 use Rattle.slices.specs.Snapshots.{load}

@@ -2,7 +2,7 @@
 use Rattle.std.specs.Prelude.{◌≡◌, ℕ, ◌+◌, ◌<◌, ◌≤◌, List, length, nat_lt, slice_index_or, if◌then◌else◌}
 use Rattle.cluster.specs.Limits.{max_amount, max_machines}
 use Rattle.catalogue.specs.Instance.{Instance}
-use Rattle.sums.specs.Sums.{sum_to}
+use Rattle.base.specs.Sums.{sum_to}
 use Rattle.slices.specs.declared.slice.Weight.TheVariants.{Amount}
 use Rattle.slices.specs.Elements.{machine_count, state_of}
 use Rattle.slices.specs.Stages.{one}

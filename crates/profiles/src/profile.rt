@@ -13,6 +13,7 @@ ghost use Rattle.standing.specs.Tables.{sets_before};
 ghost use Rattle.profiles.specs.Profiles.{IsProfile};
 
 use crate::share::{Share, shares_of, total_use};
+use base::memory::Memory;
 use catalogue::problem::Problem;
 use cluster::choices::Instant;
 use cluster::ids::NodeId;
@@ -20,7 +21,6 @@ use domains::domain::Domain;
 use domains::parts::Change;
 use domains::region::Region;
 use domains::undo::Before;
-use memory::Memory;
 use standing::table::Table;
 use std::alloc::Global;
 use std::marker::Model;

@@ -6,10 +6,10 @@ ghost use Rattle.slices.specs.Elements.{machine_count};
 ghost use Rattle.standing.specs.Tables.{no_standing};
 ghost use Rattle.profiles.specs.Profiles.{AreShares, AreSmall, IsShare, IsSmall, share_use as the_share_use, total_use as the_total_use};
 
+use base::memory::Memory;
 use catalogue::problem::Problem;
 use cluster::choices::Instant;
 use cluster::ids::{Element, NodeId, VmId};
-use memory::Memory;
 use slices::slice::Weight;
 use standing::numbers::Standing;
 use standing::uses::{base, comes_by, gain, is_host};

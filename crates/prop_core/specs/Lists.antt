@@ -1,7 +1,7 @@
 -- Lists of propagators; `m` gives what each means.
 use Rattle.std.specs.Prelude.{◌≡◌, ℕ, ◌+◌, ◌<◌, ◌≤◌, Bool, List, length, slice_index_or, All, Result, Ok, Err, IsTrue, sum_by}
 use Rattle.std.specs.List.{list_any}
-use Rattle.memory.specs.declared.Memory.{Memory}
+use Rattle.base.specs.declared.memory.Memory.{Memory}
 use Rattle.catalogue.specs.Instance.{Instance}
 use Rattle.domains.specs.Sets.{Sets}
 use Rattle.reasons.specs.declared.reason.ReasonKind.{ReasonKind}

@@ -3,13 +3,13 @@ ghost use Rattle.std.specs.Prelude.{◌≡◌, ◌<◌, OnOk, OnErr, IfOk, Match
 ghost use Rattle.domains.specs.Sets.{sets};
 ghost use Rattle.prop_core.specs.Propagators.{IsAsked, IsBack, IsMarked, IsNarrowed, IsPosted, IsRegionOf, IsRight, IsTold, IsUnchanged, Meaning, SameRule, TopAgrees, counted, most, sets_before};
 
+use base::memory::Memory;
 use catalogue::problem::Problem;
 use cluster::ids::Element;
 use domains::domain::Domain;
 use domains::parts::{Change, Part};
 use domains::region::Region;
 use domains::undo::Before;
-use memory::Memory;
 use reasons::reason::{Reason, ReasonKind};
 
 /// What a propagator answers of a region.

@@ -1,7 +1,7 @@
 -- When a snapshot is free of standard reasons: a part of one that is, and a plan's where each rule is kept; and what is free of all keeps each rule.
 use Rattle.std.proofs.Common.{◌≡◌, inl, ℕ, ◌≤◌, Bool, ◌||◌, ◌==◌, cond, IsTrue, sym, ◌∙◌, arith}
 use Rattle.std.proofs.lemmas.Bool.{and_parts, ltb-true, true_from_ne_false, true≢false}
-use Rattle.sums.proofs.Sums.{sum_to-none}
+use Rattle.base.proofs.Sums.{sum_to-none}
 use Rattle.cluster.specs.Sets.{has_node}
 use Rattle.catalogue.specs.declared.constraint.Constraint.{Constraint}
 use Rattle.catalogue.specs.Instance.{Instance, IsInstance}

@@ -2,8 +2,8 @@
 use Rattle.std.proofs.Common.{◌≡◌, ◌⊎◌, inl, inr, ℕ, suc, ◌<◌, ◌≤◌, Bool, true, false, cond, List, [], ◌∷◌, IsTrue, refl, ap, arith}
 use Rattle.std.specs.List.{Contains}
 use Rattle.std.proofs.lemmas.Bool.{and_from, cases_lt, false≢true, or_cases}
-use Rattle.sums.specs.Least.{least, lower, lowest}
-use Rattle.sums.proofs.Tests.{positive_above}
+use Rattle.base.specs.Least.{least, lower, lowest}
+use Rattle.base.proofs.Tests.{positive_above}
 use Rattle.cluster.specs.declared.choices.Choice.{Choice}
 use Rattle.cluster.specs.declared.choices.Choice.TheVariants.{Act}
 use Rattle.cluster.specs.declared.choices.Place.{Place}

@@ -4,8 +4,8 @@ use Rattle.std.specs.List.{filter}
 use Rattle.std.specs.Prelude.{IsSomeAnd}
 use Rattle.std.proofs.lemmas.Bool.{false≢true}
 use Rattle.std.proofs.lemmas.List.Elements.{All-weaker}
-use Rattle.sums.proofs.Sums.{sum_to-le}
-use Rattle.sums.proofs.Tests.{cond-implied, cond-le, fails_below, positive_above}
+use Rattle.base.proofs.Sums.{sum_to-le}
+use Rattle.base.proofs.Tests.{cond-implied, cond-le, fails_below, positive_above}
 use Rattle.cluster.specs.declared.ids.VmId.{VmId}
 use Rattle.cluster.specs.Sets.{has_node}
 use Rattle.catalogue.specs.declared.constraint.Constraint.{Constraint}

@@ -3,8 +3,8 @@ use Rattle.std.proofs.Common.{◌≡◌, ◌==◌, ◌≢◌, inl, ℕ, ◌≤�
 use Rattle.std.specs.List.{Contains}
 use Rattle.std.proofs.lemmas.Bool.{eq-eqb, false_from_ne_true}
 use Rattle.std.proofs.Math.Bool.{or-false}
-use Rattle.sums.specs.Least.{least}
-use Rattle.sums.proofs.Sums.{sum_to-change, sum_to-same}
+use Rattle.base.specs.Least.{least}
+use Rattle.base.proofs.Sums.{sum_to-change, sum_to-same}
 use Rattle.cluster.specs.declared.choices.Choice.{Choice}
 use Rattle.cluster.specs.declared.choices.Choice.TheVariants.{Idle, Act}
 use Rattle.cluster.specs.declared.ids.Element.{Element}

@@ -2,7 +2,7 @@
 use Rattle.std.proofs.Common.{◌≡◌, inl, inr, ◌+◌, ◌<◌, Bool, true, false, cond, nat_le, nat_lt, [], None, is_some, IsTrue, refl, arith, ap, ◌∷◌}
 use Rattle.std.specs.List.{Contains, range_with_len, filter}
 use Rattle.std.proofs.lemmas.Bool.{and_parts, cases_lt, false≢true, le-ltb, leb-true, lt-ltb, ltb-true}
-use Rattle.sums.proofs.Sums.{sum_to-same}
+use Rattle.base.proofs.Sums.{sum_to-same}
 use Rattle.cluster.specs.declared.choices.Choice.{Choice}
 use Rattle.cluster.specs.declared.choices.Choice.TheVariants.{Idle, Act}
 use Rattle.cluster.specs.declared.choices.Place.{Place}

@@ -1,8 +1,8 @@
 -- What is sure is a part of what each plan has, and grows in narrower sets.
 use Rattle.std.proofs.Common.{◌≤◌, ℕ, ap, refl, arith}
 use Rattle.std.specs.Prelude.{Option, Some, None, IsSomeAnd}
-use Rattle.sums.specs.Least.{least}
-use Rattle.sums.proofs.Sums.{sum_to-le, sum_to-same}
+use Rattle.base.specs.Least.{least}
+use Rattle.base.proofs.Sums.{sum_to-le, sum_to-same}
 use Rattle.catalogue.specs.Instance.{Instance}
 use Rattle.slices.specs.Actions.{end_of}
 use Rattle.slices.specs.Elements.{machine_count, node_count, node, vm}

@@ -6,7 +6,7 @@ use Rattle.cluster.specs.declared.sets.NodeSet.{NodeSet}
 use Rattle.catalogue.specs.declared.constraint.Constraint.{Constraint}
 use Rattle.catalogue.specs.Instance.{Instance, IsElement}
 use Rattle.catalogue.specs.Kinds.{is_continuous}
-use Rattle.sums.specs.Sums.{sum_to}
+use Rattle.base.specs.Sums.{sum_to}
 use Rattle.slices.specs.declared.stage.Progress.TheVariants.{Started, Unended, Acting}
 use Rattle.slices.specs.Elements.{machine_count, node_count}
 use Rattle.slices.specs.Forms.{Form, Apart, Allowed, Together, Ordered, InTurn, Bounded, Powered, Settled, Separation, Each, Between, FromOthers, form_of}

@@ -1,8 +1,8 @@
 -- What is sure in a region at an instant.
 use Rattle.std.specs.Prelude.{ℕ, ◌+◌}
 use Rattle.catalogue.specs.Instance.{Instance}
-use Rattle.sums.specs.Least.{least}
-use Rattle.sums.specs.Sums.{sum_to}
+use Rattle.base.specs.Least.{least}
+use Rattle.base.specs.Sums.{sum_to}
 use Rattle.slices.specs.Actions.{end_of}
 use Rattle.slices.specs.Elements.{machine_count, node_count, vm, node}
 use Rattle.slices.specs.Snapshots.{Snapshot, held_at, present_at, usable_at, powered_at, action_at}

@@ -7,6 +7,7 @@ ghost use Rattle.prop_core.specs.Propagators.{IsRegionOf, IsRight, counted};
 ghost use Rattle.prop_core.specs.Tests.{keeps_nothing};
 
 use crate::fixtures::running;
+use base::memory::Memory;
 use catalogue::problem::Problem;
 use cluster::ids::{Element, NodeId, VmId};
 use cluster::sets::NodeSet;
@@ -14,7 +15,6 @@ use domains::domain::Domain;
 use domains::parts::{Change, Part, Side};
 use domains::region::Region;
 use domains::undo::Before;
-use memory::Memory;
 use prop_core::all::{back_all, mark_all, post_all, tell_all};
 use prop_core::asking::ask_all;
 use prop_core::cover::covered;

@@ -22,7 +22,7 @@ use Rattle.catalogue.specs.declared.targets.Target.TheVariants.{Running as ToRun
 use Rattle.catalogue.specs.declared.targets.Wish.TheVariants.{To}
 use Rattle.domains.specs.Choices.{Climbs, DomainView, choices, no_row, place_index, row_choices, starts_from}
 use Rattle.domains.specs.declared.parts.Row.{Row}
-use Rattle.sums.specs.Least.{lowest}
+use Rattle.base.specs.Least.{lowest}
 use Rattle.slices.specs.declared.slice.Weight.{Weight}
 use Rattle.slices.specs.declared.slice.Weight.TheVariants.{Amount, Presence, Image}
 use Rattle.slices.specs.declared.slice.What.TheVariants.{Use, Demand}

@@ -14,7 +14,7 @@ use Rattle.cluster.specs.declared.states.State.TheVariants.{Running}
 use Rattle.catalogue.specs.Instance.{Instance}
 use Rattle.catalogue.specs.declared.targets.Target.TheVariants.{Running as ToRunning}
 use Rattle.catalogue.specs.declared.targets.Wish.TheVariants.{To}
-use Rattle.sums.specs.Least.{least}
+use Rattle.base.specs.Least.{least}
 use Rattle.slices.specs.declared.slice.Weight.{Weight}
 use Rattle.slices.specs.declared.slice.What.TheVariants.{Use, Demand}
 use Rattle.slices.specs.Actions.{action_duration, duration_of, is_raised, kind_duration, kind_of, wanted_state}

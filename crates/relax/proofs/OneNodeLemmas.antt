@@ -4,8 +4,8 @@ use Rattle.std.specs.Prelude.{slice_index_or}
 use Rattle.std.specs.List.{Contains}
 use Rattle.std.proofs.lemmas.Bool.{cases_eq, cases_lt, false≢true, ne_eqb}
 use Rattle.std.proofs.lemmas.Bool.Decides.{Decides-eqb}
-use Rattle.sums.specs.Sums.{sum_to}
-use Rattle.sums.proofs.Sums.{sum_to-change, sum_to-none, sum_to-zero}
+use Rattle.base.specs.Sums.{sum_to}
+use Rattle.base.proofs.Sums.{sum_to-change, sum_to-none, sum_to-zero}
 use Rattle.cluster.specs.Sets.{has_node, IsFirstFrom, IsWithin}
 use Rattle.cluster.specs.declared.choices.Choice.{Choice}
 use Rattle.cluster.specs.declared.choices.Choice.TheVariants.{Act}

@@ -4,7 +4,7 @@ ghost use Rattle.std.specs.List.{Contains};
 ghost use Rattle.cluster.specs.declared.choices.Choice.TheVariants.{Act};
 ghost use Rattle.cluster.specs.declared.choices.Place.{Place as AnyPlace};
 ghost use Rattle.cluster.specs.declared.ids.NodeId.{NodeId as AnyNode};
-ghost use Rattle.sums.specs.Least.{least};
+ghost use Rattle.base.specs.Least.{least};
 ghost use Rattle.catalogue.specs.Instance.{IsElement};
 ghost use Rattle.domains.specs.Choices.{no_row};
 ghost use Rattle.domains.specs.Views.{seen};

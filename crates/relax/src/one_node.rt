@@ -3,7 +3,7 @@ ghost use Rattle.std.specs.Prelude.{◌≡◌, ◌≢◌, ℕ, ◌<◌, ◌≤�
 ghost use Rattle.std.specs.List.{Contains};
 ghost use Rattle.cluster.specs.Sets.{has_node};
 ghost use Rattle.cluster.specs.declared.choices.Choice.{Choice as AnyChoice};
-ghost use Rattle.sums.specs.Least.{least};
+ghost use Rattle.base.specs.Least.{least};
 ghost use Rattle.catalogue.specs.Instance.{IsElement};
 ghost use Rattle.slices.specs.Elements.{machine_count, node_count, vm};
 ghost use Rattle.slices.specs.Snapshots.{held_at, load as load_of, room as room_of};

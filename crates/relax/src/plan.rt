@@ -6,11 +6,11 @@ ghost use Rattle.slices.specs.Plans.{IsPlanOf, choices_of};
 ghost use Rattle.domains.specs.Sets.{HasElement, IsFixed, IsOnly, sets};
 ghost use Rattle.relax.specs.Areas.{AreLegal, IsSized};
 
+use base::memory::Memory;
 use catalogue::problem::Problem;
 use cluster::choices::Choice;
 use cluster::ids::Element;
 use domains::region::Region;
-use memory::Memory;
 use slices::plan::Plan;
 use std::alloc::Global;
 

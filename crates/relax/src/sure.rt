@@ -2,7 +2,7 @@
 ghost use Rattle.std.specs.Prelude.{◌≡◌, ℕ, ◌≤◌, ◌↔◌, ◌<◌, false, [], nat_lt, length, slice_index_or, IsTrue, Option as AnyOption};
 ghost use Rattle.std.specs.List.{Contains};
 ghost use Rattle.cluster.specs.declared.choices.Choice.{Choice as AnyChoice};
-ghost use Rattle.sums.specs.Least.{lowest as lowest_of, least};
+ghost use Rattle.base.specs.Least.{lowest as lowest_of, least};
 ghost use Rattle.catalogue.specs.Instance.{IsElement};
 ghost use Rattle.slices.specs.Actions.{end_of};
 ghost use Rattle.slices.specs.Elements.{vm};

@@ -1,8 +1,8 @@
 //! Sums over what is sure in what is seen of a region.
 ghost use Rattle.std.specs.Prelude.{◌≡◌, ◌≤◌, ◌<◌, ◌*◌, ◌^◌, length, if◌then◌else◌};
 ghost use Rattle.cluster.specs.Limits.{max_machines, max_nodes};
-ghost use Rattle.sums.specs.Least.{least};
-ghost use Rattle.sums.specs.Sums.{sum_to};
+ghost use Rattle.base.specs.Least.{least};
+ghost use Rattle.base.specs.Sums.{sum_to};
 ghost use Rattle.catalogue.specs.Instance.{IsElement};
 ghost use Rattle.catalogue.specs.Limits.{max_capacity};
 ghost use Rattle.catalogue.specs.Values.{capacity_of};

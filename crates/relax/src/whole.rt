@@ -1,7 +1,7 @@
 //! What is sure in a region as it is.
 ghost use Rattle.std.specs.Prelude.{◌≡◌, ◌<◌, length};
 ghost use Rattle.cluster.specs.Sets.{has_node};
-ghost use Rattle.sums.specs.Least.{lowest as lowest_of};
+ghost use Rattle.base.specs.Least.{lowest as lowest_of};
 ghost use Rattle.catalogue.specs.Instance.{IsElement};
 ghost use Rattle.slices.specs.Actions.{end_of};
 ghost use Rattle.slices.specs.Stages.{one};

@@ -11,7 +11,7 @@ use Rattle.cluster.specs.declared.ids.Element.{Element}
 use Rattle.cluster.specs.declared.choices.Place.{Place}
 use Rattle.catalogue.specs.Instance.{Instance}
 use Rattle.slices.specs.Actions.{end_of}
-use Rattle.sums.proofs.Lists.{copies_at}
+use Rattle.base.proofs.Lists.{copies_at}
 use Rattle.replay.specs.Events.{turns}
 
 -- one mark more

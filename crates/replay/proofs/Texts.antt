@@ -4,7 +4,7 @@ use Rattle.std.proofs.Math.Seq.{drop-cons}
 use Rattle.std.specs.Io.{StartsWith}
 use Rattle.std.specs.Fmt.{decimal}
 use Rattle.std.specs.List.{flat_map, range_with_len}
-use Rattle.sums.proofs.Prefixes.{longer_text}
+use Rattle.base.proofs.Prefixes.{longer_text}
 use Rattle.catalogue.specs.Instance.{Instance}
 use Rattle.slices.specs.declared.rule.Broken.{Broken}
 use Rattle.slices.specs.Elements.{node, node_count}

@@ -5,10 +5,10 @@ ghost use Rattle.catalogue.specs.Instance.{IsElement, inventory_of};
 ghost use Rattle.slices.specs.Plans.{IsPlanOf, choices_of};
 ghost use Rattle.replay.specs.Events.{events, is_event, turns, turns_below};
 
+use base::memory::Memory;
 use catalogue::problem::Problem;
 use cluster::choices::{Choice, Instant};
 use cluster::ids::Element;
-use memory::Memory;
 use slices::plan::{Plan, end_in};
 use std::alloc::Global;
 
@@ -30,7 +30,7 @@ fn mark_element(marks: &mut [bool], p: &Problem, plan: &Plan, e: Element)
 }
 
 /// Marks the starts and the ends of all actions.
-#[tactic(auto, using(sums::proofs::Ranges::any_more))]
+#[tactic(auto, using(base::proofs::Ranges::any_more))]
 fn mark_elements(marks: &mut [bool], p: &Problem, plan: &Plan)
     requires plan { IsPlanOf p.now.given plan.now }
     requires room { length marks.old ≡ p.now.given.horizon + 1 }
@@ -57,7 +57,7 @@ fn marks(alloc: Global, p: &Problem, plan: &Plan) -> Result<Vec<bool>, Memory>
 }
 
 /// The event instants, ascending and without repeats.
-#[tactic(auto, using(sums::proofs::Ranges::passes_more, sums::proofs::Ranges::fails_more), unfolding(crate::specs::Events::events))]
+#[tactic(auto, using(base::proofs::Ranges::passes_more, base::proofs::Ranges::fails_more), unfolding(crate::specs::Events::events))]
 pub(crate) fn events(alloc: Global, p: &Problem, plan: &Plan) -> Result<Vec<Instant>, Memory>
     requires { IsPlanOf p.now.given plan.now }
     ensures events { IfOk result (λ instants. instants.items ≡ events p.now.given (choices_of plan.now)) }

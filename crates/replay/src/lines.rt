@@ -6,11 +6,11 @@ ghost use Rattle.slices.specs.Plans.{IsPlanOf, choices_of};
 ghost use Rattle.slices.specs.Rules.{InRange};
 ghost use Rattle.replay.specs.Lines.{at_line, broken_line, loads_text, node_text, nodes_text, resource_name, rule_text, verdict_line};
 
+use base::memory::Memory;
 use catalogue::problem::Problem;
 use cluster::choices::Instant;
 use cluster::ids::{Element, NodeId};
 use judge::{Broken, Loads, Rule, loads_at};
-use memory::Memory;
 use slices::plan::{Plan, cost};
 use std::alloc::Global;
 
@@ -24,7 +24,7 @@ fn resource_name(p: &Problem, r: u8) -> &str
 // ---- an instant
 
 /// Adds the loads of a node, one for each resource in order.
-#[tactic(auto, using(sums::proofs::Ranges::text_more))]
+#[tactic(auto, using(base::proofs::Ranges::text_more))]
 fn push_loads(line: &mut String, p: &Problem, table: &Loads, n: NodeId) -> Result<(), Memory>
     requires { n.0 < node_count p.now.given }
     ensures { OnOk result (string_bytes line.new ≡ string_bytes line.old ++ loads_text p.now.given (cell table.now) n.0) }
@@ -48,7 +48,7 @@ fn push_node(line: &mut String, p: &Problem, table: &Loads, n: NodeId) -> Result
 }
 
 /// Adds each node in order.
-#[tactic(auto, using(sums::proofs::Ranges::text_more))]
+#[tactic(auto, using(base::proofs::Ranges::text_more))]
 fn push_nodes(line: &mut String, p: &Problem, table: &Loads) -> Result<(), Memory>
     ensures { OnOk result (string_bytes line.new ≡ string_bytes line.old ++ nodes_text p.now.given (cell table.now)) }
 {

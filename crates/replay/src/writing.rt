@@ -47,7 +47,7 @@ fn write_instants<O: Sink>(
 ///
 /// After a refusal the sink has got a prefix of the report. `Failed` comes only where the sink's
 /// count of faults rose.
-#[tactic(auto, using(sums::proofs::Prefixes::longer, sums::proofs::Prefixes::longer_text, sums::proofs::Prefixes::further), unfolding(crate::specs::Report::report_text))]
+#[tactic(auto, using(base::proofs::Prefixes::longer, base::proofs::Prefixes::longer_text, base::proofs::Prefixes::further), unfolding(crate::specs::Report::report_text))]
 pub fn report<O: Sink>(
     alloc: Global,
     p: &Problem,

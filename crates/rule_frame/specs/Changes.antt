@@ -4,7 +4,7 @@ use Rattle.cluster.specs.declared.choices.Choice.{Choice}
 use Rattle.cluster.specs.declared.ids.Element.{Element}
 use Rattle.cluster.specs.declared.ids.Element.TheVariants.{Vm, Node as TheNode}
 use Rattle.catalogue.specs.Instance.{Instance}
-use Rattle.sums.specs.Least.{least}
+use Rattle.base.specs.Least.{least}
 use Rattle.slices.specs.declared.slice.Weight.{Weight}
 use Rattle.slices.specs.declared.stage.Progress.{Progress}
 use Rattle.slices.specs.Snapshots.{held_at, present_at, usable_at, powered_at, action_at}

@@ -12,6 +12,7 @@ ghost use Rattle.rule_frame.specs.Indexes.{AreLooking, AreMarked, IsAdded, IsInd
 
 use crate::keeper::Keeper;
 use crate::marks::Marks;
+use base::memory::Memory;
 use catalogue::constraint::Constraint;
 use catalogue::lists::Vms;
 use catalogue::problem::Problem;
@@ -21,7 +22,6 @@ use domains::domain::Domain;
 use domains::parts::Change;
 use domains::region::Region;
 use domains::undo::Before;
-use memory::Memory;
 use near::number_lists::NumberLists;
 use std::alloc::Global;
 use std::default::MadeWith;

@@ -4,12 +4,12 @@ ghost use Rattle.domains.specs.Sets.{sets};
 ghost use Rattle.prop_core.specs.Propagators.{IsNarrowed, IsRegionOf, most, sets_before};
 ghost use Rattle.rule_frame.specs.Caches.{Cache, IsCacheBack, IsCacheFor, IsCacheMarked, IsCachePosted, IsCacheSame, IsCacheTold};
 
+use base::memory::Memory;
 use catalogue::problem::Problem;
 use domains::domain::Domain;
 use domains::parts::Change;
 use domains::region::Region;
 use domains::undo::Before;
-use memory::Memory;
 
 /// Keeps what a rule's looks need of the region, in levels from 0 on.
 pub trait Keeper: Drop {

@@ -2,12 +2,12 @@
 ghost use Rattle.std.specs.Prelude.{◌≡◌};
 
 use crate::keeper::Keeper;
+use base::memory::Memory;
 use catalogue::problem::Problem;
 use domains::domain::Domain;
 use domains::parts::Change;
 use domains::region::Region;
 use domains::undo::Before;
-use memory::Memory;
 
 /// Keeps nothing but the number of its levels. It takes no memory.
 #[derive(Clone, Copy, Default)]

@@ -16,6 +16,7 @@ ghost use Rattle.rule_frame.specs.Changes.{AreClean, IsDisturbed, IsKept};
 use crate::keeper::Keeper;
 use crate::marks::Marks;
 use crate::suggestion::Suggestion;
+use base::memory::Memory;
 use catalogue::problem::Problem;
 use closing::look::Look;
 use cluster::choices::{Choice, Instant};
@@ -25,7 +26,6 @@ use domains::parts::{Change, Part};
 use domains::region::Region;
 use domains::undo::Before;
 use domains::view::View;
-use memory::Memory;
 use reasons::reason::{Reason, ReasonKind};
 
 /// What asking the watches finds.

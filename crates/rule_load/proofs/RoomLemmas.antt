@@ -3,8 +3,8 @@ use Rattle.std.proofs.Common.{◌≡◌, ℕ, suc, ◌+◌, ◌<◌, ◌≤◌, 
 use Rattle.std.specs.List.{Contains}
 use Rattle.std.proofs.lemmas.Bool.{false≢true, lt-ltb}
 use Rattle.std.proofs.lemmas.Bool.Decides.{Decides-eqb, nat_tests}
-use Rattle.sums.specs.Sums.{sum_to}
-use Rattle.sums.proofs.Sums.{sum_to-le, sum_to-term}
+use Rattle.base.specs.Sums.{sum_to}
+use Rattle.base.proofs.Sums.{sum_to-le, sum_to-term}
 use Rattle.cluster.specs.declared.choices.Choice.{Choice}
 use Rattle.cluster.specs.declared.choices.Choice.TheVariants.{Idle, Act}
 use Rattle.cluster.specs.Inventory.{is_online}

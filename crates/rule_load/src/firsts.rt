@@ -9,6 +9,7 @@ ghost use Rattle.relax.specs.Areas.{IsSized};
 ghost use Rattle.rule_load.specs.Firsts.{AreFirstAt, AreFirsts, IsNoLater, slot_of as the_slot_of};
 
 use crate::measures::Start;
+use base::memory::Memory;
 use catalogue::problem::Problem;
 use cluster::choices::{Instant, Place};
 use cluster::ids::{Element, NodeId, VmId};
@@ -17,7 +18,6 @@ use domains::measure::lowest;
 use domains::parts::{Change, Part};
 use domains::region::Region;
 use levels::levelled::Levelled;
-use memory::Memory;
 use std::alloc::Global;
 use std::marker::Model;
 

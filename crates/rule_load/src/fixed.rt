@@ -11,10 +11,10 @@ ghost use Rattle.standing.specs.Standings.{base as the_base};
 ghost use Rattle.rule_load.specs.Fixed.{AreHosts, AreMostUses, AreOrders, AreTotalBases, AreUses, HostIs, IsFixed, IsMostUse, IsOrder, IsTotalBase, lists_of};
 
 use crate::nodes::resource_total;
+use base::memory::Memory;
 use catalogue::problem::Problem;
 use cluster::ids::{Element, NodeId, VmId};
 use cluster::states::State;
-use memory::Memory;
 use slices::slice::Weight;
 use standing::uses::base;
 use std::alloc::Global;

@@ -1,7 +1,7 @@
 //! The watches on which a change weighs.
 ghost use Rattle.std.specs.Prelude.{◌≡◌, ◌≢◌, ◌⊎◌, ℕ, ◌+◌, ◌<◌, [], true, false, IsTrue, length};
 ghost use Rattle.std.specs.List.{Contains};
-ghost use Rattle.sums.specs.Least.{least};
+ghost use Rattle.base.specs.Least.{least};
 ghost use Rattle.cluster.specs.declared.choices.Choice.{Choice as AnyChoice};
 ghost use Rattle.catalogue.specs.Instance.{IsElement};
 ghost use Rattle.slices.specs.Elements.{node_count, state_of, vm};

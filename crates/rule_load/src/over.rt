@@ -5,7 +5,7 @@ ghost use Rattle.cluster.specs.Limits.{max_machines};
 ghost use Rattle.cluster.specs.declared.choices.Choice.{Choice as AnyChoice};
 ghost use Rattle.cluster.specs.declared.choices.Place.TheVariants.{At};
 ghost use Rattle.cluster.specs.declared.ids.NodeId.{NodeId as AnyNode};
-ghost use Rattle.sums.specs.Least.{least};
+ghost use Rattle.base.specs.Least.{least};
 ghost use Rattle.catalogue.specs.Instance.{IsElement};
 ghost use Rattle.slices.specs.Elements.{node_count, vm};
 ghost use Rattle.slices.specs.Limits.{max_held};

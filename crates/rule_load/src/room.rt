@@ -2,7 +2,7 @@
 ghost use Rattle.std.specs.Prelude.{◌≡◌, ℕ, ◌*◌, ◌<◌, ◌≤◌, length, IsTrue, true, if◌then◌else◌};
 ghost use Rattle.cluster.specs.Limits.{max_nodes};
 ghost use Rattle.cluster.specs.Inventory.{is_online as the_is_online};
-ghost use Rattle.sums.specs.Sums.{sum_to};
+ghost use Rattle.base.specs.Sums.{sum_to};
 ghost use Rattle.catalogue.specs.Limits.{max_capacity};
 ghost use Rattle.catalogue.specs.Values.{capacity_of};
 ghost use Rattle.slices.specs.Elements.{node, node_count};

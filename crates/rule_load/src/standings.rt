@@ -14,13 +14,13 @@ ghost use Rattle.rule_load.specs.Kept.{AreKeptAt, Grows, IsListedBy, IsListedFor
 use crate::firsts::Firsts;
 use crate::fixed::Fixed;
 use crate::kept::Kept;
+use base::memory::Memory;
 use catalogue::problem::Problem;
 use cluster::ids::{Element, NodeId, VmId};
 use domains::domain::Domain;
 use domains::parts::Change;
 use domains::region::Region;
 use domains::undo::Before;
-use memory::Memory;
 use movers::movers::Movers;
 use near::near::Near;
 use rule_frame::keeper::Keeper;

@@ -2,7 +2,7 @@
 ghost use Rattle.std.specs.Prelude.{◌≡◌, ◌+◌, ◌-◌, ◌*◌, ◌<◌, ◌≤◌, length, slice_index_or, IsTrue};
 ghost use Rattle.std.specs.List.{sum_by};
 ghost use Rattle.cluster.specs.Limits.{max_amount, max_machines, max_nodes};
-ghost use Rattle.sums.specs.Sums.{sum_to};
+ghost use Rattle.base.specs.Sums.{sum_to};
 ghost use Rattle.catalogue.specs.Instance.{IsElement};
 ghost use Rattle.catalogue.specs.Limits.{max_capacity};
 ghost use Rattle.slices.specs.Elements.{machine_count, vm};

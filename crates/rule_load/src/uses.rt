@@ -1,7 +1,7 @@
 //! What machines use of a node at the most during a period.
 ghost use Rattle.std.specs.Prelude.{◌≡◌, ◌≢◌, ℕ, None, false, IfSome, ◌+◌, ◌*◌, ◌<◌, ◌≤◌, length, slice_index_or, IsTrue, if◌then◌else◌};
 ghost use Rattle.cluster.specs.Limits.{max_amount, max_machines};
-ghost use Rattle.sums.specs.Sums.{sum_to};
+ghost use Rattle.base.specs.Sums.{sum_to};
 ghost use Rattle.catalogue.specs.Instance.{IsElement};
 ghost use Rattle.catalogue.specs.Limits.{max_capacity};
 ghost use Rattle.slices.specs.Elements.{machine_count, state_of, vm};

@@ -1,7 +1,7 @@
 -- What is written at a closed region.
 use Rattle.std.proofs.Common.{◌≡◌, ℕ, ◌+◌, ◌<◌, ◌≤◌, Bool, List, [], ◌∷◌, ◌++◌, refl, sym, ap, subst, ◌∙◌, arith, Option, Some, None, IsTrue}
 use Rattle.std.specs.Prelude.{IfSome}
-use Rattle.sums.specs.Least.{lower}
+use Rattle.base.specs.Least.{lower}
 use Rattle.cluster.specs.declared.ids.Element.{Element}
 use Rattle.catalogue.specs.Instance.{Instance, IsInstance}
 use Rattle.slices.specs.Plans.{IsPlanOf, PlanChoices, choices_of}

@@ -4,7 +4,7 @@ use Rattle.std.specs.Prelude.{IfSome}
 use Rattle.std.specs.Option.{IsSomeAnd}
 use Rattle.cluster.specs.declared.ids.Element.{Element}
 use Rattle.catalogue.specs.Instance.{Instance, IsInstance}
-use Rattle.sums.specs.Least.{lowest}
+use Rattle.base.specs.Least.{lowest}
 use Rattle.domains.specs.declared.parts.Part.{Part}
 use Rattle.domains.specs.Sets.{Sets}
 use Rattle.reasons.specs.declared.reason.Reason.{Reason}

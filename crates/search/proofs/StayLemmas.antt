@@ -4,9 +4,9 @@ use Rattle.std.proofs.Common.{◌≡◌, ℕ, ◌+◌, ◌-◌, Bool, List, [], 
 use Rattle.std.specs.Prelude.{replicate}
 use Rattle.std.proofs.lemmas.List.Elements.{All-cons, All-nil}
 use Rattle.std.proofs.lemmas.List.{drop-replicate, length-replicate, take-replicate}
-use Rattle.sums.specs.Sums.{sum_to}
-use Rattle.sums.proofs.Lists.{copies_at}
-use Rattle.sums.proofs.Sums.{sum_to-none}
+use Rattle.base.specs.Sums.{sum_to}
+use Rattle.base.proofs.Lists.{copies_at}
+use Rattle.base.proofs.Sums.{sum_to-none}
 use Rattle.cluster.specs.Elements.{element_count}
 use Rattle.cluster.specs.declared.choices.Choice.{Choice}
 use Rattle.cluster.specs.declared.choices.Choice.TheVariants.{Idle}

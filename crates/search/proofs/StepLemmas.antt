@@ -2,7 +2,7 @@
 use Rattle.std.proofs.Common.{◌≡◌, ℕ, ◌+◌, ◌<◌, ◌≤◌, Bool, true, false, ◌||◌, List, [], ◌∷◌, ◌++◌, refl, sym, ap, subst, ◌∙◌, append-nil, arith, Option, Some, None}
 use Rattle.std.specs.Prelude.{IfSome}
 use Rattle.std.proofs.lemmas.List.Elements.{All-push}
-use Rattle.sums.specs.Least.{lower, lowest}
+use Rattle.base.specs.Least.{lower, lowest}
 use Rattle.catalogue.specs.Instance.{Instance}
 use Rattle.slices.specs.Plans.{choices_of}
 use Rattle.cluster.specs.declared.ids.Element.{Element}

@@ -1,7 +1,7 @@
 -- A search that is under way: the steps so far, what is open, and what is kept beside them.
 use Rattle.std.specs.Prelude.{◌≡◌, ℕ, ◌≤◌, true, List, [], ◌∷◌, Option, Some, None, IfSome, All}
 use Rattle.catalogue.specs.Instance.{Instance}
-use Rattle.sums.specs.Least.{lower, lowest}
+use Rattle.base.specs.Least.{lower, lowest}
 use Rattle.slices.specs.Costs.{cost_of}
 use Rattle.slices.specs.Plans.{IsPlanOf, PlanChoices, choices_of}
 use Rattle.domains.specs.Sets.{Sets}

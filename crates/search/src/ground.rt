@@ -8,13 +8,13 @@ ghost use Rattle.domains.specs.Undo.{domain_before};
 ghost use Rattle.prop_core.specs.Propagators.{IsRegionOf, most};
 ghost use Rattle.search.specs.Works.{IsGround};
 
+use base::memory::Memory;
 use bound::lower_bound::LowerBound;
 use catalogue::problem::Problem;
 use domains::domain::Domain;
 use domains::parts::Change;
 use domains::region::Region;
 use domains::undo::Before;
-use memory::Memory;
 use std::alloc::Global;
 use trail::trail::Trail;
 

@@ -2,7 +2,7 @@
 ghost use Rattle.std.specs.Prelude.{◌≡◌, ℕ, ◌+◌, ◌<◌, ◌^◌, IfOk, OnOk, IsTrue, Some};
 ghost use Rattle.plan_io.specs.Causes.{CountsWrites};
 ghost use Rattle.plan_io.specs.Files.{bytes_of};
-ghost use Rattle.sums.specs.Least.{lower as the_lower};
+ghost use Rattle.base.specs.Least.{lower as the_lower};
 ghost use Rattle.domains.specs.Sets.{IsFixed, sets};
 ghost use Rattle.prop_core.specs.Levels.{AllFollow};
 ghost use Rattle.prop_core.specs.Lists.{Pairs};

@@ -8,11 +8,11 @@ ghost use Rattle.search.specs.Staying.{IsStayed, IsStayingPlan, MayStay};
 ghost use Rattle.search.specs.Written.{IsKept, LeavesText};
 
 use crate::found::Found;
+use base::memory::Memory;
 use catalogue::problem::Problem;
 use cert_write::CertWriter;
 use cluster::choices::Choice;
 use judge::judge;
-use memory::Memory;
 use plan_io::{Desk, OutFault};
 use reasons::reason::Reason;
 use slices::plan::{Plan, is_plan};

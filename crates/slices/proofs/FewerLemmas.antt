@@ -1,7 +1,7 @@
 -- A constraint still holds where there is less of what it speaks of.
 use Rattle.std.proofs.Common.{inl, inr, List, cond, arith}
-use Rattle.sums.proofs.Sums.{sum_to-le}
-use Rattle.sums.proofs.Tests.{cond-implied, cond-le, fails_below}
+use Rattle.base.proofs.Sums.{sum_to-le}
+use Rattle.base.proofs.Tests.{cond-implied, cond-le, fails_below}
 use Rattle.cluster.specs.declared.ids.VmId.{VmId}
 use Rattle.cluster.specs.Sets.{has_node}
 use Rattle.catalogue.specs.Instance.{Instance}

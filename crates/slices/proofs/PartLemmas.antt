@@ -1,8 +1,8 @@
 -- A part of a snapshot keeps what the snapshot keeps, and earlier stages make a part.
 use Rattle.std.proofs.Common.{ℕ, ◌≤◌, Bool, true, false, not, ◌&&◌, ◌||◌, ◌==◌, Option, Some, None, IsTrue, slice_get, refl, arith}
 use Rattle.std.proofs.lemmas.Bool.{false≢true}
-use Rattle.sums.proofs.Sums.{sum_to-le}
-use Rattle.sums.proofs.Tests.{cond-implied, positive_above}
+use Rattle.base.proofs.Sums.{sum_to-le}
+use Rattle.base.proofs.Tests.{cond-implied, positive_above}
 use Rattle.cluster.specs.declared.choices.Choice.{Choice}
 use Rattle.cluster.specs.declared.choices.Choice.TheVariants.{Idle, Act}
 use Rattle.cluster.specs.Inventory.{is_online}

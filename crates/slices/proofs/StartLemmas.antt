@@ -4,8 +4,8 @@ use Rattle.std.proofs.lemmas.Bool.{le-leb, leb-true, cases_lt, or_left, or_right
 use Rattle.std.proofs.lemmas.Bool.Decides.{nat_tests}
 use Rattle.std.proofs.lemmas.List.{get_or_past}
 use Rattle.std.proofs.lemmas.List.Folds.{list_any-append}
-use Rattle.sums.proofs.Sums.{sum_to-le}
-use Rattle.sums.proofs.Tests.{positive_above}
+use Rattle.base.proofs.Sums.{sum_to-le}
+use Rattle.base.proofs.Tests.{positive_above}
 use Rattle.cluster.specs.declared.choices.Choice.{Choice}
 use Rattle.cluster.specs.declared.choices.Choice.TheVariants.{Idle, Act}
 use Rattle.cluster.specs.declared.ids.Element.{Element}

@@ -2,7 +2,7 @@
 use Rattle.std.specs.Prelude.{◌≡◌, ℕ, ◌<◌, ◌≤◌, false, if◌then◌else◌, IsTrue}
 use Rattle.cluster.specs.declared.choices.Choice.{Choice}
 use Rattle.catalogue.specs.Instance.{Instance, IsInstance}
-use Rattle.sums.specs.Sums.{sum_to}
+use Rattle.base.specs.Sums.{sum_to}
 use Rattle.slices.specs.declared.slice.Weight.{Weight}
 use Rattle.slices.specs.declared.slice.Weight.TheVariants.{Amount, Presence, Image}
 use Rattle.slices.specs.Elements.{node_count}

@@ -5,7 +5,7 @@ use Rattle.cluster.specs.declared.ids.Element.{Element}
 use Rattle.cluster.specs.Inventory.{is_online}
 use Rattle.catalogue.specs.Instance.{Instance}
 use Rattle.catalogue.specs.Values.{capacity_of}
-use Rattle.sums.specs.Sums.{sum_to}
+use Rattle.base.specs.Sums.{sum_to}
 use Rattle.slices.specs.declared.stage.Progress.{Progress}
 use Rattle.slices.specs.declared.stage.Stage.{Stage}
 use Rattle.slices.specs.declared.slice.Weight.{Weight}

@@ -56,7 +56,7 @@ fn differs(p: &Problem, v: VmId, r: u8) -> bool
 }
 
 /// Whether the demand of a machine differs from its present use in some resource.
-#[tactic(auto, using(sums::proofs::Ranges::any_rules))]
+#[tactic(auto, using(base::proofs::Ranges::any_rules))]
 fn is_raised(p: &Problem, v: VmId) -> bool
     requires { IsElement p.now.given (Element.Vm v) }
     ensures { result ≡ is_raised p.now.given v.0 }

@@ -8,7 +8,7 @@ use Rattle.cluster.specs.declared.kinds.Kind.TheVariants.{Forge, Boot, Shutdown,
 use Rattle.cluster.specs.declared.states.State.{State}
 use Rattle.cluster.specs.declared.states.State.TheVariants.{Init, Ready, Running, Sleeping, Gone}
 use Rattle.catalogue.specs.Instance.{Instance}
-use Rattle.sums.specs.Least.{least}
+use Rattle.base.specs.Least.{least}
 use Rattle.slices.specs.declared.slice.Weight.{Weight}
 use Rattle.slices.specs.declared.slice.What.{What}
 use Rattle.slices.specs.declared.slice.What.TheVariants.{Use, Demand, Raise, Image}

@@ -2,7 +2,7 @@
 ghost use Rattle.std.specs.Prelude.{◌≡◌, ◌≤◌, ℕ, IfSome, IsTrue, max};
 ghost use Rattle.std.specs.List.{Contains};
 ghost use Rattle.cluster.specs.declared.choices.Choice.{Choice as AnyChoice};
-ghost use Rattle.sums.specs.Least.{least};
+ghost use Rattle.base.specs.Least.{least};
 ghost use Rattle.catalogue.specs.Instance.{IsElement};
 ghost use Rattle.slices.specs.Elements.{vm};
 ghost use Rattle.domains.specs.Choices.{choices};

@@ -9,6 +9,7 @@ ghost use Rattle.relax.specs.Areas.{IsSized};
 ghost use Rattle.standing.specs.Tables.{AreStanding, no_standing, sets_before};
 
 use crate::numbers::{Standing, is_same, standing_after, standing_of};
+use base::memory::Memory;
 use catalogue::problem::Problem;
 use cluster::ids::{Element, VmId};
 use domains::domain::Domain;
@@ -16,7 +17,6 @@ use domains::parts::Change;
 use domains::region::Region;
 use domains::undo::Before;
 use levels::levelled::Levelled;
-use memory::Memory;
 use std::alloc::Global;
 use std::marker::Model;
 

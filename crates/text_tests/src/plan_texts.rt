@@ -1,5 +1,6 @@
 //! Texts of plans for one small problem, with the line that each gives.
 
+use base::memory::Memory;
 use catalogue::constraint::Constraint;
 use catalogue::lists::Vms;
 use catalogue::problem::Problem;
@@ -10,7 +11,6 @@ use cluster::machines::Machine;
 use cluster::names::Name;
 use cluster::nodes::Node;
 use cluster::states::State;
-use memory::Memory;
 use plan_json::{print_plan, read_plan};
 use std::alloc::Global;
 use std::test::Fail;

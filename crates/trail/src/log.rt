@@ -6,12 +6,12 @@ ghost use Rattle.domains.specs.Sets.{HasElement, domain_at, sets, keeping};
 ghost use Rattle.domains.specs.Undo.{restored};
 ghost use Rattle.trail.specs.Logs.{undone, CanUndo, HasKept};
 
+use base::memory::Memory;
 use cluster::ids::Element;
 use domains::domain::Domain;
 use domains::parts::Part;
 use domains::region::Region;
 use domains::undo::Lost;
-use memory::Memory;
 
 /// One entry of the log.
 #[derive(Drop)]

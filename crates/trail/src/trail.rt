@@ -7,12 +7,12 @@ ghost use Rattle.domains.specs.Undo.{domain_before, restored};
 ghost use Rattle.trail.specs.Logs.{Marked};
 
 use crate::log::{Entry, cut, keep, undo};
+use base::memory::Memory;
 use cluster::ids::Element;
 use domains::domain::Domain;
 use domains::parts::{Change, Part, Side};
 use domains::region::Region;
 use domains::undo::{Before, Lost};
-use memory::Memory;
 use std::alloc::Global;
 use std::marker::Model;
 

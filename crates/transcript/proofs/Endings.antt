@@ -1,7 +1,7 @@
 -- Every text has a transcript, of which all that was written before a fault is a beginning.
 use Rattle.std.proofs.Common.{◌≡◌, inl, inr, ℕ, zero, suc, ◌+◌, ◌<◌, ◌≤◌, List, ◌++◌, Option, Some, None, refl, sym, subst, arith}
 use Rattle.std.specs.Io.{StartsWith}
-use Rattle.sums.proofs.Prefixes.{further, longer, whole as all_of_it}
+use Rattle.base.proofs.Prefixes.{further, longer, whole as all_of_it}
 use Rattle.cluster.specs.declared.ids.Element.{Element}
 use Rattle.cluster.specs.Inventory.{element_named}
 use Rattle.cluster.proofs.Public.{listed-element_named}

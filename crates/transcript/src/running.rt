@@ -32,7 +32,7 @@ fn put_start(line: &mut Vec<u8>, p: &Problem, e: Element) -> Result<(), AllocErr
 }
 
 /// Writes the first action that may start, and starts it; whether there is one.
-#[tactic(auto, using(crate::proofs::Steps::starts, sums::proofs::Prefixes::whole))]
+#[tactic(auto, using(crate::proofs::Steps::starts, base::proofs::Prefixes::whole))]
 fn start_next<O: Sink>(
     p: &Problem,
     m: &mut Monitor<'_>,
@@ -107,7 +107,7 @@ fn take_event<I: Source>(
 
 /// Runs a plan from where its monitor stands: starts all that may start, and then takes an event line,
 /// until all actions have ended.
-#[tactic(auto, using(crate::proofs::Steps::stops_in_start, sums::proofs::Prefixes::further))]
+#[tactic(auto, using(crate::proofs::Steps::stops_in_start, base::proofs::Prefixes::further))]
 fn follow<I: Source, O: Sink>(
     alloc: Global,
     p: &Problem,

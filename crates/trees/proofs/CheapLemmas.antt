@@ -2,7 +2,7 @@
 use mathlib.Core.Path.{fun_ext}
 use Rattle.std.proofs.Common.{◌≡◌, ◌⊎◌, inl, inr, ℕ, ◌<◌, ◌≤◌, ◌↔◌, min, List, [], ◌∷◌, ◌++◌, refl, ap, ◌∙◌, arith, Option, Some, None}
 use Rattle.std.specs.Option.{IsSomeAnd}
-use Rattle.sums.specs.Least.{lower, lowest}
+use Rattle.base.specs.Least.{lower, lowest}
 use Rattle.cluster.specs.declared.ids.Element.{Element}
 use Rattle.domains.specs.Sets.{Sets}
 use Rattle.trees.specs.Finding.{AllFrom, IsLow}

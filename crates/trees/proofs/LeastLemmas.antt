@@ -2,8 +2,8 @@
 use Rattle.std.proofs.Common.{◌≡◌, ◌⊎◌, inl, inr, ℕ, ◌≤◌, min, List, [], ◌∷◌, ◌++◌, refl, sym, ◌∙◌, arith, Option, Some, None, is_some, Bool, true, false, ◌||◌}
 use Rattle.std.specs.Option.{IsSomeAnd}
 use Rattle.std.proofs.lemmas.Bool.{false≢true}
-use Rattle.sums.specs.Least.{lower, lowest}
-use Rattle.sums.proofs.Least.{lower-le}
+use Rattle.base.specs.Least.{lower, lowest}
+use Rattle.base.proofs.Least.{lower-le}
 use Rattle.catalogue.specs.Instance.{Instance, IsInstance}
 use Rattle.slices.specs.Costs.{cost_of}
 use Rattle.slices.specs.Plans.{Choices}

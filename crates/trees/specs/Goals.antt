@@ -1,7 +1,7 @@
 -- The goal that a tree shows, and the cost that no valid plan undercuts where sets are left.
 use Rattle.std.specs.Prelude.{ℕ, ◌+◌, Bool, true, false, List, [], ◌∷◌, Option, Some, None}
 use Rattle.catalogue.specs.Instance.{Instance}
-use Rattle.sums.specs.Least.{lower, lowest}
+use Rattle.base.specs.Least.{lower, lowest}
 use Rattle.domains.specs.Sets.{Sets}
 use Rattle.reasons.specs.Sure.{least_cost}
 use Rattle.trees.specs.declared.steps.Step.{Step}

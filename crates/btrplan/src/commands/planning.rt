@@ -22,10 +22,10 @@ ghost use Rattle.btrplan.specs.Endings.{Ends, IsOfWriting, outcome_status};
 
 use crate::fault::{Ending, Fault, Outcome};
 use crate::inputs::instance::problem_at;
+use base::memory::Memory;
 use branching::brancher::Brancher;
 use catalogue::problem::Problem;
 use cert_write::CertWriter;
-use memory::Memory;
 use plan_io::{Desk, OutFault, write_whole};
 use plan_json::print_plan;
 use prop_core::propagator::Propagator;

@@ -8,9 +8,9 @@ ghost use Rattle.btrplan.specs.Endings.{Reads, IsRefusal, IsOfReading};
 
 use crate::fault::Fault;
 use crate::inputs::{bytes_at, refusal};
+use base::memory::Memory;
 use catalogue::problem::Problem;
 use instance_json::{InstanceFault, read_instance};
-use memory::Memory;
 use plan_io::Desk;
 use std::alloc::Global;
 

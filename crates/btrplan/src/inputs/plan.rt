@@ -12,8 +12,8 @@ ghost use Rattle.btrplan.specs.Endings.{Reads, IsRefusal, IsOfReading};
 
 use crate::fault::Fault;
 use crate::inputs::{bytes_at, refusal};
+use base::memory::Memory;
 use catalogue::problem::Problem;
-use memory::Memory;
 use plan_io::Desk;
 use plan_json::{PlanFault, read_plan};
 use slices::plan::Plan;

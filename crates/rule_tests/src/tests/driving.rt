@@ -7,10 +7,10 @@ ghost use Rattle.prop_core.specs.Lists.{AllRight};
 
 use crate::tests::plain::is_there;
 use crate::tests::shown::left_text;
+use base::memory::Memory;
 use catalogue::problem::Problem;
 use domains::domain::Domain;
 use domains::parts::{Change, Side};
-use memory::Memory;
 use prop_core::all::{back_all, mark_all, post_all, tell_all};
 use prop_core::asking::ask_all;
 use prop_core::propagator::{Answer, Propagator};

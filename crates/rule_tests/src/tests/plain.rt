@@ -5,12 +5,12 @@ ghost use Rattle.relax.specs.Areas.{IsSized};
 
 use crate::tests::shown::left_text;
 use crate::tests::standard::standard_reasons;
+use base::memory::Memory;
 use catalogue::problem::Problem;
 use cluster::ids::Element;
 use domains::domain::Domain;
 use domains::parts::{Change, Part};
 use domains::region::Region;
-use memory::Memory;
 use reasons::reason::Reason;
 use relax::refutes::refutes_inside;
 use relax::start::start_region;

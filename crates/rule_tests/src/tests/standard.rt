@@ -1,10 +1,10 @@
 //! The standard reasons of a problem, each of them: at each instant, of each node, machine and constraint.
 
+use base::memory::Memory;
 use catalogue::problem::Problem;
 use cluster::choices::Instant;
 use cluster::ids::{NodeId, VmId};
 use cluster::sets::NodeSet;
-use memory::Memory;
 use reasons::reason::Reason;
 use std::alloc::Global;
 

@@ -5,6 +5,7 @@ ghost use Rattle.domains.specs.Sets.{sets};
 ghost use Rattle.prop_core.specs.Propagators.{CutHolds, IsRegionOf, IsRight, MayAnswer, counted};
 ghost use Rattle.prop_core.specs.Tests.{keeps_nothing};
 
+use base::memory::Memory;
 use catalogue::problem::Problem;
 use closing::closed::closed;
 use cluster::ids::{Element, NodeId, VmId};
@@ -13,7 +14,6 @@ use domains::domain::Domain;
 use domains::parts::{Change, Part, Side};
 use domains::region::Region;
 use domains::undo::Before;
-use memory::Memory;
 use prop_core::propagator::{Answer, Propagator};
 use reasons::reason::{Reason, ReasonKind};
 use relax::refutes::refutes_inside;

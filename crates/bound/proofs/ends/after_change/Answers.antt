@@ -1,5 +1,5 @@
 use Rattle.std.proofs.Common.{ap}
-use Rattle.sums.specs.Least.{least}
+use Rattle.base.specs.Least.{least}
 use Rattle.slices.specs.Actions.{end_of}
 use Rattle.domains.specs.Choices.{choices}
 use Rattle.bound.proofs.EndLemmas.{all_stay, before_loss}

@@ -1,5 +1,5 @@
 use Rattle.std.proofs.Common.{ap, ◌∙◌, unwrap_or}
-use Rattle.sums.specs.Least.{lowest}
+use Rattle.base.specs.Least.{lowest}
 use Rattle.slices.specs.Actions.{end_of}
 use Rattle.domains.specs.Choices.{choices}
 use Rattle.bound.proofs.EndLemmas.{all_stay}

@@ -1,6 +1,6 @@
 use Rattle.std.proofs.Common.{◌≡◌, arith, ap, ◌∙◌, unwrap_or}
 use Rattle.std.specs.List.{filter}
-use Rattle.sums.specs.Least.{least}
+use Rattle.base.specs.Least.{least}
 use Rattle.slices.specs.Actions.{end_of}
 use Rattle.domains.specs.Parts.{in_part}
 use Rattle.domains.specs.Sets.{sets}

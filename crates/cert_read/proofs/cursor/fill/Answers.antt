@@ -1,5 +1,5 @@
 use Rattle.std.proofs.Common.{◌≡◌, length, refl, ap, arith}
-use Rattle.sums.proofs.Prefixes.{whole}
+use Rattle.base.proofs.Prefixes.{whole}
 use Rattle.cert_read.proofs.LineLemmas.{no_newline, nothing_clean, too_long}
 use Rattle.cert_read.proofs.cursor.fill.Goals as goal
 

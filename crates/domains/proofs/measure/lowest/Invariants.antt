@@ -1,5 +1,5 @@
 use Rattle.std.proofs.Common.{◌≡◌, take}
-use Rattle.sums.specs.Least.{lowest as lowest_of}
+use Rattle.base.specs.Least.{lowest as lowest_of}
 use Rattle.domains.specs.Parts.{stays}
 use Rattle.domains.proofs.MeasureLemmas.{passed}
 use Rattle.domains.proofs.measure.lowest.Given as goal

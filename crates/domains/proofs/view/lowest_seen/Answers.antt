@@ -1,5 +1,5 @@
 use Rattle.std.proofs.Common.{ap, sym, ◌∙◌}
-use Rattle.sums.specs.Least.{lowest as lowest_of}
+use Rattle.base.specs.Least.{lowest as lowest_of}
 use Rattle.domains.specs.Choices.{choices}
 use Rattle.domains.specs.Parts.{in_part}
 use Rattle.std.specs.List.{filter}

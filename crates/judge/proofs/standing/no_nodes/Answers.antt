@@ -1,6 +1,6 @@
 use Rattle.std.proofs.Common.{false}
 use Rattle.cluster.specs.Limits.{max_nodes}
-use Rattle.sums.proofs.Lists.{copies_at}
+use Rattle.base.proofs.Lists.{copies_at}
 use Rattle.judge.proofs.standing.no_nodes.Goals as goal
 
 pub returns : goal.returns

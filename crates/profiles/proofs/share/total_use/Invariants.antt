@@ -1,5 +1,5 @@
 use Rattle.std.proofs.Common.{◌≡◌, ◌*◌, ◌≤◌, slice_index_or}
-use Rattle.sums.specs.Sums.{sum_to}
+use Rattle.base.specs.Sums.{sum_to}
 use Rattle.standing.specs.Tables.{no_standing}
 use Rattle.profiles.specs.Profiles.{no_share, share_use}
 use Rattle.profiles.proofs.share.total_use.Given as goal

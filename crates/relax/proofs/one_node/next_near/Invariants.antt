@@ -1,5 +1,5 @@
 use Rattle.std.proofs.Common.{◌≡◌, ℕ, ◌≤◌, ◌<◌}
-use Rattle.sums.specs.Least.{least}
+use Rattle.base.specs.Least.{least}
 use Rattle.slices.specs.declared.slice.Weight.{Weight}
 use Rattle.slices.specs.Elements.{vm}
 use Rattle.slices.specs.Snapshots.{held_at}

@@ -1,6 +1,6 @@
 use Rattle.std.proofs.Common.{◌≡◌, ◌*◌, ◌^◌, ◌≤◌}
-use Rattle.sums.specs.Least.{least}
-use Rattle.sums.specs.Sums.{sum_to}
+use Rattle.base.specs.Least.{least}
+use Rattle.base.specs.Sums.{sum_to}
 use Rattle.slices.specs.Actions.{end_of}
 use Rattle.slices.specs.Elements.{vm}
 use Rattle.domains.specs.Views.{seen}

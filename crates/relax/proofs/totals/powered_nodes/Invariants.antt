@@ -1,5 +1,5 @@
 use Rattle.std.proofs.Common.{◌≡◌, ◌≤◌, cond}
-use Rattle.sums.specs.Sums.{sum_to}
+use Rattle.base.specs.Sums.{sum_to}
 use Rattle.domains.specs.Views.{seen}
 use Rattle.reasons.specs.Sure.{sure}
 use Rattle.relax.specs.Areas.{nodes_of}

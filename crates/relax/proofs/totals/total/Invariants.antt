@@ -1,5 +1,5 @@
 use Rattle.std.proofs.Common.{◌≡◌, ◌*◌, ◌≤◌}
-use Rattle.sums.specs.Sums.{sum_to}
+use Rattle.base.specs.Sums.{sum_to}
 use Rattle.slices.specs.Limits.{max_held}
 use Rattle.domains.specs.Views.{seen}
 use Rattle.reasons.specs.Sure.{sure}

@@ -1,5 +1,5 @@
 use Rattle.std.proofs.Common.{◌≤◌, ◌∙◌, sym, arith, Some, ◌≡◌}
-use Rattle.sums.specs.Least.{lowest}
+use Rattle.base.specs.Least.{lowest}
 use Rattle.slices.specs.Actions.{end_of}
 use Rattle.domains.specs.Sets.{sets}
 use Rattle.relax.proofs.LeastLemmas.{least_end_small}

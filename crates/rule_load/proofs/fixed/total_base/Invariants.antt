@@ -1,6 +1,6 @@
 use Rattle.std.proofs.Common.{◌≡◌, ◌*◌, ◌≤◌}
 use Rattle.cluster.specs.Limits.{max_amount}
-use Rattle.sums.specs.Sums.{sum_to}
+use Rattle.base.specs.Sums.{sum_to}
 use Rattle.slices.specs.declared.slice.Weight.TheVariants.{Amount}
 use Rattle.standing.specs.Standings.{base}
 use Rattle.rule_load.proofs.fixed.total_base.Given as goal

@@ -1,5 +1,5 @@
 use Rattle.std.proofs.Common.{◌≡◌, ◌*◌, ◌≤◌, cond}
-use Rattle.sums.specs.Sums.{sum_to}
+use Rattle.base.specs.Sums.{sum_to}
 use Rattle.catalogue.specs.Limits.{max_capacity}
 use Rattle.catalogue.specs.Values.{capacity_of}
 use Rattle.domains.specs.Sets.{sets}

@@ -1,6 +1,6 @@
 use Rattle.std.proofs.Common.{◌≡◌, ◌+◌, ◌*◌, ◌≤◌}
 use Rattle.catalogue.specs.Limits.{max_horizon}
-use Rattle.sums.specs.Sums.{sum_to}
+use Rattle.base.specs.Sums.{sum_to}
 use Rattle.slices.specs.Actions.{end_of}
 use Rattle.slices.specs.Elements.{machine_count, node, vm}
 use Rattle.slices.specs.Plans.{choices_of}

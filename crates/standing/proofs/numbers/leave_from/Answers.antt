@@ -1,6 +1,6 @@
 use Rattle.std.proofs.Common.{ℕ, max, ap, ◌∙◌}
 use Rattle.cluster.specs.declared.choices.Choice.{Choice}
-use Rattle.sums.specs.Least.{lowest}
+use Rattle.base.specs.Least.{lowest}
 use Rattle.domains.specs.Choices.{choices}
 use Rattle.standing.specs.Standings.{leave_of}
 use Rattle.standing.proofs.BeforeLemmas.{least_from}

@@ -1,5 +1,5 @@
 use Rattle.std.proofs.Common.{◌≡◌, ◌+◌, ◌∙◌, Err, sym, refl, rules, arith}
-use Rattle.sums.proofs.Prefixes.{further}
+use Rattle.base.proofs.Prefixes.{further}
 use Rattle.slices.specs.Plans.{choices_of}
 use Rattle.executor.specs.Phases.{AllEnded}
 use Rattle.executor.specs.Views.{phases_of}
