@@ -79,17 +79,6 @@ module _ (counts : List ℕ) (ds : List DomainView) where
       at block lt (inl here) = rw (← here) (get_or-set_same counts (block_of i) _ 0 (omega (arith, c.blocks, block-lt i)) ∙ count_here i d c l)
       at block lt (inr other) = get_or-set_other counts (block_of i) block _ 0 (λ e. other (sym e)) ∙ c.counts block lt ∙ count_other i d block other
 
-  -- one domain more
-  pub counted_more : (i : ℕ) → AreCounted counts ds i → AreCounted (set counts (block_of i) (slice_index counts (block_of i) + unfixed (get_or ds i staying))) ds (i + 1)
-  counted_more i c = record {
-    blocks = length-set counts (block_of i) _ ∙ c.blocks;
-    counts = λ block lt. rw add-one (at block lt (grind arith));
-  }
-    where
-      at : (block : ℕ) → block < block_count → (block_of i ≡ block) ⊎ (block_of i ≢ block) → slice_index (set counts (block_of i) (slice_index counts (block_of i) + unfixed (get_or ds i staying))) block ≡ sum_to i (unfixed_in ds block) + unfixed_in ds block i
-      at block lt (inl here) = rw (← here) (get_or-set_same counts (block_of i) _ 0 (omega (arith, c.blocks, block-lt i)) ∙ omega (arith, c.counts (block_of i) (block-lt i), in_block ds i (block_of i) refl))
-      at block lt (inr other) = get_or-set_other counts (block_of i) block _ 0 (λ e. other (sym e)) ∙ omega (arith, c.counts block lt, in_other ds i block other)
-
 -- the counts where no domain has been counted
 pub counted_none : (ds : List DomainView) → AreCounted (replicate 64 0) ds 0
 counted_none ds = record { blocks = refl; counts = λ block lt. get_or-replicate 64 block 0 0 lt }

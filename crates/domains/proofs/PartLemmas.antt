@@ -132,17 +132,3 @@ outside_idle false rows = sym (idle_all rows)
 
 pub without_idle : (d : DomainView) → d.idle ≡ false → choices d ≡ filter (out_of_part Idle) (choices d)
 without_idle d none = rw none (outside_idle false d.rows)
-
-pub inside_at : (place : Place) (part : Part) (idle : Bool) (rows : List Row) → IsPartAt place part → filter (in_part part) (flat_map row_choices rows) ≡ filter (in_part part) (cond idle (Stay ∷ []) [] ++ flat_map row_choices rows)
-inside_at place Idle idle rows at = absurd at
-inside_at place (Upto p k) true rows at = refl
-inside_at place (Upto p k) false rows at = refl
-inside_at place (From p k) true rows at = refl
-inside_at place (From p k) false rows at = refl
-
-pub outside_at : (place : Place) (part : Part) (idle : Bool) (rows : List Row) → IsPartAt place part → cond idle (Stay ∷ []) [] ++ filter (out_of_part part) (flat_map row_choices rows) ≡ filter (out_of_part part) (cond idle (Stay ∷ []) [] ++ flat_map row_choices rows)
-outside_at place Idle idle rows at = absurd at
-outside_at place (Upto p k) true rows at = refl
-outside_at place (Upto p k) false rows at = refl
-outside_at place (From p k) true rows at = refl
-outside_at place (From p k) false rows at = refl

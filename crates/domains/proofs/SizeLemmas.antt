@@ -48,14 +48,6 @@ not_one d c more =
     let many : 2 ≤ length (choices d) = omega (arith, length-choices d) in
     grind (arith, nat_tests)
 
--- with Idle and no row there is one, and without both none
-pub idle_one : (d : DomainView) → length d.rows ≡ 0 → d.idle ≡ is_one d
-idle_one d e = rw (no-rows d.rows e) (by d.idle)
-  where
-    by : (b : Bool) → b ≡ (length (cond b (Idle ∷ []) [] ++ []) == 1)
-    by true = refl
-    by false = refl
-
 -- one row without Idle is one choice where its ends are the same
 pub row_one : (d : DomainView) (e : Row) → Climbs 0 d.rows → length d.rows ≡ 1 → d.idle ≡ false → nat_eq (get_or d.rows 0 e).lo (get_or d.rows 0 e).hi ≡ is_one d
 row_one d e c h none =

@@ -1,15 +1,12 @@
 //! A region seen as it is, on one side of a part, or with one element set to one choice; nothing is copied.
 ghost use Rattle.std.specs.Prelude.{◌≡◌, ◌<◌, ◌≤◌, IfSome, filter, length, slice_index_or};
 ghost use Rattle.base.specs.Least.{lowest as lowest_of};
-ghost use Rattle.domains.specs.Choices.{no_row, row_choices};
-ghost use Rattle.domains.specs.Rows.{option_choices, row_of};
 ghost use Rattle.domains.specs.Sets.{RegionView, HasElement, domain_at, same_element, sets};
-ghost use Rattle.domains.specs.Views.{seen, sight_of, sight_at, idle_seen, rows_under, shows};
+ghost use Rattle.domains.specs.Views.{seen, sight_of, sight_at, idle_seen, shows};
 
 use crate::measure::{Measure, lowest};
-use crate::parts::{Part, Row};
+use crate::parts::Part;
 use crate::region::Region;
-use crate::rows::{inside, outside};
 use cluster::choices::Choice;
 use cluster::ids::Element;
 
@@ -68,48 +65,6 @@ pub fn has_idle(view: &View, e: Element) -> bool
         Sight::In(part) => idle && matches!(part, Part::Idle),
         Sight::Out(part) => idle && !matches!(part, Part::Idle),
         Sight::Only(c) => matches!(c, Choice::Idle),
-    }
-}
-
-/// How many rows all else is seen of. The law `seen_by_rows` says that this is all.
-pub fn row_count(view: &View, e: Element) -> usize
-    requires { HasElement view.now.region.now e }
-    ensures { result ≡ length (rows_under (sight_at view.now.lens e) (domain_at view.now.region.now e)) }
-{
-    let count = view.region.domain(e).rows().len();
-    match shown(view.lens, e) {
-        Sight::All | Sight::In(_) | Sight::Out(_) => count,
-        Sight::Only(c) => if matches!(c, Choice::Idle) { 0 } else { 1 },
-    }
-}
-
-/// What is seen of one of these rows: a row, or nothing.
-pub fn row_at(view: &View, e: Element, k: usize) -> Option<Row>
-    requires element { HasElement view.now.region.now e }
-    requires there { k < length (rows_under (sight_at view.now.lens e) (domain_at view.now.region.now e)) }
-    ensures set { option_choices result ≡ filter (shows (sight_at view.now.lens e))
-        (row_choices (slice_index_or (rows_under (sight_at view.now.lens e) (domain_at view.now.region.now e)) k no_row)) }
-    ensures row { IfSome result (λ r. r.lo ≤ r.hi) }
-{
-    let rows = view.region.domain(e).rows();
-    match shown(view.lens, e) {
-        Sight::All => Some(rows[k]),
-        Sight::In(part) => inside(rows[k], part),
-        Sight::Out(part) => outside(rows[k], part),
-        Sight::Only(c) => only_row(c),
-    }
-}
-
-fn only_row(c: Choice) -> Option<Row>
-    ensures { result ≡ row_of c }
-{
-    match c {
-        Choice::Idle => None,
-        Choice::Act { place, start } => Some(Row {
-            place,
-            lo: start,
-            hi: start,
-        }),
     }
 }
 

@@ -83,15 +83,6 @@ legal-more p e n =
     ∙ filter-append (is_legal p e) (flat_map starts (Nowhere ∷ map at (range_with_len 0 n))) (flat_map starts (at n ∷ []))
     ∙ ap (λ cs. legal_upto p e n ++ filter (is_legal p e) cs) (append-nil (starts (at n))))
 
--- nothing but Idle yet, and then the row at no node
-pub first_held : (p : Instance) (e : Element) (d old : DomainView) (o : Option Row) → old.rows ≡ [] → old.idle ≡ is_legal p e Idle → d.idle ≡ old.idle → d.rows ≡ old.rows ++ rows_of o → option_choices o ≡ filter (is_legal p e) (starts_from Nowhere 0 (p.horizon + 1)) → IfSome o (IsRowAt Nowhere) → HoldsUpto p e 0 d
-first_held p e d old None none i same added is at = record { idle = same ∙ i; rows = rw (added, none) (is ∙ ap (filter (is_legal p e)) (sym (append-nil (starts_from Nowhere 0 (p.horizon + 1))))); below = rw (added, none) (All-nil _) }
-first_held p e d old (Some r) none i same added is at = record {
-  idle = same ∙ i;
-  rows = rw (added, none) (one-row (Some r) ∙ is ∙ ap (filter (is_legal p e)) (sym (append-nil (starts_from Nowhere 0 (p.horizon + 1)))));
-  below = rw (added, none) (let here : place_index r.place ≡ 0 = ap place_index at.at in All-push (λ (q : Row). place_index q.place < 0 + 1) [] r (All-nil _) (omega arith));
-}
-
 -- one node more
 pub more_held : (p : Instance) (e : Element) (n : ℕ) (d old : DomainView) (o : Option Row) → HoldsUpto p e n old → d.idle ≡ old.idle → d.rows ≡ old.rows ++ rows_of o → option_choices o ≡ filter (is_legal p e) (starts_from (At (record { 0 = n })) 0 (p.horizon + 1)) → IfSome o (IsRowAt (At (record { 0 = n }))) → HoldsUpto p e (n + 1) d
 more_held p e n d old o held same added is at = record {
@@ -108,11 +99,6 @@ more_held p e n d old o held same added is at = record {
     by (Some r) at =
         let here : place_index r.place ≡ n + 1 = ap place_index at.at in
         All-push (λ r. place_index r.place < (n + 1) + 1) old.rows r wider (omega arith)
-
--- the next node comes after all rows
-pub comes_next : (n : ℕ) (d : DomainView) (o : Option Row) → All (λ r. place_index r.place < n + 1) d.rows → IfSome o (IsRowAt (At (record { 0 = n }))) → IfSome o (λ r. ComesAfter r.place d.rows)
-comes_next n d None below at = tt
-comes_next n d (Some r) below at = rw at.at below
 
 is-element : (p : Instance) (e : Element) → IsElement p e → is_element p e ≡ true
 is-element p (Vm v) h = lt-ltb v.0 (machine_count p) h
