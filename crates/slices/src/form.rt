@@ -128,7 +128,7 @@ fn runs_elsewhere(state: State, n: NodeId) -> bool
     }
 }
 
-/// Whether a node is off limits for a member of those that may be on these places only.
+/// Whether the node is none of the places where a member may be.
 pub fn is_off_limits(p: &Problem, places: &Places, v: VmId, n: NodeId) -> bool
     requires { v.0 < machine_count p.now.given }
     ensures { IsTrue result ↔ IsOffLimits p.now.given (places_seen places.now) v.0 n.0 }
