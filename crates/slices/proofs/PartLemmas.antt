@@ -39,11 +39,11 @@ both-part true b true d f g x = g x
 both-part true b false d f g x = absurd (false≢true (f refl))
 both-part false b c d f g x = absurd (false≢true x)
 
-pub or-part : (a b c d : Bool) → (IsTrue a → IsTrue c) → (IsTrue b → IsTrue d) → IsTrue (a || b) → IsTrue (c || d)
-or-part true b true d f g x = refl
-or-part true b false d f g x = absurd (false≢true (f refl))
-or-part false b true d f g x = refl
-or-part false b false d f g x = g x
+pub or_implied : (a b c d : Bool) → (IsTrue a → IsTrue c) → (IsTrue b → IsTrue d) → IsTrue (a || b) → IsTrue (c || d)
+or_implied true b true d f g x = refl
+or_implied true b false d f g x = absurd (false≢true (f refl))
+or_implied false b true d f g x = refl
+or_implied false b false d f g x = g x
 
 -- ---- a part keeps
 
@@ -66,7 +66,7 @@ pub parts_keep : PartsKeep
 parts_keep p s big part last (Load n r) h =
     omega (arith, sum_to-le (machine_count p) (λ v. s.held v (Amount r) (one n.0)) (λ v. big.held v (Amount r) (one n.0)) (λ v i. part.held v (Amount r) (one n.0)), h)
 parts_keep p s big part last (Usable v n) h =
-    λ x. part.usable n.0 (h (or-part _ _ _ _ (part.present v.0 (one n.0)) (positive_above _ _ (part.held v.0 Image (one n.0))) x))
+    λ x. part.usable n.0 (h (or_implied _ _ _ _ (part.present v.0 (one n.0)) (positive_above _ _ (part.held v.0 Image (one n.0))) x))
 parts_keep p s big part last (OfConstraint c) h = λ a k e. less_holds p s big k (less_for-part p s big part (form_of k)) (h a k e)
 
 -- ---- where less has started and more has ended, there is only less

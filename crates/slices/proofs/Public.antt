@@ -3,7 +3,7 @@ pub use Rattle.slices.proofs.DurationLemmas.{durations_last, ends_by_duration, l
 pub use Rattle.slices.proofs.PlanLemmas.{legal_is_plan, over_as_planned}
 pub use Rattle.slices.proofs.FormLemmas.{sound_form}
 pub use Rattle.slices.proofs.FewerLemmas.{less_holds}
-pub use Rattle.slices.proofs.PartLemmas.{execution_keeps, parts_keep, stage_parts_are_part}
+pub use Rattle.slices.proofs.PartLemmas.{execution_keeps, or_implied, parts_keep, stage_parts_are_part}
 pub use Rattle.slices.proofs.FirstLemmas.{first_is_one}
 pub use Rattle.slices.proofs.StartLemmas.{action_quiet, held_quiet, keeps_quiet, matters_quiet, past-idle, powered_quiet, usable_quiet}
 pub use Rattle.slices.proofs.LastLemmas.{has_last_start}

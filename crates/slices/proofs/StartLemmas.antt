@@ -32,7 +32,7 @@ use Rattle.slices.specs.Snapshots.{action_at, held_at, powered_at, snapshot, sna
 use Rattle.slices.specs.Stages.{Nodes, one, stage_of}
 use Rattle.slices.specs.Starts.{ActionQuiet, HeldQuiet, IsQuiet, KeepsQuiet, MattersQuiet, PoweredQuiet, UsableQuiet, machine_matters, matters, node_matters, separation_matters}
 use Rattle.slices.proofs.FewerLemmas.{less_holds}
-use Rattle.slices.proofs.PartLemmas.{held_by-part, not-part, or-part, powered_of-part, progress_of-part, usable_of-part}
+use Rattle.slices.proofs.PartLemmas.{held_by-part, not-part, or_implied, powered_of-part, progress_of-part, usable_of-part}
 
 same-number : (v : ℕ) → IsTrue (v == v)
 same-number v = grind (arith, nat_tests)
@@ -136,7 +136,7 @@ module _ (p : Instance) (plan : Choices) (u t : ℕ) (l : u ≤ t) where
   keeps-quiet q last (Load n r) h =
       omega (arith, h, sum_to-le (machine_count p) (λ v. (snapshot_at p plan t).held v (Amount r) (one n.0)) (λ v. (snapshot_at p plan u).held v (Amount r) (one n.0)) (λ v i. held-then v (q (vm v)) (Amount r) (one n.0)))
   keeps-quiet q last (Usable v n) h =
-      λ x. usable-then n.0 (q (node n.0)) (h (or-part _ _ _ _ (present-then v.0 (q (vm v.0)) (one n.0)) (positive_above _ _ (held-then v.0 (q (vm v.0)) Image (one n.0))) x))
+      λ x. usable-then n.0 (q (node n.0)) (h (or_implied _ _ _ _ (present-then v.0 (q (vm v.0)) (one n.0)) (positive_above _ _ (held-then v.0 (q (vm v.0)) Image (one n.0))) x))
   keeps-quiet q last (OfConstraint c) h = λ a k e. holds-quiet k (λ x m. q x) (h a k e)
 
 -- past the end, a plan's choices are Idle
