@@ -3,7 +3,6 @@ use Rattle.std.proofs.Common.{◌≡◌, inl, ℕ, ◌≤◌, Bool, ◌||◌, �
 use Rattle.std.proofs.lemmas.Bool.{and_parts, ltb-true, true_from_ne_false, true≢false}
 use Rattle.base.proofs.Sums.{sum_to-none}
 use Rattle.cluster.specs.Sets.{has_node}
-use Rattle.catalogue.specs.declared.constraint.Constraint.{Constraint}
 use Rattle.catalogue.specs.Instance.{Instance, IsInstance}
 use Rattle.catalogue.specs.Kinds.{is_continuous}
 use Rattle.slices.specs.declared.rule.Rule.{Rule}

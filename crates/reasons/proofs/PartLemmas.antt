@@ -1,8 +1,8 @@
 -- What is broken in a snapshot is broken in each one with more.
-use Rattle.std.proofs.Common.{ℕ, ◌<◌, ◌≤◌, Bool, true, false, not, ◌||◌, cond, List, [], ◌∷◌, length, IsTrue, Option, Some, None, refl, arith}
+use Rattle.std.proofs.Common.{ℕ, ◌<◌, ◌≤◌, Bool, true, false, not, ◌==◌, cond, List, [], ◌∷◌, length, IsTrue, Option, Some, None, refl, arith}
 use Rattle.std.specs.List.{filter}
 use Rattle.std.specs.Prelude.{IsSomeAnd}
-use Rattle.std.proofs.lemmas.Bool.{false≢true}
+use Rattle.std.proofs.lemmas.Bool.{eq-eqb, false≢true, or_left, or_right}
 use Rattle.std.proofs.lemmas.List.Elements.{All-weaker}
 use Rattle.base.proofs.Sums.{sum_to-le}
 use Rattle.base.proofs.Tests.{cond-implied, cond-le, fails_below, positive_above}
@@ -11,13 +11,16 @@ use Rattle.cluster.specs.Sets.{has_node}
 use Rattle.catalogue.specs.declared.constraint.Constraint.{Constraint}
 use Rattle.catalogue.specs.Instance.{Instance}
 use Rattle.catalogue.specs.Values.{capacity_of}
+use Rattle.slices.specs.declared.stage.Progress.{Progress}
 use Rattle.slices.specs.declared.stage.Progress.TheVariants.{Started, Unended, Acting}
 use Rattle.slices.specs.declared.slice.Weight.{Weight}
 use Rattle.slices.specs.declared.slice.Weight.TheVariants.{Amount, Image}
 use Rattle.slices.specs.Elements.{machine_count, node_count}
-use Rattle.slices.specs.Forms.{Form, Apart, Allowed, Together, Ordered, InTurn, Bounded, Powered, Settled, Separation, Each, Between, FromOthers, form_of}
+use Rattle.slices.specs.Forms.{Form, Apart, Allowed, Together, Ordered, InTurn, Bounded, Powered, Settled, Separation, Each, Between, FromOthers, form_of, members}
+use Rattle.slices.specs.Holds.{IsMember}
 use Rattle.slices.specs.Snapshots.{Snapshot, room, total}
 use Rattle.slices.specs.Stages.{Nodes, one}
+use Rattle.slices.proofs.Public.{or_implied}
 use Rattle.reasons.specs.Laws.{IsPartIn, PartsAreIn, PartsBreak}
 use Rattle.reasons.specs.Reasons.{AreBothActing, AreScattered, BreaksGroup, ExceedsAmount, ExceedsNodes, ExceedsPower, ExceedsSeparated, HasOutside, IsGroup, IsHall, IsOverload, IsPair, IsPlace, IsPower, IsSetLoad, IsUnusable}
 
@@ -35,12 +38,6 @@ pub applies-weaker : (o : Option Constraint) (on : Constraint → Bool) (P Q : C
 applies-weaker None on P Q f h = h
 applies-weaker (Some k) on P Q f h = (h.0, f k h.1)
 
-or-implied : (a b x y : Bool) → (IsTrue a → IsTrue x) → (IsTrue b → IsTrue y) → IsTrue (a || b) → IsTrue (x || y)
-or-implied true b true y f g h = refl
-or-implied true b false y f g h = absurd (false≢true (f refl))
-or-implied false b true y f g h = refl
-or-implied false b false y f g h = g h
-
 -- a weaker test keeps no fewer
 filter-implied : (f g : VmId → Bool) (vs : List VmId) → ((v : VmId) → IsTrue (f v) → IsTrue (g v)) → length (filter f vs) ≤ length (filter g vs)
 filter-implied f g [] h = omega arith
@@ -51,6 +48,47 @@ filter-implied f g (v ∷ vs) h = at (f v) (g v) (h v) (filter-implied f g vs h)
     at true false i l = absurd (false≢true (i refl))
     at false true i l = omega arith
     at false false i l = l
+
+-- ---- whole groups, by more of their members alone
+
+-- the members are present, or as far, where they were
+abbrev ArePresentToo : Snapshot → Snapshot → List VmId → Type 0
+ArePresentToo s big vs = (v : ℕ) (set : Nodes) → IsMember vs v → IsTrue (s.present v set) → IsTrue (big.present v set)
+
+abbrev AreSoFarToo : Snapshot → Snapshot → List VmId → Type 0
+AreSoFarToo s big vs = (v : ℕ) (far : Progress) → IsMember vs v → IsTrue (s.action v far) → IsTrue (big.action v far)
+
+pub scattered_grows : (s big : Snapshot) (vs : List VmId) (groups : List Nodes) → ArePresentToo s big vs → AreScattered s vs groups → AreScattered big vs groups
+scattered_grows s big vs groups present h = record {
+  some = h.some;
+  each = All-weaker (HasOutside s vs) (HasOutside big vs) (λ g x. (x.0, x.1, present x.0 (λ n. not (g n)) x.1 x.2)) groups h.each;
+}
+
+pub acting_grows : (s big : Snapshot) (vs : List VmId) → AreSoFarToo s big vs → AreBothActing s vs → AreBothActing big vs
+acting_grows s big vs far h = record {
+  v = h.v;
+  w = h.w;
+  differ = h.differ;
+  first_member = h.first_member;
+  second_member = h.second_member;
+  first = far h.v Acting h.first_member h.first;
+  second = far h.w Acting h.second_member h.second;
+}
+
+pub group_grows : (p : Instance) (s big : Snapshot) (f : Form) → ArePresentToo s big (members f) → AreSoFarToo s big (members f) → BreaksGroup p s f → BreaksGroup p big f
+group_grows p s big (Apart separation) present far h = h
+group_grows p s big (Allowed vs places) present far h = h
+group_grows p s big (Together vs groups) present far h = scattered_grows s big vs _ present h
+group_grows p s big (Ordered before after) present far h = (
+  far after.0 Started (or_right (before.0 == after.0) _ (or_left (after.0 == after.0) false (eq-eqb after.0 after.0 refl))) h.0,
+  far before.0 Unended (or_left (before.0 == before.0) _ (eq-eqb before.0 before.0 refl)) h.1,
+)
+group_grows p s big (InTurn vs) present far h = acting_grows s big vs far h
+group_grows p s big (Bounded weight ns amount) present far h = h
+group_grows p s big (Powered ns amount) present far h = h
+group_grows p s big Settled present far h = h
+
+-- ---- a part of a snapshot
 
 module _ (p : Instance) (s big : Snapshot) (part : IsPartIn p s big) where
   total-part : (w : Weight) (set : Nodes) → total p s w set ≤ total p big w set
@@ -75,35 +113,8 @@ module _ (p : Instance) (s big : Snapshot) (part : IsPartIn p s big) where
   pub place-part : (k : Constraint) (v n : ℕ) → IsPlace p s k v n → IsPlace p big k v n
   place-part k v n h = record { forbidden = h.forbidden; present = part.present v (one n) h.present }
 
-  scattered-part : (vs : List VmId) (groups : List Nodes) → AreScattered s vs groups → AreScattered big vs groups
-  scattered-part vs groups h = record {
-    some = h.some;
-    each = All-weaker (HasOutside s vs) (HasOutside big vs) (λ g x. (x.0, x.1, part.present x.0 (λ n. not (g n)) x.2)) groups h.each;
-  }
-
-  acting-part : (vs : List VmId) → AreBothActing s vs → AreBothActing big vs
-  acting-part vs h = record {
-    v = h.v;
-    w = h.w;
-    differ = h.differ;
-    first_member = h.first_member;
-    second_member = h.second_member;
-    first = part.action h.v Acting h.first;
-    second = part.action h.w Acting h.second;
-  }
-
-  group_form-part : (f : Form) → BreaksGroup p s f → BreaksGroup p big f
-  group_form-part (Apart separation) h = h
-  group_form-part (Allowed vs places) h = h
-  group_form-part (Together vs groups) h = scattered-part vs _ h
-  group_form-part (Ordered before after) h = (part.action after.0 Started h.0, part.action before.0 Unended h.1)
-  group_form-part (InTurn vs) h = acting-part vs h
-  group_form-part (Bounded weight ns amount) h = h
-  group_form-part (Powered ns amount) h = h
-  group_form-part Settled h = h
-
   pub group-part : (k : Constraint) → IsGroup p s k → IsGroup p big k
-  group-part k h = group_form-part (form_of k) h
+  group-part k h = group_grows p s big (form_of k) (λ v set m. part.present v set) (λ v far m. part.action v far) h
 
   amount-part : (f : Form) → ExceedsAmount p s f → ExceedsAmount p big f
   amount-part (Apart separation) h = h
@@ -133,7 +144,7 @@ module _ (p : Instance) (s big : Snapshot) (part : IsPartIn p s big) where
 
   pub unusable-part : (v n : ℕ) → v < machine_count p → IsUnusable s v n → IsUnusable big v n
   unusable-part v n i h = record {
-    stands = or-implied _ _ _ _ (part.present v (one n)) (positive_above _ _ (part.held v i Image (one n))) h.stands;
+    stands = or_implied _ _ _ _ (part.present v (one n)) (positive_above _ _ (part.held v i Image (one n))) h.stands;
     unusable = fails_below _ _ (part.usable n) h.unusable;
   }
 

@@ -1,5 +1,5 @@
 -- What a sound form says of the machines that it names.
-use Rattle.std.proofs.Common.{◌≡◌, ◌≢◌, inl, inr, ℕ, zero, suc, ◌<◌, Bool, true, false, ◌&&◌, ◌==◌, nat_lt, not, List, [], ◌∷◌, ◌++◌, slice_get, Some, refl, sym, ap, ◌∙◌, arith}
+use Rattle.std.proofs.Common.{◌≡◌, ◌≢◌, inl, inr, ℕ, zero, suc, ◌<◌, true, ◌==◌, nat_lt, not, List, [], ◌∷◌, ◌++◌, slice_get, Some, refl, sym, ap, ◌∙◌, arith}
 use Rattle.std.proofs.lemmas.Bool.{and_parts, eqb-true, false≢true, ltb-true, not-true, or_cases, or_left, or_right, true≢false}
 use Rattle.std.proofs.lemmas.List.Elements.{All-get_or}
 use Rattle.std.proofs.lemmas.List.Folds.{list_any-append}
@@ -40,10 +40,10 @@ split-differ (x ∷ xs) ys v d m k =
       | inr later ↦ split-differ xs ys v parts.1 later k
     ]
 
-part-listed : (parts : List (List VmId)) (i v : ℕ) → IsInPart parts i v → IsMember (all_of parts) v
-part-listed [] i v h = h
-part-listed (vs ∷ parts) zero v h = list_any-append (λ x. x.0 == v) vs (all_of parts) ∙ or_left (is_member vs v) (is_member (all_of parts) v) h
-part-listed (vs ∷ parts) (suc i) v h = list_any-append (λ x. x.0 == v) vs (all_of parts) ∙ or_right (is_member vs v) (is_member (all_of parts) v) (part-listed parts i v h)
+pub joined_member : (parts : List (List VmId)) (i v : ℕ) → IsInPart parts i v → IsMember (all_of parts) v
+joined_member [] i v h = h
+joined_member (vs ∷ parts) zero v h = list_any-append (λ x. x.0 == v) vs (all_of parts) ∙ or_left (is_member vs v) (is_member (all_of parts) v) h
+joined_member (vs ∷ parts) (suc i) v h = list_any-append (λ x. x.0 == v) vs (all_of parts) ∙ or_right (is_member vs v) (is_member (all_of parts) v) (joined_member parts i v h)
 
 differ-rest : (xs ys : List VmId) → differ (xs ++ ys) ≡ true → differ ys ≡ true
 differ-rest [] ys d = d
@@ -53,6 +53,6 @@ differ-rest (x ∷ xs) ys d = differ-rest xs ys (and_parts (not (is_member (xs +
 pub parts_differ : (parts : List (List VmId)) (i j v : ℕ) → differ (all_of parts) ≡ true → i ≢ j → IsInPart parts i v → IsInPart parts j v → ⊥
 parts_differ [] i j v d ne h k = false≢true h
 parts_differ (vs ∷ parts) zero zero v d ne h k = ne refl
-parts_differ (vs ∷ parts) zero (suc j) v d ne h k = split-differ vs (all_of parts) v d h (part-listed parts j v k)
-parts_differ (vs ∷ parts) (suc i) zero v d ne h k = split-differ vs (all_of parts) v d k (part-listed parts i v h)
+parts_differ (vs ∷ parts) zero (suc j) v d ne h k = split-differ vs (all_of parts) v d h (joined_member parts j v k)
+parts_differ (vs ∷ parts) (suc i) zero v d ne h k = split-differ vs (all_of parts) v d k (joined_member parts i v h)
 parts_differ (vs ∷ parts) (suc i) (suc j) v d ne h k = parts_differ parts i j v (differ-rest vs (all_of parts) d) (λ e. ne (ap suc e)) h k

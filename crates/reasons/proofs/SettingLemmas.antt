@@ -11,13 +11,12 @@ use Rattle.cluster.specs.declared.ids.Element.{Element}
 use Rattle.cluster.specs.declared.ids.Element.TheVariants.{Vm, Node as TheNode}
 use Rattle.catalogue.specs.Instance.{Instance}
 use Rattle.catalogue.specs.Values.{capacity_of}
-use Rattle.slices.specs.declared.slice.Weight.TheVariants.{Amount, Presence}
 use Rattle.slices.specs.Elements.{machine_count, node_count, node, vm}
 use Rattle.slices.specs.Snapshots.{action_at, held_at, powered_at, present_at, usable_at}
 use Rattle.domains.specs.Sets.{Sets, may, same_element, setting, surely}
 use Rattle.domains.proofs.Public.{least_of_each, may_each, same_is, surely_each}
 use Rattle.reasons.specs.Quiet.{QuietIsFree}
-use Rattle.reasons.specs.Settings.{EndIsChoice, IsMachineUnder, IsNodeUnder, IsSameMachine, IsSameNode, MachineChange, NodeChange, SameSets, SettingAgrees, SettingGrows, SettingLoad, SettingPowered, SettingPresences, SettingRoom, SettingSets, SomeEnd, powered_in, room_at}
+use Rattle.reasons.specs.Settings.{EndIsChoice, IsMachineUnder, IsNodeUnder, IsSameMachine, IsSameNode, MachineChange, NodeChange, SameSets, SettingAgrees, SettingGrows, SettingPowered, SettingRoom, SettingSets, SettingTotal, SomeEnd, powered_in, room_at}
 use Rattle.reasons.specs.Sure.{sure}
 use Rattle.reasons.proofs.ClosedLemmas.{and-true, end-contained}
 use Rattle.reasons.proofs.FreeLemmas.{free_stays}
@@ -139,8 +138,7 @@ setting_agrees s x c e ne = setting-other x e c s ne
 
 pub machine_change : MachineChange
 machine_change p s old v t l agree = record {
-  of_load = λ r set. sum_to-change (machine_count p) (λ k. (sure p s t).held k (Amount r) set) (λ k. (sure p old t).held k (Amount r) set) v l (λ k ne. (others k ne).held (Amount r) set);
-  of_presences = λ set. sum_to-change (machine_count p) (λ k. (sure p s t).held k Presence set) (λ k. (sure p old t).held k Presence set) v l (λ k ne. (others k ne).held Presence set);
+  of_total = λ w set. sum_to-change (machine_count p) (λ k. (sure p s t).held k w set) (λ k. (sure p old t).held k w set) v l (λ k ne. (others k ne).held w set);
   of_room = λ r set. sum_to-same (node_count p) (room_at p (sure p s t) r set) (room_at p (sure p old t) r set) (λ n i. ap (λ b. cond (set n) (cond b (capacity_of p n r) 0) 0) (nodes n).usable);
   of_powered = λ set. sum_to-same (node_count p) (powered_in (sure p s t) set) (powered_in (sure p old t) set) (λ n i. ap (λ b. cond (set n) (cond b 1 0) 0) (nodes n).powered);
 }
@@ -153,8 +151,7 @@ machine_change p s old v t l agree = record {
 
 pub node_change : NodeChange
 node_change p s old n t l agree = record {
-  of_load = λ r set. sum_to-same (machine_count p) (λ v. (sure p s t).held v (Amount r) set) (λ v. (sure p old t).held v (Amount r) set) (λ v i. (machines v).held (Amount r) set);
-  of_presences = λ set. sum_to-same (machine_count p) (λ v. (sure p s t).held v Presence set) (λ v. (sure p old t).held v Presence set) (λ v i. (machines v).held Presence set);
+  of_total = λ w set. sum_to-same (machine_count p) (λ v. (sure p s t).held v w set) (λ v. (sure p old t).held v w set) (λ v i. (machines v).held w set);
   of_room = λ r set. sum_to-change (node_count p) (room_at p (sure p s t) r set) (room_at p (sure p old t) r set) n l (λ k ne. ap (λ b. cond (set k) (cond b (capacity_of p k r) 0) 0) (others k ne).usable);
   of_powered = λ set. sum_to-change (node_count p) (powered_in (sure p s t) set) (powered_in (sure p old t) set) n l (λ k ne. ap (λ b. cond (set k) (cond b 1 0) 0) (others k ne).powered);
 }
@@ -168,15 +165,10 @@ node_change p s old n t l agree = record {
 pub same_sets : SameSets
 same_sets p s old t = record { of_machine = same-machine p s old t; of_node = same-node p s old t }
 
-pub setting_load : SettingLoad
-setting_load p s v c t r set l =
-    let here = ((setting_sets p s (vm v) c t).set_machine v refl).held (Amount r) set in
-    omega (arith, here, (machine_change p (setting (vm v) c s) s v t l (setting_agrees s (vm v) c)).of_load r set)
-
-pub setting_presences : SettingPresences
-setting_presences p s v c t set l =
-    let here = ((setting_sets p s (vm v) c t).set_machine v refl).held Presence set in
-    omega (arith, here, (machine_change p (setting (vm v) c s) s v t l (setting_agrees s (vm v) c)).of_presences set)
+pub setting_total : SettingTotal
+setting_total p s v c t w set l =
+    let here = ((setting_sets p s (vm v) c t).set_machine v refl).held w set in
+    omega (arith, here, (machine_change p (setting (vm v) c s) s v t l (setting_agrees s (vm v) c)).of_total w set)
 
 pub setting_room : SettingRoom
 setting_room p s n c t r set l =

@@ -6,11 +6,10 @@ use Rattle.cluster.specs.declared.ids.Element.{Element}
 use Rattle.catalogue.specs.Instance.{Instance}
 use Rattle.catalogue.specs.Values.{capacity_of}
 use Rattle.slices.specs.declared.slice.Weight.{Weight}
-use Rattle.slices.specs.declared.slice.Weight.TheVariants.{Amount, Presence}
 use Rattle.slices.specs.declared.stage.Progress.{Progress}
 use Rattle.slices.specs.Elements.{machine_count, node_count, node, vm}
 use Rattle.slices.specs.Parts.{IsPartOf}
-use Rattle.slices.specs.Snapshots.{Snapshot, action_at, held_at, load, powered_at, powered_nodes, presences, present_at, room, usable_at}
+use Rattle.slices.specs.Snapshots.{Snapshot, action_at, held_at, powered_at, powered_nodes, present_at, room, total, usable_at}
 use Rattle.slices.specs.Stages.{Nodes}
 use Rattle.domains.specs.Sets.{Sets, setting}
 use Rattle.reasons.specs.Closed.{IsEnd}
@@ -74,12 +73,10 @@ pub record AreSameAt (p : Instance) (s old : Sets) (t : ℕ) : Type 0 where
 abbrev pub SameSets : Type 0
 SameSets = (p : Instance) (s old : Sets) (t : ℕ) → AreSameAt p s old t
 
--- another set of a machine changes loads and presences by its own
+-- another set of a machine changes what all hold by its own
 pub record IsMachineChange (p : Instance) (s old : Sets) (v t : ℕ) : Type 0 where
-  pub of_load : (r : ℕ) (set : Nodes) →
-      load p (sure p s t) r set + (sure p old t).held v (Amount r) set ≡ load p (sure p old t) r set + (sure p s t).held v (Amount r) set
-  pub of_presences : (set : Nodes) →
-      presences p (sure p s t) set + (sure p old t).held v Presence set ≡ presences p (sure p old t) set + (sure p s t).held v Presence set
+  pub of_total : (w : Weight) (set : Nodes) →
+      total p (sure p s t) w set + (sure p old t).held v w set ≡ total p (sure p old t) w set + (sure p s t).held v w set
   pub of_room : (r : ℕ) (set : Nodes) → room p (sure p s t) r set ≡ room p (sure p old t) r set
   pub of_powered : (set : Nodes) → powered_nodes p (sure p s t) set ≡ powered_nodes p (sure p old t) set
 
@@ -95,8 +92,7 @@ powered_in s set n = if set n then (if s.powered n then 1 else 0) else 0
 
 -- another set of a node changes room and powered nodes by its own
 pub record IsNodeChange (p : Instance) (s old : Sets) (n t : ℕ) : Type 0 where
-  pub of_load : (r : ℕ) (set : Nodes) → load p (sure p s t) r set ≡ load p (sure p old t) r set
-  pub of_presences : (set : Nodes) → presences p (sure p s t) set ≡ presences p (sure p old t) set
+  pub of_total : (w : Weight) (set : Nodes) → total p (sure p s t) w set ≡ total p (sure p old t) w set
   pub of_room : (r : ℕ) (set : Nodes) →
       room p (sure p s t) r set + room_at p (sure p old t) r set n ≡ room p (sure p old t) r set + room_at p (sure p s t) r set n
   pub of_powered : (set : Nodes) →
@@ -107,15 +103,10 @@ NodeChange = (p : Instance) (s old : Sets) (n t : ℕ) → n < node_count p → 
 
 -- ---- sums, where an element is set: a choice takes the place of the least
 
-abbrev pub SettingLoad : Type 0
-SettingLoad =
-    (p : Instance) (s : Sets) (v : ℕ) (c : Choice) (t r : ℕ) (set : Nodes) → v < machine_count p →
-    load p (sure p (setting (vm v) c s) t) r set + (sure p s t).held v (Amount r) set ≡ load p (sure p s t) r set + held_at p v (Amount r) set t c
-
-abbrev pub SettingPresences : Type 0
-SettingPresences =
-    (p : Instance) (s : Sets) (v : ℕ) (c : Choice) (t : ℕ) (set : Nodes) → v < machine_count p →
-    presences p (sure p (setting (vm v) c s) t) set + (sure p s t).held v Presence set ≡ presences p (sure p s t) set + held_at p v Presence set t c
+abbrev pub SettingTotal : Type 0
+SettingTotal =
+    (p : Instance) (s : Sets) (v : ℕ) (c : Choice) (t : ℕ) (w : Weight) (set : Nodes) → v < machine_count p →
+    total p (sure p (setting (vm v) c s) t) w set + (sure p s t).held v w set ≡ total p (sure p s t) w set + held_at p v w set t c
 
 abbrev pub SettingRoom : Type 0
 SettingRoom =

@@ -2,7 +2,7 @@
 //! same name in proofs/Public proves it.
 ghost use Rattle.reasons.specs.Laws.{CostsAtLeast, EmptyStays, FreeStays, LeastCostGrows, OnlyClosed, OnlyCosts, PartsAreIn, PartsBreak, RefutedExcludes, RefutedExcludesAll, StaysRefuted, SureGrows, UnrefutedByReasons};
 ghost use Rattle.reasons.specs.Quiet.{ClosedAtTurns, ClosedByKinds, QuietAtTurns, QuietIsFree, TurnsDecide, UnrefutedAtTurns};
-ghost use Rattle.reasons.specs.Settings.{EndIsChoice, MachineChange, NodeChange, SameSets, SettingAgrees, SettingGrows, SettingLoad, SettingPowered, SettingPresences, SettingRoom, SettingSets, SomeEnd};
+ghost use Rattle.reasons.specs.Settings.{EndIsChoice, MachineChange, NodeChange, SameSets, SettingAgrees, SettingGrows, SettingPowered, SettingRoom, SettingSets, SettingTotal, SomeEnd};
 ghost use Rattle.reasons.specs.Regions.{CostWithin, EndsOfRows, RegionIsOf, StartHas, StartIsLegal, StartIsOf, StartIsPlan, TurnsOfRows, WithinValid};
 
 /// What is refuted holds no valid plan that costs less than the one handed in, and none at all
@@ -164,16 +164,10 @@ pub fn setting_agrees()
     ensures { SettingAgrees }
 {}
 
-/// Setting a machine changes a load by what the machine uses.
-#[tactic(auto, using(crate::proofs::Public::setting_load))]
-pub fn setting_load()
-    ensures { SettingLoad }
-{}
-
-/// Setting a machine changes presences by those of the machine.
-#[tactic(auto, using(crate::proofs::Public::setting_presences))]
-pub fn setting_presences()
-    ensures { SettingPresences }
+/// Setting a machine changes what all machines hold by what it holds.
+#[tactic(auto, using(crate::proofs::Public::setting_total))]
+pub fn setting_total()
+    ensures { SettingTotal }
 {}
 
 /// Setting a node changes the room by its capacity.
