@@ -1,7 +1,6 @@
 -- Machines that keep others off the nodes where they stand.
-use Rattle.std.proofs.Common.{◌≡◌, ◌≢◌, inl, inr, ℕ, ◌+◌, ◌<◌, Bool, true, false, IsTrue, List, [], length, get_or, slice_index_or, refl, sym, subst, ◌∙◌, arith}
+use Rattle.std.proofs.Common.{◌≡◌, ◌≢◌, inl, inr, ℕ, ◌<◌, Bool, true, false, IsTrue, List, [], length, slice_index_or, refl, sym, ◌∙◌}
 use Rattle.std.proofs.lemmas.Bool.{cases_eq}
-use Rattle.std.proofs.lemmas.List.{get_or_default}
 use Rattle.cluster.specs.declared.ids.VmId.{VmId}
 use Rattle.catalogue.specs.Instance.{Instance}
 use Rattle.slices.specs.Elements.{node_count, vm}
@@ -12,28 +11,16 @@ use Rattle.domains.specs.Sets.{Sets, surely}
 use Rattle.domains.proofs.Public.{surely_each}
 use Rattle.reasons.specs.Sure.{sure}
 use Rattle.reasons.proofs.Public.{end_is_choice}
-use Rattle.closing.specs.declared.stands.Stands.{Stands}
+use Rattle.closing.specs.declared.base.stands.Stands.{Stands}
 use Rattle.closing.specs.Looks.{IsFreeOf}
 use Rattle.closing.specs.Parts.{FailAtEnds}
 use Rattle.closing.specs.Stands.{AreApart, IsAnyOf, IsOn, MeetsOtherPart, ShareNode, StaysClear, has_node_of}
 use Rattle.closing.proofs.MemberLemmas.{any_free}
 use Rattle.closing.proofs.PairLemmas.{others_free, parts_free}
-use Rattle.closing.proofs.RuleLemmas.{never_met}
+use Rattle.closing.proofs.FoundLemmas.{never_met}
 use Rattle.closing.proofs.SettingLemmas.{shared_free}
 
--- what holds of the first machines of a list holds of one more
-pub next_member : (vs : List VmId) (i : ℕ) (e : VmId) (P : ℕ → Type 0) → i < length vs → ((k : ℕ) (d : VmId) → k < i → P (get_or vs k d).0) → P (get_or vs i e).0 → (k : ℕ) (d : VmId) → k < i + 1 → P (get_or vs k d).0
-next_member vs i e P low before here k d h =
-    elim (cases_eq k i) [ inl same ↦ rw same (subst (λ (x : VmId). P x.0) (get_or_default vs i e d low) here) | inr other ↦ before k d (omega (arith, h, other)) ]
-
 module _ (p : Instance) (s : Sets) (t : ℕ) where
-  -- so it is for each part
-  pub next_part : (vs : List VmId) (parts : List (List VmId)) (part j : ℕ) → ((k : ℕ) → k < j → part ≢ k → AreApart p s t vs (slice_index_or parts k [])) → (part ≢ j → AreApart p s t vs (slice_index_or parts j [])) → (k : ℕ) → k < j + 1 → part ≢ k → AreApart p s t vs (slice_index_or parts k [])
-  next_part vs parts part j before here k h ne = elim (cases_eq k j) [ inl same ↦ rw same (here (λ e. ne (e ∙ sym same))) | inr other ↦ before k (omega (arith, h, other)) ne ]
-
-  pub next_parts : (parts : List (List VmId)) (i : ℕ) → ((k j : ℕ) → k < i → j < length parts → k ≢ j → AreApart p s t (slice_index_or parts k []) (slice_index_or parts j [])) → ((j : ℕ) → j < length parts → i ≢ j → AreApart p s t (slice_index_or parts i []) (slice_index_or parts j [])) → (k j : ℕ) → k < i + 1 → j < length parts → k ≢ j → AreApart p s t (slice_index_or parts k []) (slice_index_or parts j [])
-  next_parts parts i before here k j h l ne = elim (cases_eq k i) [ inl same ↦ rw same (here j l (λ e. ne (same ∙ e))) | inr other ↦ before k j (omega (arith, h, other)) l ne ]
-
   -- where a machine stands is told by the nodes where it surely is
   pub clear_by : (v w : ℕ) (a : Stands) → ((n : ℕ) → has_node_of a n ≡ (sure p s t).present v (one n)) → FailAtEnds (IsOn p w (has_node_of a) t) (s (vm w)) → FailAtEnds (IsOn p w (λ n. (sure p s t).present v (one n)) t) (s (vm w))
   clear_by v w a stands fail = record { ends = λ c end h. fail.ends c end (h.0, h.1, stands h.0 ∙ h.2, h.3) }

@@ -3,6 +3,8 @@ mod ApartLemmas
 mod ClosedLemmas
 mod EndLemmas
 mod EverLemmas
+mod FormLemmas
+mod FoundLemmas
 mod GroupLemmas
 mod LocalLemmas
 mod MemberLemmas

@@ -1,34 +1,35 @@
 -- What each watch looks at, and that turns decide whether it is clean.
-use Rattle.std.proofs.Common.{◌≡◌, ◌≢◌, inl, inr, ℕ, Bool, true, false, not, ◌||◌, ◌==◌, cond, List, Option, Some, None, IsTrue, refl, arith}
+use Rattle.std.proofs.Common.{◌≡◌, ◌≢◌, inl, inr, ℕ, Bool, false, ◌==◌, cond, Option, Some, None, refl, arith}
 use Rattle.std.proofs.lemmas.Bool.{cases_eq, false≢true, ne_eqb}
-use Rattle.std.proofs.lemmas.List.Elements.{All-weaker}
 use Rattle.std.specs.Prelude.{slice_get}
 use Rattle.base.proofs.Sums.{sum_to-le}
 use Rattle.base.proofs.Tests.{cond-implied, cond-le, fails_below, positive_above}
-use Rattle.cluster.specs.declared.ids.VmId.{VmId}
 use Rattle.cluster.specs.Sets.{has_node}
 use Rattle.catalogue.specs.declared.constraint.Constraint.{Constraint}
-use Rattle.catalogue.specs.declared.constraint.Constraint.TheVariants.{Spread, Ban, Fence, Gather, Lonely, Among, Split, Root, Precedence, Serialize, Preserve, ResourceCapacity, RunningCapacity, MaxOnline, Overbook, Online, Offline, Running, Sleeping, Ready, Killed}
 use Rattle.catalogue.specs.Instance.{Instance}
 use Rattle.catalogue.specs.Kinds.{is_continuous}
 use Rattle.catalogue.specs.Values.{capacity_of}
-use Rattle.slices.specs.declared.stage.Progress.TheVariants.{Acting, Started, Unended}
-use Rattle.slices.specs.declared.slice.Weight.TheVariants.{Amount, Image, Presence}
+use Rattle.slices.specs.declared.stage.Progress.TheVariants.{Started, Unended}
+use Rattle.slices.specs.declared.slice.Weight.TheVariants.{Amount, Image}
 use Rattle.slices.specs.Elements.{machine_count, node_count}
-use Rattle.slices.specs.Holds.{ForbidsPair, ForbidsPlace, IsMember}
+use Rattle.slices.specs.Forms.{Form, Apart, Allowed, Together, Ordered, InTurn, Bounded, Powered, Settled, Separation, Each, Between, FromOthers, form_of}
+use Rattle.slices.specs.Holds.{Separates}
 use Rattle.slices.specs.Parts.{IsPartOf}
 use Rattle.slices.specs.Snapshots.{Snapshot}
-use Rattle.slices.specs.Stages.{Nodes, one}
-use Rattle.reasons.specs.Reasons.{AreScattered, HasOutside, IsGroup, IsOverload, IsPower, IsSetLoad}
+use Rattle.slices.specs.Stages.{one}
+use Rattle.reasons.specs.Reasons.{IsOverload}
+use Rattle.slices.proofs.Public.{or_implied}
 use Rattle.domains.specs.Sets.{Sets, setting}
 use Rattle.reasons.specs.Sure.{sure}
-use Rattle.reasons.proofs.Public.{quiet_at_turns_for, turns_decide_for}
-use Rattle.closing.specs.Kinds.{HasPair, HasPlace, IsBroken, constraint_watch, load_scope, rule_watch, presences_of, scope_of, watch_of}
+use Rattle.reasons.proofs.Public.{acting_grows, quiet_at_turns_for, scattered_grows, turns_decide_for}
+use Rattle.closing.specs.Forms.{HasSeparated, IsFormBroken}
+use Rattle.closing.specs.Kinds.{constraint_watch, form_scope, load_scope, rule_watch, separation_scope, watch_of}
 use Rattle.closing.specs.Laws.{ConstraintIsLocal, LoadIsLocal, TurnsAreEnough, UsableIsLocal}
 use Rattle.closing.specs.declared.look.Look.{Look}
 use Rattle.closing.specs.declared.look.Look.TheVariants.{Clean, Fail, Cut}
 use Rattle.closing.specs.Looks.{IsFound, IsLook, broken_at}
 use Rattle.closing.specs.Watches.{IsLocal, IsPartWithin, Scope}
+use Rattle.closing.proofs.FormLemmas.{broken_form, form_broken}
 
 -- ---- loads and usable nodes
 
@@ -45,19 +46,13 @@ load_is_local p set = record { part = λ s big last part over. (over.0, over.1, 
               (λ n i. cond-le (set n) _ _ (λ x. cond-implied (big.usable n) (s.usable n) (capacity_of p n r) (part.usable n x))),
         )
 
-or-implied : (a b x y : Bool) → (IsTrue a → IsTrue x) → (IsTrue b → IsTrue y) → IsTrue (a || b) → IsTrue (x || y)
-or-implied true b true y f g h = refl
-or-implied true b false y f g h = absurd (false≢true (f refl))
-or-implied false b true y f g h = refl
-or-implied false b false y f g h = g h
-
 pub usable_is_local : UsableIsLocal
 usable_is_local p n = record {
   part = λ s big last part x. (
     x.0,
     x.1,
     record {
-      stands = or-implied _ _ _ _ (part.present x.0 (one n) refl) (positive_above _ _ (part.held x.0 Image (one n) (refl, refl))) x.2.stands;
+      stands = or_implied _ _ _ _ (part.present x.0 (one n) refl) (positive_above _ _ (part.held x.0 Image (one n) (refl, refl))) x.2.stands;
       unusable = fails_below _ _ (part.usable n refl) x.2.unusable;
     },
   );
@@ -65,169 +60,35 @@ usable_is_local p n = record {
 
 -- ---- constraints
 
--- the machines that a constraint keeps apart, or lets not be somewhere, are looked at
-pairs-seen : (k : Constraint) (v w n : ℕ) → ForbidsPair k v w → (scope_of k).present v (one n) × (scope_of k).present w (one n)
-pairs-seen (Spread vs b) v w n h = (h.0, h.1)
-pairs-seen (Ban vs ns b) v w n h = absurd h
-pairs-seen (Fence vs ns b) v w n h = absurd h
-pairs-seen (Gather vs b) v w n h = absurd h
-pairs-seen (Lonely vs b) v w n h = (tt, tt)
-pairs-seen (Among vs groups b) v w n h = absurd h
-pairs-seen (Split parts b) v w n h = ((h.0, h.3), (h.1, h.4))
-pairs-seen (Root vs) v w n h = absurd h
-pairs-seen (Precedence before after) v w n h = absurd h
-pairs-seen (Serialize vs) v w n h = absurd h
-pairs-seen (Preserve vs r amount) v w n h = absurd h
-pairs-seen (ResourceCapacity ns r amount b) v w n h = absurd h
-pairs-seen (RunningCapacity ns amount b) v w n h = absurd h
-pairs-seen (MaxOnline ns amount b) v w n h = absurd h
-pairs-seen (Overbook ns r num den) v w n h = absurd h
-pairs-seen (Online ns) v w n h = absurd h
-pairs-seen (Offline ns) v w n h = absurd h
-pairs-seen (Running vs) v w n h = absurd h
-pairs-seen (Sleeping vs) v w n h = absurd h
-pairs-seen (Ready vs) v w n h = absurd h
-pairs-seen (Killed vs) v w n h = absurd h
-
-places-seen : (p : Instance) (k : Constraint) (v n : ℕ) → ForbidsPlace p k v n → (scope_of k).present v (one n)
-places-seen p (Spread vs b) v n h = absurd h
-places-seen p (Ban vs ns b) v n h = h.0
-places-seen p (Fence vs ns b) v n h = h.0
-places-seen p (Gather vs b) v n h = absurd h
-places-seen p (Lonely vs b) v n h = absurd h
-places-seen p (Among vs groups b) v n h = absurd h
-places-seen p (Split parts b) v n h = absurd h
-places-seen p (Root vs) v n h = h.0
-places-seen p (Precedence before after) v n h = absurd h
-places-seen p (Serialize vs) v n h = absurd h
-places-seen p (Preserve vs r amount) v n h = absurd h
-places-seen p (ResourceCapacity ns r amount b) v n h = absurd h
-places-seen p (RunningCapacity ns amount b) v n h = absurd h
-places-seen p (MaxOnline ns amount b) v n h = absurd h
-places-seen p (Overbook ns r num den) v n h = absurd h
-places-seen p (Online ns) v n h = absurd h
-places-seen p (Offline ns) v n h = absurd h
-places-seen p (Running vs) v n h = absurd h
-places-seen p (Sleeping vs) v n h = absurd h
-places-seen p (Ready vs) v n h = absurd h
-places-seen p (Killed vs) v n h = absurd h
+-- the machines that are kept apart are looked at
+separated-seen : (separation : Separation) (v w n : ℕ) → Separates separation v w → (separation_scope separation).present v (one n) × (separation_scope separation).present w (one n)
+separated-seen (Each vs) v w n h = (h.0, h.1)
+separated-seen (Between parts) v w n h = ((h.0, h.3), (h.1, h.4))
+separated-seen (FromOthers vs) v w n h = (tt, tt)
 
 module _ (p : Instance) (s big : Snapshot) where
-  abbrev IsPart : Constraint → Type 0
-  IsPart k = IsPartWithin (scope_of k) s big
+  separated-within : (separation : Separation) → IsPartWithin (separation_scope separation) s big → HasSeparated p s separation → HasSeparated p big separation
+  separated-within separation part (v, w, i, j, h, (ne, n, l, x, y)) =
+      let seen = separated-seen separation v w n h in (v, w, i, j, h, (ne, n, l, part.present v (one n) seen.0 x, part.present w (one n) seen.1 y))
 
-  pair-within : (k : Constraint) → IsPart k → HasPair p s k → HasPair p big k
-  pair-within k part (v, w, n, i, j, l, h) =
-      let seen = pairs-seen k v w n h.forbidden in (
-        v,
-        w,
-        n,
-        i,
-        j,
-        l,
-        record { forbidden = h.forbidden; differ = h.differ; first = part.present v (one n) seen.0 h.first; second = part.present w (one n) seen.1 h.second },
-      )
-
-  place-within : (k : Constraint) → IsPart k → HasPlace p s k → HasPlace p big k
-  place-within k part (v, n, i, l, h) = (v, n, i, l, record { forbidden = h.forbidden; present = part.present v (one n) (places-seen p k v n h.forbidden) h.present })
-
-  scattered-within : (vs : List VmId) (groups : List Nodes) → IsPartWithin (presences_of (IsMember vs)) s big → AreScattered s vs groups → AreScattered big vs groups
-  scattered-within vs groups part h = record {
-    some = h.some;
-    each = All-weaker (HasOutside s vs) (HasOutside big vs) (λ g x. (x.0, x.1, part.present x.0 (λ n. not (g n)) x.1 x.2)) groups h.each;
-  }
-
-  group-within : (k : Constraint) → IsPart k → IsGroup p s k → IsGroup p big k
-  group-within (Spread vs b) part h = h
-  group-within (Ban vs ns b) part h = h
-  group-within (Fence vs ns b) part h = h
-  group-within (Gather vs b) part h = scattered-within vs _ part h
-  group-within (Lonely vs b) part h = h
-  group-within (Among vs groups b) part h = scattered-within vs _ part h
-  group-within (Split parts b) part h = h
-  group-within (Root vs) part h = h
-  group-within (Precedence before after) part h = (part.action after.0 Started (inr refl) h.0, part.action before.0 Unended (inl refl) h.1)
-  group-within (Serialize vs) part h =
-      record {
-        v = h.v;
-        w = h.w;
-        differ = h.differ;
-        first_member = h.first_member;
-        second_member = h.second_member;
-        first = part.action h.v Acting h.first_member h.first;
-        second = part.action h.w Acting h.second_member h.second;
-      }
-  group-within (Preserve vs r amount) part h = h
-  group-within (ResourceCapacity ns r amount b) part h = h
-  group-within (RunningCapacity ns amount b) part h = h
-  group-within (MaxOnline ns amount b) part h = h
-  group-within (Overbook ns r num den) part h = h
-  group-within (Online ns) part h = h
-  group-within (Offline ns) part h = h
-  group-within (Running vs) part h = h
-  group-within (Sleeping vs) part h = h
-  group-within (Ready vs) part h = h
-  group-within (Killed vs) part h = h
-
-  set_load-within : (k : Constraint) → IsPart k → IsSetLoad p s k → IsSetLoad p big k
-  set_load-within (Spread vs b) part h = h
-  set_load-within (Ban vs ns b) part h = h
-  set_load-within (Fence vs ns b) part h = h
-  set_load-within (Gather vs b) part h = h
-  set_load-within (Lonely vs b) part h = h
-  set_load-within (Among vs groups b) part h = h
-  set_load-within (Split parts b) part h = h
-  set_load-within (Root vs) part h = h
-  set_load-within (Precedence before after) part h = h
-  set_load-within (Serialize vs) part h = h
-  set_load-within (Preserve vs r amount) part h = h
-  set_load-within (ResourceCapacity ns r amount b) part h = omega (arith, h, sum_to-le (machine_count p) (λ v. s.held v (Amount r) (has_node ns)) (λ v. big.held v (Amount r) (has_node ns)) (λ v i. part.held v (Amount r) (has_node ns) (refl, refl)))
-  set_load-within (RunningCapacity ns amount b) part h = omega (arith, h, sum_to-le (machine_count p) (λ v. s.held v Presence (has_node ns)) (λ v. big.held v Presence (has_node ns)) (λ v i. part.held v Presence (has_node ns) (refl, refl)))
-  set_load-within (MaxOnline ns amount b) part h = h
-  set_load-within (Overbook ns r num den) part h = h
-  set_load-within (Online ns) part h = h
-  set_load-within (Offline ns) part h = h
-  set_load-within (Running vs) part h = h
-  set_load-within (Sleeping vs) part h = h
-  set_load-within (Ready vs) part h = h
-  set_load-within (Killed vs) part h = h
-
-  power-within : (k : Constraint) → IsPart k → IsPower p s k → IsPower p big k
-  power-within (Spread vs b) part h = h
-  power-within (Ban vs ns b) part h = h
-  power-within (Fence vs ns b) part h = h
-  power-within (Gather vs b) part h = h
-  power-within (Lonely vs b) part h = h
-  power-within (Among vs groups b) part h = h
-  power-within (Split parts b) part h = h
-  power-within (Root vs) part h = h
-  power-within (Precedence before after) part h = h
-  power-within (Serialize vs) part h = h
-  power-within (Preserve vs r amount) part h = h
-  power-within (ResourceCapacity ns r amount b) part h = h
-  power-within (RunningCapacity ns amount b) part h = h
-  power-within (MaxOnline ns amount b) part h = omega (arith, h, sum_to-le (node_count p) (λ n. cond (has_node ns n) (cond (s.powered n) 1 0) 0) (λ n. cond (has_node ns n) (cond (big.powered n) 1 0) 0) (λ n i. cond-le (has_node ns n) _ _ (λ x. cond-implied (s.powered n) (big.powered n) 1 (part.powered n x))))
-  power-within (Overbook ns r num den) part h = h
-  power-within (Online ns) part h = h
-  power-within (Offline ns) part h = h
-  power-within (Running vs) part h = h
-  power-within (Sleeping vs) part h = h
-  power-within (Ready vs) part h = h
-  power-within (Killed vs) part h = h
-
-  broken-within : (k : Constraint) → IsPart k → IsBroken p s k → IsBroken p big k
-  broken-within k part (inl x) = inl (pair-within k part x)
-  broken-within k part (inr (inl x)) = inr (inl (place-within k part x))
-  broken-within k part (inr (inr (inl x))) = inr (inr (inl (group-within k part x)))
-  broken-within k part (inr (inr (inr (inl x)))) = inr (inr (inr (inl (set_load-within k part x))))
-  broken-within k part (inr (inr (inr (inr x)))) = inr (inr (inr (inr (power-within k part x))))
+  form-within : (f : Form) → IsPartWithin (form_scope f) s big → IsFormBroken p s f → IsFormBroken p big f
+  form-within (Apart separation) part h = separated-within separation part h
+  form-within (Allowed vs places) part (v, i, m, (n, l, o, x)) = (v, i, m, (n, l, o, part.present v (one n) m x))
+  form-within (Together vs groups) part h = scattered_grows s big vs _ (λ v set m. part.present v set m) h
+  form-within (Ordered before after) part h = (part.action after.0 Started (inr refl) h.0, part.action before.0 Unended (inl refl) h.1)
+  form-within (InTurn vs) part h = acting_grows s big vs (λ v far m. part.action v far m) h
+  form-within (Bounded weight ns amount) part h =
+      omega (arith, h, sum_to-le (machine_count p) (λ v. s.held v weight (has_node ns)) (λ v. big.held v weight (has_node ns)) (λ v i. part.held v weight (has_node ns) (refl, refl)))
+  form-within (Powered ns amount) part h =
+      omega (arith, h, sum_to-le (node_count p) (λ n. cond (has_node ns n) (cond (s.powered n) 1 0) 0) (λ n. cond (has_node ns n) (cond (big.powered n) 1 0) 0) (λ n i. cond-le (has_node ns n) _ _ (λ x. cond-implied (s.powered n) (big.powered n) 1 (part.powered n x))))
+  form-within Settled part h = h
 
 pub constraint_is_local : ConstraintIsLocal
 constraint_is_local p c = by (slice_get p.constraints c)
   where
     by : (o : Option Constraint) → IsLocal (watch_of p o)
     by None = record { part = λ s big last part x. x }
-    by (Some k) = record { part = λ s big last part x. (x.0, broken-within p s big k part x.1) }
+    by (Some k) = record { part = λ s big last part x. (x.0, broken_form p big k (form-within p s big (form_of k) part (form_broken p s k x.1))) }
 
 -- ---- instants
 

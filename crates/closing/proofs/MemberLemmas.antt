@@ -1,7 +1,6 @@
 -- The machines of a list, by their places in it; and what no machine of a list meets.
-use Rattle.std.proofs.Common.{◌≡◌, inl, inr, ℕ, zero, suc, ◌+◌, ◌<◌, ◌≤◌, Bool, true, false, ◌||◌, ◌==◌, nat_lt, List, [], ◌∷◌, length, take, get_or, slice_index_or, refl, subst, arith}
-use Rattle.std.specs.List.{list_all}
-use Rattle.std.proofs.lemmas.Bool.{and_parts, both_ways, cases_eq, cases_lt, eqb-true, ltb-true, or_cases}
+use Rattle.std.proofs.Common.{◌≡◌, inl, inr, ℕ, suc, ◌+◌, ◌<◌, ◌≤◌, Bool, true, false, ◌||◌, ◌==◌, List, [], ◌∷◌, length, take, get_or, slice_index_or, refl, subst, ◌∙◌, arith}
+use Rattle.std.proofs.lemmas.Bool.{both_ways, cases_eq, cases_lt, eqb-true, or_cases}
 use Rattle.std.proofs.lemmas.Bool.Decides.{nat_tests}
 use Rattle.std.proofs.lemmas.List.{get_or_default, get_or_past}
 use Rattle.std.proofs.lemmas.List.Folds.{list_any_more}
@@ -23,16 +22,6 @@ member_at (x ∷ vs) v h =
       | inr later ↦ let w = member_at vs v later in (suc w.0, omega (arith, w.1), w.2)
     ]
 
--- and is in range where all are
-pub member_below : (vs : List VmId) (m v : ℕ) → list_all (λ x. nat_lt x.0 m) vs ≡ true → IsMember vs v → v < m
-member_below [] m v all h = absurd (both_ways false refl h)
-member_below (x ∷ vs) m v all h =
-    let parts = and_parts (nat_lt x.0 m) (list_all (λ x. nat_lt x.0 m) vs) all in
-    elim (or_cases (x.0 == v) (is_member vs v) h) [
-      | inl here ↦ let e : x.0 ≡ v = eqb-true _ _ here in omega (arith, ltb-true x.0 m parts.0, e)
-      | inr later ↦ member_below vs m v parts.1 later
-    ]
-
 -- a part with a member is listed
 pub part_listed : (parts : List (List VmId)) (i v : ℕ) → IsInPart parts i v → i < length parts
 part_listed parts i v h =
@@ -41,20 +30,20 @@ part_listed parts i v h =
       | inr past ↦ absurd (both_ways (is_member (slice_index_or parts i []) v) (rw (get_or_past parts i [] past) refl) h)
     ]
 
-pub part_below : (parts : List (List VmId)) (m i v : ℕ) → list_all (list_all (λ x. nat_lt x.0 m)) parts ≡ true → IsInPart parts i v → v < m
-part_below [] m i v all h = absurd (omega (arith, part_listed [] i v h))
-part_below (vs ∷ parts) m zero v all h = member_below vs m v (and_parts (list_all (λ x. nat_lt x.0 m) vs) (list_all (list_all (λ x. nat_lt x.0 m)) parts) all).0 h
-part_below (vs ∷ parts) m (suc i) v all h = part_below parts m i v (and_parts (list_all (λ x. nat_lt x.0 m) vs) (list_all (list_all (λ x. nat_lt x.0 m)) parts) all).1 h
+-- a part by its number
+pub is_part : (parts : List (List VmId)) (vs given : List VmId) (j : ℕ) → j < length parts → vs ≡ given → given ≡ get_or parts j given → vs ≡ slice_index_or parts j []
+is_part parts vs given j h same is = same ∙ is ∙ get_or_default parts j given [] h
 
 -- ---- each machine of a list
 
--- one place more
+-- what holds of the first so many holds of one more
+pub one_more : (P : ℕ → Type 0) (i : ℕ) → ((k : ℕ) → k < i → P k) → P i → (k : ℕ) → k < i + 1 → P k
+one_more P i before here k h = elim (cases_eq k i) [ inl same ↦ rw same here | inr other ↦ before k (omega (arith, h, other)) ]
+
+-- and so of the machines of a list
 pub each_more : (P : ℕ → Type 0) (vs : List VmId) (i : ℕ) (e : VmId) → i < length vs → ((k : ℕ) (d : VmId) → k < i → P (get_or vs k d).0) → P (get_or vs i e).0 → (k : ℕ) (d : VmId) → k < i + 1 → P (get_or vs k d).0
 each_more P vs i e l before here k d u =
-    elim (cases_eq k i) [
-      | inl same ↦ rw (same, get_or_default vs i d e l) here
-      | inr other ↦ before k d (omega (arith, u, other))
-    ]
+    one_more (λ k. (d : VmId) → P (get_or vs k d).0) i (λ k h d. before k d h) (λ d. rw (get_or_default vs i d e l) here) k u d
 
 -- so for each member
 pub each_member : (P : ℕ → Type 0) (vs : List VmId) (count : ℕ) → length vs ≤ count → ((k : ℕ) (d : VmId) → k < count → P (get_or vs k d).0) → (v : ℕ) → IsMember vs v → P v

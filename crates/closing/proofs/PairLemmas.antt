@@ -1,7 +1,5 @@
 -- Loops over parts, and over the machines that are not in a set.
-use Rattle.std.proofs.Common.{◌≡◌, ◌≢◌, inl, inr, ℕ, ◌+◌, ◌<◌, List, [], length, get_or, slice_index_or, sym, ◌∙◌, arith}
-use Rattle.std.proofs.lemmas.Bool.{cases_eq}
-use Rattle.std.proofs.lemmas.List.{get_or_default}
+use Rattle.std.proofs.Common.{◌≢◌, ℕ, ◌<◌, List, [], length, slice_index_or}
 use Rattle.cluster.specs.declared.choices.Choice.{Choice}
 use Rattle.cluster.specs.declared.ids.Element.{Element}
 use Rattle.cluster.specs.declared.ids.VmId.{VmId}
@@ -12,26 +10,15 @@ use Rattle.closing.specs.Looks.{IsFreeOf, IsMetWith}
 use Rattle.closing.specs.Stands.{IsAnyOf, MeetsOtherPart, ShareNode}
 use Rattle.closing.proofs.MemberLemmas.{part_listed}
 
--- a part by its number
-pub is_part : (parts : List (List VmId)) (vs given : List VmId) (j : ℕ) → j < length parts → vs ≡ given → given ≡ get_or parts j given → vs ≡ slice_index_or parts j []
-is_part parts vs given j h same is = same ∙ is ∙ get_or_default parts j given [] h
-
 module _ (p : Instance) (s : Sets) (t : ℕ) (parts : List (List VmId)) where
   abbrev met_in : ℕ → ℕ → Snapshot → Type 0
   met_in v j = IsAnyOf (slice_index_or parts j []) (ShareNode p v)
-
-  -- one part more; the part itself is left out
-  pub other_more : (i v j : ℕ) → ((k : ℕ) → k < j → i ≢ k → IsFreeOf (met_in v k) p s t) → (i ≢ j → IsFreeOf (met_in v j) p s t) → (k : ℕ) → k < j + 1 → i ≢ k → IsFreeOf (met_in v k) p s t
-  other_more i v j before here k l ne = elim (cases_eq k j) [ inl same ↦ rw same (here (λ e. ne (e ∙ sym same))) | inr other ↦ before k (omega (arith, l, other)) ne ]
 
   pub others_free : (i v : ℕ) → ((k : ℕ) → k < length parts → i ≢ k → IsFreeOf (met_in v k) p s t) → IsFreeOf (MeetsOtherPart p parts i v) p s t
   others_free i v each = record {
     base = λ x. (each x.0 (part_listed parts x.0 x.2.0 x.2.1) x.1).base x.2;
     ends = λ e c h end x. (each x.0 (part_listed parts x.0 x.2.0 x.2.1) x.1).ends e c h end x.2;
   }
-
-  pub part_more : (i : ℕ) → ((k : ℕ) → k < i → IsFreeOf (IsAnyOf (slice_index_or parts k []) (MeetsOtherPart p parts k)) p s t) → IsFreeOf (IsAnyOf (slice_index_or parts i []) (MeetsOtherPart p parts i)) p s t → (k : ℕ) → k < i + 1 → IsFreeOf (IsAnyOf (slice_index_or parts k []) (MeetsOtherPart p parts k)) p s t
-  part_more i before here k l = elim (cases_eq k i) [ inl same ↦ rw same here | inr other ↦ before k (omega (arith, l, other)) ]
 
   pub parts_free : ((k : ℕ) → k < length parts → IsFreeOf (IsAnyOf (slice_index_or parts k []) (MeetsOtherPart p parts k)) p s t) → IsFreeOf (λ b. (i : ℕ) × (i < length parts) × IsAnyOf (slice_index_or parts i []) (MeetsOtherPart p parts i) b) p s t
   parts_free each = record {

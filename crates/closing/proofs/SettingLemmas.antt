@@ -1,4 +1,4 @@
--- What setting one element leaves as it was, for conditions on places, pairs, groups and powered nodes.
+-- What setting one element leaves as it was, for conditions on amounts, powered nodes, places and pairs.
 use Rattle.std.proofs.Common.{◌≡◌, ◌≢◌, ◌⊎◌, inl, inr, ℕ, ◌+◌, ◌<◌, ◌≤◌, Bool, true, false, cond, IsTrue, refl, sym, ap, ◌∙◌, arith}
 use Rattle.std.proofs.lemmas.Bool.{cases_eq, false≢true}
 use Rattle.cluster.specs.declared.choices.Choice.{Choice}
@@ -6,20 +6,20 @@ use Rattle.cluster.specs.declared.ids.VmId.{VmId}
 use Rattle.cluster.specs.declared.ids.NodeId.{NodeId}
 use Rattle.cluster.specs.declared.ids.Element.{Element}
 use Rattle.cluster.specs.declared.ids.Element.TheVariants.{Vm, Node as TheNode}
-use Rattle.catalogue.specs.declared.constraint.Constraint.{Constraint}
 use Rattle.catalogue.specs.Instance.{Instance, IsElement}
-use Rattle.slices.specs.declared.slice.Weight.TheVariants.{Amount, Presence}
+use Rattle.slices.specs.declared.slice.Weight.{Weight}
 use Rattle.slices.specs.Elements.{machine_count, node_count, node, vm}
-use Rattle.slices.specs.Snapshots.{load, powered_at, powered_nodes, presences, present_at}
+use Rattle.slices.specs.Forms.{Places}
+use Rattle.slices.specs.Snapshots.{powered_at, powered_nodes, present_at, total}
 use Rattle.slices.specs.Stages.{Nodes, one}
 use Rattle.domains.specs.Sets.{Sets, setting}
 use Rattle.reasons.specs.Closed.{IsEnd}
 use Rattle.reasons.specs.Sure.{sure}
-use Rattle.reasons.proofs.Public.{machine_change, node_change, setting_agrees, setting_load, setting_powered, setting_presences, setting_sets}
+use Rattle.reasons.proofs.Public.{machine_change, node_change, setting_agrees, setting_powered, setting_sets, setting_total}
 use Rattle.closing.specs.Looks.{IsFreeOf, IsMetWith}
 use Rattle.closing.specs.Parts.{FailAtEnds, IsAbove, IsEndThat, IsPoweredUnder, IsSpared}
 use Rattle.closing.specs.Stands.{IsMisplaced, IsOn, IsPlacedBadly, ShareNode, has_node_of}
-use Rattle.closing.specs.declared.stands.Stands.{Stands}
+use Rattle.closing.specs.declared.base.stands.Stands.{Stands}
 
 pub other_vm : (v w : ℕ) → v ≢ w → vm v ≢ vm w
 other_vm v w ne e = ne (let same : record { 0 = v } ≡ (let x : VmId = record { 0 = w } in x) = cc in ap (λ (x : VmId). x.0) same)
@@ -29,33 +29,19 @@ other_node m n ne e = ne (let same : record { 0 = m } ≡ (let x : NodeId = reco
 
 -- ---- sums with a fixed bound
 
-module _ (p : Instance) (s : Sets) (set : Nodes) (t amount spare : ℕ) where
-  pub uses_free : (r : ℕ) → spare + load p (sure p s t) r set ≡ amount → ((v : ℕ) → v < machine_count p → IsSpared p s (Amount r) set t spare v) → IsFreeOf (λ b. amount < load p b r set) p s t
-  uses_free r fits machines = record { base = λ over. omega (arith, over, fits); ends = at }
+module _ (p : Instance) (s : Sets) (w : Weight) (set : Nodes) (t amount spare : ℕ) (fits : spare + total p (sure p s t) w set ≡ amount) where
+  pub total_free : ((v : ℕ) → v < machine_count p → IsSpared p s w set t spare v) → IsFreeOf (λ b. amount < total p b w set) p s t
+  total_free machines = record { base = λ over. omega (arith, over, fits); ends = at }
     where
-      at : (e : Element) (c : Choice) → IsElement p e → IsEnd (s e) c → ¬ (amount < load p (sure p (setting e c s) t) r set)
-      at (Vm v) c h end over = (machines v.0 h).ends c end (omega (arith, setting_load p s v.0 c t r set h, over, fits))
-      at (TheNode n) c h end over = omega (arith, (node_change p (setting (node n.0) c s) s n.0 t h (setting_agrees s (node n.0) c)).of_load r set, over, fits)
+      at : (e : Element) (c : Choice) → IsElement p e → IsEnd (s e) c → ¬ (amount < total p (sure p (setting e c s) t) w set)
+      at (Vm v) c h end over = (machines v.0 h).ends c end (omega (arith, setting_total p s v.0 c t w set h, over, fits))
+      at (TheNode n) c h end over = omega (arith, (node_change p (setting (node n.0) c s) s n.0 t h (setting_agrees s (node n.0) c)).of_total w set, over, fits)
 
-  pub uses_met : (r : ℕ) → spare + load p (sure p s t) r set ≡ amount → (v : ℕ) → v < machine_count p → (c : Choice) → IsAbove p s (Amount r) set t spare v c → IsMetWith (λ b. amount < load p b r set) p s t (vm v) c
-  uses_met r fits v h c above = record {
+  pub total_met : (v : ℕ) → v < machine_count p → (c : Choice) → IsAbove p s w set t spare v c → IsMetWith (λ b. amount < total p b w set) p s t (vm v) c
+  total_met v h c above = record {
     element = h;
     is_end = above.is_end;
-    is_met = omega (arith, setting_load p s v c t r set h, above.passes, fits);
-  }
-
-  pub presences_free : spare + presences p (sure p s t) set ≡ amount → ((v : ℕ) → v < machine_count p → IsSpared p s Presence set t spare v) → IsFreeOf (λ b. amount < presences p b set) p s t
-  presences_free fits machines = record { base = λ over. omega (arith, over, fits); ends = at }
-    where
-      at : (e : Element) (c : Choice) → IsElement p e → IsEnd (s e) c → ¬ (amount < presences p (sure p (setting e c s) t) set)
-      at (Vm v) c h end over = (machines v.0 h).ends c end (omega (arith, setting_presences p s v.0 c t set h, over, fits))
-      at (TheNode n) c h end over = omega (arith, (node_change p (setting (node n.0) c s) s n.0 t h (setting_agrees s (node n.0) c)).of_presences set, over, fits)
-
-  pub presences_met : spare + presences p (sure p s t) set ≡ amount → (v : ℕ) → v < machine_count p → (c : Choice) → IsAbove p s Presence set t spare v c → IsMetWith (λ b. amount < presences p b set) p s t (vm v) c
-  presences_met fits v h c above = record {
-    element = h;
-    is_end = above.is_end;
-    is_met = omega (arith, setting_presences p s v c t set h, above.passes, fits);
+    is_met = omega (arith, setting_total p s v c t w set h, above.passes, fits);
   }
 
 -- ---- powered nodes
@@ -125,23 +111,21 @@ module _ (p : Instance) (s : Sets) (t : ℕ) where
   vm_or (Vm w) v = elim (cases_eq v w.0) [ inl same ↦ inl (ap (λ (k : ℕ). vm k) (sym same)) | inr ne ↦ inr (other_vm v w.0 ne) ]
   vm_or (TheNode n) v = inr (λ e. cc)
 
-  pub placed_free : (k : Constraint) (v : ℕ) → ¬ IsPlacedBadly p k v (sure p s t) → FailAtEnds (IsMisplaced p k v t) (s (vm v)) → IsFreeOf (IsPlacedBadly p k v) p s t
-  placed_free k v base fail = record { base = base; ends = at }
+  pub placed_free : (places : Places) (v : ℕ) → ¬ IsPlacedBadly p places v (sure p s t) → FailAtEnds (IsMisplaced p places v t) (s (vm v)) → IsFreeOf (IsPlacedBadly p places v) p s t
+  placed_free places v base fail = record { base = base; ends = at }
     where
-      at : (e : Element) (c : Choice) → IsElement p e → IsEnd (s e) c → ¬ IsPlacedBadly p k v (sure p (setting e c s) t)
+      at : (e : Element) (c : Choice) → IsElement p e → IsEnd (s e) c → ¬ IsPlacedBadly p places v (sure p (setting e c s) t)
       at e c h end x =
           elim (vm_or e v) [
-            | inl same ↦
-                fail.ends c (rw same at end)
-                (x.0, x.1, x.2.forbidden, sym (own-present v x.0 c) ∙ (rw same at x.2.present))
-            | inr ne ↦ base (x.0, x.1, record { forbidden = x.2.forbidden; present = sym (same-present e c v x.0 ne) ∙ x.2.present })
+            | inl same ↦ fail.ends c (rw same at end) (x.0, x.1, x.2, sym (own-present v x.0 c) ∙ (rw same at x.3))
+            | inr ne ↦ base (x.0, x.1, x.2, sym (same-present e c v x.0 ne) ∙ x.3)
           ]
 
-  pub placed_met : (k : Constraint) (v : ℕ) → v < machine_count p → (c : Choice) → IsEndThat (IsMisplaced p k v t) (s (vm v)) c → IsMetWith (IsPlacedBadly p k v) p s t (vm v) c
-  placed_met k v h c end = record {
+  pub placed_met : (places : Places) (v : ℕ) → v < machine_count p → (c : Choice) → IsEndThat (IsMisplaced p places v t) (s (vm v)) c → IsMetWith (IsPlacedBadly p places v) p s t (vm v) c
+  placed_met places v h c end = record {
     element = h;
     is_end = end.is_end;
-    is_met = let x = end.passes in (x.0, x.1, record { forbidden = x.2; present = own-present v x.0 c ∙ x.3 });
+    is_met = let x = end.passes in (x.0, x.1, x.2, own-present v x.0 c ∙ x.3);
   }
 
   -- ---- pairs

@@ -17,11 +17,14 @@ use Rattle.slices.specs.Stages.{Nodes}
 use Rattle.domains.specs.Sets.{Sets, may, same_element, setting, surely}
 use Rattle.domains.proofs.Public.{same_is}
 use Rattle.reasons.specs.Closed.{IsEnd}
-use Rattle.reasons.specs.Quiet.{AreOf}
+use Rattle.reasons.specs.Quiet.{AreOf, IsTurn}
 use Rattle.reasons.specs.Sure.{sure}
 use Rattle.closing.specs.Kinds.{actions_of, presences_of}
 use Rattle.closing.specs.Laws.{TurnsOfSomeAreEnough}
-use Rattle.closing.specs.Looks.{IsFreeOf, broken_at}
+use Rattle.closing.specs.Looks.{IsClean, IsFreeOf, broken_at}
+use Rattle.closing.specs.Turns.{Suffice, turning}
+use Rattle.closing.specs.declared.base.turns.Turns.{Turns}
+use Rattle.closing.specs.declared.base.turns.Turns.TheVariants.{OfAll, Of}
 use Rattle.closing.specs.Watches.{IsLocal, IsPartWithin, IsUnseen, Scope, SeesOnly, Watch, is_among, only_of}
 use Rattle.closing.proofs.LocalLemmas.{turns_are_enough}
 
@@ -124,3 +127,8 @@ pub turns_of_some_are_enough : TurnsOfSomeAreEnough
 turns_of_some_are_enough w p s vs local sees of clean t l =
     free-alike w p vs t local sees (only_of vs s) s (agree-back vs (only_of vs s) s (only-agrees vs s))
     (turns_are_enough w p (only_of vs s) local (only-of p vs s of) (λ u m turn. free-alike w p vs u local sees s (only_of vs s) (only-agrees vs s) (clean u m turn)) t l)
+
+-- the turns at which a look looks
+pub turns_suffice : (turns : Turns) (w : Watch) (p : Instance) (s : Sets) → IsLocal w → Suffice turns w.scope → AreOf p s → ((t : ℕ) → t ≤ p.horizon → IsTurn p (turning turns s) t → IsFreeOf (broken_at w p t) p s t) → IsClean w p s
+turns_suffice OfAll w p s local sees of clean = turns_are_enough w p s local of clean
+turns_suffice (Of vs) w p s local sees of clean = turns_of_some_are_enough w p s vs.now local sees of clean

@@ -24,8 +24,8 @@ use Rattle.relax.specs.Areas.{goes_in, hosted_in}
 use Rattle.relax.proofs.Public.{away}
 use Rattle.closing.proofs.EndLemmas.{goes_elsewhere}
 use Rattle.closing.specs.Parts.{FailAtEnds, IsEndThat, PassOnlyAt}
-use Rattle.closing.specs.declared.stands.Stands.{Stands}
-use Rattle.closing.specs.declared.stands.Stands.TheVariants.{On}
+use Rattle.closing.specs.declared.base.stands.Stands.{Stands}
+use Rattle.closing.specs.declared.base.stands.Stands.TheVariants.{On}
 use Rattle.closing.specs.Stands.{AreWithin, IsOn, IsWithin, has_node_of, is_node}
 
 -- the first start of the first row is a choice

@@ -17,7 +17,7 @@ use Rattle.domains.proofs.Public.{contains_one}
 use Rattle.reasons.specs.Closed.{IsEnd}
 use Rattle.reasons.specs.Reasons.{IsOverload}
 use Rattle.reasons.specs.Sure.{sure}
-use Rattle.reasons.proofs.Public.{end_is_choice, node_change, setting_agrees, setting_load, setting_sets}
+use Rattle.reasons.proofs.Public.{end_is_choice, node_change, setting_agrees, setting_sets, setting_total}
 use Rattle.closing.specs.Looks.{IsFreeOf}
 use Rattle.closing.specs.Most.{HasSteadyRoom, StaysUsable, StaysWithin}
 use Rattle.closing.proofs.SettingLemmas.{other_node}
@@ -77,6 +77,6 @@ module _ (p : Instance) (s : Sets) where
     steady_fits amount has stays t = record { base = λ over. omega (arith, over, has.base t, stays.base t); ends = at }
       where
         at : (e : Element) (c : Choice) → IsElement p e → IsEnd (s e) c → ¬ IsOverload p (sure p (setting e c s) t) r set
-        at (Vm v) c there end over = omega (arith, setting_load p s v.0 c t r set there, stays.each v.0 t c there end, has.ends t (vm v.0) c there end, over)
+        at (Vm v) c there end over = omega (arith, setting_total p s v.0 c t (Amount r) set there, stays.each v.0 t c there end, has.ends t (vm v.0) c there end, over)
         at (TheNode n) c there end over =
-            omega (arith, (node_change p (setting (node n.0) c s) s n.0 t there (setting_agrees s (node n.0) c)).of_load r set, stays.base t, has.ends t (node n.0) c there end, over)
+            omega (arith, (node_change p (setting (node n.0) c s) s n.0 t there (setting_agrees s (node n.0) c)).of_total (Amount r) set, stays.base t, has.ends t (node n.0) c there end, over)

@@ -1,6 +1,5 @@
 -- What setting one element changes in a sum of what machines hold.
-use Rattle.std.proofs.Common.{◌≡◌, inl, inr, ℕ, ◌+◌, ◌<◌, ◌≤◌, Bool, true, false, cond, length, IsTrue, refl, sym, subst, arith}
-use Rattle.std.proofs.lemmas.Bool.{cases_eq}
+use Rattle.std.proofs.Common.{◌≡◌, ℕ, ◌+◌, ◌<◌, ◌≤◌, Bool, true, false, cond, length, IsTrue, refl, arith}
 use Rattle.cluster.specs.declared.choices.Choice.{Choice}
 use Rattle.cluster.specs.declared.ids.Element.{Element}
 use Rattle.cluster.specs.declared.ids.Element.TheVariants.{Vm, Node as TheNode}
@@ -14,7 +13,7 @@ use Rattle.domains.specs.Sets.{Sets, setting}
 use Rattle.reasons.specs.Closed.{IsEnd}
 use Rattle.reasons.specs.Reasons.{IsOverload}
 use Rattle.reasons.specs.Sure.{sure}
-use Rattle.reasons.proofs.Public.{machine_change, node_change, setting_agrees, setting_load, setting_room}
+use Rattle.reasons.proofs.Public.{machine_change, node_change, setting_agrees, setting_room, setting_total}
 use Rattle.closing.specs.Kinds.{IsOverloaded}
 use Rattle.closing.specs.Looks.{IsFreeOf, IsMetWith}
 use Rattle.closing.specs.Parts.{IsAbove, IsNodeMissed, IsNodeSpared, IsSpared}
@@ -25,17 +24,17 @@ module _ (p : Instance) (s : Sets) (r : ℕ) (set : Nodes) (t spare : ℕ) (fits
   same-room v c h = (machine_change p (setting (vm v) c s) s v t h (setting_agrees s (vm v) c)).of_room r set
 
   same-load : (n : ℕ) (c : Choice) → n < node_count p → load p (sure p (setting (node n) c s) t) r set ≡ load p (sure p s t) r set
-  same-load n c h = (node_change p (setting (node n) c s) s n t h (setting_agrees s (node n) c)).of_load r set
+  same-load n c h = (node_change p (setting (node n) c s) s n t h (setting_agrees s (node n) c)).of_total (Amount r) set
 
   machine-fits : (v : ℕ) → v < machine_count p → IsSpared p s (Amount r) set t spare v → (c : Choice) → IsEnd (s (vm v)) c → ¬ IsOverload p (sure p (setting (vm v) c s) t) r set
   machine-fits v h spared c end over =
-      spared.ends c end (omega (arith, setting_load p s v c t r set h, same-room v c h, over, fits))
+      spared.ends c end (omega (arith, setting_total p s v c t (Amount r) set h, same-room v c h, over, fits))
 
   pub machine-breaks : (v : ℕ) → v < machine_count p → (c : Choice) → IsAbove p s (Amount r) set t spare v c → IsMetWith (λ b. IsOverload p b r set) p s t (vm v) c
   machine-breaks v h c above = record {
     element = h;
     is_end = above.is_end;
-    is_met = omega (arith, setting_load p s v c t r set h, same-room v c h, above.passes, fits);
+    is_met = omega (arith, setting_total p s v c t (Amount r) set h, same-room v c h, above.passes, fits);
   }
 
   abbrev part : ℕ → Bool → ℕ
@@ -73,10 +72,6 @@ module _ (p : Instance) (s : Sets) (r : ℕ) (set : Nodes) (t spare : ℕ) (fits
       at (TheNode n) c h end = node-fits n.0 h (nodes n.0 h) c end
 
 module _ (p : Instance) (s : Sets) (set : Nodes) (t : ℕ) where
-  pub free-more : (k : ℕ) → ((r : ℕ) → r < k → IsFreeOf (λ b. IsOverload p b r set) p s t) → IsFreeOf (λ b. IsOverload p b k set) p s t → (r : ℕ) → r < k + 1 → IsFreeOf (λ b. IsOverload p b r set) p s t
-  free-more k below here r h =
-      elim (cases_eq r k) [ inl e ↦ subst (λ r. IsFreeOf (λ b. IsOverload p b r set) p s t) (sym e) here | inr ne ↦ below r (omega (arith, h, ne)) ]
-
   pub resources-free : ((r : ℕ) → r < length p.resources → IsFreeOf (λ b. IsOverload p b r set) p s t) → IsFreeOf (IsOverloaded p set) p s t
   resources-free each = record {
     base = λ x. (each x.0 x.1).base x.2;

@@ -1,31 +1,29 @@
 -- When a node is needed and not usable, with one element set.
-use Rattle.std.proofs.Common.{◌≡◌, ◌≢◌, ◌⊎◌, inl, inr, ℕ, ◌<◌, ◌||◌, Bool, true, false, List, [], ◌∷◌, nat_lt, IsTrue, refl, sym, ap, subst, ◌∙◌, arith}
+use Rattle.std.proofs.Common.{◌≡◌, ◌⊎◌, inl, inr, ℕ, ◌<◌, ◌||◌, Bool, true, false, nat_lt, IsTrue, refl, sym, ap, ◌∙◌, arith}
 use Rattle.std.proofs.lemmas.Bool.{cases_eq, false≢true}
 use Rattle.std.proofs.lemmas.Bool.Decides.{nat_tests}
 use Rattle.cluster.specs.declared.choices.Choice.{Choice}
-use Rattle.cluster.specs.declared.choices.Choice.TheVariants.{Idle}
 use Rattle.cluster.specs.declared.choices.Place.TheVariants.{At}
-use Rattle.cluster.specs.declared.ids.VmId.{VmId}
 use Rattle.cluster.specs.declared.ids.NodeId.{NodeId}
 use Rattle.cluster.specs.declared.ids.Element.{Element}
 use Rattle.cluster.specs.declared.ids.Element.TheVariants.{Vm, Node as TheNode}
 use Rattle.catalogue.specs.Instance.{Instance, IsElement}
 use Rattle.slices.specs.declared.slice.Weight.TheVariants.{Image, Presence}
 use Rattle.slices.specs.Elements.{machine_count, node_count, node, state_of, vm}
-use Rattle.slices.specs.Snapshots.{Snapshot, held_at, stands_on, usable_at}
+use Rattle.slices.specs.Snapshots.{Snapshot, held_at, stands_on}
 use Rattle.slices.specs.Stages.{one}
 use Rattle.domains.specs.Sets.{Sets, setting}
-use Rattle.domains.proofs.Public.{contains_one}
-use Rattle.std.specs.List.{Contains}
 use Rattle.reasons.specs.Closed.{IsEnd}
 use Rattle.reasons.specs.Settings.{IsMachineUnder, IsSameMachine}
 use Rattle.reasons.specs.Sure.{sure}
-use Rattle.reasons.proofs.Public.{end_is_choice, setting_sets}
+use Rattle.reasons.proofs.Public.{setting_sets}
 use Rattle.relax.specs.Areas.{goes_in, hosted_in}
 use Rattle.relax.proofs.Public.{away}
 use Rattle.closing.proofs.EndLemmas.{goes_elsewhere}
+use Rattle.closing.proofs.SettingLemmas.{other_node, other_vm}
 use Rattle.closing.specs.Kinds.{IsNeeded}
 use Rattle.closing.specs.Looks.{IsFreeOf, IsMetWith}
+use Rattle.closing.specs.Most.{StaysUsable}
 use Rattle.closing.specs.Parts.{FailAtEnds, IsEndThat, IsNotUsable, NoneAmong, PassOnlyAt, StandsUnder}
 
 either : (x y : ℕ) → IsTrue (nat_lt 0 x || nat_lt 0 y) → (0 < x) ⊎ (0 < y)
@@ -47,12 +45,6 @@ stands-under p a v n t c under h = either (held_at p v Presence (one n) t c) (he
 
 under-stands : (p : Instance) (a : Snapshot) (v n t : ℕ) (c : Choice) → IsMachineUnder p a v t c → StandsUnder p v n t c → IsTrue (stands_on a v n)
 under-stands p a v n t c under h = rw (under.present (one n), under.held Image (one n)) (some (held_at p v Presence (one n) t c) (held_at p v Image (one n) t c) h)
-
-other-vm : (v w : ℕ) → v ≢ w → vm v ≢ vm w
-other-vm v w ne e = ne (let same : record { 0 = v } ≡ (let x : VmId = record { 0 = w } in x) = cc in ap (λ (x : VmId). x.0) same)
-
-other-node : (m n : ℕ) → m ≢ n → node m ≢ node n
-other-node m n ne e = ne (let same : record { 0 = m } ≡ (let x : NodeId = record { 0 = n } in x) = cc in ap (λ (x : NodeId). x.0) same)
 
 -- a machine that is hosted elsewhere stands on the node only where it goes there
 pub stands_only_at : (p : Instance) (v t : ℕ) (n : NodeId) → hosted_in (state_of p v) (one n.0) ≡ false → PassOnlyAt (At n) (StandsUnder p v n.0 t)
@@ -90,7 +82,7 @@ module _ (p : Instance) (s : Sets) (n t : ℕ) where
                 (rw same at x.2.stands))
             | inr ne ↦
                 not-standing _
-                (stands-same (sure p (setting (vm v.0) c s) t) (sure p s t) x.0 n ((setting_sets p s (vm v.0) c t).other_machines x.0 (other-vm x.0 v.0 ne))
+                (stands-same (sure p (setting (vm v.0) c s) t) (sure p s t) x.0 n ((setting_sets p s (vm v.0) c t).other_machines x.0 (other_vm x.0 v.0 ne))
                 ∙ none x.0 x.1) x.2.stands
           ]
       at (TheNode m) c h end x =
@@ -124,19 +116,15 @@ module _ (p : Instance) (s : Sets) (n t : ℕ) where
             | inl same ↦
                 (rw same at fail).ends c end
                 (rw (← same) (sym ((setting_sets p s (node m.0) c t).set_node n (ap (λ (k : ℕ). node k) (sym same))).usable ∙ x.2.unusable))
-            | inr ne ↦ not-standing _ (sym ((setting_sets p s (node m.0) c t).other_nodes n (other-node n m.0 ne)).usable ∙ x.2.unusable) on
+            | inr ne ↦ not-standing _ (sym ((setting_sets p s (node m.0) c t).other_nodes n (other_node n m.0 ne)).usable ∙ x.2.unusable) on
           ]
 
-  -- where the node can only stay as it is, and is usable so
-  pub staying_free : s (node n) ≡ Idle ∷ [] → IsTrue (usable_at p n 0 Idle) → IsFreeOf (IsNeeded p n) p s t
-  unfolding usable_at sure
-  staying_free stays on = usable_free (rw (stays, on) refl) (record { ends = λ c end off. not-standing _ off (on-with c (is-idle (s (node n)) c stays (end_is_choice (s (node n)) c end))) })
-    where
-      is-idle : (cs : List Choice) (c : Choice) → cs ≡ Idle ∷ [] → Contains cs c → c ≡ Idle
-      is-idle cs c is h = contains_one Idle c (subst (λ l. Contains l c) is h)
-
-      on-with : (c : Choice) → c ≡ Idle → IsTrue (usable_at p n t c)
-      on-with c is = subst (λ x. IsTrue (usable_at p n t x)) (sym is) on
+  -- where it stays usable
+  pub staying_free : StaysUsable p s n → IsFreeOf (IsNeeded p n) p s t
+  staying_free stays = record {
+    base = λ x. not-standing _ x.2.unusable (stays.base t);
+    ends = λ e c there end x. not-standing _ x.2.unusable (stays.ends t e c there end);
+  }
 
   -- where the node may be usable, and no machine stands there
   pub unneeded_free : IsTrue ((sure p s t).usable n) → NoneStands → IsFreeOf (IsNeeded p n) p s t

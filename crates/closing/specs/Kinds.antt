@@ -2,12 +2,12 @@
 use Rattle.std.specs.Prelude.{◌≡◌, ◌⊎◌, ℕ, ◌<◌, ◌||◌, length, slice_get, Option, Some, None, IsTrue}
 use Rattle.cluster.specs.Sets.{has_node}
 use Rattle.catalogue.specs.declared.constraint.Constraint.{Constraint}
-use Rattle.catalogue.specs.declared.constraint.Constraint.TheVariants.{Spread, Ban, Fence, Gather, Lonely, Among, Split, Root, Precedence, Serialize, Preserve, ResourceCapacity, RunningCapacity, MaxOnline, Overbook, Online, Offline, Running, Sleeping, Ready, Killed}
 use Rattle.catalogue.specs.Instance.{Instance}
 use Rattle.catalogue.specs.Kinds.{is_continuous}
 use Rattle.slices.specs.declared.slice.Weight.{Weight}
-use Rattle.slices.specs.declared.slice.Weight.TheVariants.{Amount, Presence, Image}
+use Rattle.slices.specs.declared.slice.Weight.TheVariants.{Amount, Image}
 use Rattle.slices.specs.Elements.{machine_count, node_count}
+use Rattle.slices.specs.Forms.{Form, Apart, Allowed, Together, Ordered, InTurn, Bounded, Powered, Settled, Separation, Each, Between, FromOthers, form_of}
 use Rattle.slices.specs.Holds.{IsInPart, IsMember}
 use Rattle.slices.specs.Snapshots.{Snapshot}
 use Rattle.slices.specs.Stages.{Nodes, one}
@@ -91,29 +91,25 @@ weights_on weight set =
 abbrev pub powered_in_set : Nodes → Scope
 powered_in_set set = record { held = λ v w nodes. ⊥; present = λ v nodes. ⊥; usable = λ n. ⊥; powered = λ n. IsTrue (set n); action = λ v far. ⊥ }
 
--- what a constraint of each kind looks at
+-- what each form looks at: where members are, or where all machines are, where members are kept apart from all others
+abbrev pub separation_scope : Separation → Scope
+separation_scope (Each vs) = presences_of (IsMember vs)
+separation_scope (Between parts) = presences_of (λ v. (i : ℕ) × IsInPart parts i v)
+separation_scope (FromOthers vs) = presences_of (λ v. Unit {0})
+
+abbrev pub form_scope : Form → Scope
+form_scope (Apart separation) = separation_scope separation
+form_scope (Allowed vs places) = presences_of (IsMember vs)
+form_scope (Together vs groups) = presences_of (IsMember vs)
+form_scope (Ordered before after) = actions_of (λ v. (v ≡ before.0) ⊎ (v ≡ after.0))
+form_scope (InTurn vs) = actions_of (IsMember vs)
+form_scope (Bounded weight ns amount) = weights_on weight (has_node ns)
+form_scope (Powered ns amount) = powered_in_set (has_node ns)
+form_scope Settled = nothing
+
+-- and so a constraint of that form
 abbrev pub scope_of : Constraint → Scope
-scope_of (Spread vs b) = presences_of (IsMember vs)
-scope_of (Ban vs ns b) = presences_of (IsMember vs)
-scope_of (Fence vs ns b) = presences_of (IsMember vs)
-scope_of (Gather vs b) = presences_of (IsMember vs)
-scope_of (Lonely vs b) = presences_of (λ v. Unit {0})
-scope_of (Among vs groups b) = presences_of (IsMember vs)
-scope_of (Split parts b) = presences_of (λ v. (i : ℕ) × IsInPart parts i v)
-scope_of (Root vs) = presences_of (IsMember vs)
-scope_of (Precedence before after) = actions_of (λ v. (v ≡ before.0) ⊎ (v ≡ after.0))
-scope_of (Serialize vs) = actions_of (IsMember vs)
-scope_of (Preserve vs r amount) = nothing
-scope_of (ResourceCapacity ns r amount b) = weights_on (Amount r) (has_node ns)
-scope_of (RunningCapacity ns amount b) = weights_on Presence (has_node ns)
-scope_of (MaxOnline ns amount b) = powered_in_set (has_node ns)
-scope_of (Overbook ns r num den) = nothing
-scope_of (Online ns) = nothing
-scope_of (Offline ns) = nothing
-scope_of (Running vs) = nothing
-scope_of (Sleeping vs) = nothing
-scope_of (Ready vs) = nothing
-scope_of (Killed vs) = nothing
+scope_of k = form_scope (form_of k)
 
 abbrev pub rule_watch : Instance → Constraint → Watch
 rule_watch p k = record { scope = scope_of k; broken = λ s last. IsTrue (is_continuous k || last) × IsBroken p s k }

@@ -4,6 +4,8 @@ pub mod Kinds
 pub mod Looks
 -- what the laws and the code say beside it
 pub mod Laws
+pub mod Forms
 pub mod Most
 pub mod Parts
 pub mod Stands
+pub mod Turns

@@ -6,16 +6,17 @@ use Rattle.cluster.specs.declared.ids.VmId.{VmId}
 use Rattle.catalogue.specs.declared.constraint.Constraint.{Constraint}
 use Rattle.catalogue.specs.Instance.{Instance}
 use Rattle.slices.specs.Elements.{machine_count, node_count, vm}
-use Rattle.slices.specs.Holds.{ForbidsPlace, IsMember}
+use Rattle.slices.specs.Forms.{Places}
+use Rattle.slices.specs.Holds.{IsMember, IsOffLimits}
 use Rattle.slices.specs.Snapshots.{Snapshot, present_at}
 use Rattle.slices.specs.Stages.{Nodes, one}
 use Rattle.domains.specs.Sets.{Sets, setting}
-use Rattle.reasons.specs.Reasons.{IsGroup, IsPlace}
+use Rattle.reasons.specs.Reasons.{IsGroup}
 use Rattle.reasons.specs.Closed.{IsEnd}
 use Rattle.reasons.specs.Sure.{sure}
 use Rattle.closing.specs.Parts.{FailAtEnds}
-use Rattle.closing.specs.declared.stands.Stands.{Stands}
-use Rattle.closing.specs.declared.stands.Stands.TheVariants.{Everywhere, On}
+use Rattle.closing.specs.declared.base.stands.Stands.{Stands}
+use Rattle.closing.specs.declared.base.stands.Stands.TheVariants.{Everywhere, On}
 
 abbrev pub is_node : Option NodeId → ℕ → Bool
 is_node None n = false
@@ -38,13 +39,13 @@ AreWithin nodes (On a b) = IsWithin nodes a × IsWithin nodes b
 abbrev pub IsOn : Instance → ℕ → Nodes → ℕ → Choice → Type 0
 IsOn p v set t c = (n : ℕ) × (n < node_count p) × IsTrue (set n) × IsTrue (present_at p v (one n) t c)
 
--- under the choice it is where the constraint lets it not be
-abbrev pub IsMisplaced : Instance → Constraint → ℕ → ℕ → Choice → Type 0
-IsMisplaced p k v t c = (n : ℕ) × (n < node_count p) × ForbidsPlace p k v n × IsTrue (present_at p v (one n) t c)
+-- under the choice it is where it may not be
+abbrev pub IsMisplaced : Instance → Places → ℕ → ℕ → Choice → Type 0
+IsMisplaced p places v t c = (n : ℕ) × (n < node_count p) × IsOffLimits p places v n × IsTrue (present_at p v (one n) t c)
 
--- a machine is where the constraint lets it not be
-abbrev pub IsPlacedBadly : Instance → Constraint → ℕ → Snapshot → Type 0
-IsPlacedBadly p k v s = (n : ℕ) × (n < node_count p) × IsPlace p s k v n
+-- a machine is where it may not be
+abbrev pub IsPlacedBadly : Instance → Places → ℕ → Snapshot → Type 0
+IsPlacedBadly p places v s = (n : ℕ) × (n < node_count p) × IsOffLimits p places v n × IsTrue (s.present v (one n))
 
 -- two different machines are on one node
 abbrev pub ShareNode : Instance → ℕ → ℕ → Snapshot → Type 0

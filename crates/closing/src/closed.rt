@@ -9,7 +9,7 @@ ghost use Rattle.closing.specs.Kinds.{constraint_watch, load_watch, total_load_w
 ghost use Rattle.closing.specs.Laws.{AreClean};
 ghost use Rattle.closing.specs.Looks.{IsClean};
 
-use crate::counts::{machines_of, nodes_of};
+use crate::base::counts::{machines_of, nodes_of};
 use crate::look::Look;
 use crate::watch::{look_at_constraint, look_at_load, look_at_total_load, look_at_usable};
 use catalogue::problem::Problem;

@@ -1,24 +1,10 @@
-//! Closed regions: looks at all that can be broken in a region.
+//! Closed regions: looks at all that can be broken in a region. `exact` says what is broken at an
+//! instant, `quick` tells at once of some things that nothing is broken, and both stand on `base`.
 #![tactic(auto)]
 
-mod above;
-mod apart;
-mod capacities;
+mod base;
 pub mod closed;
-mod constraint;
-mod counts;
-mod each;
-mod ends;
-mod ever;
-mod groups;
-mod hosts;
-mod loads;
+mod exact;
 pub mod look;
-mod most;
-mod pairs;
-mod places;
-mod stands;
-mod steady;
-mod turns;
-mod usable;
+mod quick;
 pub mod watch;

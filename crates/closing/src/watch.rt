@@ -1,29 +1,29 @@
 //! Single things that can be broken, looked at over a region: at one instant, and at all.
-ghost use Rattle.std.specs.Prelude.{◌≡◌, ℕ, ◌+◌, ◌<◌, ◌≤◌, length, nat_lt, true};
-ghost use Rattle.std.specs.List.{list_all};
+ghost use Rattle.std.specs.Prelude.{◌≡◌, ℕ, ◌+◌, ◌<◌, ◌≤◌, length};
 ghost use Rattle.catalogue.specs.Instance.{Instance};
-ghost use Rattle.slices.specs.Elements.{machine_count, node_count};
+ghost use Rattle.slices.specs.Elements.{node_count};
 ghost use Rattle.domains.specs.Sets.{sets};
 ghost use Rattle.relax.specs.Areas.{IsSized};
 ghost use Rattle.closing.specs.Kinds.{constraint_watch, load_watch, total_load_watch, usable_watch};
 ghost use Rattle.closing.specs.Looks.{IsFound, IsLook, broken_at};
-ghost use Rattle.closing.specs.Watches.{IsLocal, SeesOnly, Watch};
+ghost use Rattle.closing.specs.Turns.{AreListed, Suffice};
+ghost use Rattle.closing.specs.Watches.{IsLocal, Watch};
 
-use crate::constraint::{constraint_found, members};
-use crate::ever::is_never_broken;
-use crate::loads::load_found;
+use crate::base::turns::{Turns, next_turn};
+use crate::exact::constraint::{constraint_found, turns_of};
+use crate::exact::loads::load_found;
+use crate::exact::usable::usable_found;
 use crate::look::Look;
-use crate::steady::is_never_overloaded;
-use crate::turns::{next_turn, next_turn_of};
-use crate::usable::{stays_usable, usable_found};
+use crate::quick::ever::is_never_broken;
+use crate::quick::steady::{is_never_overloaded, stays_usable};
 use catalogue::problem::Problem;
 use cluster::choices::Instant;
-use cluster::ids::{NodeId, VmId};
+use cluster::ids::NodeId;
 use domains::region::Region;
 use relax::area::Area;
 
 /// One thing that can be broken.
-pub trait Watched {
+trait Watched {
     /// What of the problem a look needs.
     ghost ready: { Self → Instance → Type 0 };
 
@@ -40,7 +40,7 @@ pub trait Watched {
 
 /// The load of one node.
 #[derive(Clone, Copy)]
-pub struct NodeLoad(pub NodeId);
+struct NodeLoad(NodeId);
 
 impl Watched for NodeLoad {
     ghost ready = { λ w p. w.0.0 < node_count p };
@@ -54,7 +54,7 @@ impl Watched for NodeLoad {
 
 /// The load of all nodes together.
 #[derive(Clone, Copy)]
-pub struct TotalLoad;
+struct TotalLoad;
 
 impl Watched for TotalLoad {
     ghost ready = { λ w p. Unit {0} };
@@ -68,7 +68,7 @@ impl Watched for TotalLoad {
 
 /// Whether one node is usable where it is needed.
 #[derive(Clone, Copy)]
-pub struct NodeUsable(pub NodeId);
+struct NodeUsable(NodeId);
 
 impl Watched for NodeUsable {
     ghost ready = { λ w p. w.0.0 < node_count p };
@@ -82,7 +82,7 @@ impl Watched for NodeUsable {
 
 /// One constraint, by its number.
 #[derive(Clone, Copy)]
-pub struct OneConstraint(pub u32);
+struct OneConstraint(u32);
 
 impl Watched for OneConstraint {
     ghost ready = { λ w p. w.0 < length p.constraints };
@@ -94,11 +94,14 @@ impl Watched for OneConstraint {
     }
 }
 
-/// A look at one thing at all instants up to the horizon, one after the other; what is found first is answered.
-pub fn look<W: Watched>(watched: &W, p: &Problem, g: &Region) -> Look
+// a look at one thing at all instants up to the horizon, by turns one after the other; what is found first is
+// answered
+fn look<W: Watched>(watched: &W, p: &Problem, g: &Region, turns: &Turns) -> Look
     requires region { IsSized p.now.given g.now }
     requires ready { W.ready watched.now p.now.given }
     requires local { IsLocal (W.watch watched.now p.now.given) }
+    requires machines { AreListed p.now.given turns.now }
+    requires suffice { Suffice turns.now (W.watch watched.now p.now.given).scope }
     ensures { IsLook (W.watch watched.now p.now.given) p.now.given (sets g.now) result }
 {
     let mut at = 0u64;
@@ -108,28 +111,7 @@ pub fn look<W: Watched>(watched: &W, p: &Problem, g: &Region) -> Look
             Look::Fail(t) => return Look::Fail(t),
             Look::Cut(e, c, t) => return Look::Cut(e, c, t),
         }
-        at = next_turn(p, g, at as u32);
-    }
-    Look::Clean
-}
-
-/// As `look`, at something that looks at these machines alone: their turns are enough.
-fn look_among<W: Watched>(watched: &W, p: &Problem, g: &Region, machines: &[VmId]) -> Look
-    requires region { IsSized p.now.given g.now }
-    requires ready { W.ready watched.now p.now.given }
-    requires local { IsLocal (W.watch watched.now p.now.given) }
-    requires machines { list_all (λ x. nat_lt x.0 (machine_count p.now.given)) machines.now ≡ true }
-    requires sees { SeesOnly machines.now (W.watch watched.now p.now.given).scope }
-    ensures { IsLook (W.watch watched.now p.now.given) p.now.given (sets g.now) result }
-{
-    let mut at = 0u64;
-    'instants: while at <= u64::from(p.horizon()) {
-        match watched.found(p, g, at as u32) {
-            Look::Clean => {}
-            Look::Fail(t) => return Look::Fail(t),
-            Look::Cut(e, c, t) => return Look::Cut(e, c, t),
-        }
-        at = next_turn_of(p, g, machines, at as u32);
+        at = next_turn(p, g, turns, at as u32);
     }
     Look::Clean
 }
@@ -143,7 +125,7 @@ pub fn look_at_load(p: &Problem, g: &Region, n: NodeId) -> Look
     if is_never_overloaded(p, g, &Area::One(n)) {
         return Look::Clean;
     }
-    look(&NodeLoad(n), p, g)
+    look(&NodeLoad(n), p, g, &Turns::OfAll)
 }
 
 /// A look at the load of all nodes together.
@@ -154,7 +136,7 @@ pub fn look_at_total_load(p: &Problem, g: &Region) -> Look
     if is_never_overloaded(p, g, &Area::All) {
         return Look::Clean;
     }
-    look(&TotalLoad, p, g)
+    look(&TotalLoad, p, g, &Turns::OfAll)
 }
 
 /// A look at whether a node on which machines are, or have their images, is usable. The horizon is looked at
@@ -168,13 +150,13 @@ pub fn look_at_usable(p: &Problem, g: &Region, n: NodeId) -> Look
         return Look::Clean;
     }
     match usable_found(p, g, n, p.horizon()) {
-        Look::Clean => look(&NodeUsable(n), p, g),
+        Look::Clean => look(&NodeUsable(n), p, g, &Turns::OfAll),
         Look::Fail(t) => Look::Fail(t),
         Look::Cut(e, c, t) => Look::Cut(e, c, t),
     }
 }
 
-// a look at a constraint at all instants, or where it looks at some machines alone at their turns
+// a look at a constraint at all turns that suffice
 fn look_always(p: &Problem, g: &Region, c: u32) -> Look
     requires region { IsSized p.now.given g.now }
     requires constraint { c < length p.now.given.constraints }
@@ -184,10 +166,7 @@ fn look_always(p: &Problem, g: &Region, c: u32) -> Look
     if is_never_broken(p, g, constraint) {
         return Look::Clean;
     }
-    match members(p, constraint) {
-        None => look(&OneConstraint(c), p, g),
-        Some(machines) => look_among(&OneConstraint(c), p, g, machines),
-    }
+    look(&OneConstraint(c), p, g, &turns_of(p, constraint))
 }
 
 /// A look at the constraint of a number. One that is to hold at the horizon alone is looked at there alone.

@@ -2,12 +2,13 @@ use Rattle.std.proofs.Common.{ℕ, ◌<◌, ◌≤◌, ◌+◌, ◌-◌}
 use Rattle.domains.specs.Sets.{sets}
 use Rattle.reasons.specs.Quiet.{IsTurn}
 use Rattle.closing.specs.Looks.{IsFreeOf, broken_at}
+use Rattle.closing.specs.Turns.{turning}
 use Rattle.closing.proofs.watch.look.Given as goal
 
 abbrev pub invariant-instants : goal.invariant-instants
 invariant-instants g l = record {
   most : l.at ≤ l.p.given.horizon + 1;
-  clean : (t : ℕ) → t < l.at → IsTurn l.p.given (sets l.g) t → IsFreeOf (broken_at (g.W.Watched.watch l.watched l.p.given) l.p.given t) l.p.given (sets l.g) t;
+  clean : (t : ℕ) → t < l.at → IsTurn l.p.given (turning l.turns (sets l.g)) t → IsFreeOf (broken_at (g.W.Watched.watch l.watched l.p.given) l.p.given t) l.p.given (sets l.g) t;
 }
 
 abbrev pub decreases-instants : goal.decreases-instants

@@ -1,9 +1,0 @@
-use Rattle.std.proofs.Common.{◌≢◌, ℕ, ◌<◌, get_or}
-use Rattle.cluster.specs.declared.ids.VmId.{VmId}
-use Rattle.slices.specs.Holds.{IsMember}
-use Rattle.domains.specs.Sets.{sets}
-use Rattle.closing.specs.Stands.{StaysClear}
-use Rattle.closing.proofs.apart.are_apart.Given as goal
-
-abbrev pub invariant-loop-i : goal.invariant-loop-i
-invariant-loop-i l = (k : ℕ) (d : VmId) → k < l.i → (w : ℕ) → IsMember l.others w → (get_or l.machines k d).0 ≢ w → StaysClear l.p.given (sets l.g) l.t (get_or l.machines k d).0 w

@@ -1,7 +1,0 @@
-use Rattle.std.proofs.Common.{◌≢◌, ℕ, ◌<◌, [], slice_index_or}
-use Rattle.domains.specs.Sets.{sets}
-use Rattle.closing.specs.Stands.{AreApart}
-use Rattle.closing.proofs.apart.are_apart_of_others.Given as goal
-
-abbrev pub invariant-loop-j : goal.invariant-loop-j
-invariant-loop-j l = (k : ℕ) → k < l.j → l.part ≢ k → AreApart l.p.given (sets l.g) l.t l.machines (slice_index_or l.parts k [])

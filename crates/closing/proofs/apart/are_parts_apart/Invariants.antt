@@ -1,7 +1,0 @@
-use Rattle.std.proofs.Common.{◌≢◌, ℕ, ◌<◌, [], length, slice_index_or}
-use Rattle.domains.specs.Sets.{sets}
-use Rattle.closing.specs.Stands.{AreApart}
-use Rattle.closing.proofs.apart.are_parts_apart.Given as goal
-
-abbrev pub invariant-loop-i : goal.invariant-loop-i
-invariant-loop-i l = (k j : ℕ) → k < l.i → j < length l.parts → k ≢ j → AreApart l.p.given (sets l.g) l.t (slice_index_or l.parts k []) (slice_index_or l.parts j [])

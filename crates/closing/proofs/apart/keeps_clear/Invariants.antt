@@ -1,8 +1,0 @@
-use Rattle.std.proofs.Common.{◌≢◌, ℕ, ◌<◌, get_or}
-use Rattle.cluster.specs.declared.ids.VmId.{VmId}
-use Rattle.domains.specs.Sets.{sets}
-use Rattle.closing.specs.Stands.{StaysClear}
-use Rattle.closing.proofs.apart.keeps_clear.Given as goal
-
-abbrev pub invariant-loop-i : goal.invariant-loop-i
-invariant-loop-i l = (k : ℕ) (d : VmId) → k < l.i → l.v.0 ≢ (get_or l.machines k d).0 → StaysClear l.p.given (sets l.g) l.t l.v.0 (get_or l.machines k d).0

@@ -1,8 +1,0 @@
-use Rattle.std.proofs.Common.{arith}
-use Rattle.cluster.specs.Sets.{has_node}
-use Rattle.domains.specs.Sets.{sets}
-use Rattle.closing.proofs.SettingLemmas.{few_free}
-use Rattle.closing.proofs.capacities.powered_found.Goals as goal
-
-pub returns-then-count-amount-2 : goal.returns-then-count-amount-2
-returns-then-count-amount-2 c = few_free c.args.p.now.given (sets c.args.g.now) (has_node c.args.nodes.now) c.args.t c.args.amount (omega arith)

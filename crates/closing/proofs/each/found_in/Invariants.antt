@@ -1,8 +1,0 @@
-use Rattle.std.proofs.Common.{ℕ, ◌<◌, get_or}
-use Rattle.cluster.specs.declared.ids.VmId.{VmId}
-use Rattle.domains.specs.Sets.{sets}
-use Rattle.closing.specs.Looks.{IsFreeOf}
-use Rattle.closing.proofs.each.found_in.Given as goal
-
-abbrev pub invariant-loop-i : goal.invariant-loop-i
-invariant-loop-i g l = (k : ℕ) (d : VmId) → k < l.i → IsFreeOf (g.M.OfMachine.met l.each l.p.given (get_or l.machines k d).0) l.p.given (sets l.g) l.t

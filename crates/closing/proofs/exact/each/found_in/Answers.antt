@@ -1,0 +1,10 @@
+use Rattle.std.proofs.Common.{arith}
+use Rattle.domains.specs.Sets.{sets}
+use Rattle.closing.specs.Looks.{IsFreeOf}
+use Rattle.closing.proofs.MemberLemmas.{any_free, each_member}
+use Rattle.closing.proofs.exact.each.found_in.Goals as goal
+
+pub returns : goal.returns
+returns g c =
+    any_free (g.M.OfMachine.met c.args.each.now c.args.p.now.given) c.args.p.now.given (sets c.args.g.now) c.args.t c.args.machines.now
+    (each_member (λ v. IsFreeOf (g.M.OfMachine.met c.args.each.now c.args.p.now.given v) c.args.p.now.given (sets c.args.g.now) c.args.t) c.args.machines.now c.loop-i.i (omega arith) c.loop-i.invariant)

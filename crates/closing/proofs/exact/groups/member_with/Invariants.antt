@@ -1,0 +1,10 @@
+use Rattle.std.proofs.Common.{ℕ, ◌<◌, get_or}
+use Rattle.cluster.specs.declared.ids.VmId.{VmId}
+use Rattle.slices.specs.Elements.{vm}
+use Rattle.domains.specs.Sets.{sets}
+use Rattle.closing.specs.Parts.{FailAtEnds}
+use Rattle.closing.specs.Stands.{IsGroupWith}
+use Rattle.closing.proofs.exact.groups.member_with.Given as goal
+
+abbrev pub invariant-loop-i : goal.invariant-loop-i
+invariant-loop-i l = (k : ℕ) (d : VmId) → k < l.i → FailAtEnds (IsGroupWith l.p.given (sets l.g) l.constraint l.t (get_or l.machines k d).0) (sets l.g (vm (get_or l.machines k d).0))

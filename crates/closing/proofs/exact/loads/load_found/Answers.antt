@@ -1,0 +1,14 @@
+use Rattle.std.proofs.Common.{arith}
+use Rattle.domains.specs.Sets.{sets}
+use Rattle.reasons.specs.Reasons.{IsOverload}
+use Rattle.relax.specs.Areas.{nodes_of}
+use Rattle.closing.specs.Looks.{IsFreeOf}
+use Rattle.closing.proofs.MemberLemmas.{one_more}
+use Rattle.closing.proofs.SumLemmas.{resources-free}
+use Rattle.closing.proofs.exact.loads.load_found.Goals as goal
+
+pub loop-r-preserved : goal.loop-r-preserved
+loop-r-preserved c = one_more (λ r. IsFreeOf (λ b. IsOverload c.args.p.now.given b r (nodes_of c.args.p.now.given c.args.area.now)) c.args.p.now.given (sets c.args.g.now) c.args.t) c.loop-r.r c.loop-r.invariant c.in-Clean.ensures
+
+pub returns : goal.returns
+returns c = resources-free c.args.p.now.given (sets c.args.g.now) (nodes_of c.args.p.now.given c.args.area.now) c.args.t (λ r h. c.loop-r.invariant r (omega (arith, h)))

@@ -1,0 +1,6 @@
+use Rattle.std.proofs.Common.{◌∙◌, arith}
+use Rattle.closing.proofs.MemberLemmas.{mark_more}
+use Rattle.closing.proofs.exact.pairs.members.Goals as goal
+
+pub loop-v-preserved : goal.loop-v-preserved
+loop-v-preserved c = λ v. c.insert.ensures v ∙ mark_more c.args.machines.now c.loop-v.v-index _ v _ (omega arith) (c.loop-v.invariant v)

@@ -1,0 +1,8 @@
+use Rattle.std.proofs.Common.{ℕ, ◌<◌, [], slice_index_or}
+use Rattle.domains.specs.Sets.{sets}
+use Rattle.closing.specs.Looks.{IsFreeOf}
+use Rattle.closing.specs.Stands.{IsAnyOf, MeetsOtherPart}
+use Rattle.closing.proofs.exact.pairs.split_found.Given as goal
+
+abbrev pub invariant-loop-i : goal.invariant-loop-i
+invariant-loop-i l = (k : ℕ) → k < l.i → IsFreeOf (IsAnyOf (slice_index_or l.parts k []) (MeetsOtherPart l.p.given l.parts k)) l.p.given (sets l.g) l.t

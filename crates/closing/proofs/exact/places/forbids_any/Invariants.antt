@@ -1,0 +1,7 @@
+use Rattle.std.proofs.Common.{ℕ, ◌<◌}
+use Rattle.slices.specs.Forms.{places_seen}
+use Rattle.slices.specs.Holds.{IsOffLimits}
+use Rattle.closing.proofs.exact.places.forbids_any.Given as goal
+
+abbrev pub invariant-loop-i : goal.invariant-loop-i
+invariant-loop-i l = (n : ℕ) → n < l.i → ¬ IsOffLimits l.p.given (places_seen l.places) l.v.0 n

@@ -1,9 +1,0 @@
-use Rattle.std.proofs.Common.{ℕ, ◌<◌}
-use Rattle.domains.specs.Sets.{sets}
-use Rattle.reasons.specs.Reasons.{IsOverload}
-use Rattle.relax.specs.Areas.{nodes_of}
-use Rattle.closing.specs.Looks.{IsFreeOf}
-use Rattle.closing.proofs.loads.load_found.Given as goal
-
-abbrev pub invariant-loop-r : goal.invariant-loop-r
-invariant-loop-r l = (r : ℕ) → r < l.r → IsFreeOf (λ s. IsOverload l.p.given s r (nodes_of l.p.given l.area)) l.p.given (sets l.g) l.t

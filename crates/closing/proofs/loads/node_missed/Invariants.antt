@@ -1,8 +1,0 @@
-use Rattle.std.proofs.Common.{ℕ, ◌<◌}
-use Rattle.domains.specs.Sets.{sets}
-use Rattle.relax.specs.Areas.{nodes_of}
-use Rattle.closing.specs.Parts.{IsNodeSpared}
-use Rattle.closing.proofs.loads.node_missed.Given as goal
-
-abbrev pub invariant-loop-i : goal.invariant-loop-i
-invariant-loop-i l = (n : ℕ) → n < l.i → IsNodeSpared l.p.given (sets l.g) l.r (nodes_of l.p.given l.area) l.t l.spare n

@@ -1,8 +1,0 @@
-use Rattle.std.proofs.Common.{◌≡◌, ℕ, ◌<◌, false, slice_index_or}
-use Rattle.cluster.specs.declared.choices.Choice.TheVariants.{Act}
-use Rattle.domains.specs.Choices.{no_row}
-use Rattle.relax.specs.Areas.{goes_in, nodes_of}
-use Rattle.closing.proofs.most.has_row_in.Given as goal
-
-abbrev pub invariant-loop-row : goal.invariant-loop-row
-invariant-loop-row l = (k : ℕ) → k < l.row-index → goes_in (Act (slice_index_or l.rows k no_row).place (slice_index_or l.rows k no_row).lo) (nodes_of l.p.given l.area) ≡ false

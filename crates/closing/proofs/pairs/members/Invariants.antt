@@ -1,7 +1,0 @@
-use Rattle.std.proofs.Common.{◌≡◌, ℕ, take}
-use Rattle.catalogue.specs.Faults.{is_member}
-use Rattle.cluster.specs.Sets.{has_machine}
-use Rattle.closing.proofs.pairs.members.Given as goal
-
-abbrev pub invariant-loop-v : goal.invariant-loop-v
-invariant-loop-v l = (v : ℕ) → has_machine l.members v ≡ is_member (take l.v-index l.machines) v

@@ -1,8 +1,0 @@
-use Rattle.std.proofs.Common.{◌≢◌, ℕ, ◌<◌, [], slice_index_or}
-use Rattle.domains.specs.Sets.{sets}
-use Rattle.closing.specs.Looks.{IsFreeOf}
-use Rattle.closing.specs.Stands.{IsAnyOf, ShareNode}
-use Rattle.closing.proofs.pairs.other_part_found.Given as goal
-
-abbrev pub invariant-loop-j : goal.invariant-loop-j
-invariant-loop-j l = (k : ℕ) → k < l.j → l.part ≢ k → IsFreeOf (IsAnyOf (slice_index_or l.parts k []) (ShareNode l.p.given l.v.0)) l.p.given (sets l.g) l.t

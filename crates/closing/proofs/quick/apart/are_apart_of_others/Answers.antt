@@ -1,0 +1,16 @@
+use Rattle.std.proofs.Common.{◌≢◌, [], slice_index_or, subst, sym}
+use Rattle.domains.specs.Sets.{sets}
+use Rattle.closing.specs.Stands.{AreApart}
+use Rattle.closing.proofs.MemberLemmas.{is_part, one_more}
+use Rattle.closing.proofs.quick.apart.are_apart_of_others.Goals as goal
+use Rattle.closing.proofs.quick.apart.are_apart_of_others.Goals.{else-j-part-via-then-j-part+else-not-are_apart, else-j-part-via-else-j-part}
+
+pub loop-j-preserved : goal.loop-j-preserved
+loop-j-preserved c =
+    one_more (λ k. c.args.part ≢ k → AreApart c.args.p.now.given (sets c.args.g.now) c.args.t c.args.machines.now (slice_index_or c.args.parts.now k [])) c.loop-j.j c.loop-j.invariant
+    (λ ne. elim c.else-j-part.branch [
+      | else-j-part-via-then-j-part+else-not-are_apart w ↦
+          subst (λ vs. AreApart c.args.p.now.given (sets c.args.g.now) c.args.t c.args.machines.now vs)
+          (is_part c.args.parts.now w.items.result.now w.index-parts-j.result c.loop-j.j c.loop-j-test.true w.items.ensures w.index-parts-j.is) (w.are_apart.ensures w.if-not-are_apart.false)
+      | else-j-part-via-else-j-part w ↦ absurd (ne (sym w.if-j-part.false))
+    ])

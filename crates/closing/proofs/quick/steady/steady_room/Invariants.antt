@@ -1,0 +1,12 @@
+use Rattle.std.proofs.Common.{◌*◌, ◌≤◌}
+use Rattle.catalogue.specs.Limits.{max_capacity}
+use Rattle.domains.specs.Sets.{sets}
+use Rattle.relax.specs.Areas.{nodes_of}
+use Rattle.closing.specs.Most.{HasSteadyRoom}
+use Rattle.closing.proofs.quick.steady.steady_room.Given as goal
+
+abbrev pub invariant-loop-i : goal.invariant-loop-i
+invariant-loop-i l = record {
+  room : HasSteadyRoom l.p.given (sets l.g) l.r (nodes_of l.p.given l.area) l.i l.total;
+  small : l.total ≤ l.i * max_capacity;
+}

@@ -1,0 +1,14 @@
+use Rattle.std.proofs.Common.{◌+◌, ◌*◌, ◌≤◌}
+use Rattle.cluster.specs.Limits.{max_amount}
+use Rattle.domains.specs.Sets.{sets}
+use Rattle.relax.specs.Areas.{nodes_of}
+use Rattle.closing.specs.Most.{AreWithin}
+use Rattle.closing.proofs.quick.within.stays_within.Given as goal
+
+abbrev pub invariant-loop-i : goal.invariant-loop-i
+invariant-loop-i l = record {
+  within : AreWithin l.p.given (sets l.g) l.weight (nodes_of l.p.given l.area) l.i l.total l.more;
+  small : l.total ≤ l.i * (2 * max_amount);
+  small_more : l.more ≤ 2 * max_amount;
+  fits : l.total + l.more ≤ l.amount;
+}

@@ -1,7 +1,0 @@
-use Rattle.domains.specs.Sets.{sets}
-use Rattle.relax.specs.Areas.{nodes_of}
-use Rattle.closing.proofs.SteadyLemmas.{steady_fits}
-use Rattle.closing.proofs.steady.fits.Goals as goal
-
-pub returns : goal.returns
-returns c = λ yes t. steady_fits c.args.p.now.given (sets c.args.g.now) c.args.r (nodes_of c.args.p.now.given c.args.area.now) c.steady_room.result c.steady_room.ensures.room (c.stays_within.ensures yes) t

@@ -1,9 +1,0 @@
-use Rattle.std.proofs.Common.{ℕ, ◌<◌}
-use Rattle.domains.specs.Sets.{sets}
-use Rattle.reasons.specs.Reasons.{IsOverload}
-use Rattle.relax.specs.Areas.{nodes_of}
-use Rattle.closing.specs.Looks.{IsFreeOf}
-use Rattle.closing.proofs.steady.is_never_overloaded.Given as goal
-
-abbrev pub invariant-loop-r : goal.invariant-loop-r
-invariant-loop-r l = (k t : ℕ) → k < l.r → IsFreeOf (λ b. IsOverload l.p.given b k (nodes_of l.p.given l.area)) l.p.given (sets l.g) t

@@ -1,8 +1,0 @@
-use Rattle.std.proofs.Common.{◌≡◌, ℕ, ◌<◌, false}
-use Rattle.slices.specs.Snapshots.{stands_on}
-use Rattle.domains.specs.Sets.{sets}
-use Rattle.reasons.specs.Sure.{sure}
-use Rattle.closing.proofs.usable.is_needed.Given as goal
-
-abbrev pub invariant-loop-i : goal.invariant-loop-i
-invariant-loop-i l = (v : ℕ) → v < l.i → stands_on (sure l.p.given (sets l.g) l.t) v l.n.0 ≡ false

@@ -1,6 +1,0 @@
-use Rattle.domains.specs.Sets.{sets}
-use Rattle.closing.specs.Parts.{NoneAmong}
-use Rattle.closing.proofs.usable.machine_among.Given as goal
-
-abbrev pub invariant-loop-i : goal.invariant-loop-i
-invariant-loop-i l = NoneAmong l.p.given (sets l.g) l.n.0 l.t l.hosted l.i

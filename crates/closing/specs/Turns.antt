@@ -1,0 +1,24 @@
+-- Whose starts are turns.
+use Rattle.std.specs.Prelude.{◌≡◌, nat_lt, true}
+use Rattle.std.specs.List.{list_all}
+use Rattle.catalogue.specs.Instance.{Instance}
+use Rattle.slices.specs.Elements.{machine_count}
+use Rattle.domains.specs.Sets.{Sets}
+use Rattle.closing.specs.declared.base.turns.Turns.{Turns}
+use Rattle.closing.specs.declared.base.turns.Turns.TheVariants.{OfAll, Of}
+use Rattle.closing.specs.Watches.{Scope, SeesOnly, only_of}
+
+-- the machines are of the instance
+abbrev pub AreListed : Instance → Turns → Type 0
+AreListed p OfAll = Unit {0}
+AreListed p (Of vs) = list_all (λ x. nat_lt x.0 (machine_count p)) vs.now ≡ true
+
+-- nothing is looked at but of these machines
+abbrev pub Suffice : Turns → Scope → Type 0
+Suffice OfAll k = Unit {0}
+Suffice (Of vs) k = SeesOnly vs.now k
+
+-- these elements have their choices, and each other one can only stay
+abbrev pub turning : Turns → Sets → Sets
+turning OfAll s = s
+turning (Of vs) s = only_of vs.now s

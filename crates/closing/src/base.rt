@@ -1,0 +1,7 @@
+//! What exact looks and quick tests go by: ends, instants, and where machines stand and what they hold.
+pub mod counts;
+pub mod ends;
+pub mod hosts;
+pub mod most;
+pub mod stands;
+pub mod turns;
