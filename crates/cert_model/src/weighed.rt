@@ -14,13 +14,13 @@ use cluster::choices::Instant;
 use cluster::ids::{Element, VmId};
 use cluster::sets::NodeSet;
 use domains::view::{Lens, View};
+use profiles::standing::pairs::pair_refutes;
 use reasons::reason::Reason;
 use relax::area::{Area, area_of};
 use relax::named::is_named;
 use relax::sure::least_held;
 use relax::totals::room;
 use slices::slice::Weight;
-use standing::pairs::pair_refutes;
 
 /// What some of the machines before a number surely use together.
 #[derive(Clone, Copy)]

@@ -31,7 +31,7 @@ use Rattle.closing.specs.Kinds.{rule_watch}
 use Rattle.closing.specs.Looks.{IsClean}
 use Rattle.constraint_kinds.specs.Given.{reason_kind}
 use Rattle.constraint_kinds.proofs.Public.{place_of}
-use Rattle.standing.specs.Standings.{has_come, leave_of, never}
+use Rattle.profiles.specs.Standing.Standings.{has_come, leave_of, never}
 use Rattle.constraint_rules.specs.Allowed.{IsAllowed, IsDue, IsOffHost, MayGo}
 use Rattle.constraint_rules.proofs.ApartLemmas.{own_present, same_present, vm_or}
 use Rattle.constraint_rules.proofs.ShutdownLemmas.{holds_none}

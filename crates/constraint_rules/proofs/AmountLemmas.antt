@@ -33,11 +33,11 @@ use Rattle.domains.proofs.Public.{contains_here, least_of_each}
 use Rattle.reasons.specs.Sure.{sure}
 use Rattle.reasons.proofs.Public.{end_is_choice}
 use Rattle.relax.specs.Areas.{goes_in, hosted_in}
-use Rattle.near.proofs.Public.{all_over}
+use Rattle.profiles.proofs.Public.{all_over}
 use Rattle.closing.specs.Most.{if_so, unit_of}
-use Rattle.movers.specs.Movers.{AreMovers}
-use Rattle.standing.specs.Standings.{base, brought, comes_by, gain, kept_use, leave_of, never, weight_if}
-use Rattle.standing.proofs.Public.{kept_law}
+use Rattle.profiles.specs.Movers.{AreMovers}
+use Rattle.profiles.specs.Standing.Standings.{base, brought, comes_by, gain, kept_use, leave_of, never, weight_if}
+use Rattle.profiles.proofs.Public.{kept_law}
 use Rattle.constraint_rules.specs.declared.stayers.Stayers.{Stayers}
 use Rattle.constraint_rules.specs.Amounts.{AreExtra, AreStayersTo, IsExtra, StaysIn, stay_of}
 use Rattle.constraint_rules.proofs.ApartLemmas.{arrival, numbers, of_one, row_end}

@@ -38,10 +38,10 @@ use Rattle.closing.specs.Kinds.{rule_watch}
 use Rattle.closing.specs.Looks.{IsClean}
 use Rattle.constraint_kinds.specs.Given.{reason_kind}
 use Rattle.constraint_kinds.proofs.Public.{pair_of}
-use Rattle.standing.specs.declared.numbers.Arrival.{Arrival}
-use Rattle.standing.specs.declared.numbers.Standing.{Standing}
-use Rattle.standing.specs.Standings.{IsStanding, base, comes_by, gain, has_come, kept_use, leave_of, never}
-use Rattle.standing.proofs.Public.{present_law}
+use Rattle.profiles.specs.declared.standing.numbers.Arrival.{Arrival}
+use Rattle.profiles.specs.declared.standing.numbers.Standing.{Standing}
+use Rattle.profiles.specs.Standing.Standings.{IsStanding, base, comes_by, gain, has_come, kept_use, leave_of, never}
+use Rattle.profiles.proofs.Public.{present_law}
 use Rattle.constraint_rules.specs.declared.clear.Seen.{Seen}
 use Rattle.constraint_rules.specs.declared.clear.Seen.TheVariants.{Clear, Doubtful, Unknown}
 use Rattle.constraint_rules.specs.declared.posts.Posts.{Posts}

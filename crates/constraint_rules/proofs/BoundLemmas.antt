@@ -21,7 +21,7 @@ use Rattle.domains.specs.Sets.{RegionView, Sets, domain_at, setting, sets}
 use Rattle.domains.specs.Undo.{domain_before}
 use Rattle.reasons.specs.Closed.{IsEnd}
 use Rattle.reasons.specs.Sure.{sure}
-use Rattle.reasons.proofs.Public.{node_change, setting_agrees, setting_load, setting_presences}
+use Rattle.reasons.proofs.Public.{node_change, setting_agrees, setting_total}
 use Rattle.closing.specs.Kinds.{IsBroken, rule_watch}
 use Rattle.closing.specs.Looks.{IsClean, IsFreeOf}
 use Rattle.closing.specs.Watches.{Watch}
@@ -29,9 +29,9 @@ use Rattle.constraint_kinds.specs.Given.{reason_kind}
 use Rattle.prop_core.specs.Propagators.{sets_before}
 use Rattle.rule_frame.specs.Caches.{IsCacheTold}
 use Rattle.rule_frame.specs.Indexes.{Lists}
-use Rattle.movers.specs.Movers.{IsGrown, IsToldOf}
-use Rattle.movers.proofs.Public.{movers_grown, movers_told}
-use Rattle.standing.proofs.Public.{each_push}
+use Rattle.profiles.specs.Movers.{IsGrown, IsToldOf}
+use Rattle.profiles.proofs.Public.{movers_grown, movers_told}
+use Rattle.profiles.proofs.Public.{each_push}
 use Rattle.constraint_rules.specs.declared.bounds.Bound.{Bound}
 use Rattle.constraint_rules.specs.declared.stayers.Stayers.{Stayers}
 use Rattle.constraint_rules.specs.Amounts.{AreAllStayers, AreAmountsKept, AreStayersOf, StaysIn, bound_in, bound_of, cache_of, no_stayers}
@@ -45,15 +45,15 @@ module _ (p : Instance) (s : Sets) (set : Nodes) (amount t : ℕ) (l : t ≤ p.h
   uses-free r within = record { base = λ over. omega (arith, over, within.base t l); ends = at }
     where
       at : (e : Element) (c : Choice) → IsElement p e → IsEnd (s e) c → ¬ (amount < load p (sure p (setting e c s) t) r set)
-      at (Vm v) c h end over = omega (arith, setting_load p s v.0 c t r set h, over, within.each v.0 t c l h end)
-      at (TheNode n) c h end over = omega (arith, (node_change p (setting (node n.0) c s) s n.0 t h (setting_agrees s (node n.0) c)).of_load r set, over, within.base t l)
+      at (Vm v) c h end over = omega (arith, setting_total p s v.0 c t (Amount r) set h, over, within.each v.0 t c l h end)
+      at (TheNode n) c h end over = omega (arith, (node_change p (setting (node n.0) c s) s n.0 t h (setting_agrees s (node n.0) c)).of_total (Amount r) set, over, within.base t l)
 
   presences-free : StaysIn p s Presence set amount → IsFreeOf (λ b. amount < presences p b set) p s t
   presences-free within = record { base = λ over. omega (arith, over, within.base t l); ends = at }
     where
       at : (e : Element) (c : Choice) → IsElement p e → IsEnd (s e) c → ¬ (amount < presences p (sure p (setting e c s) t) set)
-      at (Vm v) c h end over = omega (arith, setting_presences p s v.0 c t set h, over, within.each v.0 t c l h end)
-      at (TheNode n) c h end over = omega (arith, (node_change p (setting (node n.0) c s) s n.0 t h (setting_agrees s (node n.0) c)).of_presences set, over, within.base t l)
+      at (Vm v) c h end over = omega (arith, setting_total p s v.0 c t Presence set h, over, within.each v.0 t c l h end)
+      at (TheNode n) c h end over = omega (arith, (node_change p (setting (node n.0) c s) s n.0 t h (setting_agrees s (node n.0) c)).of_total Presence set, over, within.base t l)
 
 -- a constraint that bounds something is broken by that alone
 breaks-uses : (p : Instance) (b : Snapshot) (ns : NodeSet) (r amount : ℕ) (always : Bool) → IsBroken p b (ResourceCapacity ns r amount always) → amount < load p b r (has_node ns)

@@ -26,8 +26,8 @@ use Rattle.reasons.specs.Settings.{IsMachineUnder, IsSameMachine}
 use Rattle.reasons.specs.Sure.{sure}
 use Rattle.reasons.proofs.Public.{end_is_choice, ends_of_rows, setting_sets, some_end}
 use Rattle.relax.specs.Areas.{hosted_in}
-use Rattle.standing.specs.Standings.{comes_by, has_come, kept_use, leave_of, never}
-use Rattle.standing.proofs.Public.{kept_law}
+use Rattle.profiles.specs.Standing.Standings.{comes_by, has_come, kept_use, leave_of, never}
+use Rattle.profiles.proofs.Public.{kept_law}
 use Rattle.closing.specs.Kinds.{IsNeeded, usable_watch}
 use Rattle.closing.specs.Looks.{IsClean}
 use Rattle.closing.specs.Parts.{StandsUnder}

@@ -6,9 +6,9 @@ use Rattle.cluster.specs.declared.choices.Choice.{Choice}
 use Rattle.catalogue.specs.Instance.{Instance}
 use Rattle.domains.specs.Choices.{DomainView, choices}
 use Rattle.domains.specs.Parts.{stays}
-use Rattle.standing.specs.declared.numbers.Standing.{Standing}
-use Rattle.standing.specs.Standings.{IsStanding, leave_of}
-use Rattle.standing.proofs.Public.{all_stay}
+use Rattle.profiles.specs.declared.standing.numbers.Standing.{Standing}
+use Rattle.profiles.specs.Standing.Standings.{IsStanding, leave_of}
+use Rattle.profiles.proofs.Public.{all_stay}
 use Rattle.constraint_rules.specs.Stays.{StandsWithin}
 
 -- one that may stay has not come elsewhere, and is not told too short how long it stays

@@ -13,7 +13,7 @@ use Rattle.slices.specs.Stages.{one}
 use Rattle.domains.specs.Sets.{Sets}
 use Rattle.reasons.specs.Closed.{IsEnd}
 use Rattle.relax.specs.Areas.{hosted_in}
-use Rattle.standing.specs.Standings.{leave_of}
+use Rattle.profiles.specs.Standing.Standings.{leave_of}
 
 -- an action there goes to no node that the constraint forbids to machine v
 abbrev pub MayGo : Instance → Constraint → ℕ → Place → Type 0

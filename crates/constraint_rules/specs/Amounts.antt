@@ -20,8 +20,8 @@ use Rattle.relax.specs.Areas.{hosted_in}
 use Rattle.closing.specs.Most.{if_so, unit_of}
 use Rattle.rule_frame.specs.Caches.{Cache}
 use Rattle.rule_frame.specs.Indexes.{IsIndexOf, Lists}
-use Rattle.movers.specs.Movers.{AreMovers}
-use Rattle.standing.specs.Standings.{base}
+use Rattle.profiles.specs.Movers.{AreMovers}
+use Rattle.profiles.specs.Standing.Standings.{base}
 use Rattle.constraint_rules.specs.declared.bounds.Bound.{Bound}
 use Rattle.constraint_rules.specs.declared.stayers.Stayers.{Stayers}
 

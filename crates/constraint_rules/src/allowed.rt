@@ -18,7 +18,7 @@ use cluster::ids::{Element, NodeId, VmId};
 use domains::domain::Domain;
 use domains::parts::Row;
 use domains::region::Region;
-use standing::leaves::runs_on;
+use profiles::standing::leaves::runs_on;
 
 // whether a constraint lets its member not be on a node
 fn forbids(p: &Problem, constraint: &Constraint, v: VmId, n: NodeId) -> bool

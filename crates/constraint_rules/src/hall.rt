@@ -15,9 +15,9 @@ use cluster::ids::{Element, NodeId, VmId};
 use cluster::sets::NodeSet;
 use domains::domain::Domain;
 use domains::region::Region;
+use profiles::standing::leaves::runs_on;
 use reasons::reason::Reason;
 use relax::refutes::refutes;
-use standing::leaves::runs_on;
 
 // nodes, and how many more there must be for each of some machines to have one of its own
 #[derive(Clone, Copy)]

@@ -6,9 +6,9 @@ ghost use Rattle.cluster.specs.declared.choices.Choice.{Choice as AnyChoice};
 ghost use Rattle.slices.specs.Elements.{machine_count};
 ghost use Rattle.domains.specs.Choices.{no_row};
 ghost use Rattle.domains.specs.Sets.{sets};
-ghost use Rattle.near.specs.Near.{AreMachines};
+ghost use Rattle.profiles.specs.Near.{AreMachines};
 ghost use Rattle.relax.specs.Areas.{IsSized, IsWeight, goes_in};
-ghost use Rattle.movers.specs.Movers.{AreMovers};
+ghost use Rattle.profiles.specs.Movers.{AreMovers};
 ghost use Rattle.constraint_rules.specs.Amounts.{AreExtra, AreStayersTo, IsExtra, StaysIn};
 
 use crate::bounds::Bound;

@@ -19,7 +19,7 @@ use cluster::ids::{Element, NodeId};
 use domains::domain::Domain;
 use domains::region::Region;
 use domains::view::{Lens, View};
-use standing::pairs::is_pair;
+use profiles::standing::pairs::is_pair;
 
 // whether a place is a node
 fn is_at(place: Place, n: NodeId) -> bool {

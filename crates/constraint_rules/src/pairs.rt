@@ -15,9 +15,9 @@ use catalogue::problem::Problem;
 use cluster::choices::{Choice, Instant, Place};
 use cluster::ids::{Element, NodeId, VmId};
 use domains::view::{Lens, View};
-use standing::leaves::runs_on;
-use standing::pairs::is_pair;
-use standing::stays::surely_at;
+use profiles::standing::leaves::runs_on;
+use profiles::standing::pairs::is_pair;
+use profiles::standing::stays::surely_at;
 
 /// Whether a machine is in a list.
 pub fn has(machines: &[VmId], v: VmId) -> bool

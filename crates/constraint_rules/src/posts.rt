@@ -5,7 +5,7 @@ ghost use Rattle.slices.specs.Stages.{one};
 ghost use Rattle.domains.specs.Sets.{sets};
 ghost use Rattle.relax.specs.Areas.{IsSized, hosted_in};
 ghost use Rattle.domains.specs.Choices.{choices};
-ghost use Rattle.standing.specs.Standings.{comes_by};
+ghost use Rattle.profiles.specs.Standing.Standings.{comes_by};
 ghost use Rattle.constraint_rules.specs.Apart.{HasPosts, IsAt};
 ghost use Rattle.constraint_rules.specs.Stays.{StandsWithin};
 
@@ -16,7 +16,7 @@ use cluster::choices::Instant;
 use cluster::ids::{Element, NodeId, VmId};
 use domains::domain::Domain;
 use domains::region::Region;
-use standing::numbers::{Arrival, Standing, standing_of};
+use profiles::standing::numbers::{Arrival, Standing, standing_of};
 
 /// A node, and the last instant at which a machine may surely be there.
 #[derive(Clone, Copy)]

@@ -10,9 +10,9 @@ use cluster::ids::Element;
 use domains::parts::Part;
 use domains::region::Region;
 use domains::view::{Lens, View};
+use profiles::standing::pairs::pair_refutes;
 use reasons::reason::Reason;
 use relax::refutes::refutes_inside;
-use standing::pairs::pair_refutes;
 
 /// Whether it is seen that a reason does.
 pub(crate) fn refutes_part(p: &Problem, g: &Region, e: Element, part: Part, reason: &Reason) -> bool

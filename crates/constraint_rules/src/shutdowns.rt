@@ -6,7 +6,7 @@ ghost use Rattle.slices.specs.Elements.{machine_count, node_count};
 ghost use Rattle.domains.specs.Choices.{choices};
 ghost use Rattle.domains.specs.Sets.{sets};
 ghost use Rattle.relax.specs.Areas.{IsSized};
-ghost use Rattle.standing.specs.Standings.{has_come, leave_of};
+ghost use Rattle.profiles.specs.Standing.Standings.{has_come, leave_of};
 ghost use Rattle.closing.specs.Kinds.{usable_watch};
 ghost use Rattle.closing.specs.Looks.{IsClean};
 ghost use Rattle.constraint_rules.specs.Shutdowns.{IsShutdown, LetsGo};
@@ -20,9 +20,9 @@ use domains::domain::Domain;
 use domains::measure::Measure;
 use domains::parts::{Change, Part, Row, Side};
 use domains::region::Region;
+use profiles::standing::leaves::leaves_of;
+use profiles::standing::numbers::Leaving;
 use slices::choice::usable;
-use standing::leaves::leaves_of;
-use standing::numbers::Leaving;
 
 /// The first and the last start of a node that shuts down.
 #[derive(Clone, Copy)]

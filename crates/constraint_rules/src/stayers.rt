@@ -11,12 +11,12 @@ ghost use Rattle.constraint_rules.specs.Amounts.{AreAllStayers, AreStayersOf, Ar
 
 use crate::bounds::{Bound, bound_of};
 use crate::nodes::host;
-use base::memory::Memory;
+use base::memory::{Memory, Memory};
 use catalogue::constraint::Constraint;
 use catalogue::problem::Problem;
 use cluster::ids::VmId;
+use profiles::standing::uses::base;
 use slices::slice::Weight;
-use standing::uses::base;
 use std::alloc::Global;
 
 /// What machines have on the nodes of a bound at present, and the most that one of them brings.

@@ -6,8 +6,8 @@ ghost use Rattle.catalogue.specs.Instance.{IsElement};
 ghost use Rattle.slices.specs.Elements.{vm};
 ghost use Rattle.domains.specs.Choices.{choices};
 ghost use Rattle.reasons.specs.Closed.{IsEnd};
-ghost use Rattle.standing.specs.Leaves.{AreLeaves};
-ghost use Rattle.standing.specs.Standings.{leave_of};
+ghost use Rattle.profiles.specs.Standing.Leaves.{AreLeaves};
+ghost use Rattle.profiles.specs.Standing.Standings.{leave_of};
 
 use catalogue::problem::Problem;
 use cluster::choices::{Choice, Instant};
@@ -15,8 +15,8 @@ use cluster::ids::{Element, VmId};
 use domains::domain::Domain;
 use domains::measure::{Measure, lowest};
 use domains::parts::Row;
-use standing::leaves::{Leaves, leaves_of};
-use standing::numbers::{Leaving, leave};
+use profiles::standing::leaves::{Leaves, leaves_of};
+use profiles::standing::numbers::{Leaving, leave};
 
 /// Until when a choice keeps what its machine has on its host, raised to what an action keeps that starts at once. No
 /// action that leaves so keeps the host shorter, and a search for the least stops there.
@@ -27,7 +27,7 @@ struct LeavingLate<'a> {
 }
 
 impl Measure for LeavingLate<'_> {
-    ghost use Rattle.standing.specs.Ends.{leave_at_ends};
+    ghost use Rattle.profiles.specs.Standing.Ends.{leave_at_ends};
     ghost use Rattle.std.proofs.Common.{arith};
 
     ghost ready = { λ m. IsElement m.leaving.problem.now.given (vm m.leaving.machine.0) × IfSome m.leaving.leaves (AreLeaves m.leaving.problem.now.given m.leaving.machine.0) };
@@ -40,7 +40,7 @@ impl Measure for LeavingLate<'_> {
 
     ghost above_floor = { λ m c. Prim.omega arith };
 
-    #[tactic(auto, using(standing::specs::Ends::leave_climbs))]
+    #[tactic(auto, using(profiles::specs::Standing::Ends::leave_climbs))]
     fn climbs(&self) -> bool {
         true
     }

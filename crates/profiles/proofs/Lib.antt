@@ -1,2 +1,13 @@
--- for this crate alone
-mod ProfileLemmas
+-- Public has what crates above may cite; the rest is for this crate alone.
+pub mod Public
+pub mod FirstLemmas
+mod FixedLemmas
+mod FlagLemmas
+mod LevelLemmas
+mod MoverLemmas
+mod NearLemmas
+mod NodeLoadLemmas
+mod NumberListLemmas
+mod SeenLemmas
+mod StandingLemmas
+mod SumLemmas

@@ -1,1 +1,11 @@
-pub mod Profiles
+-- what a reader must believe
+pub mod Levels
+pub mod Standing
+pub mod Hosts
+pub mod Near
+pub mod Movers
+pub mod Firsts
+pub mod Fixed
+pub mod NodeLoad
+-- what the code's contracts say beside it
+pub mod Flags

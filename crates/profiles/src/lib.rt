@@ -1,5 +1,13 @@
-//! What a node surely holds of a resource at each instant, kept with levels.
+//! Numbers that are kept beside a region while it is changed and undone.
 #![tactic(auto)]
 
-pub mod profile;
-pub mod share;
+pub mod firsts;
+pub mod fixed;
+pub mod host;
+pub mod levels;
+pub mod movers;
+pub mod near;
+pub mod node_load;
+pub mod number_lists;
+pub mod seen;
+pub mod standing;

@@ -3,7 +3,7 @@ ghost use Rattle.std.specs.Prelude.{◌≡◌, ◌<◌, length, OnOk};
 ghost use Rattle.catalogue.specs.Instance.{IsElement};
 ghost use Rattle.domains.specs.Sets.{sets};
 ghost use Rattle.relax.specs.Areas.{IsSized};
-ghost use Rattle.profiles.specs.Profiles.{IsProfile};
+ghost use Rattle.profiles.specs.NodeLoad.{IsProfile};
 
 use crate::fixtures::running;
 use catalogue::problem::Problem;
@@ -13,7 +13,7 @@ use domains::domain::Domain;
 use domains::parts::{Change, Part, Side};
 use domains::region::Region;
 use domains::undo::Before;
-use profiles::profile::Profile;
+use profiles::node_load::profile::Profile;
 use relax::start::start_region;
 use std::alloc::Global;
 use std::process::Abort;
@@ -28,7 +28,7 @@ fn problem(alloc: Global) -> Result<Problem, Fail> {
 }
 
 /// Takes choices from the region, and tells the profile.
-#[tactic(auto, using(standing::proofs::Public::before_law))]
+#[tactic(auto, using(profiles::proofs::Public::before_law))]
 fn cut(
     p: &Problem,
     g: &mut Region,
@@ -42,7 +42,7 @@ fn cut(
     requires right { IsProfile p.now.given (sets g.old) profile.old }
     ensures sized { IsSized p.now.given g.new }
     ensures right { OnOk result (IsProfile p.now.given (sets g.new) profile.new) }
-    ensures older { profile.new.older ≡ profile.old.older }
+    ensures older { profile.new.table.older ≡ profile.old.table.older }
 {
     let lost = g.cut(x, part);
     let change = Change {
@@ -65,7 +65,7 @@ fn send(
     requires sized { IsSized p.now.given g.old }
     requires element { IsElement p.now.given x }
     requires right { IsProfile p.now.given (sets g.old) profile.old }
-    ensures { profile.new.older ≡ profile.old.older }
+    ensures { profile.new.table.older ≡ profile.old.table.older }
 {
     let kept = Domain::new(alloc, false);
     cut(p, g, profile, x, Part::Idle, &kept)?;

@@ -12,7 +12,7 @@ ghost use Rattle.rule_frame.specs.Indexes.{AreLooking, AreMarked, IsAdded, IsInd
 
 use crate::keeper::Keeper;
 use crate::marks::Marks;
-use base::memory::Memory;
+use base::memory::{Memory, Memory};
 use catalogue::constraint::Constraint;
 use catalogue::lists::Vms;
 use catalogue::problem::Problem;
@@ -22,7 +22,7 @@ use domains::domain::Domain;
 use domains::parts::Change;
 use domains::region::Region;
 use domains::undo::Before;
-use near::number_lists::NumberLists;
+use profiles::number_lists::NumberLists;
 use std::alloc::Global;
 use std::default::MadeWith;
 use std::marker::Model;

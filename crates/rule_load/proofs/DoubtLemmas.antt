@@ -11,14 +11,14 @@ use Rattle.slices.specs.declared.slice.Weight.TheVariants.{Amount}
 use Rattle.slices.specs.Elements.{machine_count, state_of, vm}
 use Rattle.slices.specs.Stages.{one}
 use Rattle.domains.specs.Sets.{Sets}
-use Rattle.near.proofs.Public.{all_over}
+use Rattle.profiles.proofs.Public.{all_over}
 use Rattle.relax.specs.Areas.{hosted_in}
-use Rattle.standing.specs.declared.numbers.Standing.{Standing}
-use Rattle.standing.specs.Standings.{base, comes_by, gain, never}
-use Rattle.standing.specs.Tables.{AreStanding, no_standing}
-use Rattle.rule_load.specs.declared.fixed.MostUse.{MostUse}
+use Rattle.profiles.specs.declared.standing.numbers.Standing.{Standing}
+use Rattle.profiles.specs.Standing.Standings.{base, comes_by, gain, never}
+use Rattle.profiles.specs.Standing.Tables.{AreStanding, no_standing}
+use Rattle.profiles.specs.declared.fixed.MostUse.{MostUse}
 use Rattle.rule_load.specs.declared.period.Period.{Period}
-use Rattle.rule_load.specs.Fixed.{FixedView, IsOrder, most_use}
+use Rattle.profiles.specs.Fixed.{FixedView, IsOrder, most_use}
 use Rattle.rule_load.specs.Kept.{AreKeptAt, AreNearAt}
 use Rattle.rule_load.specs.Periods.{IsMost, MachinesFit, most_kept}
 use Rattle.rule_load.proofs.UseLemmas.{fits_at_once}

@@ -17,12 +17,12 @@ use Rattle.domains.specs.Sets.{RegionView, Sets, sets, setting}
 use Rattle.reasons.specs.Closed.{IsEnd, all_nodes}
 use Rattle.reasons.specs.Reasons.{IsOverload}
 use Rattle.reasons.specs.Sure.{sure}
-use Rattle.reasons.proofs.Public.{end_is_choice, machine_change, node_change, setting_agrees, setting_load}
+use Rattle.reasons.proofs.Public.{end_is_choice, machine_change, node_change, setting_agrees, setting_total}
 use Rattle.closing.specs.Kinds.{IsOverloaded}
 use Rattle.closing.specs.Looks.{IsFreeOf}
-use Rattle.standing.specs.declared.numbers.Standing.{Standing}
-use Rattle.standing.specs.Standings.{never}
-use Rattle.standing.specs.Tables.{AreStanding, no_standing}
+use Rattle.profiles.specs.declared.standing.numbers.Standing.{Standing}
+use Rattle.profiles.specs.Standing.Standings.{never}
+use Rattle.profiles.specs.Standing.Tables.{AreStanding, no_standing}
 use Rattle.rule_load.specs.declared.period.Period.{Period}
 use Rattle.rule_load.specs.Periods.{AreMost, HasRoom, IsDuring, IsFreeDuring, IsFreePast, MachinesFit, NodesFit, most_kept}
 use Rattle.rule_load.specs.Totals.{is_steady, may_wait, most_anywhere}
@@ -55,7 +55,7 @@ module _ (p : Instance) (s : Sets) (r : ℕ) (set : Nodes) (x : Period) (most : 
   machine-free machines v c t l end h over =
       let others = left-out (machine_count p) (sure-use t) most v l (λ k b. are.each k t b h) in
       let fits = (machines.each v l).each c t (end_is_choice (s (vm v)) c end) h in
-      let changed = setting_load p s v c t r set l in
+      let changed = setting_total p s v c t (Amount r) set l in
       let same = (machine_change p (setting (vm v) c s) s v t l (setting_agrees s (vm v) c)).of_room r set in
       let had = has.at t h in
       omega (arith, others, fits, changed, same, had, sum, rest, over)
@@ -63,7 +63,7 @@ module _ (p : Instance) (s : Sets) (r : ℕ) (set : Nodes) (x : Period) (most : 
   node-free : NodesFit p s r set x used → (n : ℕ) (c : Choice) (t : ℕ) → n < node_count p → IsEnd (s (node n)) c → IsDuring x t → ¬ IsOverload p (sure p (setting (node n) c s) t) r set
   node-free nodes n c t l end h over =
       let fits = nodes.each n c t l (end_is_choice (s (node n)) c end) h in
-      let same = (node_change p (setting (node n) c s) s n t l (setting_agrees s (node n) c)).of_load r set in
+      let same = (node_change p (setting (node n) c s) s n t l (setting_agrees s (node n) c)).of_total (Amount r) set in
       let less = load-less t h in
       omega (arith, fits, same, less, over)
 

@@ -4,7 +4,6 @@ use Rattle.std.specs.Prelude.{slice_index_or}
 use Rattle.std.specs.List.{Contains}
 use Rattle.std.proofs.lemmas.Bool.{and_parts, cases_eq, false≢true, ne_eqb}
 use Rattle.std.proofs.lemmas.Bool.Decides.{nat_tests}
-use Rattle.std.proofs.lemmas.List.{get_or_append_left, get_or-append_right}
 use Rattle.cluster.specs.declared.choices.Choice.{Choice}
 use Rattle.cluster.specs.declared.ids.Element.{Element}
 use Rattle.cluster.specs.declared.ids.Element.TheVariants.{Vm, Node as TheNode}
@@ -18,21 +17,21 @@ use Rattle.domains.specs.Parts.{on_side}
 use Rattle.domains.specs.Undo.{domain_before}
 use Rattle.domains.proofs.Public.{filter_is_fewer, same_is}
 use Rattle.domains.specs.Sets.{RegionView, Sets, domain_at, same_element, sets}
-use Rattle.levels.specs.Levels.{Levels}
-use Rattle.near.specs.Near.{IsNear, IsPut, list_at}
-use Rattle.near.proofs.Public.{near_put}
-use Rattle.movers.specs.Movers.{AreMovers, IsGrown}
-use Rattle.movers.proofs.Public.{movers_grown}
+use Rattle.profiles.specs.Levels.{Levels, level_at}
+use Rattle.profiles.specs.Near.{IsNear, IsPut, list_at}
+use Rattle.profiles.proofs.Public.{level_below, level_top, near_put}
+use Rattle.profiles.specs.Movers.{AreMovers, IsGrown}
+use Rattle.profiles.proofs.Public.{movers_grown}
 use Rattle.prop_core.specs.Propagators.{IsNarrowed, sets_before}
-use Rattle.rule_frame.specs.Caches.{IsCachePosted, IsCacheTold}
-use Rattle.standing.specs.declared.numbers.Arrival.{Arrival}
-use Rattle.standing.specs.declared.numbers.Standing.{Standing}
-use Rattle.standing.specs.Standings.{comes_by}
-use Rattle.standing.specs.Tables.{AreStanding, Tables, no_standing}
-use Rattle.rule_load.specs.Fixed.{FixedView, IsFixed}
-use Rattle.rule_load.specs.Firsts.{AreFirstAt, AreFirsts}
-use Rattle.rule_load.proofs.FirstLemmas.{firsts_fewer}
-use Rattle.rule_load.specs.Kept.{AreKept, AreKeptAt, Grows, HaveCome, IsListedBy, IsListedFor, cache_of, firsts_at}
+use Rattle.rule_frame.specs.Caches.{IsCacheTold}
+use Rattle.profiles.specs.declared.standing.numbers.Arrival.{Arrival}
+use Rattle.profiles.specs.declared.standing.numbers.Standing.{Standing}
+use Rattle.profiles.specs.Standing.Standings.{comes_by}
+use Rattle.profiles.specs.Standing.Tables.{AreStanding, Tables, no_standing}
+use Rattle.profiles.specs.Fixed.{FixedView, IsFixed}
+use Rattle.profiles.specs.Firsts.{AreFirstAt, AreFirsts}
+use Rattle.profiles.proofs.Public.{firsts_fewer}
+use Rattle.rule_load.specs.Kept.{AreKept, AreKeptAt, Grows, HaveCome, IsListedBy, IsListedFor, cache_of}
 
 -- ---- one machine more
 
@@ -77,22 +76,14 @@ come_told p g (Vm w) before kept ks xs ys count come grows are listed = record {
 
 -- ---- levels
 
-module _ {T : Type 0} (m : Levels T) where
-  top-is : slice_index_or (m.older ++ m.top ∷ []) (length m.older) [] ≡ m.top
-  top-is = get_or-append_right m.older (m.top ∷ []) (length m.older) (length m.older) [] refl (omega arith) ∙ rw (let none : length m.older - length m.older ≡ 0 = omega arith in none) refl
-
-  lower-is : (now : Levels T) (j : ℕ) → now.older ≡ m.older → j < length m.older → slice_index_or (now.older ++ now.top ∷ []) j [] ≡ slice_index_or (m.older ++ m.top ∷ []) j []
-  lower-is now j same low =
-      get_or_append_left now.older (now.top ∷ []) [] j (rw same low) ∙ rw same (sym (get_or_append_left m.older (m.top ∷ []) [] j low))
-
 -- the top of firsts that have as many levels
-firsts-top : (m : Tables) (f : Levels ℕ) → length f.older ≡ length m.older → firsts_at f (length m.older) ≡ f.top
-firsts-top m f same = ap (firsts_at f) (sym same) ∙ top-is f
+firsts-top : (m : Tables) (f : Levels ℕ) → length f.older ≡ length m.older → level_at f (length m.older) ≡ f.top
+firsts-top m f same = ap (level_at f) (sym same) ∙ level_top f
 
 pub kept_at : (p : Instance) (s : Sets) (m : Tables) (x : FixedView) (xs : List (List ℕ)) (f : Levels ℕ) (ws : List ℕ) (n : ℕ) (fs : List ℕ) → n < node_count p → AreKept p s m x xs f ws (length m.older) → AreFirstAt p s n fs → AreKeptAt p s n x m.top (list_at xs n) fs
 kept_at p s m x xs f ws n fs low kept first = record {
   fixed = kept.fixed;
-  standing = subst (λ ks. AreStanding p s ks) (top-is m) kept.standing;
+  standing = subst (λ ks. AreStanding p s ks) (level_top m) kept.standing;
   near = record { machines = kept.near.machines n; hosted = λ v l on. kept.near.hosted n v low l on; come = λ v t l on. kept.come.come n v t low l on };
   firsts = first;
 }
@@ -109,36 +100,22 @@ kept_fewer p g change before kept m x xs f ws narrowed was = firsts_fewer p (set
     at v c true same h = filter_is_fewer (on_side change.side change.part) (choices (domain_before before kept (domain_at g change.element))) c (subst (λ cs. Contains cs c) narrowed.left (subst (λ e. Contains (sets g e) c) (same_is (vm v) change.element same) h))
     at v c false other h = h
 
-pub cache_posted : (p : Instance) (s : Sets) (m : Tables) (x : FixedView) (xs : List (List ℕ)) (f : Levels ℕ) (ws : List ℕ) → m.older ≡ [] → f.older ≡ [] → AreStanding p s m.top → AreFirsts p s f.top → IsFixed p x → IsNear p xs → HaveCome p s xs → AreMovers p s ws → IsCachePosted p s (cache_of m x xs f ws)
-cache_posted p s m x xs f ws none nothing are first fixed near come movers = record {
-  level = rw none refl;
-  top = record {
-    standing = subst (λ ks. AreStanding p s ks) (sym (top-is m)) are;
-    fixed = fixed;
-    near = near;
-    come = come;
-    firsts = subst (λ fs. AreFirsts p s fs) (sym (firsts-top m f (rw (none, nothing) refl))) first;
-    same = rw (none, nothing) refl;
-    movers = movers;
-  };
-}
-
 pub cache_told : (p : Instance) (s old : Sets) (m now : Tables) (x : FixedView) (xs ys : List (List ℕ)) (f h : Levels ℕ) (ws vs : List ℕ) → now.older ≡ m.older → h.older ≡ f.older → AreStanding p s now.top → AreFirsts p s h.top → AreKept p old m x xs f ws (length m.older) → Grows (machine_count p) xs ys → HaveCome p s ys →
     IsGrown (machine_count p) ws vs → AreMovers p s vs → IsCacheTold p s (cache_of m x xs f ws) (cache_of now x ys h vs)
 cache_told p s old m now x xs ys f h ws vs same alike are first was grows come grown movers = record {
   below = record {
     kept = λ j q r low k. record {
-      standing = subst (λ ks. AreStanding q r ks) (sym (lower-is m now j same low)) k.standing;
+      standing = subst (λ ks. AreStanding q r ks) (sym (level_below m now j same low)) k.standing;
       fixed = k.fixed;
       near = grows.near q (sym k.fixed.hosts.count ∙ was.fixed.hosts.count) k.near;
       come = record { come = λ n v t l i on. grows.kept n v (k.come.come n v t l i on) };
-      firsts = subst (λ fs. AreFirsts q r fs) (sym (lower-is f h j alike (omega (arith, low, was.same)))) k.firsts;
+      firsts = subst (λ fs. AreFirsts q r fs) (sym (level_below f h j alike (omega (arith, low, was.same)))) k.firsts;
       same = level;
       movers = movers_grown q r ws vs (machine_count p) (sym k.fixed.hosts.count ∙ was.fixed.hosts.count) k.movers grown;
     };
   };
   top = record {
-    standing = subst (λ ks. AreStanding p s ks) (sym (top-is now)) are;
+    standing = subst (λ ks. AreStanding p s ks) (sym (level_top now)) are;
     fixed = was.fixed;
     near = grows.near p refl was.near;
     come = come;

@@ -1,6 +1,4 @@
 pub mod DoubtLemmas
-pub mod FirstLemmas
-pub mod FixedLemmas
 pub mod FreeLemmas
 pub mod KeptLemmas
 pub mod MarkLemmas

@@ -1,6 +1,6 @@
 -- Marks.
 use Rattle.std.proofs.Common.{◌≡◌, ◌≢◌, ◌⊎◌, inl, inr, ℕ, ◌+◌, ◌<◌, Bool, true, false, List, length, refl, sym, subst, ◌∙◌, arith}
-use Rattle.std.proofs.lemmas.Bool.{false≢true}
+use Rattle.std.proofs.lemmas.Bool.{false≢true, ne_eqb}
 use Rattle.std.specs.List.{Contains}
 use Rattle.cluster.specs.declared.choices.Choice.{Choice}
 use Rattle.cluster.specs.declared.ids.Element.{Element}
@@ -15,8 +15,8 @@ use Rattle.relax.specs.Areas.{hosted_in}
 use Rattle.closing.specs.Kinds.{load_scope}
 use Rattle.rule_frame.specs.Changes.{IsDisturbed, IsStill}
 use Rattle.rule_frame.specs.Levels.{Levels}
-use Rattle.standing.specs.declared.numbers.Standing.{Standing}
-use Rattle.standing.specs.Standings.{IsStanding, comes_by, has_come, never}
+use Rattle.profiles.specs.declared.standing.numbers.Standing.{Standing}
+use Rattle.profiles.specs.Standing.Standings.{IsStanding, comes_by, has_come, never}
 use Rattle.rule_load.specs.Marking.{AreSpared, CameBefore, KeepsHost}
 use Rattle.rule_load.specs.Quiet.{one_at}
 use Rattle.rule_load.specs.Watched.{watch_at}
@@ -59,6 +59,10 @@ machine_spared p v old now k m n o short fewer is host come =
 -- where nothing is marked
 pub all_spared : (P : ℕ → Type 0) (m : Levels) → ((i : ℕ) → P i) → AreSpared P m m
 all_spared P m each = record { older = refl; count = refl; kept = λ k h e. (e, each k) }
+
+-- where the host of a machine is marked
+pub host_spared : (on : ℕ → Bool) (h : ℕ) (m n : Levels) → ((k : ℕ) → on k ≡ one k h) → AreSpared (λ k. k ≢ h) m n → AreSpared (λ k. on k ≡ false) m n
+host_spared on h m n is s = weaker (λ k. k ≢ h) (λ k. on k ≡ false) m n (λ k ne. is k ∙ ne_eqb h k (λ same. ne (sym same))) s
 
 -- where a node is marked
 pub node_spared : (p : Instance) (x : NodeId) (old now : List Choice) (m n : Levels) → AreSpared (λ i. i ≢ x.0) m n → AreSpared (λ i. IsStill p (load_scope (one i)) (TheNode x) old now) m n

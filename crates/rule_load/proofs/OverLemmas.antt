@@ -18,12 +18,12 @@ use Rattle.domains.specs.Choices.{Climbs, DomainView, choices, row_choices}
 use Rattle.domains.specs.Sets.{Sets}
 use Rattle.domains.proofs.Public.{contains_here}
 use Rattle.reasons.specs.Sure.{sure}
-use Rattle.near.specs.Near.{AreMachines}
-use Rattle.near.proofs.Public.{over_once}
-use Rattle.standing.specs.declared.numbers.Standing.{Standing}
-use Rattle.standing.specs.Standings.{IsStanding, gain, has_come, kept_use, never}
-use Rattle.standing.specs.Tables.{AreStanding, no_standing}
-use Rattle.standing.proofs.Public.{kept_law}
+use Rattle.profiles.specs.Near.{AreMachines}
+use Rattle.profiles.proofs.Public.{over_once}
+use Rattle.profiles.specs.declared.standing.numbers.Standing.{Standing}
+use Rattle.profiles.specs.Standing.Standings.{IsStanding, gain, has_come, kept_use, never}
+use Rattle.profiles.specs.Standing.Tables.{AreStanding, no_standing}
+use Rattle.profiles.proofs.Public.{kept_law}
 use Rattle.rule_load.proofs.StayLemmas.{row_came}
 use Rattle.rule_load.proofs.StillLemmas.{held_parts, least_above}
 

@@ -27,9 +27,9 @@ use Rattle.reasons.specs.Closed.{IsEnd}
 use Rattle.relax.specs.Areas.{goes_in, hosted_in}
 use Rattle.closing.specs.Kinds.{load_scope}
 use Rattle.rule_frame.specs.Changes.{IsMachineLess, IsStill}
-use Rattle.standing.specs.Ends.{leave_climbs}
-use Rattle.standing.specs.declared.numbers.Arrival.{Arrival}
-use Rattle.standing.specs.Standings.{base, comes_by, gain, has_come, have_come, leave_of, never}
+use Rattle.profiles.specs.Standing.Ends.{leave_climbs}
+use Rattle.profiles.specs.declared.standing.numbers.Arrival.{Arrival}
+use Rattle.profiles.specs.Standing.Standings.{base, comes_by, gain, has_come, have_come, leave_of, never}
 use Rattle.rule_load.specs.Marking.{CameBefore, KeepsHost}
 use Rattle.rule_load.proofs.StillLemmas.{cases_in, held_parts, last_of, least_above, least_attained}
 

@@ -23,10 +23,10 @@ use Rattle.relax.specs.Areas.{hosted_in}
 use Rattle.closing.specs.Kinds.{load_scope}
 use Rattle.rule_frame.specs.Changes.{IsLess, IsMachineLess, IsStill}
 use Rattle.rule_frame.proofs.Public.{unseen_still}
-use Rattle.standing.specs.declared.numbers.Arrival.{Arrival}
-use Rattle.standing.specs.declared.numbers.Standing.{Standing}
-use Rattle.standing.specs.Standings.{IsStanding, base, comes_by, gain, has_come, have_come, kept_use, leave_of, never}
-use Rattle.standing.proofs.Public.{kept_law}
+use Rattle.profiles.specs.declared.standing.numbers.Arrival.{Arrival}
+use Rattle.profiles.specs.declared.standing.numbers.Standing.{Standing}
+use Rattle.profiles.specs.Standing.Standings.{IsStanding, base, comes_by, gain, has_come, have_come, kept_use, leave_of, never}
+use Rattle.profiles.proofs.Public.{kept_law}
 
 -- ---- one choice, away from the host
 

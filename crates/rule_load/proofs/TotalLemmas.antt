@@ -27,14 +27,15 @@ use Rattle.slices.proofs.Public.{ends_by_duration}
 use Rattle.domains.specs.Sets.{may, RegionView, sets}
 use Rattle.domains.proofs.Public.{contains_here, least_of_each, may_each}
 use Rattle.reasons.specs.Sure.{sure}
-use Rattle.movers.specs.Movers.{AreMovers}
-use Rattle.movers.proofs.Public.{sum_but_for}
-use Rattle.standing.specs.declared.numbers.Standing.{Standing}
-use Rattle.standing.specs.Standings.{IsStanding, base, had_there, kept_until, leave_of, never, weight_if}
-use Rattle.standing.specs.Tables.{AreStanding, no_standing}
+use Rattle.profiles.specs.Movers.{AreMovers}
+use Rattle.profiles.proofs.Public.{sum_but_for}
+use Rattle.profiles.specs.declared.standing.numbers.Standing.{Standing}
+use Rattle.profiles.specs.Standing.Standings.{IsStanding, base, had_there, kept_until, leave_of, never, weight_if}
+use Rattle.profiles.specs.Standing.Tables.{AreStanding, no_standing}
 use Rattle.rule_load.proofs.StillLemmas.{least_attained}
 use Rattle.rule_load.specs.declared.period.Period.{Period}
-use Rattle.rule_load.specs.Parts.{HasLeft, StartsAfter, start_count}
+use Rattle.profiles.specs.Firsts.{start_count}
+use Rattle.rule_load.specs.Parts.{HasLeft, StartsAfter}
 use Rattle.rule_load.specs.Periods.{AreMost, IsDuring, IsMost}
 use Rattle.rule_load.specs.Totals.{may_wait, most_anywhere, waits}
 

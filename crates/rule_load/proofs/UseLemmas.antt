@@ -28,13 +28,13 @@ use Rattle.domains.specs.Sets.{Sets}
 use Rattle.domains.proofs.Public.{contains_filter, least_of_each, surely_each}
 use Rattle.reasons.specs.Sure.{sure}
 use Rattle.relax.specs.Areas.{hosted_in}
-use Rattle.standing.specs.declared.numbers.Arrival.{Arrival}
-use Rattle.standing.specs.declared.numbers.Standing.{Standing}
-use Rattle.standing.specs.Standings.{IsStanding, base, brought, comes_by, gain, has_come, have_come, kept_use, leave_of, never, weight_if}
-use Rattle.standing.specs.Tables.{AreStanding, no_standing}
-use Rattle.standing.proofs.Public.{kept_law}
+use Rattle.profiles.specs.declared.standing.numbers.Arrival.{Arrival}
+use Rattle.profiles.specs.declared.standing.numbers.Standing.{Standing}
+use Rattle.profiles.specs.Standing.Standings.{IsStanding, base, brought, comes_by, gain, has_come, have_come, kept_use, leave_of, never, weight_if}
+use Rattle.profiles.specs.Standing.Tables.{AreStanding, no_standing}
+use Rattle.profiles.proofs.Public.{kept_law}
 use Rattle.rule_load.specs.declared.period.Period.{Period}
-use Rattle.rule_load.specs.Firsts.{AreFirstAt}
+use Rattle.profiles.specs.Firsts.{AreFirstAt}
 use Rattle.rule_load.specs.Parts.{HasLeft, IsMostBrought, IsMostLeft, StartsPast, left_over}
 use Rattle.rule_load.specs.Periods.{AreMost, IsDuring, IsMost, most_kept}
 use Rattle.rule_load.proofs.StillLemmas.{held_parts}

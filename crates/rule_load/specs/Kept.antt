@@ -1,6 +1,6 @@
 -- What is kept beside the rule: where each machine surely stands and before when it does not start at a node, with levels; the machines
 -- near each node, and those that may not stay.
-use Rattle.std.specs.Prelude.{◌≡◌, ℕ, ◌<◌, true, List, [], ◌∷◌, ◌++◌, length, slice_index_or}
+use Rattle.std.specs.Prelude.{◌≡◌, ℕ, ◌<◌, true, List, [], length, slice_index_or}
 use Rattle.std.specs.List.{Contains}
 use Rattle.cluster.specs.declared.ids.Element.{Element}
 use Rattle.cluster.specs.declared.ids.Element.TheVariants.{Vm, Node as TheNode}
@@ -9,36 +9,28 @@ use Rattle.slices.specs.Elements.{machine_count, node_count, state_of, vm}
 use Rattle.slices.specs.Stages.{one}
 use Rattle.domains.specs.Sets.{Sets}
 use Rattle.relax.specs.Areas.{hosted_in}
-use Rattle.levels.specs.Levels.{Levels}
-use Rattle.near.specs.Near.{AreMachines, IsNear, list_at}
-use Rattle.movers.specs.Movers.{AreMovers}
+use Rattle.profiles.specs.Levels.{Levels, level_at}
+use Rattle.profiles.specs.Near.{AreMachines, IsNear, list_at}
+use Rattle.profiles.specs.Movers.{AreMovers}
 use Rattle.rule_frame.specs.Caches.{Cache}
-use Rattle.standing.specs.declared.numbers.Standing.{Standing}
-use Rattle.standing.specs.Standings.{comes_by, have_come}
-use Rattle.standing.specs.Tables.{AreStanding, Tables, no_standing}
-use Rattle.rule_load.specs.Firsts.{AreFirstAt, AreFirsts}
-use Rattle.rule_load.specs.Fixed.{FixedView, IsFixed}
-
--- the numbers of a level
-abbrev pub numbers_at : Tables → ℕ → List Standing
-numbers_at m k = slice_index_or (m.older ++ m.top ∷ []) k []
+use Rattle.profiles.specs.declared.standing.numbers.Standing.{Standing}
+use Rattle.profiles.specs.Standing.Standings.{comes_by, have_come}
+use Rattle.profiles.specs.Standing.Tables.{AreStanding, Tables, no_standing}
+use Rattle.profiles.specs.Firsts.{AreFirstAt, AreFirsts}
+use Rattle.profiles.specs.Fixed.{FixedView, IsFixed}
 
 -- each machine of which all choices have come to a node is in the list of the node
 pub record HaveCome (p : Instance) (s : Sets) (xs : List (List ℕ)) : Type 0 where
   pub come : (n v t : ℕ) → n < node_count p → v < machine_count p → have_come n t (s (vm v)) ≡ true → Contains (list_at xs n) v
 
--- before when no machine starts at a node, at a level
-abbrev pub firsts_at : Levels ℕ → ℕ → List ℕ
-firsts_at f k = slice_index_or (f.older ++ f.top ∷ []) k []
-
 -- what is kept of a level is right for the sets, what does not change is for the instance, and of each node the machines near it are
 -- listed, and all that may not stay
 pub record AreKept (p : Instance) (s : Sets) (m : Tables) (x : FixedView) (xs : List (List ℕ)) (f : Levels ℕ) (ws : List ℕ) (k : ℕ) : Type 0 where
-  pub standing : AreStanding p s (numbers_at m k)
+  pub standing : AreStanding p s (level_at m k)
   pub fixed : IsFixed p x
   pub near : IsNear p xs
   pub come : HaveCome p s xs
-  pub firsts : AreFirsts p s (firsts_at f k)
+  pub firsts : AreFirsts p s (level_at f k)
   pub same : length f.older ≡ length m.older
   pub movers : AreMovers p s ws
 

@@ -1,7 +1,5 @@
 -- what a reader must believe
 pub mod Watched
-pub mod Firsts
-pub mod Fixed
 pub mod Kept
 -- what the code's contracts and the rule's laws say beside it
 pub mod Marking

@@ -7,8 +7,8 @@ use Rattle.base.specs.Least.{least}
 use Rattle.slices.specs.Elements.{state_of}
 use Rattle.slices.specs.Stages.{one}
 use Rattle.relax.specs.Areas.{goes_in, hosted_in}
-use Rattle.standing.specs.declared.numbers.Arrival.{Arrival}
-use Rattle.standing.specs.Standings.{comes_by, has_come, leave_of}
+use Rattle.profiles.specs.declared.standing.numbers.Arrival.{Arrival}
+use Rattle.profiles.specs.Standing.Standings.{comes_by, has_come, leave_of}
 use Rattle.rule_frame.specs.Levels.{Levels}
 
 -- no mark is gone, and what has none is spared

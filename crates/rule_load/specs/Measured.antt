@@ -10,8 +10,8 @@ use Rattle.slices.specs.Elements.{node}
 use Rattle.slices.specs.Ends.{IsLeastAtEnds}
 use Rattle.slices.specs.Snapshots.{stage_at, usable_at}
 use Rattle.slices.specs.Stages.{stage_of, usable_of}
-use Rattle.standing.specs.Ends.{leave_climbs}
-use Rattle.standing.specs.Standings.{leave_of, never}
+use Rattle.profiles.specs.Standing.Ends.{leave_climbs}
+use Rattle.profiles.specs.Standing.Standings.{leave_of, never}
 use Rattle.rule_load.specs.Totals.{hurry_count}
 use Rattle.rule_load.specs.Parts.{left_over, usable_count}
 

@@ -10,7 +10,8 @@ use Rattle.slices.specs.Elements.{state_of}
 use Rattle.slices.specs.Snapshots.{usable_at}
 use Rattle.slices.specs.Stages.{one}
 use Rattle.relax.specs.Areas.{hosted_in}
-use Rattle.standing.specs.Standings.{base, gain, has_come, leave_of, never}
+use Rattle.profiles.specs.Firsts.{start_count}
+use Rattle.profiles.specs.Standing.Standings.{base, gain, has_come, leave_of, never}
 
 -- under each of these choices machine v gives its host up by the instant
 pub record HasLeft (p : Instance) (v : ℕ) (cs : List Choice) (by : ℕ) : Type 0 where
@@ -29,10 +30,6 @@ pub record StartsPast (cs : List Choice) (n by : ℕ) : Type 0 where
   pub after : (start : ℕ) → Contains cs (Act (At (record { 0 = n })) start) → by < start
 
 -- each of these choices starts after the instant; Idle does not
-abbrev pub start_count : Choice → ℕ
-start_count Idle = 0
-start_count (Act place start) = start
-
 pub record StartsAfter (cs : List Choice) (t : ℕ) : Type 0 where
   pub each : (c : Choice) → Contains cs c → t < start_count c
 

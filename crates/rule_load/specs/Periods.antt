@@ -13,8 +13,8 @@ use Rattle.reasons.specs.Sure.{sure}
 use Rattle.relax.specs.Areas.{hosted_in}
 use Rattle.closing.specs.Kinds.{IsOverloaded}
 use Rattle.closing.specs.Looks.{IsFreeOf}
-use Rattle.standing.specs.declared.numbers.Standing.{Standing}
-use Rattle.standing.specs.Standings.{base, comes_by, gain}
+use Rattle.profiles.specs.declared.standing.numbers.Standing.{Standing}
+use Rattle.profiles.specs.Standing.Standings.{base, comes_by, gain}
 use Rattle.rule_load.specs.declared.period.Period.{Period}
 
 -- the instant is one of the period

@@ -8,8 +8,8 @@ use Rattle.slices.specs.declared.slice.Weight.TheVariants.{Amount}
 use Rattle.slices.specs.Elements.{node, vm}
 use Rattle.slices.specs.Snapshots.{usable_at}
 use Rattle.domains.specs.Sets.{Sets, may, surely}
-use Rattle.standing.specs.declared.numbers.Standing.{Standing}
-use Rattle.standing.specs.Standings.{base}
+use Rattle.profiles.specs.declared.standing.numbers.Standing.{Standing}
+use Rattle.profiles.specs.Standing.Standings.{base}
 use Rattle.rule_load.specs.declared.period.Period.{Period}
 
 -- whether a choice leaves a machine as it is up to an instant t; of one that acts this is told before the last instant of all

@@ -9,12 +9,11 @@ ghost use Rattle.domains.specs.Sets.{sets};
 ghost use Rattle.reasons.specs.Reasons.{IsOverload};
 ghost use Rattle.relax.specs.Areas.{IsSized};
 ghost use Rattle.closing.specs.Kinds.{IsOverloaded};
-ghost use Rattle.standing.specs.Tables.{no_standing};
+ghost use Rattle.profiles.specs.Standing.Tables.{no_standing};
 ghost use Rattle.rule_load.specs.Kept.{AreKeptAt};
 ghost use Rattle.rule_load.specs.Periods.{IsFreeDuring, MachinesFit, most_kept};
 
 use crate::kept::Kept;
-use crate::nodes::resource_total;
 use crate::period::Period;
 use crate::room::{node_fits, room_of};
 use crate::uses::{machine_fits, most_brought, most_used};
@@ -25,8 +24,9 @@ use domains::domain::Domain;
 use domains::measure::Measure;
 use domains::parts::Row;
 use domains::region::Region;
-use standing::leaves::leaves_of;
-use standing::numbers::Leaving;
+use profiles::fixed::resource_total;
+use profiles::standing::leaves::leaves_of;
+use profiles::standing::numbers::Leaving;
 
 /// A case in which nodes may be overloaded, which is to be looked at.
 #[derive(Clone, Copy)]

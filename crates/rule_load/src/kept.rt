@@ -1,7 +1,7 @@
 //! What is kept beside a region, as far as a node needs it.
-use crate::fixed::Fixed;
 use cluster::choices::Instant;
-use standing::numbers::Standing;
+use profiles::fixed::Fixed;
+use profiles::standing::numbers::Standing;
 
 /// What does not change, where each machine surely stands, the machines near the node, and before when each does not
 /// start there.

@@ -2,8 +2,6 @@
 #![tactic(auto)]
 
 mod doubt;
-pub mod firsts;
-pub mod fixed;
 mod kept;
 mod marking;
 mod measures;

@@ -14,7 +14,7 @@ ghost use Rattle.relax.specs.Areas.{IsSized, goes_in, hosted_in};
 ghost use Rattle.closing.specs.Kinds.{load_scope};
 ghost use Rattle.rule_frame.specs.Caches.{IsCacheFor};
 ghost use Rattle.rule_frame.specs.Changes.{IsDisturbed, IsStill};
-ghost use Rattle.standing.specs.Standings.{comes_by, has_come, have_come, leave_of};
+ghost use Rattle.profiles.specs.Standing.Standings.{comes_by, has_come, have_come, leave_of};
 ghost use Rattle.rule_load.specs.Kept.{cache_of};
 ghost use Rattle.rule_load.specs.Marking.{AreSpared, CameBefore, KeepsHost};
 ghost use Rattle.rule_load.specs.Watched.{watch_at};
@@ -24,15 +24,15 @@ use crate::standings::Standings;
 use catalogue::problem::Problem;
 use cluster::choices::Place;
 use cluster::ids::{Element, VmId};
-use cluster::states::State;
 use domains::domain::Domain;
 use domains::measure::lowest_lost;
 use domains::parts::{Change, Part, Side};
 use domains::region::Region;
 use domains::undo::{Before, Lost};
+use profiles::host::host_of;
+use profiles::standing::leaves::leaves_of;
+use profiles::standing::numbers::{Arrival, Leaving};
 use rule_frame::marks::Marks;
-use standing::leaves::leaves_of;
-use standing::numbers::{Arrival, Leaving};
 
 // marks a watch, if there is one of this number
 fn mark_one(marks: &mut Marks, i: usize)
@@ -43,22 +43,15 @@ fn mark_one(marks: &mut Marks, i: usize)
     }
 }
 
-// the state of a machine at present
-fn state(p: &Problem, v: VmId) -> State
+// marks the host of a machine, if it has one
+#[tactic(auto, using(crate::proofs::MarkLemmas::host_spared, crate::proofs::MarkLemmas::all_spared))]
+fn mark_host(p: &Problem, v: VmId, marks: &mut Marks)
     requires { IsElement p.now.given (Element.Vm v) }
-    ensures { result ≡ state_of p.now.given v.0 }
+    ensures { AreSpared (λ k. hosted_in (state_of p.now.given v.0) (one k) ≡ false) marks.old marks.new }
 {
-    p.cluster().machines()[v.0 as usize].state
-}
-
-// marks the host of a machine in a state, if it has one
-fn mark_host(state: State, marks: &mut Marks)
-    ensures { AreSpared (λ k. hosted_in state (one k) ≡ false) marks.old marks.new }
-{
-    match state {
-        State::Running(h) => mark_one(marks, h.0 as usize),
-        State::Sleeping(h) => mark_one(marks, h.0 as usize),
-        State::Init | State::Ready | State::Gone => {}
+    match host_of(p, v) {
+        None => {}
+        Some(h) => mark_one(marks, h.0 as usize),
     }
 }
 
@@ -74,17 +67,18 @@ fn mark_arrival(come: Option<Arrival>, marks: &mut Marks)
 
 // whether no choice of a machine acts at its host
 #[tactic(auto, using(crate::proofs::StayLemmas::none_at))]
-fn acts_elsewhere(g: &Region, v: VmId, state: State) -> bool
-    requires machine { HasElement g.now (vm v.0) }
-    ensures { IsTrue result → (n : ℕ) → hosted_in state (one n) ≡ true → (c : AnyChoice) → Contains (sets g.now (vm v.0)) c → goes_in c (one n) ≡ false }
+fn acts_elsewhere(p: &Problem, g: &Region, v: VmId) -> bool
+    requires region { HasElement g.now (vm v.0) }
+    requires machine { IsElement p.now.given (Element.Vm v) }
+    ensures { IsTrue result → (n : ℕ) → hosted_in (state_of p.now.given v.0) (one n) ≡ true → (c : AnyChoice) → Contains (sets g.now (vm v.0)) c → goes_in c (one n) ≡ false }
 {
-    match state {
-        State::Running(h) | State::Sleeping(h) => g.leaves_none(Change {
+    match host_of(p, v) {
+        None => true,
+        Some(h) => g.leaves_none(Change {
             element: Element::Vm(v),
             part: Part::From(Place::At(h), 0),
             side: Side::Inside,
         }),
-        State::Init | State::Ready | State::Gone => true,
     }
 }
 
@@ -127,7 +121,7 @@ fn keeps_host(p: &Problem, g: &Region, v: VmId, before: Before, kept: &Domain, l
     ensures { IsTrue result → KeepsHost p.now.given v.0 (choices (domain_before before kept.now (domain_at g.now (vm v.0)))) (sets g.now (vm v.0)) leave }
 {
     let domain = g.domain(Element::Vm(v));
-    if domain.is_empty() || !acts_elsewhere(g, v, state(p, v)) {
+    if domain.is_empty() || !acts_elsewhere(p, g, v) {
         return false;
     }
     kept_as_long(p, v, domain, before, kept, leave)
@@ -151,7 +145,7 @@ fn mark_left(
     ensures { AreSpared (λ i. (hosted_in (state_of p.now.given v.0) (one i) ≡ false) ⊎ KeepsHost p.now.given v.0 (choices (domain_before before kept.now (domain_at g.now (vm v.0)))) (sets g.now (vm v.0)) leave) marks.old marks.new }
 {
     if !keeps_host(p, g, v, before, kept, leave) {
-        mark_host(state(p, v), marks);
+        mark_host(p, v, marks);
     }
 }
 

@@ -2,16 +2,16 @@
 ghost use Rattle.std.specs.Prelude.{◌≡◌, IfSome};
 ghost use Rattle.catalogue.specs.Instance.{IsElement};
 ghost use Rattle.slices.specs.Elements.{node, vm};
-ghost use Rattle.standing.specs.Leaves.{AreLeaves};
-ghost use Rattle.rule_load.specs.Parts.{left_over, start_count, usable_count};
+ghost use Rattle.profiles.specs.Standing.Leaves.{AreLeaves};
+ghost use Rattle.rule_load.specs.Parts.{left_over, usable_count};
 ghost use Rattle.rule_load.specs.Totals.{hurry_count};
 
 use catalogue::problem::Problem;
 use cluster::choices::{Choice, Instant};
 use cluster::ids::NodeId;
 use domains::measure::Measure;
+use profiles::standing::numbers::{Leaving, NEVER};
 use slices::choice::usable;
-use standing::numbers::{Leaving, NEVER};
 
 /// How long before the end of time a machine gives its host up.
 #[derive(Drop)]
@@ -66,35 +66,6 @@ impl Measure for IsUsable<'_> {
 
     fn value(&self, c: Choice) -> u64 {
         u64::from(usable(self.problem, self.node, c, self.at))
-    }
-
-    fn floor(&self) -> u64 {
-        0
-    }
-}
-
-/// When an action starts, 0 for Idle.
-#[derive(Drop)]
-pub struct Start;
-
-impl Measure for Start {
-    ghost use Rattle.std.proofs.Common.{arith};
-
-    ghost ready = { λ _. Unit {0} };
-
-    ghost value_of = { λ _. start_count };
-
-    ghost floor_of = { λ _. 0 };
-
-    ghost least_at_ends = { λ m place lo s hi l u. Prim.omega arith };
-
-    ghost above_floor = { λ m c. Prim.omega arith };
-
-    fn value(&self, c: Choice) -> u64 {
-        match c {
-            Choice::Idle => 0,
-            Choice::Act { place: _, start } => u64::from(start),
-        }
     }
 
     fn floor(&self) -> u64 {

@@ -1,5 +1,5 @@
 //! The nodes whose load is a watch.
-ghost use Rattle.std.specs.Prelude.{◌≡◌, ℕ, ◌+◌, ◌<◌, ◌≤◌, IfNone, IfSome, length, nat_lt};
+ghost use Rattle.std.specs.Prelude.{◌≡◌, ℕ, ◌+◌, ◌<◌, ◌≤◌, IfNone, IfSome, nat_lt};
 ghost use Rattle.cluster.specs.Limits.{max_nodes};
 ghost use Rattle.cluster.specs.Sets.{has_node};
 ghost use Rattle.slices.specs.Elements.{node_count};
@@ -17,13 +17,6 @@ pub(crate) fn node_total(p: &Problem) -> usize
     ensures { result ≡ node_count p.now.given }
 {
     p.cluster().nodes().len()
-}
-
-/// How many resources there are.
-pub(crate) fn resource_total(p: &Problem) -> usize
-    ensures { result ≡ length p.now.given.resources }
-{
-    p.cluster().resources().len()
 }
 
 /// The one node whose load is the watch of a number; none for that of all nodes together.

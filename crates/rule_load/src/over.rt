@@ -18,13 +18,11 @@ ghost use Rattle.domains.specs.Views.{seen};
 ghost use Rattle.reasons.specs.Reasons.{IsOverload};
 ghost use Rattle.reasons.specs.Sure.{sure};
 ghost use Rattle.relax.specs.Areas.{IsSized};
-ghost use Rattle.standing.specs.Standings.{has_come, kept_use as the_kept_use};
-ghost use Rattle.rule_load.specs.Fixed.{IsFixed};
+ghost use Rattle.profiles.specs.Standing.Standings.{has_come, kept_use as the_kept_use};
+ghost use Rattle.profiles.specs.Fixed.{IsFixed};
 ghost use Rattle.rule_load.specs.Kept.{AreKeptAt};
 
-use crate::fixed::Fixed;
 use crate::kept::Kept;
-use crate::nodes::resource_total;
 use crate::period::Period;
 use crate::uses::most_kept;
 use catalogue::problem::Problem;
@@ -33,13 +31,14 @@ use cluster::ids::{Element, NodeId, VmId};
 use domains::domain::Domain;
 use domains::parts::Row;
 use domains::view::{Lens, Sight, View, shown};
-use near::near::is_listed;
-use near::over::{narrowed, room_seen};
+use profiles::fixed::{Fixed, resource_total};
+use profiles::near::is_listed;
+use profiles::seen::{is_narrowed, narrowed, room_seen};
+use profiles::standing::numbers::{Standing, standing_of};
+use profiles::standing::uses::gain;
 use relax::area::Area;
 use relax::sure::least_held;
 use slices::slice::Weight;
-use standing::numbers::{Standing, standing_of};
-use standing::uses::gain;
 
 // what a machine with these numbers surely uses of a node
 #[inline(always)]
@@ -135,16 +134,6 @@ fn near_one(p: &Problem, view: &View, kept: Kept<'_>, v: VmId, r: u8, n: NodeId,
         use_seen(p, view, kept.fixed, v, r, n, t)
     } else {
         kept_use(p, kept.fixed, v, kept.standings[v.0 as usize], r, n, t)
-    }
-}
-
-// whether a lens may not show all choices of a machine
-fn is_narrowed(lens: Lens, v: VmId) -> bool
-    ensures { result ≡ false → (g : RegionView) → seen g lens (vm v.0) ≡ sets g (vm v.0) }
-{
-    match narrowed(lens) {
-        None => false,
-        Some(x) => x.0 == v.0,
     }
 }
 

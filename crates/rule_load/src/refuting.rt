@@ -13,7 +13,7 @@ ghost use Rattle.prop_core.specs.Propagators.{FailHolds, MayAnswer};
 ghost use Rattle.rule_frame.specs.Caches.{IsCacheFor};
 ghost use Rattle.rule_load.specs.Kept.{cache_of};
 
-use crate::nodes::{node_set, node_total, resource_total};
+use crate::nodes::{node_set, node_total};
 use crate::over::is_over;
 use crate::standings::Standings;
 use catalogue::problem::Problem;
@@ -23,6 +23,7 @@ use cluster::sets::NodeSet;
 use domains::parts::Part;
 use domains::region::Region;
 use domains::view::{Lens, View};
+use profiles::fixed::resource_total;
 use reasons::reason::Reason;
 use relax::refutes::refutes_inside;
 

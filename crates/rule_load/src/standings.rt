@@ -3,29 +3,29 @@ ghost use Rattle.std.specs.Prelude.{◌≡◌, ℕ, ◌<◌, OnErr, OnOk, [], le
 ghost use Rattle.catalogue.specs.Instance.{IsElement};
 ghost use Rattle.slices.specs.Elements.{machine_count, node_count};
 ghost use Rattle.domains.specs.Sets.{sets};
-ghost use Rattle.near.specs.Near.{IsNear};
-ghost use Rattle.movers.specs.Movers.{AreMovers};
+ghost use Rattle.profiles.specs.Near.{IsNear};
+ghost use Rattle.profiles.specs.Movers.{AreMovers};
 ghost use Rattle.rule_frame.specs.Caches.{IsCacheFor};
-ghost use Rattle.rule_load.specs.Fixed.{IsFixed};
-ghost use Rattle.standing.specs.Standings.{IsStanding};
-ghost use Rattle.standing.specs.Tables.{AreStanding, no_standing};
+ghost use Rattle.profiles.specs.Fixed.{IsFixed};
+ghost use Rattle.profiles.specs.Standing.Standings.{IsStanding};
+ghost use Rattle.profiles.specs.Standing.Tables.{AreStanding, no_standing};
 ghost use Rattle.rule_load.specs.Kept.{AreKeptAt, Grows, IsListedBy, IsListedFor};
 
-use crate::firsts::Firsts;
-use crate::fixed::Fixed;
 use crate::kept::Kept;
-use base::memory::Memory;
+use base::memory::{Memory, Memory};
 use catalogue::problem::Problem;
 use cluster::ids::{Element, NodeId, VmId};
 use domains::domain::Domain;
 use domains::parts::Change;
 use domains::region::Region;
 use domains::undo::Before;
-use movers::movers::Movers;
-use near::near::Near;
+use profiles::firsts::Firsts;
+use profiles::fixed::Fixed;
+use profiles::movers::Movers;
+use profiles::near::Near;
+use profiles::standing::numbers::Standing;
+use profiles::standing::table::Table;
 use rule_frame::keeper::Keeper;
-use standing::numbers::Standing;
-use standing::table::Table;
 use std::alloc::Global;
 
 /// Keeps for each machine until when it surely stands on its host, and where it surely comes to; for each node the

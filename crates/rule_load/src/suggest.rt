@@ -4,27 +4,29 @@ ghost use Rattle.catalogue.specs.Instance.{IsElement};
 ghost use Rattle.slices.specs.Elements.{machine_count, node_count};
 ghost use Rattle.domains.specs.Sets.{sets};
 ghost use Rattle.relax.specs.Areas.{IsSized};
-ghost use Rattle.standing.specs.Tables.{AreStanding};
+ghost use Rattle.profiles.specs.Standing.Tables.{AreStanding};
 ghost use Rattle.rule_load.specs.Kept.{AreKeptAt};
 
 use crate::kept::Kept;
-use crate::nodes::{node_set, resource_total};
+use crate::nodes::node_set;
 use crate::period::Period;
 use crate::room::room_of;
 use crate::turns::next_change;
 use crate::uses::{may_come, most_used};
-use base::memory::Memory;
+use base::memory::{Memory, Memory};
 use catalogue::problem::Problem;
 use cluster::choices::{Choice, Instant, Place};
 use cluster::ids::{Element, NodeId, VmId};
 use domains::parts::{Change, Part, Row, Side};
 use domains::region::Region;
+use profiles::fixed::resource_total;
+use profiles::host::is_host;
+use profiles::standing::numbers::{NEVER, Standing};
+use profiles::standing::uses::base;
 use reasons::reason::Reason;
 use relax::measures::end;
 use rule_frame::suggestion::Suggestion;
 use slices::slice::Weight;
-use standing::numbers::{NEVER, Standing};
-use standing::uses::{base, is_host};
 use std::alloc::Global;
 
 /// An overload of a node that a machine makes.

@@ -6,13 +6,11 @@ ghost use Rattle.reasons.specs.Reasons.{IsOverload};
 ghost use Rattle.relax.specs.Areas.{IsSized};
 ghost use Rattle.closing.specs.Kinds.{IsOverloaded, total_load_watch};
 ghost use Rattle.closing.specs.Looks.{IsLook};
-ghost use Rattle.movers.specs.Movers.{AreMovers};
-ghost use Rattle.standing.specs.Tables.{AreStanding};
-ghost use Rattle.rule_load.specs.Fixed.{IsFixed};
+ghost use Rattle.profiles.specs.Movers.{AreMovers};
+ghost use Rattle.profiles.specs.Standing.Tables.{AreStanding};
+ghost use Rattle.profiles.specs.Fixed.{IsFixed};
 ghost use Rattle.rule_load.specs.Periods.{IsFreeDuring, IsFreePast};
 
-use crate::fixed::Fixed;
-use crate::nodes::resource_total;
 use crate::period::Period;
 use crate::room::steady_room;
 use crate::total_uses::{machines_fit, most_total};
@@ -21,7 +19,8 @@ use catalogue::problem::Problem;
 use closing::look::Look;
 use closing::watch::look_at_total_load;
 use domains::region::Region;
-use standing::numbers::Standing;
+use profiles::fixed::{Fixed, resource_total};
+use profiles::standing::numbers::Standing;
 
 // whether it is seen that of a resource enough is there during a period
 fn has_enough(

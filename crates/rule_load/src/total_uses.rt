@@ -11,17 +11,16 @@ ghost use Rattle.domains.specs.Laws.{is_nought};
 ghost use Rattle.domains.specs.Sets.{sets};
 ghost use Rattle.reasons.specs.Closed.{all_nodes};
 ghost use Rattle.relax.specs.Areas.{IsSized};
-ghost use Rattle.near.specs.Near.{AreMachines};
-ghost use Rattle.movers.specs.Movers.{AreMovers};
-ghost use Rattle.standing.specs.Standings.{base as the_base};
-ghost use Rattle.standing.specs.Tables.{AreStanding, no_standing};
-ghost use Rattle.rule_load.specs.Fixed.{IsFixed};
+ghost use Rattle.profiles.specs.Near.{AreMachines};
+ghost use Rattle.profiles.specs.Movers.{AreMovers};
+ghost use Rattle.profiles.specs.Standing.Standings.{base as the_base};
+ghost use Rattle.profiles.specs.Standing.Tables.{AreStanding, no_standing};
+ghost use Rattle.profiles.specs.Fixed.{IsFixed};
 ghost use Rattle.rule_load.specs.Parts.{StartsAfter};
 ghost use Rattle.rule_load.specs.Periods.{IsMost, MachinesFit};
 ghost use Rattle.rule_load.specs.Totals.{may_wait as the_may_wait, most_anywhere as the_most_anywhere};
 
-use crate::fixed::Fixed;
-use crate::measures::{Hurries, Start};
+use crate::measures::Hurries;
 use crate::period::Period;
 use crate::uses::has_left;
 use catalogue::problem::Problem;
@@ -29,9 +28,11 @@ use cluster::choices::Instant;
 use cluster::ids::{Element, VmId};
 use domains::region::Region;
 use domains::view::{Lens, View, lowest_seen};
+use profiles::firsts::Start;
+use profiles::fixed::Fixed;
+use profiles::standing::numbers::Standing;
+use profiles::standing::uses::base;
 use slices::slice::Weight;
-use standing::numbers::Standing;
-use standing::uses::base;
 
 // whether a value, if there is one, is 0
 fn is_zero(lowest: Option<u64>) -> bool

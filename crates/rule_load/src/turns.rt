@@ -4,19 +4,19 @@ ghost use Rattle.catalogue.specs.Instance.{IsElement};
 ghost use Rattle.slices.specs.Elements.{machine_count, node_count};
 ghost use Rattle.relax.specs.Areas.{IsSized};
 ghost use Rattle.domains.specs.Sets.{sets};
-ghost use Rattle.near.specs.Near.{AreMachines};
-ghost use Rattle.rule_load.specs.Fixed.{IsFixed};
+ghost use Rattle.profiles.specs.Near.{AreMachines};
+ghost use Rattle.profiles.specs.Fixed.{IsFixed};
 ghost use Rattle.rule_load.specs.Kept.{AreKeptAt};
 
-use crate::fixed::Fixed;
 use crate::kept::Kept;
 use catalogue::problem::Problem;
 use cluster::choices::{Choice, Instant};
 use cluster::ids::{Element, NodeId, VmId};
 use domains::parts::Row;
 use domains::region::Region;
+use profiles::fixed::Fixed;
+use profiles::standing::numbers::Standing;
 use relax::measures::end;
-use standing::numbers::Standing;
 
 // the sooner of what is found and an instant, if that is later than `after`
 fn sooner(after: u64, best: u64, at: u64) -> u64

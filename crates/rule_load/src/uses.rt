@@ -9,14 +9,13 @@ ghost use Rattle.slices.specs.Stages.{one};
 ghost use Rattle.slices.specs.declared.slice.Weight.TheVariants.{Amount as AmountOf};
 ghost use Rattle.domains.specs.Sets.{sets};
 ghost use Rattle.relax.specs.Areas.{IsSized, hosted_in};
-ghost use Rattle.standing.specs.Standings.{base as the_base, gain as the_gain};
-ghost use Rattle.standing.specs.Tables.{no_standing};
-ghost use Rattle.rule_load.specs.Fixed.{IsFixed};
+ghost use Rattle.profiles.specs.Standing.Standings.{base as the_base, gain as the_gain};
+ghost use Rattle.profiles.specs.Standing.Tables.{no_standing};
+ghost use Rattle.profiles.specs.Fixed.{IsFixed};
 ghost use Rattle.rule_load.specs.Kept.{AreKeptAt};
 ghost use Rattle.rule_load.specs.Parts.{HasLeft, IsMostBrought, IsMostLeft, StartsPast};
 ghost use Rattle.rule_load.specs.Periods.{IsMost, most_kept as the_most_kept};
 
-use crate::fixed::Fixed;
 use crate::kept::Kept;
 use crate::measures::LeftOver;
 use crate::period::Period;
@@ -26,10 +25,11 @@ use cluster::ids::{Element, NodeId, VmId};
 use domains::parts::{Change, Part, Side};
 use domains::region::Region;
 use domains::view::{Lens, View, lowest_seen};
+use profiles::fixed::Fixed;
+use profiles::standing::leaves::leaves_of;
+use profiles::standing::numbers::{Arrival, Leaving, NEVER, Standing};
+use profiles::standing::uses::{base, comes_by, gain};
 use slices::slice::Weight;
-use standing::leaves::leaves_of;
-use standing::numbers::{Arrival, Leaving, NEVER, Standing};
-use standing::uses::{base, comes_by, gain};
 
 // what a machine uses of a node on which it still is, or to which it has come, or both
 #[inline(never)]

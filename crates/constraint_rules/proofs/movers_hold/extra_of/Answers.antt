@@ -3,7 +3,7 @@ use Rattle.std.proofs.lemmas.List.Elements.{Contains-get_or}
 use Rattle.cluster.specs.Sets.{has_node}
 use Rattle.slices.specs.Elements.{machine_count}
 use Rattle.domains.specs.Sets.{sets}
-use Rattle.near.proofs.Public.{few_once}
+use Rattle.profiles.proofs.Public.{few_once}
 use Rattle.constraint_rules.proofs.AmountLemmas.{all_extra, take_extra}
 use Rattle.constraint_rules.proofs.movers_hold.extra_of.Goals as goal
 

@@ -1,5 +1,5 @@
 use Rattle.domains.specs.Choices.{choices}
-use Rattle.standing.specs.Standings.{leave_of}
+use Rattle.profiles.specs.Standing.Standings.{leave_of}
 use Rattle.constraint_rules.proofs.StayLemmas.{least_raised}
 use Rattle.constraint_rules.proofs.stays.leave_or_later.Goals as goal
 

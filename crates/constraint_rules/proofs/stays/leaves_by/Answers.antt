@@ -1,5 +1,5 @@
 use Rattle.std.proofs.Common.{◌≤◌, sym, ◌∙◌, arith}
-use Rattle.standing.specs.Standings.{leave_of}
+use Rattle.profiles.specs.Standing.Standings.{leave_of}
 use Rattle.constraint_rules.proofs.ShutdownLemmas.{ends_by_rows}
 use Rattle.constraint_rules.proofs.stays.leaves_by.Goals as goal
 

@@ -1,7 +1,7 @@
 use Rattle.std.proofs.Common.{ℕ, ◌<◌, ◌≤◌, slice_index_or}
 use Rattle.cluster.specs.declared.choices.Choice.TheVariants.{Act}
 use Rattle.domains.specs.Choices.{no_row}
-use Rattle.standing.specs.Standings.{leave_of}
+use Rattle.profiles.specs.Standing.Standings.{leave_of}
 use Rattle.constraint_rules.proofs.stays.leaves_by.Given as goal
 
 abbrev pub invariant-loop-i : goal.invariant-loop-i

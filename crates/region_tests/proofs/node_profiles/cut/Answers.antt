@@ -1,6 +1,6 @@
 use Rattle.domains.specs.declared.undo.Before.TheVariants.{Lost}
 use Rattle.domains.specs.Parts.{out_of_part}
-use Rattle.standing.proofs.Public.{fewer_law}
+use Rattle.profiles.proofs.Public.{fewer_law}
 use Rattle.region_tests.proofs.node_profiles.cut.Goals as goal
 
 pub told-requires-clause-fewer : goal.told-requires-clause-fewer

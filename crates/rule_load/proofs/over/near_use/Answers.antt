@@ -5,7 +5,7 @@ use Rattle.slices.specs.Elements.{machine_count}
 use Rattle.slices.specs.Stages.{one}
 use Rattle.domains.specs.Views.{seen}
 use Rattle.reasons.specs.Sure.{sure}
-use Rattle.near.proofs.Public.{few_once, sum_whole}
+use Rattle.profiles.proofs.Public.{few_once, sum_whole}
 use Rattle.rule_load.proofs.OverLemmas.{sum_front}
 use Rattle.rule_load.proofs.over.near_use.Goals as goal
 

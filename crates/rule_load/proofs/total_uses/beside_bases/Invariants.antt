@@ -3,8 +3,8 @@ use Rattle.std.specs.List.{sum_by}
 use Rattle.cluster.specs.Limits.{max_amount}
 use Rattle.slices.specs.declared.slice.Weight.TheVariants.{Amount}
 use Rattle.domains.specs.Sets.{sets}
-use Rattle.standing.specs.Standings.{base}
-use Rattle.standing.specs.Tables.{no_standing}
+use Rattle.profiles.specs.Standing.Standings.{base}
+use Rattle.profiles.specs.Standing.Tables.{no_standing}
 use Rattle.rule_load.specs.Totals.{may_wait, most_anywhere}
 use Rattle.rule_load.proofs.total_uses.beside_bases.Given as goal
 

@@ -4,8 +4,8 @@ use Rattle.slices.specs.declared.slice.Weight.TheVariants.{Amount}
 use Rattle.slices.specs.Elements.{vm}
 use Rattle.domains.specs.Sets.{sets}
 use Rattle.reasons.specs.Closed.{all_nodes}
-use Rattle.standing.specs.Standings.{base}
-use Rattle.standing.specs.Tables.{no_standing}
+use Rattle.profiles.specs.Standing.Standings.{base}
+use Rattle.profiles.specs.Standing.Tables.{no_standing}
 use Rattle.rule_load.specs.Totals.{may_wait, most_anywhere}
 use Rattle.rule_load.proofs.TotalLemmas.{ever_most}
 use Rattle.rule_load.proofs.total_uses.machines_fit.Goals as goal

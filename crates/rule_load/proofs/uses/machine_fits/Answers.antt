@@ -4,7 +4,7 @@ use Rattle.slices.specs.declared.slice.Weight.TheVariants.{Amount}
 use Rattle.slices.specs.Elements.{vm}
 use Rattle.domains.specs.Sets.{sets}
 use Rattle.rule_load.specs.Periods.{most_kept}
-use Rattle.standing.specs.Tables.{no_standing}
+use Rattle.profiles.specs.Standing.Tables.{no_standing}
 use Rattle.rule_load.proofs.UseLemmas.{fits_now}
 use Rattle.rule_load.proofs.uses.machine_fits.Goals as goal
 

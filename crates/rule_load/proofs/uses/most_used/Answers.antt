@@ -3,8 +3,8 @@ use Rattle.std.proofs.lemmas.List.Elements.{Contains-get_or}
 use Rattle.slices.specs.declared.slice.Weight.TheVariants.{Amount}
 use Rattle.slices.specs.Elements.{machine_count}
 use Rattle.domains.specs.Sets.{sets}
-use Rattle.near.proofs.Public.{few_once, sum_whole}
-use Rattle.standing.specs.Tables.{no_standing}
+use Rattle.profiles.proofs.Public.{few_once, sum_whole}
+use Rattle.profiles.specs.Standing.Tables.{no_standing}
 use Rattle.rule_load.specs.Periods.{most_kept}
 use Rattle.rule_load.proofs.DoubtLemmas.{near_sum}
 use Rattle.rule_load.proofs.uses.most_used.Goals as goal

@@ -2,7 +2,7 @@ use Rattle.std.proofs.Common.{◌≡◌, ◌*◌, ◌≤◌, slice_index_or, tak
 use Rattle.std.specs.List.{sum_by}
 use Rattle.cluster.specs.Limits.{max_amount}
 use Rattle.slices.specs.declared.slice.Weight.TheVariants.{Amount}
-use Rattle.standing.specs.Tables.{no_standing}
+use Rattle.profiles.specs.Standing.Tables.{no_standing}
 use Rattle.rule_load.specs.Periods.{most_kept}
 use Rattle.rule_load.proofs.uses.most_used.Given as goal
 

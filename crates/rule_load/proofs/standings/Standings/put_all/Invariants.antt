@@ -1,6 +1,6 @@
 use Rattle.std.proofs.Common.{◌≡◌, ℕ, ◌<◌, slice_index_or}
-use Rattle.near.specs.Near.{IsNear}
-use Rattle.standing.specs.Tables.{no_standing}
+use Rattle.profiles.specs.Near.{IsNear}
+use Rattle.profiles.specs.Standing.Tables.{no_standing}
 use Rattle.rule_load.specs.Kept.{IsListedBy}
 use Rattle.rule_load.proofs.standings.Standings.put_all.Given as goal
 

@@ -1,9 +1,0 @@
-use Rattle.std.proofs.Common.{rules}
-use Rattle.levels.proofs.LevelLemmas.{few_marks}
-use Rattle.levels.proofs.levelled.Levelled.mark.Goals as goal
-
-pub overflow_add-self : goal.overflow_add-self
-overflow_add-self g c =
-    let v = c.self.inside.log in
-    let few = few_marks c.self.inside.top.items v.items c.self.inside.marks c.self.invariant in
-    search (rules, few, v.ok.0, v.ok.1, v.small)

@@ -1,4 +1,0 @@
-//! Lists whose items change, with levels to which they go back.
-#![tactic(auto)]
-
-pub mod levelled;

@@ -1,8 +1,0 @@
-use Rattle.std.proofs.Common.{◌≡◌, ℕ, false, slice_index_or, vec_len}
-use Rattle.movers.proofs.movers.widen.Given as goal
-
-abbrev pub invariant-loop : goal.invariant-loop
-invariant-loop l = record {
-  same : (v : ℕ) → slice_index_or l.marks.items v false ≡ slice_index_or l.initial.marks.items v false;
-  len : vec_len l.marks ≡ l.counter;
-}

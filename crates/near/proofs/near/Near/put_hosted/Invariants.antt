@@ -1,5 +1,0 @@
-use Rattle.near.specs.Near.{AreNear}
-use Rattle.near.proofs.near.Near.put_hosted.Given as goal
-
-abbrev pub invariant-loop-i : goal.invariant-loop-i
-invariant-loop-i l = AreNear l.p.given l.i l.self

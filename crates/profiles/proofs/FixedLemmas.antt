@@ -1,0 +1,82 @@
+-- Hosts, and the most that is used, by lists.
+use Rattle.std.proofs.Common.{◌≡◌, inl, inr, ℕ, ◌+◌, ◌<◌, ◌≤◌, Bool, List, [], ◌∷◌, ◌++◌, Option, Some, None, Vec, get_or, refl, sym, ap, subst, ◌∙◌, arith}
+use Rattle.std.specs.List.Sorted.{IsNonDecreasingBy, IsPermutation}
+use Rattle.std.specs.declared.alloc.Global.{Global}
+use Rattle.std.proofs.lemmas.Bool.{cases_eq}
+use Rattle.std.proofs.lemmas.List.{get_or-map, length-append, length-map, map-append}
+use Rattle.std.proofs.lemmas.List.Elements.{All-nil, All-push, All-weaker, Contains-append_left, Contains-push}
+use Rattle.std.proofs.lemmas.List.Sorted.{All-permutation, Contains-permutation}
+use Rattle.cluster.specs.declared.ids.NodeId.{NodeId}
+use Rattle.catalogue.specs.Instance.{Instance}
+use Rattle.catalogue.specs.Values.{demand_of}
+use Rattle.slices.specs.declared.slice.Weight.TheVariants.{Amount}
+use Rattle.slices.specs.Elements.{machine_count, state_of}
+use Rattle.slices.specs.Stages.{one}
+use Rattle.relax.specs.Areas.{hosted_in}
+use Rattle.profiles.specs.Standing.Standings.{base}
+use Rattle.profiles.proofs.StandingLemmas.Tables.{each_push}
+use Rattle.profiles.specs.declared.fixed.MostUse.{MostUse}
+use Rattle.profiles.specs.Hosts.{HostIs}
+use Rattle.profiles.specs.Fixed.{AreHosts, AreMostUses, AreOrders, AreTotalBases, AreUses, IsMostUse, IsOrder, IsTotalBase, lists_of, most_use}
+
+-- both tell whether the node is the host
+pub host_tells : (h : Option NodeId) (n : ℕ) (a b : Bool) → HostIs h n a → HostIs h n b → a ≡ b
+host_tells None n a b first second = first ∙ sym second
+host_tells (Some m) n a b first second = first ∙ sym second
+
+pub hosts_push : (p : Instance) (n : ℕ) (xs : List (Option NodeId)) (x : Option NodeId) → AreHosts p n xs → ((k : ℕ) → HostIs x k (hosted_in (state_of p n) (one k))) → AreHosts p (n + 1) (xs ++ x ∷ [])
+hosts_push p n xs x hosts is = record {
+  count = omega (arith, length-append xs (x ∷ []), hosts.count);
+  each = each_push (λ v h. (k : ℕ) → HostIs h k (hosted_in (state_of p v) (one k))) None n xs x hosts.count hosts.each is;
+}
+
+pub uses_push : (p : Instance) (n : ℕ) (xs : List ℕ) (x : ℕ) → AreMostUses p n xs → IsMostUse p n (machine_count p) x → AreMostUses p (n + 1) (xs ++ x ∷ [])
+uses_push p n xs x uses is = record {
+  count = omega (arith, length-append xs (x ∷ []), uses.count);
+  each = each_push (λ r m. IsMostUse p r (machine_count p) m) 0 n xs x uses.count uses.each is;
+}
+
+pub most_more : (p : Instance) (r n most new : ℕ) → IsMostUse p r n most → most ≤ new → base p n (Amount r) + demand_of p n r ≤ new → IsMostUse p r (n + 1) new
+most_more p r n most new is less here = record {
+  each = λ v h. elim (cases_eq v n) [ inl same ↦ rw same here | inr other ↦ omega (arith, is.each v (omega (arith, h, other)), less) ];
+}
+
+pub bases_push : (p : Instance) (n : ℕ) (xs : List ℕ) (x : ℕ) → AreTotalBases p n xs → IsTotalBase p n x → AreTotalBases p (n + 1) (xs ++ x ∷ [])
+bases_push p n xs x bases is = record {
+  count = omega (arith, length-append xs (x ∷ []), bases.count);
+  each = each_push (λ r m. IsTotalBase p r m) 0 n xs x bases.count bases.each is;
+}
+
+-- ---- the machines by what they use at the most
+
+pub uses_next : (p : Instance) (r n : ℕ) (xs : List MostUse) → AreUses p r n xs → AreUses p r (n + 1) (xs ++ most_use p r n ∷ [])
+uses_next p r n xs uses = record {
+  each = λ v h. elim (cases_eq v n) [ inl same ↦ rw same (Contains-push xs (most_use p r n)) | inr other ↦ Contains-append_left xs (most_use p r n ∷ []) (most_use p r v) (uses.each v (omega (arith, h, other))) ];
+  machines = All-push (λ (x : MostUse). x.machine.0 < n + 1) xs (most_use p r n) (All-weaker (λ (x : MostUse). x.machine.0 < n) (λ (x : MostUse). x.machine.0 < n + 1) (λ x h. omega (arith, h)) xs uses.machines) (omega arith);
+}
+
+pub no_uses : (p : Instance) (r : ℕ) → AreUses p r 0 []
+no_uses p r = record { each = λ v h. absurd (omega (arith, h)); machines = All-nil (λ (x : MostUse). x.machine.0 < 0) }
+
+-- in another order
+pub uses_ordered : (p : Instance) (r : ℕ) (xs ys : List MostUse) → AreUses p r (machine_count p) xs → IsPermutation xs ys → IsNonDecreasingBy (λ (x : MostUse). x.most) ys → IsOrder p r ys
+uses_ordered p r xs ys uses moved climbs = record {
+  uses = record {
+    each = λ v h. Contains-permutation xs ys (most_use p r v) moved (uses.each v h);
+    machines = All-permutation (λ (x : MostUse). x.machine.0 < machine_count p) xs ys moved uses.machines;
+  };
+  climbs = climbs;
+}
+
+pub orders_push : (p : Instance) (n : ℕ) (xs : List (Vec MostUse Global)) (x : Vec MostUse Global) → AreOrders p n (lists_of xs) → IsOrder p n x.items → AreOrders p (n + 1) (lists_of (xs ++ x ∷ []))
+orders_push p n xs x orders is = rw (map-append (λ (x : Vec MostUse Global). x.items) xs (x ∷ [])) (record {
+  count = omega (arith, length-append (lists_of xs) (x.items ∷ []), orders.count);
+  each = each_push (λ r o. IsOrder p r o) [] n (lists_of xs) x.items orders.count orders.each is;
+})
+
+pub no_orders : (p : Instance) → AreOrders p 0 []
+no_orders p = record { count = refl; each = λ r h. absurd (omega (arith, h)) }
+
+pub order_at : (p : Instance) (n r : ℕ) (xs : List (Vec MostUse Global)) (x : Vec MostUse Global) → r < n → AreOrders p n (lists_of xs) → get_or xs r x ≡ x → IsOrder p r x.items
+order_at p n r xs x low orders is =
+    subst (λ o. IsOrder p r o) (get_or-map (λ (x : Vec MostUse Global). x.items) xs r x [] (omega (arith, low, orders.count, length-map xs (λ (x : Vec MostUse Global). x.items))) ∙ ap (λ (x : Vec MostUse Global). x.items) is) (orders.each r low)

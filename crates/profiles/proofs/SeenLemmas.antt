@@ -1,0 +1,32 @@
+-- The room of one node.
+use Rattle.std.proofs.Common.{◌≡◌, ◌≢◌, ℕ, ◌<◌, ◌==◌, true, false, cond, refl, arith}
+use Rattle.std.proofs.lemmas.Bool.{ne_eqb}
+use Rattle.std.proofs.lemmas.Bool.Decides.{Decides-eqb}
+use Rattle.base.specs.Sums.{sum_to}
+use Rattle.base.proofs.Sums.{sum_to-change, sum_to-zero}
+use Rattle.cluster.specs.Inventory.{is_online}
+use Rattle.catalogue.specs.Instance.{Instance}
+use Rattle.catalogue.specs.Values.{capacity_of}
+use Rattle.slices.specs.Elements.{node, node_count}
+use Rattle.slices.specs.Snapshots.{Snapshot, room, usable_at}
+use Rattle.slices.specs.Stages.{one}
+use Rattle.domains.specs.declared.view.Lens.{Lens}
+use Rattle.domains.specs.Sets.{RegionView, domain_at}
+use Rattle.domains.specs.Views.{idle_seen, seen, sight_at}
+use Rattle.domains.proofs.Public.{seen_by_rows}
+use Rattle.reasons.specs.Sure.{sure}
+
+-- of a sum over one node there is one term
+sum-of-one : (count n : ℕ) (f : ℕ → ℕ) → n < count → sum_to count (λ k. cond (one n k) (f k) 0) ≡ f n
+sum-of-one count n f low =
+    let here : cond (one n n) (f n) 0 ≡ f n = let same : (n == n) ≡ true = (Decides-eqb n n).1 refl in rw same refl in
+    let other : (k : ℕ) → k ≢ n → cond (one n k) (f k) 0 ≡ 0 = λ k ne. let off : (k == n) ≡ false = ne_eqb k n ne in rw off refl in
+    omega (arith, sum_to-change count (λ k. cond (one n k) (f k) 0) (λ _. 0) n low other, sum_to-zero count, here)
+
+pub room_of_one : (p : Instance) (s : Snapshot) (r n : ℕ) → n < node_count p → room p s r (one n) ≡ cond (s.usable n) (capacity_of p n r) 0
+room_of_one p s r n low = sum-of-one (node_count p) n (λ k. cond (s.usable k) (capacity_of p k r) 0) low
+
+-- a node that is online is usable where it stays
+pub idle_usable : (p : Instance) (g : RegionView) (lens : Lens) (n t : ℕ) → is_online p.nodes n ≡ true → idle_seen (sight_at lens (node n)) (domain_at g (node n)) ≡ true → (sure p (seen g lens) t).usable n ≡ true
+unfolding sure usable_at
+idle_usable p g lens n t on idle = rw (seen_by_rows g lens (node n), idle, on) refl

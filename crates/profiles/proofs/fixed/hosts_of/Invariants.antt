@@ -1,0 +1,5 @@
+use Rattle.profiles.specs.Fixed.{AreHosts}
+use Rattle.profiles.proofs.fixed.hosts_of.Given as goal
+
+abbrev pub invariant-loop-i : goal.invariant-loop-i
+invariant-loop-i l = AreHosts l.p.given l.i l.hosts.items

@@ -1,0 +1,5 @@
+use Rattle.profiles.specs.Fixed.{AreOrders, lists_of}
+use Rattle.profiles.proofs.fixed.orders_of.Given as goal
+
+abbrev pub invariant-loop-r : goal.invariant-loop-r
+invariant-loop-r l = AreOrders l.p.given l.r (lists_of l.orders.items)

@@ -1,0 +1,10 @@
+use Rattle.std.proofs.Common.{subst}
+use Rattle.domains.specs.Choices.{choices}
+use Rattle.domains.specs.Laws.{AreFewer}
+use Rattle.domains.specs.Sets.{domain_at, sets}
+use Rattle.domains.specs.Undo.{domain_before}
+use Rattle.profiles.proofs.standing.table.Table.told.Goals as goal
+
+pub told_machine-requires-clause-fewer : goal.told_machine-requires-clause-fewer
+told_machine-requires-clause-fewer c =
+    subst (λ e. AreFewer (sets c.args.g.now e) (choices (domain_before c.args.before c.args.kept.now (domain_at c.args.g.now e)))) c.in-Vm.is c.requires.fewer

@@ -1,0 +1,9 @@
+use Rattle.std.proofs.Common.{sym, subst}
+use Rattle.domains.specs.Choices.{choices}
+use Rattle.domains.specs.Laws.{AreFewer}
+use Rattle.domains.specs.Undo.{domain_before}
+use Rattle.profiles.proofs.standing.table.Table.told_machine.Goals as goal
+
+pub standing_after-k-requires-clause-fewer : goal.standing_after-k-requires-clause-fewer
+standing_after-k-requires-clause-fewer c =
+    subst (λ d. AreFewer (choices d) (choices (domain_before c.args.before c.args.kept.now d))) (sym c.domain-domain.ensures.domain) c.requires.fewer

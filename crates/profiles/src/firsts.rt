@@ -1,0 +1,203 @@
+//! No later than when each machine first starts at each node, kept with levels.
+ghost use Rattle.std.specs.Prelude.{◌≡◌, ◌+◌, ◌*◌, ◌<◌, ◌≤◌, [], ◌∷◌, ◌++◌, length, OnErr, OnOk};
+ghost use Rattle.cluster.specs.Limits.{max_machines, max_nodes};
+ghost use Rattle.catalogue.specs.Instance.{IsElement};
+ghost use Rattle.slices.specs.Elements.{machine_count, node_count, vm};
+ghost use Rattle.domains.specs.Choices.{choices};
+ghost use Rattle.domains.specs.Sets.{sets};
+ghost use Rattle.relax.specs.Areas.{IsSized};
+ghost use Rattle.profiles.specs.Levels.{IsBack, marked};
+ghost use Rattle.profiles.specs.Firsts.{AreFirstAt, AreFirsts, IsNoLater, slot_of as the_slot_of, start_count};
+
+use crate::levels::Levelled;
+use base::memory::Memory;
+use catalogue::problem::Problem;
+use cluster::choices::{Choice, Instant, Place};
+use cluster::ids::{Element, NodeId, VmId};
+use domains::domain::Domain;
+use domains::measure::{Measure, lowest};
+use domains::parts::{Change, Part};
+use domains::region::Region;
+use std::alloc::Global;
+use std::marker::Model;
+
+/// For each node and each machine an instant, before which no choice of the machine starts there; the last one that there
+/// is where it is known that none does. As a region narrows each stays right, so not all need be told of. They take four
+/// bytes for each node and each machine.
+#[derive(Drop)]
+pub struct Firsts {
+    starts: Levelled<Instant>,
+    alloc: Global,
+}
+
+impl Model for Firsts {
+    ghost use Rattle.std.specs.Prelude.{ℕ};
+    ghost use Rattle.profiles.specs.Levels.{Levels};
+
+    ghost Value = { Levels ℕ };
+
+    ghost view = { λ m. m.starts };
+}
+
+/// When an action starts, 0 for Idle.
+#[derive(Drop)]
+pub struct Start;
+
+impl Measure for Start {
+    ghost use Rattle.std.proofs.Common.{arith};
+
+    ghost ready = { λ _. Unit {0} };
+
+    ghost value_of = { λ _. start_count };
+
+    ghost floor_of = { λ _. 0 };
+
+    ghost least_at_ends = { λ m place lo s hi l u. Prim.omega arith };
+
+    ghost above_floor = { λ m c. Prim.omega arith };
+
+    fn value(&self, c: Choice) -> u64 {
+        match c {
+            Choice::Idle => 0,
+            Choice::Act { place: _, start } => u64::from(start),
+        }
+    }
+
+    fn floor(&self) -> u64 {
+        0
+    }
+}
+
+// the first start at a node, the last instant where there is none
+#[tactic(auto, using(crate::proofs::FirstLemmas::none_first, crate::proofs::FirstLemmas::some_first))]
+fn first_at(domain: &Domain, n: NodeId) -> Instant
+    ensures { IsNoLater (choices domain.now) n.0 result }
+{
+    let there = domain.inside(Part::From(Place::At(n), 0));
+    match lowest(&there, None, &Start) {
+        None => Instant::MAX,
+        Some(start) => start.min(u64::from(Instant::MAX)) as Instant,
+    }
+}
+
+// where a machine at a node stands in the list
+#[tactic(auto, using(crate::proofs::FirstLemmas::slot_low))]
+fn slot_of(p: &Problem, n: NodeId, v: VmId) -> u32
+    requires node { n.0 < node_count p.now.given }
+    requires machine { v.0 < machine_count p.now.given }
+    ensures slot { result ≡ the_slot_of (machine_count p.now.given) n.0 v.0 }
+    ensures low { result < node_count p.now.given * machine_count p.now.given }
+{
+    n.0 * p.cluster().machines().len() as u32 + v.0
+}
+
+impl Firsts {
+    /// Of no machine, with one level. It takes no memory.
+    pub fn new(alloc: Global) -> Firsts
+        ensures { result ≡ record { older = []; top = [] } }
+    {
+        Firsts {
+            starts: Levelled::new(alloc),
+            alloc,
+        }
+    }
+
+    /// How many marks stand.
+    pub fn level(&self) -> u64
+        ensures { result ≡ length self.now.older }
+    {
+        self.starts.level()
+    }
+
+    /// Starts anew for a region, with no mark: with 0 for all, since what matters is told of sooner or later. The only
+    /// error is want of memory.
+    #[tactic(auto, using(crate::proofs::FirstLemmas::all_nought))]
+    pub fn post(&mut self, p: &Problem, _g: &Region) -> Result<(), Memory>
+        requires { IsSized p.now.given _g.now }
+        ensures older { OnOk result (self.new.older ≡ []) }
+        ensures top { OnOk result (AreFirsts p.now.given (sets _g.now) self.new.top) }
+    {
+        let mut starts = Vec::new(self.alloc);
+        starts.resize(p.cluster().nodes().len() * p.cluster().machines().len(), 0)?;
+        self.starts.reset(starts);
+        Ok(())
+    }
+
+    // writes that of a machine at a node
+    #[tactic(auto, using(crate::proofs::FirstLemmas::firsts_put))]
+    fn put(&mut self, p: &Problem, g: &Region, n: NodeId, v: VmId) -> Result<(), Memory>
+        requires region { IsSized p.now.given g.now }
+        requires node { n.0 < node_count p.now.given }
+        requires machine { v.0 < machine_count p.now.given }
+        requires right { AreFirsts p.now.given (sets g.now) self.old.top }
+        ensures older { self.new.older ≡ self.old.older }
+        ensures top { OnOk result (AreFirsts p.now.given (sets g.now) self.new.top) }
+    {
+        let first = first_at(g.domain(Element::Vm(v)), n);
+        self.starts.set(slot_of(p, n, v), first)?;
+        Ok(())
+    }
+
+    // of the machine and the node of a change at one place
+    fn put_at(&mut self, p: &Problem, g: &Region, e: Element, place: Place) -> Result<(), Memory>
+        requires region { IsSized p.now.given g.now }
+        requires element { IsElement p.now.given e }
+        requires right { AreFirsts p.now.given (sets g.now) self.old.top }
+        ensures older { self.new.older ≡ self.old.older }
+        ensures top { OnOk result (AreFirsts p.now.given (sets g.now) self.new.top) }
+    {
+        let Element::Vm(v) = e else {
+            return Ok(());
+        };
+        let Place::At(n) = place else {
+            return Ok(());
+        };
+        if n.0 as usize >= p.cluster().nodes().len() {
+            return Ok(());
+        }
+        self.put(p, g, n, v)
+    }
+
+    /// Is told of a change that has led to a region, for which these are right already: that of its machine and its
+    /// node is written anew, where it is of one node. The only error is want of memory.
+    pub fn told(&mut self, p: &Problem, g: &Region, change: Change) -> Result<(), Memory>
+        requires region { IsSized p.now.given g.now }
+        requires element { IsElement p.now.given change.element }
+        requires right { AreFirsts p.now.given (sets g.now) self.old.top }
+        ensures older { self.new.older ≡ self.old.older }
+        ensures top { OnOk result (AreFirsts p.now.given (sets g.now) self.new.top) }
+    {
+        match change.part {
+            Part::Idle => Ok(()),
+            Part::Upto(place, _) | Part::From(place, _) => self.put_at(p, g, change.element, place),
+        }
+    }
+
+    /// Makes a mark, to which `back` returns. After want of memory all is as it was.
+    pub fn mark(&mut self) -> Result<(), Memory>
+        ensures ok { OnOk result (self.new ≡ marked self.old) }
+        ensures err { OnErr result (self.new ≡ self.old) }
+    {
+        self.starts.mark()
+    }
+
+    /// Goes back to the last mark, and drops it.
+    pub fn back(&mut self)
+        requires { 0 < length self.old.older }
+        ensures { IsBack self.old self.new }
+    {
+        self.starts.back()
+    }
+
+    /// By machine, at one node.
+    #[tactic(auto, using(crate::proofs::FirstLemmas::firsts_at))]
+    pub fn at(&self, p: &Problem, _g: &Region, n: NodeId) -> &[Instant]
+        requires right { AreFirsts p.now.given (sets _g.now) self.now.top }
+        requires node { n.0 < node_count p.now.given }
+        ensures { AreFirstAt p.now.given (sets _g.now) n.0 result.now }
+    {
+        let machines = p.cluster().machines().len();
+        let from = n.0 as usize * machines;
+        &self.starts.items()[from..from + machines]
+    }
+}

@@ -1,0 +1,72 @@
+//! Whether two machines that are to be kept apart surely are on a node.
+ghost use Rattle.std.specs.Prelude.{◌≡◌, ◌<◌, ◌≤◌, ◌↔◌, ℕ, IsTrue, Option as AnyOption, false, length};
+ghost use Rattle.catalogue.specs.Instance.{IsElement};
+ghost use Rattle.slices.specs.Elements.{machine_count, node_count};
+ghost use Rattle.domains.specs.Views.{seen};
+ghost use Rattle.reasons.specs.Reasons.{IsPair, Refutes};
+ghost use Rattle.reasons.specs.Sure.{sure};
+ghost use Rattle.relax.specs.Areas.{IsSized};
+
+use crate::standing::stays::surely_at;
+use catalogue::constraint::Constraint;
+use catalogue::problem::Problem;
+use cluster::choices::Instant;
+use cluster::ids::{Element, NodeId, VmId};
+use domains::view::View;
+use reasons::reason::Reason;
+use relax::forbidden::forbids_pair;
+
+/// Whether two machines that a constraint keeps apart are surely on a node.
+pub fn is_pair(
+    p: &Problem,
+    view: &View,
+    constraint: &Constraint,
+    v: VmId,
+    w: VmId,
+    n: NodeId,
+    t: Instant,
+) -> bool
+    requires region { IsSized p.now.given view.now.region.now }
+    requires first { IsElement p.now.given (Element.Vm v) }
+    requires second { IsElement p.now.given (Element.Vm w) }
+    ensures yes { IsTrue result → IsPair p.now.given (sure p.now.given (seen view.now.region.now view.now.lens) t) constraint.now v.0 w.0 n.0 }
+    ensures no { result ≡ false → ¬ IsPair p.now.given (sure p.now.given (seen view.now.region.now view.now.lens) t) constraint.now v.0 w.0 n.0 }
+{
+    if v.0 == w.0 || !forbids_pair(constraint, v, w) {
+        return false;
+    }
+    surely_at(p, view, v, n, t) && surely_at(p, view, w, n, t)
+}
+
+// whether a constraint, an instant, two machines and a node are those of the problem
+fn is_named(p: &Problem, c: u32, t: Instant, v: VmId, w: VmId, n: NodeId) -> bool
+    ensures { IsTrue result ↔ (c < length p.now.given.constraints) × (t ≤ p.now.given.horizon) × (v.0 < machine_count p.now.given) × (w.0 < machine_count p.now.given) × (n.0 < node_count p.now.given) }
+{
+    let machines = p.cluster().machines().len();
+    (c as usize) < p.constraints().len()
+        && t <= p.horizon()
+        && (v.0 as usize) < machines
+        && (w.0 as usize) < machines
+        && (n.0 as usize) < p.cluster().nodes().len()
+}
+
+/// Whether a pair refutes what is seen of a region: its constraint applies, and keeps two machines apart that surely are
+/// on its node. What is no longer due has no part in it.
+pub fn pair_refutes(
+    p: &Problem,
+    view: &View,
+    c: u32,
+    t: Instant,
+    v: VmId,
+    w: VmId,
+    n: NodeId,
+) -> bool
+    requires region { IsSized p.now.given view.now.region.now }
+    ensures yes { IsTrue result → (bound : AnyOption ℕ) → Refutes p.now.given bound (seen view.now.region.now view.now.lens) (Reason.Pair c t v w n) }
+    ensures no { result ≡ false → (bound : AnyOption ℕ) → ¬ Refutes p.now.given bound (seen view.now.region.now view.now.lens) (Reason.Pair c t v w n) }
+{
+    if !is_named(p, c, t, v, w, n) || !p.applies(c, t) {
+        return false;
+    }
+    is_pair(p, view, &p.constraints()[c as usize], v, w, n, t)
+}

@@ -1,0 +1,47 @@
+//! Whether a machine is on a node, by how long it stays on its host.
+ghost use Rattle.std.specs.Prelude.{◌≡◌, IsTrue, false, true};
+ghost use Rattle.cluster.specs.declared.states.State.TheVariants.{Running};
+ghost use Rattle.catalogue.specs.Instance.{IsElement};
+ghost use Rattle.slices.specs.Elements.{state_of, vm};
+ghost use Rattle.slices.specs.Stages.{one};
+ghost use Rattle.domains.specs.Sets.{RegionView, sets};
+ghost use Rattle.domains.specs.Views.{seen};
+ghost use Rattle.reasons.specs.Sure.{sure};
+ghost use Rattle.relax.specs.Areas.{IsSized};
+
+use crate::seen::is_narrowed;
+use crate::standing::leaves::runs_on;
+use crate::standing::numbers::leave;
+use catalogue::problem::Problem;
+use cluster::choices::Instant;
+use cluster::ids::{Element, NodeId, VmId};
+use domains::domain::Domain;
+use domains::view::View;
+use relax::area::Area;
+use relax::sure::surely_in;
+
+// whether a machine may stay that runs on a node
+fn may_stay(p: &Problem, v: VmId, domain: &Domain, n: NodeId) -> bool
+    requires { IsElement p.now.given (Element.Vm v) }
+    ensures { IsTrue result → (domain.now.idle ≡ true) × (state_of p.now.given v.0 ≡ Running n) }
+{
+    match runs_on(p, v) {
+        None => false,
+        Some(h) => domain.idle() && h.0 == n.0,
+    }
+}
+
+/// Whether a machine is on a node under each of its choices that are seen. Of one that may stay there the rows are not
+/// measured with all that they hold.
+#[tactic(auto, using(crate::proofs::StandingLemmas::Stays::stays_there))]
+pub fn surely_at(p: &Problem, view: &View, v: VmId, n: NodeId, t: Instant) -> bool
+    requires region { IsSized p.now.given view.now.region.now }
+    requires machine { IsElement p.now.given (Element.Vm v) }
+    ensures { result ≡ (sure p.now.given (seen view.now.region.now view.now.lens) t).present v.0 (one n.0) }
+{
+    let domain = view.region.domain(Element::Vm(v));
+    if !is_narrowed(view.lens, v) && may_stay(p, v, domain, n) {
+        return u64::from(t) < leave(p, v, domain);
+    }
+    surely_in(p, view, v, &Area::One(n), t)
+}

@@ -1,5 +1,0 @@
-use Rattle.rule_load.specs.Fixed.{IsMostUse}
-use Rattle.rule_load.proofs.fixed.most_of.Given as goal
-
-abbrev pub invariant-loop-i : goal.invariant-loop-i
-invariant-loop-i l = IsMostUse l.p.given l.r l.i l.most

@@ -1,5 +1,0 @@
-use Rattle.rule_load.specs.Fixed.{AreMostUses}
-use Rattle.rule_load.proofs.fixed.most_uses.Given as goal
-
-abbrev pub invariant-loop-r : goal.invariant-loop-r
-invariant-loop-r l = AreMostUses l.p.given l.r l.most.items

@@ -1,5 +1,0 @@
-use Rattle.rule_load.specs.Fixed.{AreOrders, lists_of}
-use Rattle.rule_load.proofs.fixed.orders_of.Given as goal
-
-abbrev pub invariant-loop-r : goal.invariant-loop-r
-invariant-loop-r l = AreOrders l.p.given l.r (lists_of l.orders.items)

@@ -1,5 +1,0 @@
-use Rattle.rule_load.specs.Fixed.{AreTotalBases}
-use Rattle.rule_load.proofs.fixed.total_bases.Given as goal
-
-abbrev pub invariant-loop-r : goal.invariant-loop-r
-invariant-loop-r l = AreTotalBases l.p.given l.r l.bases.items

@@ -1,5 +1,0 @@
-use Rattle.rule_load.specs.Fixed.{AreUses}
-use Rattle.rule_load.proofs.fixed.uses_of.Given as goal
-
-abbrev pub invariant-loop-i : goal.invariant-loop-i
-invariant-loop-i l = AreUses l.p.given l.r l.i l.order.items

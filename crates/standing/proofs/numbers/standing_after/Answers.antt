@@ -1,9 +1,0 @@
-use Rattle.domains.specs.Choices.{choices}
-use Rattle.domains.specs.Laws.{AreFewer}
-use Rattle.domains.specs.Undo.{domain_before}
-use Rattle.std.proofs.Common.{subst}
-use Rattle.standing.proofs.numbers.standing_after.Goals as goal
-
-pub leave_after-leave-requires-clause-fewer : goal.leave_after-leave-requires-clause-fewer
-leave_after-leave-requires-clause-fewer c =
-    subst (λ b. AreFewer (choices c.args.domain.now) (choices (domain_before b c.args._kept.now c.args.domain.now))) c.in-Lost.is c.requires.fewer
