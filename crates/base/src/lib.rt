@@ -5,3 +5,5 @@
 #![tactic(auto)]
 
 pub mod memory;
+
+pub use memory::Memory;

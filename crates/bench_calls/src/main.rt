@@ -5,13 +5,12 @@ ghost use Rattle.relax.specs.Areas.{IsSized};
 
 use catalogue::problem::Problem;
 use closing::closed::closed;
-use cluster::ids::{NodeId, VmId};
-use cluster::sets::NodeSet;
-use domains::region::Region;
+use cluster::{NodeId, NodeSet, VmId};
+use domains::Region;
 use instance_json::read_instance;
 use instance_make::print_instance;
 use plan_io::{FileDesk, read_whole};
-use reasons::reason::Reason;
+use reasons::Reason;
 use relax::refutes::refutes;
 use relax::start::start_region;
 use std::alloc::Global;

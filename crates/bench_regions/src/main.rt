@@ -6,15 +6,12 @@ ghost use Rattle.std.specs.Prelude.{◌≡◌, ◌<◌, ◌≤◌, ◌^◌, IfOk
 ghost use Rattle.trail.specs.Logs.{Marked};
 
 use base::memory::Memory;
-use cluster::choices::Place;
-use cluster::ids::{Element, NodeId, VmId};
-use domains::domain::Domain;
-use domains::parts::{Change, Part, Row, Side};
-use domains::region::Region;
+use cluster::{Element, NodeId, Place, VmId};
+use domains::{Change, Domain, Part, Region, Row, Side};
 use std::alloc::Global;
 use std::env;
 use std::process::ExitCode;
-use trail::trail::Trail;
+use trail::Trail;
 
 // a domain with a row of 100 starts at each node
 fn domain(alloc: Global, nodes: u32) -> Result<Domain, Memory> {

@@ -11,12 +11,10 @@ ghost use Rattle.domains.specs.Undo.{domain_before, lost_choices};
 ghost use Rattle.bound.specs.Losses.{least_with};
 
 use catalogue::problem::Problem;
-use cluster::choices::Choice;
-use cluster::ids::Element;
-use domains::domain::Domain;
+use cluster::{Choice, Element};
 use domains::measure::{Measure, lowest, lowest_lost};
-use domains::parts::Part;
-use domains::undo::{Before, Lost};
+use domains::undo::Lost;
+use domains::{Before, Domain, Part};
 use relax::measures::EndOf;
 
 /// The least instant at which the action of an element ends under a choice of a domain, 0 where it has no choice.

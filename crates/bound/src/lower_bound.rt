@@ -9,13 +9,10 @@ ghost use Rattle.reasons.specs.Sure.{least_cost as least_cost_of};
 ghost use Rattle.relax.specs.Areas.{AreLegal, IsSized};
 
 use crate::ends::after_change;
-use base::memory::Memory;
-use catalogue::problem::Problem;
-use cluster::ids::Element;
-use domains::domain::Domain;
-use domains::region::Region;
-use domains::undo::Before;
-use domains::view::{Lens, View};
+use base::Memory;
+use catalogue::Problem;
+use cluster::Element;
+use domains::{Before, Domain, Lens, Region, View};
 use relax::totals::least_cost;
 use std::alloc::Global;
 use std::marker::Model;

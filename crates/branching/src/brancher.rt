@@ -7,11 +7,10 @@ ghost use Rattle.slices.specs.Plans.{IsPlanOf};
 ghost use Rattle.trees.specs.Proving.{IsSplit};
 
 use catalogue::problem::Problem;
-use cluster::ids::Element;
-use domains::parts::Part;
-use domains::region::Region;
-use reasons::reason::Reason;
-use slices::plan::Plan;
+use cluster::Element;
+use domains::{Part, Region};
+use reasons::Reason;
+use slices::Plan;
 
 /// Chooses where regions are split, and may learn from what the search meets. No call takes memory.
 pub trait Brancher: Drop {

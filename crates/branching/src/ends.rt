@@ -5,9 +5,8 @@ ghost use Rattle.cluster.specs.declared.choices.Choice.TheVariants.{Act};
 ghost use Rattle.slices.specs.Actions.{end_of};
 
 use catalogue::problem::Problem;
-use cluster::choices::Choice;
-use cluster::ids::Element;
-use domains::parts::Row;
+use cluster::{Choice, Element};
+use domains::Row;
 use relax::measures::end;
 
 /// When an element's action ends that starts as early as a row lets it.

@@ -5,12 +5,9 @@ ghost use Rattle.catalogue.specs.Instance.{IsElement};
 ghost use Rattle.relax.specs.Areas.{IsSized};
 
 use crate::ends::{first_end, soonest};
-use catalogue::problem::Problem;
-use cluster::ids::Element;
-use domains::domain::Domain;
-use domains::parts::Row;
-use domains::region::Region;
-use domains::view::{Lens, View};
+use catalogue::Problem;
+use cluster::Element;
+use domains::{Domain, Lens, Region, Row, View};
 use relax::totals::least_cost;
 
 /// The first element of which a plan of that cost forces where it goes, or that it stays.

@@ -5,12 +5,9 @@ ghost use Rattle.catalogue.specs.Limits.{max_capacity};
 
 use crate::ends::first_end;
 use crate::order::Order;
-use catalogue::problem::Problem;
-use cluster::choices::{Instant, Place};
-use cluster::ids::{Element, NodeId, VmId};
-use cluster::kinds::Kind;
-use cluster::sets::MachineSet;
-use domains::parts::Row;
+use catalogue::Problem;
+use cluster::{Element, Instant, Kind, MachineSet, NodeId, Place, VmId};
+use domains::Row;
 use slices::actions::duration;
 
 /// By what a problem is told from another.

@@ -9,12 +9,11 @@ ghost use Rattle.trees.specs.Proving.{IsSplit};
 use crate::brancher::Brancher;
 use crate::open::first_open;
 use crate::split::by_least_start;
-use catalogue::problem::Problem;
-use cluster::ids::Element;
-use domains::parts::Part;
-use domains::region::Region;
-use reasons::reason::Reason;
-use slices::plan::Plan;
+use catalogue::Problem;
+use cluster::Element;
+use domains::{Part, Region};
+use reasons::Reason;
+use slices::Plan;
 
 /// Splits the first element that is not fixed, by its earliest choice: by Idle where that is held, and else by the
 /// least start of all rows, at the first place that has it.

@@ -3,7 +3,7 @@ ghost use Rattle.std.specs.Prelude.{◌≡◌};
 ghost use Rattle.domains.specs.Sets.{IsFixed, IsFirstUnfixed};
 
 use cluster::ids::Element;
-use domains::region::Region;
+use domains::Region;
 
 /// The first element that is not fixed.
 pub fn first_open(g: &Region) -> Element

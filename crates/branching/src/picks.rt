@@ -6,10 +6,9 @@ ghost use Rattle.relax.specs.Areas.{IsSized};
 
 use crate::ends::{first_end, soonest};
 use crate::order::Order;
-use catalogue::problem::Problem;
-use cluster::ids::Element;
-use domains::domain::Domain;
-use domains::region::Region;
+use catalogue::Problem;
+use cluster::Element;
+use domains::{Domain, Region};
 
 /// The element at a place of an order, where it is one of the problem and not fixed.
 pub fn open_at(p: &Problem, g: &Region, order: &Order, k: usize) -> Option<Element>

@@ -4,10 +4,9 @@ ghost use Rattle.catalogue.specs.Instance.{IsElement};
 ghost use Rattle.branching.specs.Parts.{IsFirstFree, IsLeastStart, IsOpen, Splits, StartsFirst, row_of};
 
 use crate::ends::soonest;
-use catalogue::problem::Problem;
-use cluster::ids::Element;
-use domains::domain::Domain;
-use domains::parts::{Part, Row};
+use catalogue::Problem;
+use cluster::Element;
+use domains::{Domain, Part, Row};
 
 /// Idle where it is held, and else the first start of the row that starts first.
 pub fn by_least_start(domain: &Domain) -> Part

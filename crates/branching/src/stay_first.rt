@@ -13,13 +13,12 @@ use crate::open::first_open;
 use crate::passed::Passed;
 use crate::picks::{fewest_places, least_start, next_stayer, open_at, soonest_of};
 use crate::split::{by_least_end, by_place};
-use catalogue::problem::Problem;
-use cluster::ids::Element;
-use cluster::sets::MachineSet;
-use domains::parts::Part;
-use domains::region::Region;
-use reasons::reason::Reason;
-use slices::plan::{Plan, cost};
+use catalogue::Problem;
+use cluster::{Element, MachineSet};
+use domains::{Part, Region};
+use reasons::Reason;
+use slices::Plan;
+use slices::plan::cost;
 
 /// Finds good plans early, and closes what is left soon. The first of these that an element answers is chosen:
 ///

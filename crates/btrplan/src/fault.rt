@@ -5,7 +5,7 @@ ghost use Rattle.btrplan.specs.declared.fault.Fault.TheVariants as faults;
 ghost use Rattle.btrplan.specs.Endings.{out_fault};
 
 use crate::status::Status;
-use base::memory::Memory;
+use base::Memory;
 use plan_io::OutFault;
 use std::alloc::AllocError;
 

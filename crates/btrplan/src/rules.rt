@@ -5,7 +5,7 @@ ghost use Rattle.btrplan.specs.Words.{asked};
 
 use crate::run::run;
 use crate::status::Status;
-use base::memory::Memory;
+use base::Memory;
 use branching::brancher::Brancher;
 use branching::stay_first::StayFirst;
 use constraint_rules::rules::{ForbiddenRule, GroupRule, PairRule, PlaceRule, SetRule};

@@ -4,10 +4,9 @@ ghost use Rattle.catalogue.specs.Kinds.{is_continuous};
 ghost use Rattle.catalogue.specs.Words.{constraint_number, constraint_word};
 
 use crate::lists::{Groups, Parts, Vms};
-use base::memory::Memory;
-use cluster::ids::VmId;
-use cluster::sets::NodeSet;
+use base::Memory;
 use cluster::words::word_at;
+use cluster::{NodeSet, VmId};
 use std::alloc::AllocError;
 use thiserror::Error;
 

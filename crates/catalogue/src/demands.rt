@@ -7,7 +7,7 @@ ghost use Rattle.catalogue.specs.Cells.{HasRows, cell};
 ghost use Rattle.catalogue.specs.declared.constraint.Constraint.TheVariants.{Preserve};
 
 use base::memory::Memory;
-use cluster::ids::VmId;
+use cluster::VmId;
 use cluster::limits::MAX_RESOURCES;
 
 /// Notes an amount that is to be preserved for machines: the greater of it and the noted one stays.

@@ -2,8 +2,7 @@
 ghost use Rattle.std.specs.Prelude.{◌≡◌, IfOk};
 
 use base::memory::Memory;
-use cluster::ids::VmId;
-use cluster::sets::NodeSet;
+use cluster::{NodeSet, VmId};
 use std::alloc::Global;
 use std::marker::Model;
 

@@ -8,10 +8,8 @@ ghost use Rattle.catalogue.specs.Cells.{HasRows, limit_cell};
 ghost use Rattle.catalogue.specs.declared.constraint.Constraint.TheVariants.{Overbook};
 
 use base::memory::Memory;
-use cluster::ids::NodeId;
-use cluster::inventory::Cluster;
 use cluster::limits::MAX_RESOURCES;
-use cluster::sets::NodeSet;
+use cluster::{Cluster, NodeId, NodeSet};
 
 /// Notes that nodes may be used up to `num / den` of their written capacity, rounded down: the
 /// lesser of this and the noted limit stays.

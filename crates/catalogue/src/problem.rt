@@ -14,9 +14,7 @@ use crate::overbooking::{limit_at, written};
 use crate::tables::Tables;
 use crate::targets::Wish;
 use crate::wishes::wish_at;
-use cluster::choices::Instant;
-use cluster::ids::{Element, NodeId, VmId};
-use cluster::inventory::Cluster;
+use cluster::{Cluster, Element, Instant, NodeId, VmId};
 use std::alloc::Global;
 use std::marker::Model;
 

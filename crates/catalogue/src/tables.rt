@@ -12,10 +12,9 @@ use crate::lists::Vms;
 use crate::overbooking::note_overbook;
 use crate::targets::{Target, Wish};
 use crate::wishes::{note_machines, note_nodes};
-use base::memory::Memory;
-use cluster::inventory::Cluster;
+use base::Memory;
 use cluster::limits::MAX_RESOURCES;
-use cluster::sets::NodeSet;
+use cluster::{Cluster, NodeSet};
 use std::alloc::Global;
 
 /// Four tables, by the numbers of the elements. A table takes memory with the first constraint

@@ -7,8 +7,7 @@ ghost use Rattle.catalogue.specs.Faults.{all_of, are_below, differ};
 ghost use Rattle.catalogue.specs.Twice.{are_new};
 
 use crate::lists::Vms;
-use cluster::ids::VmId;
-use cluster::sets::MachineSet;
+use cluster::{MachineSet, VmId};
 
 /// Whether all machines of a list differ.
 pub fn all_differ(ids: &[VmId]) -> bool

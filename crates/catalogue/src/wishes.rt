@@ -7,9 +7,8 @@ ghost use Rattle.catalogue.specs.Values.{wish_with, wish_where};
 ghost use Rattle.catalogue.specs.Cells.{HasRows, wish_cell};
 
 use crate::targets::{Target, Wish};
-use base::memory::Memory;
-use cluster::ids::{NodeId, VmId};
-use cluster::sets::NodeSet;
+use base::Memory;
+use cluster::{NodeId, NodeSet, VmId};
 
 /// Notes that machines are wanted in a state.
 pub fn note_machines(

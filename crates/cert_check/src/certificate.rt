@@ -9,11 +9,11 @@ ghost use Rattle.cert_check.specs.Verdicts.{CheckGives, CountsCheck, IsFit, IsSo
 
 use crate::lines::check_lines;
 use crate::verdict::{CheckFault, Verdict};
-use catalogue::problem::Problem;
+use catalogue::Problem;
 use cert_model::why::Why;
 use judge::judge;
 use plan_io::Desk;
-use slices::plan::Plan;
+use slices::Plan;
 use std::alloc::Global;
 
 /// The verdict on the certificate of this name, for the plan that is handed in, or for none. `strict`

@@ -15,13 +15,13 @@ ghost use Rattle.cert_check.specs.Verdicts.{CountsCheck};
 
 use crate::take::take;
 use crate::verdict::{CheckFault, Verdict};
-use catalogue::problem::Problem;
+use catalogue::Problem;
 use cert_model::walk::Walk;
 use cert_read::{CertReader, Line};
 use plan_io::Desk;
-use slices::plan::Plan;
+use slices::Plan;
 use std::alloc::Global;
-use trees::steps::Goal;
+use trees::Goal;
 
 /// What one line gives.
 #[derive(Clone, Copy)]

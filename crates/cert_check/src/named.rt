@@ -6,13 +6,10 @@ ghost use Rattle.cert_check.specs.Names.{as_instant as the_instant, first_nodes,
 
 use catalogue::problem::Problem;
 use cert_text::text::{NodesText, PartText, ReasonText, StepText};
-use cluster::choices::{Instant, Place};
-use cluster::ids::{Element, NodeId, VmId};
-use cluster::names::Name;
-use cluster::sets::NodeSet;
-use domains::parts::Part;
-use reasons::reason::Reason;
-use trees::steps::Step;
+use cluster::{Element, Instant, Name, NodeId, NodeSet, Place, VmId};
+use domains::Part;
+use reasons::Reason;
+use trees::Step;
 
 /// The step of a text; None exactly where one of its names is none of the problem's, or not of the
 /// sort that its place wants, a constraint's number is none of the problem's, or a list of nodes has

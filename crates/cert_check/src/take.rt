@@ -5,12 +5,12 @@ ghost use Rattle.cert_check.specs.Names.{named_step};
 ghost use Rattle.cert_check.specs.Turns.{TextAnswers};
 
 use crate::named::step_of;
-use base::memory::Memory;
-use catalogue::problem::Problem;
+use base::Memory;
+use catalogue::Problem;
 use cert_model::walk::Walk;
 use cert_model::why::Why;
 use cert_text::text::StepText;
-use trees::steps::Step;
+use trees::Step;
 
 /// Takes the step of a text where it is due, its names are the problem's, and it holds; else says the
 /// first of these that is not so.

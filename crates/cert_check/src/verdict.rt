@@ -4,7 +4,7 @@ ghost use Rattle.std.specs.Prelude.{◌≡◌};
 use base::memory::Memory;
 use cert_model::why::Why;
 use cert_read::LineFault;
-use trees::steps::Goal;
+use trees::Goal;
 
 /// The verdict on a certificate.
 #[derive(Clone, Copy, Debug, PartialEq, Eq)]

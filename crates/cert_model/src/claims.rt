@@ -15,19 +15,17 @@ use crate::ends::sum_seen;
 use crate::nearby::Nearby;
 use crate::weighed::is_seen;
 use crate::why::Why;
-use base::memory::Memory;
-use catalogue::problem::Problem;
-use cluster::ids::Element;
-use domains::parts::{Change, Part, Side};
-use domains::region::Region;
-use domains::view::{Lens, View};
+use base::Memory;
+use catalogue::Problem;
+use cluster::Element;
+use domains::{Change, Lens, Part, Region, Side, View};
 use judge::judge;
-use reasons::reason::Reason;
+use reasons::Reason;
 use relax::plan::plan_of;
 use relax::refutes::refutes_seen;
 use slices::elements::has_element;
 use std::alloc::Global;
-use trees::steps::Step;
+use trees::Step;
 
 /// What is wrong with a step at a region, whose least ends have that sum; None where it holds.
 pub fn fault(

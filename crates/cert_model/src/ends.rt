@@ -12,11 +12,9 @@ ghost use Rattle.trees.specs.Trees.{inside, outside};
 ghost use Rattle.relax.specs.Areas.{AreLegal, IsSized};
 
 use bound::ends::after_loss;
-use catalogue::problem::Problem;
-use cluster::ids::Element;
-use domains::parts::{Part, Side};
-use domains::region::Region;
-use domains::view::{Lens, View};
+use catalogue::Problem;
+use cluster::Element;
+use domains::{Lens, Part, Region, Side, View};
 use relax::sure::least_end;
 use relax::totals::least_cost;
 

@@ -5,12 +5,11 @@ ghost use Rattle.trees.specs.Trees.{inside, outside};
 ghost use Rattle.cert_model.specs.Frontiers.{AreSame, AreSameSize, IsEntered, IsKept, later_sets, later_sums, open_sets, open_sums};
 
 use crate::nearby::Nearby;
-use base::memory::Memory;
-use cluster::ids::Element;
-use domains::parts::{Change, Part, Side};
-use domains::region::Region;
+use base::Memory;
+use cluster::Element;
+use domains::{Change, Part, Region, Side};
 use std::alloc::Global;
-use trail::trail::Trail;
+use trail::Trail;
 
 /// The outer side of a decision, which is due once the inner one is closed, with the sum of its
 /// least ends.

@@ -9,8 +9,8 @@ ghost use Rattle.relax.specs.Areas.{IsSized};
 
 use catalogue::problem::Problem;
 use closing::closed::closed;
-use domains::region::Region;
-use trees::steps::Step;
+use domains::Region;
+use trees::Step;
 
 /// Whether a step is lean at a region whose least ends have that sum, after steps with that cheapest
 /// plan.

@@ -1,11 +1,8 @@
 //! For each node machines that may surely have something there.
-use base::memory::Memory;
-use catalogue::problem::Problem;
-use cluster::choices::Place;
-use cluster::ids::{Element, NodeId, VmId};
-use cluster::sets::NodeSet;
-use cluster::states::State;
-use domains::domain::Domain;
+use base::Memory;
+use catalogue::Problem;
+use cluster::{Element, NodeId, NodeSet, Place, State, VmId};
+use domains::Domain;
 use std::alloc::Global;
 
 /// For each node, in ascending order, the machines that it hosts, and those of which once all choices went there.

@@ -21,14 +21,15 @@ use crate::frontier::{Due, Frontier, Outer};
 use crate::lean::is_lean;
 use crate::nearby::Nearby;
 use crate::why::Why;
-use base::memory::Memory;
-use catalogue::problem::Problem;
-use domains::parts::Side;
+use base::Memory;
+use catalogue::Problem;
+use domains::Side;
 use relax::start::start_region;
-use slices::plan::{Plan, cost};
+use slices::Plan;
+use slices::plan::cost;
 use std::alloc::Global;
 use std::marker::Model;
-use trees::steps::{Goal, Step};
+use trees::{Goal, Step};
 
 /// A walk over the steps of a certificate, in their order.
 ///

@@ -9,18 +9,17 @@ ghost use Rattle.relax.specs.Areas.{IsSized, nodes_of};
 ghost use Rattle.cert_model.specs.Weighed.{IsWeighed};
 
 use crate::nearby::Nearby;
-use catalogue::problem::Problem;
-use cluster::choices::Instant;
-use cluster::ids::{Element, VmId};
-use cluster::sets::NodeSet;
-use domains::view::{Lens, View};
+use catalogue::Problem;
+use cluster::{Element, Instant, NodeSet, VmId};
+use domains::{Lens, View};
 use profiles::standing::pairs::pair_refutes;
-use reasons::reason::Reason;
-use relax::area::{Area, area_of};
+use reasons::Reason;
+use relax::Area;
+use relax::area::area_of;
 use relax::named::is_named;
 use relax::sure::least_held;
 use relax::totals::room;
-use slices::slice::Weight;
+use slices::Weight;
 
 /// What some of the machines before a number surely use together.
 #[derive(Clone, Copy)]

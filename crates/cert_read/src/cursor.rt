@@ -11,7 +11,7 @@ ghost use Rattle.cert_read.specs.Reader.{CountsLine, Gives, IsMoved, IsOutside, 
 use crate::held::Held;
 use crate::line::{Line, LineFault};
 use crate::position::Position;
-use base::memory::Memory;
+use base::Memory;
 use cert_text::parsing::{TextFault, parse_line};
 use cert_text::text::LineText;
 use plan_io::Desk;

@@ -4,7 +4,7 @@ ghost use Rattle.std.specs.Prelude.{◌≡◌};
 use cert_text::text::{LineText, StepText};
 use plan_io::Failed;
 use std::alloc::AllocError;
-use trees::steps::Goal;
+use trees::Goal;
 
 /// What is read at one call.
 #[derive(Drop)]

@@ -6,7 +6,7 @@ ghost use Rattle.cert_read.specs.Reader.{CountsLine, Gives, IsMoved, StandsIn, m
 
 use crate::cursor::Cursor;
 use crate::line::{Line, LineFault};
-use base::memory::Memory;
+use base::Memory;
 use plan_io::Desk;
 use std::alloc::Global;
 use std::marker::Model;

@@ -5,10 +5,11 @@ ghost use Rattle.cert_text.specs.Reading.{Gives, Takes, goal, goal_of, line, lin
 use crate::kinds::{GoalKind, LineKind, PartKind};
 use crate::text::{LineText, Names, NodesText, PartText, ReasonText, StepText};
 use crate::words::Words;
-use cluster::names::{Name, NameFault};
-use reasons::reason::ReasonKind;
+use cluster::Name;
+use cluster::names::NameFault;
+use reasons::ReasonKind;
 use std::alloc::{AllocError, AllocFailed, Global};
-use trees::steps::Goal;
+use trees::Goal;
 
 /// Why bytes were not read as a line.
 #[derive(Clone, Copy, Debug, PartialEq, Eq)]

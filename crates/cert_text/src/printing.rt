@@ -10,14 +10,12 @@ ghost use Rattle.cert_text.specs.Spelling.{HasPart, HasPlace, HasReason, HasStep
 ghost use Rattle.cert_text.specs.Texts.{goal_words, joined, nodes_words, part_words, place_word, reason_words, step_words};
 
 use crate::kinds::{GoalKind, LineKind, PartKind, reason_word};
-use base::memory::Memory;
-use catalogue::problem::Problem;
-use cluster::choices::Place;
-use cluster::ids::{Element, NodeId, VmId};
-use cluster::sets::NodeSet;
-use domains::parts::Part;
-use reasons::reason::{Reason, ReasonKind};
-use trees::steps::{Goal, Step};
+use base::Memory;
+use catalogue::Problem;
+use cluster::{Element, NodeId, NodeSet, Place, VmId};
+use domains::Part;
+use reasons::{Reason, ReasonKind};
+use trees::{Goal, Step};
 
 /// The first line of a certificate, with its newline.
 pub const HEADER_LINE: &str = "btrplan certificate 1\n";

@@ -1,7 +1,7 @@
 //! What the lines of a certificate say, by names: nothing of it need be there in an instance.
-use cluster::names::Name;
+use cluster::Name;
 use std::marker::Model;
-use trees::steps::Goal;
+use trees::Goal;
 
 /// The names of a list of nodes, in the order of the line.
 ///

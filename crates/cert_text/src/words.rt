@@ -5,8 +5,8 @@ ghost use Rattle.cert_text.specs.Reading.{Takes, goal_kind, line_kind, name, num
 use crate::kinds::{GoalKind, LineKind, PartKind, reason_of_word};
 use crate::number::number;
 use crate::parsing::TextFault;
-use cluster::names::Name;
-use reasons::reason::ReasonKind;
+use cluster::Name;
+use reasons::ReasonKind;
 use std::alloc::Global;
 use std::marker::Model;
 

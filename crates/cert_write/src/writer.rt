@@ -10,7 +10,7 @@ use cert_text::printing::{HEADER_LINE, push_end_line, push_step_line};
 use plan_io::{Desk, OutFault, write_whole};
 use std::alloc::Global;
 use std::marker::Model;
-use trees::steps::{Goal, Step};
+use trees::{Goal, Step};
 
 /// Writes one certificate: its header when it is made, and then a line at each call.
 ///

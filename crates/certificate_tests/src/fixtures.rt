@@ -1,15 +1,7 @@
 //! What several tests stand on.
-
 use catalogue::constraint::Constraint;
-use catalogue::lists::Vms;
-use catalogue::problem::Problem;
-use cluster::durations::Duration;
-use cluster::ids::VmId;
-use cluster::inventory::Cluster;
-use cluster::machines::Machine;
-use cluster::names::Name;
-use cluster::nodes::Node;
-use cluster::states::State;
+use catalogue::{Problem, Vms};
+use cluster::{Cluster, Duration, Machine, Name, Node, State, VmId};
 use std::alloc::Global;
 use std::test::Fail;
 

@@ -4,20 +4,16 @@ ghost use Rattle.std.specs.Prelude.{◌<◌, length};
 ghost use Rattle.reasons.specs.Reasons.{AreListed};
 
 use crate::fixtures::{add_machine, add_node, base};
-use catalogue::problem::Problem;
+use catalogue::Problem;
 use cert_text::parsing::{TextFault, parse_line};
 use cert_text::printing::{push_end_line, push_step_line};
 use cert_text::text::{LineText, NodesText, PartText, ReasonText, StepText};
-use cluster::choices::Place;
-use cluster::ids::{Element, NodeId, VmId};
-use cluster::inventory::Cluster;
-use cluster::sets::NodeSet;
-use cluster::states::State;
-use domains::parts::Part;
-use reasons::reason::Reason;
+use cluster::{Cluster, Element, NodeId, NodeSet, Place, State, VmId};
+use domains::Part;
+use reasons::Reason;
 use std::alloc::Global;
 use std::test::Fail;
-use trees::steps::{Goal, Step};
+use trees::{Goal, Step};
 
 /// Each is a line.
 const LINES: &str = "decide v0 idle

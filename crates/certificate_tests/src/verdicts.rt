@@ -3,17 +3,17 @@ ghost use Rattle.std.specs.Prelude.{IfSome};
 ghost use Rattle.slices.specs.Plans.{IsPlanOf};
 
 use crate::fixtures::one_boot;
-use catalogue::problem::Problem;
+use catalogue::Problem;
 use cert_check::{CheckFault, Verdict, check};
 use cert_model::why::Why;
 use cert_read::LineFault;
-use cluster::choices::{Choice, Place};
-use cluster::ids::NodeId;
+use cluster::{Choice, NodeId, Place};
 use plan_io::DeskSure;
-use slices::plan::{Plan, is_plan};
+use slices::Plan;
+use slices::plan::is_plan;
 use std::alloc::Global;
 use std::test::Fail;
-use trees::steps::Goal;
+use trees::Goal;
 
 /// A certificate after its header, whether a plan is handed in, and what is to be answered.
 struct Case {

@@ -3,18 +3,17 @@ ghost use Rattle.std.specs.Prelude.{IfSome};
 ghost use Rattle.slices.specs.Plans.{IsPlanOf};
 
 use crate::fixtures::one_boot;
-use catalogue::problem::Problem;
+use catalogue::Problem;
 use cert_model::walk::Walk;
 use cert_model::why::Why;
-use cluster::choices::{Choice, Instant, Place};
-use cluster::ids::{Element, NodeId, VmId};
-use cluster::sets::NodeSet;
-use domains::parts::Part;
-use reasons::reason::Reason;
-use slices::plan::{Plan, is_plan};
+use cluster::{Choice, Element, Instant, NodeId, NodeSet, Place, VmId};
+use domains::Part;
+use reasons::Reason;
+use slices::Plan;
+use slices::plan::is_plan;
 use std::alloc::Global;
 use std::test::Fail;
-use trees::steps::{Goal, Step};
+use trees::{Goal, Step};
 
 const V: Element = Element::Vm(VmId(0));
 

@@ -1,13 +1,12 @@
 //! A certificate as it is written to desks in memory.
-
 use crate::fixtures::base;
-use catalogue::problem::Problem;
+use catalogue::Problem;
 use cert_write::CertWriter;
 use plan_io::{DeskMem, OutFault};
-use reasons::reason::Reason;
+use reasons::Reason;
 use std::alloc::Global;
 use std::test::Fail;
-use trees::steps::{Goal, Step};
+use trees::{Goal, Step};
 
 /// A problem with one resource and no element.
 fn problem(alloc: Global) -> Result<Problem, Fail> {

@@ -12,9 +12,9 @@ ghost use Rattle.closing.specs.Looks.{IsClean};
 use crate::base::counts::{machines_of, nodes_of};
 use crate::look::Look;
 use crate::watch::{look_at_constraint, look_at_load, look_at_total_load, look_at_usable};
-use catalogue::problem::Problem;
-use cluster::ids::{Element, NodeId, VmId};
-use domains::region::Region;
+use catalogue::Problem;
+use cluster::{Element, NodeId, VmId};
+use domains::Region;
 
 // whether each element has a choice
 fn have_choices(p: &Problem, g: &Region) -> bool

@@ -1,6 +1,5 @@
 //! What looks find.
-use cluster::choices::{Choice, Instant};
-use cluster::ids::Element;
+use cluster::{Choice, Element, Instant};
 
 /// What a look at one thing that can be broken finds in a region.
 #[derive(Clone, Copy, Debug, PartialEq, Eq)]

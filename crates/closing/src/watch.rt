@@ -16,11 +16,10 @@ use crate::exact::usable::usable_found;
 use crate::look::Look;
 use crate::quick::ever::is_never_broken;
 use crate::quick::steady::{is_never_overloaded, stays_usable};
-use catalogue::problem::Problem;
-use cluster::choices::Instant;
-use cluster::ids::NodeId;
-use domains::region::Region;
-use relax::area::Area;
+use catalogue::Problem;
+use cluster::{Instant, NodeId};
+use domains::Region;
+use relax::Area;
 
 /// One thing that can be broken.
 trait Watched {

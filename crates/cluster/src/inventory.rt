@@ -16,7 +16,7 @@ use crate::machines::Machine;
 use crate::names::Name;
 use crate::nodes::Node;
 use crate::states::State;
-use base::memory::Memory;
+use base::Memory;
 use indexmap::IndexSet;
 use std::alloc::{AllocError, Global};
 use std::marker::Model;

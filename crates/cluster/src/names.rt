@@ -4,7 +4,7 @@ ghost use Rattle.cluster.specs.Names.{is_name, starts_name, goes_on_name};
 ghost use Rattle.std.specs.List.{list_all};
 
 use crate::limits::MAX_NAME_BYTES;
-use base::memory::Memory;
+use base::Memory;
 use std::alloc::{AllocError, Global};
 use std::marker::Model;
 use thiserror::Error;

@@ -5,7 +5,7 @@ ghost use Rattle.std.specs.Prelude.{◌≡◌};
 ghost use Rattle.constraint_kinds.specs.Given.{MayGive, reason_kind as the_reason_kind};
 
 use catalogue::constraint::Constraint;
-use reasons::reason::ReasonKind;
+use reasons::ReasonKind;
 
 /// The kind of the reasons that a constraint gives where it is broken. `None` where it is part of the
 /// demand, of the capacity or of the legal choices, so that no region that is legal breaks it.

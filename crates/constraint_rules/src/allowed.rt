@@ -11,13 +11,9 @@ ghost use Rattle.constraint_rules.specs.Allowed.{IsAllowed, IsOffHost, MayGo};
 
 use crate::nodes::host;
 use crate::stays::leaves_by;
-use catalogue::constraint::Constraint;
-use catalogue::problem::Problem;
-use cluster::choices::Place;
-use cluster::ids::{Element, NodeId, VmId};
-use domains::domain::Domain;
-use domains::parts::Row;
-use domains::region::Region;
+use catalogue::{Constraint, Problem};
+use cluster::{Element, NodeId, Place, VmId};
+use domains::{Domain, Region, Row};
 use profiles::standing::leaves::runs_on;
 
 // whether a constraint lets its member not be on a node

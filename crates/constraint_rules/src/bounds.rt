@@ -5,10 +5,10 @@ ghost use Rattle.catalogue.specs.Instance.{inventory_of};
 ghost use Rattle.relax.specs.Areas.{IsWeight};
 ghost use Rattle.constraint_rules.specs.Amounts.{bound_of as the_bound_of};
 
+use catalogue::Problem;
 use catalogue::constraint::Constraint;
-use catalogue::problem::Problem;
-use cluster::sets::NodeSet;
-use slices::slice::Weight;
+use cluster::NodeSet;
+use slices::Weight;
 
 /// An amount, and what is no more than it: what all machines hold on the nodes of a set.
 #[derive(Clone, Copy)]

@@ -19,14 +19,10 @@ use crate::allowed::are_allowed;
 use crate::longest::{NOBODY, Stay, Table, stay_after, tell};
 use crate::nodes::host;
 use crate::posts::{Post, last_before, posts_of};
-use catalogue::constraint::Constraint;
-use catalogue::lists::Vms;
-use catalogue::problem::Problem;
-use cluster::choices::Place;
-use cluster::ids::{Element, NodeId, VmId};
+use catalogue::{Constraint, Problem, Vms};
 use cluster::limits::MAX_NODES;
-use domains::parts::Row;
-use domains::region::Region;
+use cluster::{Element, NodeId, Place, VmId};
+use domains::{Region, Row};
 
 /// Two machines, of which the second one may be at a post of the first one.
 #[derive(Clone, Copy)]

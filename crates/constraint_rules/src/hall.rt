@@ -8,15 +8,12 @@ ghost use Rattle.slices.specs.Elements.{machine_count};
 ghost use Rattle.prop_core.specs.Propagators.{FailHolds};
 ghost use Rattle.relax.specs.Areas.{IsSized};
 
+use catalogue::Problem;
 use catalogue::constraint::Constraint;
-use catalogue::problem::Problem;
-use cluster::choices::Place;
-use cluster::ids::{Element, NodeId, VmId};
-use cluster::sets::NodeSet;
-use domains::domain::Domain;
-use domains::region::Region;
+use cluster::{Element, NodeId, NodeSet, Place, VmId};
+use domains::{Domain, Region};
 use profiles::standing::leaves::runs_on;
-use reasons::reason::Reason;
+use reasons::Reason;
 use relax::refutes::refutes;
 
 // nodes, and how many more there must be for each of some machines to have one of its own

@@ -4,9 +4,8 @@ ghost use Rattle.constraint_rules.specs.Apart.{IsAt};
 ghost use Rattle.constraint_rules.specs.Longest.{AreLonger, AreOrdered, IsOrdered, of_others as the_of_others, told_until};
 
 use crate::posts::Post;
-use cluster::choices::Instant;
-use cluster::ids::{NodeId, VmId};
 use cluster::limits::MAX_NODES;
+use cluster::{Instant, NodeId, VmId};
 
 /// Before when a machine of a part may surely be at a node. Up to 0 that is never.
 #[derive(Clone, Copy)]

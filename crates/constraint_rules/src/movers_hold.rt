@@ -13,12 +13,9 @@ ghost use Rattle.constraint_rules.specs.Amounts.{AreExtra, AreStayersTo, IsExtra
 
 use crate::bounds::Bound;
 use crate::stayers::{Stayers, unit};
-use catalogue::problem::Problem;
-use cluster::choices::Place;
-use cluster::ids::{Element, VmId};
-use cluster::sets::NodeSet;
-use domains::parts::Row;
-use domains::region::Region;
+use catalogue::Problem;
+use cluster::{Element, NodeSet, Place, VmId};
+use domains::{Region, Row};
 
 // whether a place is none of the nodes of a set
 fn is_outside(place: Place, nodes: &NodeSet) -> bool

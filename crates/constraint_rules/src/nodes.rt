@@ -13,12 +13,8 @@ ghost use Rattle.relax.specs.Areas.{goes_in, hosted_in};
 ghost use Rattle.constraint_rules.specs.Marking.{AreMarkedFrom, AreNodesMarked, AreSpared};
 
 use catalogue::problem::Problem;
-use cluster::choices::{Choice, Place};
-use cluster::ids::{Element, NodeId, VmId};
-use cluster::states::State;
-use domains::domain::Domain;
-use domains::parts::{Change, Part};
-use domains::region::Region;
+use cluster::{Choice, Element, NodeId, Place, State, VmId};
+use domains::{Change, Domain, Part, Region};
 use rule_frame::marks::Marks;
 
 // marks each watch from one on

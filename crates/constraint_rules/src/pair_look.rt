@@ -11,14 +11,11 @@ ghost use Rattle.closing.specs.Looks.{IsLook, broken_at};
 
 use crate::clear::{Doubt, Seen, look_over};
 use crate::posts::is_hosted;
-use catalogue::problem::Problem;
+use catalogue::Problem;
 use closing::look::Look;
 use closing::watch::look_at_constraint;
-use cluster::choices::{Choice, Place};
-use cluster::ids::{Element, NodeId};
-use domains::domain::Domain;
-use domains::region::Region;
-use domains::view::{Lens, View};
+use cluster::{Choice, Element, NodeId, Place};
+use domains::{Domain, Lens, Region, View};
 use profiles::standing::pairs::is_pair;
 
 // whether a place is a node

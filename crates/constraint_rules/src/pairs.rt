@@ -10,11 +10,9 @@ ghost use Rattle.slices.specs.Holds.{ForbidsPair, IsInPart};
 ghost use Rattle.closing.specs.Kinds.{HasPair};
 
 use catalogue::constraint::Constraint;
-use catalogue::lists::Vms;
-use catalogue::problem::Problem;
-use cluster::choices::{Choice, Instant, Place};
-use cluster::ids::{Element, NodeId, VmId};
-use domains::view::{Lens, View};
+use catalogue::{Problem, Vms};
+use cluster::{Choice, Element, Instant, NodeId, Place, VmId};
+use domains::{Lens, View};
 use profiles::standing::leaves::runs_on;
 use profiles::standing::pairs::is_pair;
 use profiles::standing::stays::surely_at;

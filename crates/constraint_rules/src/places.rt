@@ -10,11 +10,9 @@ ghost use Rattle.relax.specs.Areas.{IsSized};
 ghost use Rattle.closing.specs.Kinds.{HasPlace, IsNeeded};
 
 use crate::pairs::{has, likely_node};
-use catalogue::constraint::Constraint;
-use catalogue::problem::Problem;
-use cluster::choices::{Choice, Instant};
-use cluster::ids::{Element, NodeId, VmId};
-use domains::view::{Lens, View};
+use catalogue::{Constraint, Problem};
+use cluster::{Choice, Element, Instant, NodeId, VmId};
+use domains::{Lens, View};
 use relax::elements::{is_place, is_unusable};
 
 // whether a constraint may keep a machine off nodes

@@ -11,11 +11,9 @@ ghost use Rattle.constraint_rules.specs.Stays.{StandsWithin};
 
 use crate::nodes::host;
 use crate::stays::leave_or_later;
-use catalogue::problem::Problem;
-use cluster::choices::Instant;
-use cluster::ids::{Element, NodeId, VmId};
-use domains::domain::Domain;
-use domains::region::Region;
+use catalogue::Problem;
+use cluster::{Element, Instant, NodeId, VmId};
+use domains::{Domain, Region};
 use profiles::standing::numbers::{Arrival, Standing, standing_of};
 
 /// A node, and the last instant at which a machine may surely be there.

@@ -6,12 +6,10 @@ ghost use Rattle.reasons.specs.Reasons.{Refutes};
 ghost use Rattle.relax.specs.Areas.{IsSized};
 
 use catalogue::problem::Problem;
-use cluster::ids::Element;
-use domains::parts::Part;
-use domains::region::Region;
-use domains::view::{Lens, View};
+use cluster::Element;
+use domains::{Lens, Part, Region, View};
 use profiles::standing::pairs::pair_refutes;
-use reasons::reason::Reason;
+use reasons::Reason;
 use relax::refutes::refutes_inside;
 
 /// Whether it is seen that a reason does.

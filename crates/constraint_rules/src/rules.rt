@@ -4,7 +4,7 @@ ghost use Rattle.constraint_rules.specs.Covers.{forbidden_kinds, group_kinds, pa
 
 use crate::amounts::{AmountKeeper, AmountWatcher};
 use crate::watcher::{ConstraintWatcher, Kinds};
-use reasons::reason::ReasonKind;
+use reasons::ReasonKind;
 use rule_frame::index::ConstraintIndex;
 use rule_frame::rule::Rule;
 

@@ -13,13 +13,10 @@ ghost use Rattle.constraint_rules.specs.Shutdowns.{IsShutdown, LetsGo};
 
 use crate::posts::is_hosted;
 use crate::stays::leaves_by;
-use catalogue::problem::Problem;
-use cluster::choices::{Choice, Instant, Place};
-use cluster::ids::{Element, NodeId, VmId};
-use domains::domain::Domain;
+use catalogue::Problem;
+use cluster::{Choice, Element, Instant, NodeId, Place, VmId};
 use domains::measure::Measure;
-use domains::parts::{Change, Part, Row, Side};
-use domains::region::Region;
+use domains::{Change, Domain, Part, Region, Row, Side};
 use profiles::standing::leaves::leaves_of;
 use profiles::standing::numbers::Leaving;
 use slices::choice::usable;

@@ -11,12 +11,11 @@ ghost use Rattle.constraint_rules.specs.Amounts.{AreAllStayers, AreStayersOf, Ar
 
 use crate::bounds::{Bound, bound_of};
 use crate::nodes::host;
-use base::memory::{Memory, Memory};
-use catalogue::constraint::Constraint;
-use catalogue::problem::Problem;
-use cluster::ids::VmId;
+use base::Memory;
+use catalogue::{Constraint, Problem};
+use cluster::VmId;
 use profiles::standing::uses::base;
-use slices::slice::Weight;
+use slices::Weight;
 use std::alloc::Global;
 
 /// What machines have on the nodes of a bound at present, and the most that one of them brings.

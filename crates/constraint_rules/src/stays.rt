@@ -10,11 +10,9 @@ ghost use Rattle.profiles.specs.Standing.Leaves.{AreLeaves};
 ghost use Rattle.profiles.specs.Standing.Standings.{leave_of};
 
 use catalogue::problem::Problem;
-use cluster::choices::{Choice, Instant};
-use cluster::ids::{Element, VmId};
-use domains::domain::Domain;
+use cluster::{Choice, Element, Instant, VmId};
 use domains::measure::{Measure, lowest};
-use domains::parts::Row;
+use domains::{Domain, Row};
 use profiles::standing::leaves::{Leaves, leaves_of};
 use profiles::standing::numbers::{Leaving, leave};
 

@@ -7,15 +7,11 @@ ghost use Rattle.slices.specs.Elements.{machine_count};
 ghost use Rattle.relax.specs.Areas.{IsSized};
 
 use crate::pairs::has;
-use base::memory::Memory;
-use catalogue::constraint::Constraint;
-use catalogue::lists::Vms;
-use catalogue::problem::Problem;
-use cluster::choices::{Instant, Place};
-use cluster::ids::{Element, NodeId, VmId};
-use domains::parts::{Change, Part, Side};
-use domains::region::Region;
-use reasons::reason::Reason;
+use base::Memory;
+use catalogue::{Constraint, Problem, Vms};
+use cluster::{Element, Instant, NodeId, Place, VmId};
+use domains::{Change, Part, Region, Side};
+use reasons::Reason;
 use rule_frame::suggestion::Suggestion;
 
 // a machine that is on a node at an instant, and the number of a constraint that keeps others off it

@@ -11,12 +11,11 @@ ghost use Rattle.prop_core.specs.Propagators.{FailHolds};
 
 use crate::pairs::pair_on;
 use crate::places::{machine_in_need, place_on};
-use catalogue::problem::Problem;
-use cluster::choices::Instant;
-use cluster::ids::NodeId;
+use catalogue::Problem;
+use cluster::{Instant, NodeId};
 use constraint_kinds::reason_kind;
-use domains::view::View;
-use reasons::reason::{Reason, ReasonKind};
+use domains::View;
+use reasons::{Reason, ReasonKind};
 
 // of a constraint that keeps machines apart
 fn pair_reason(p: &Problem, view: &View, c: u32, t: Instant) -> Reason

@@ -11,8 +11,8 @@ use crate::parts::{Part, Row, Side};
 use crate::row_list::RowList;
 use crate::rows::{inside, outside};
 use crate::undo::Lost;
-use base::memory::Memory;
-use cluster::choices::Place;
+use base::Memory;
+use cluster::Place;
 use std::alloc::Global;
 use std::marker::Model;
 

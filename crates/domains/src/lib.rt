@@ -13,3 +13,9 @@ mod row_list;
 mod rows;
 pub mod undo;
 pub mod view;
+
+pub use domain::Domain;
+pub use parts::{Change, Part, Row, Side};
+pub use region::Region;
+pub use undo::Before;
+pub use view::{Lens, View};

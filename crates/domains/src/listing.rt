@@ -8,7 +8,7 @@ ghost use Rattle.domains.specs.Undo.{restored, CanRestore};
 use crate::domain::Domain;
 use crate::parts::Part;
 use crate::undo::Lost;
-use base::memory::Memory;
+use base::Memory;
 use std::alloc::Global;
 use std::marker::Model;
 

@@ -14,7 +14,7 @@ use crate::domain::Domain;
 use crate::parts::{Part, Row};
 use crate::rows::outside;
 use crate::undo::Lost;
-use cluster::choices::{Choice, Instant};
+use cluster::{Choice, Instant};
 
 /// A number for each choice, which over the starts at one place is least at the first or the last.
 pub trait Measure {

@@ -1,6 +1,5 @@
 //! Rows of starts, parts of an element's choices, and changes by them.
-use cluster::choices::{Instant, Place};
-use cluster::ids::Element;
+use cluster::{Element, Instant, Place};
 
 /// The starts from `lo` to `hi` at one place.
 #[derive(Clone, Copy, Debug, PartialEq, Eq)]

@@ -10,8 +10,8 @@ use crate::domain::Domain;
 use crate::listing::Listing;
 use crate::parts::{Change, Part, Side};
 use crate::undo::Lost;
-use base::memory::Memory;
-use cluster::ids::{Element, NodeId, VmId};
+use base::Memory;
+use cluster::{Element, NodeId, VmId};
 use std::marker::Model;
 
 /// One domain for each machine and each node.

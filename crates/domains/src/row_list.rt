@@ -6,8 +6,8 @@ ghost use Rattle.domains.specs.Rows.{IsFound, IsGap};
 
 use crate::parts::Row;
 use crate::rows::find;
-use base::memory::Memory;
-use cluster::choices::Place;
+use base::Memory;
+use cluster::Place;
 use smallvec::SmallVec;
 use std::alloc::Global;
 use std::marker::Model;

@@ -6,7 +6,7 @@ ghost use Rattle.domains.specs.Parts.{in_part, out_of_part};
 ghost use Rattle.domains.specs.Rows.{option_choices, IsRowAt, KeepsBetween, IsFound, IsGap, IsPartAt};
 
 use crate::parts::{Part, Row};
-use cluster::choices::{Instant, Place};
+use cluster::{Instant, Place};
 
 /// A place's number in the order of places.
 pub fn index(place: Place) -> u64

@@ -7,8 +7,7 @@ ghost use Rattle.domains.specs.Views.{seen, sight_of, sight_at, idle_seen, shows
 use crate::measure::{Measure, lowest};
 use crate::parts::Part;
 use crate::region::Region;
-use cluster::choices::Choice;
-use cluster::ids::Element;
+use cluster::{Choice, Element};
 
 /// How a region is looked at.
 #[derive(Clone, Copy, Debug, PartialEq, Eq)]

@@ -14,9 +14,9 @@ ghost use Rattle.executor.specs.Tables.{AreTimes};
 use crate::phase::Phase;
 use crate::phases::{all_ended, first_failed};
 use crate::times::{Times, first_open, first_ready};
-use catalogue::problem::Problem;
-use cluster::ids::Element;
-use slices::plan::Plan;
+use catalogue::Problem;
+use cluster::Element;
+use slices::Plan;
 
 /// What hinders an action that waits: the first one that has failed, or else the first one that it
 /// waits for and that has not ended.

@@ -13,10 +13,10 @@ use crate::hindrance::{first_that_may_start, hindrance, is_finished};
 use crate::phase::{NewFault, Phase, StepFault};
 use crate::phases::{first_phases, move_to, phase_of};
 use crate::times::{Times, all_times};
-use catalogue::problem::Problem;
-use cluster::ids::Element;
+use catalogue::Problem;
+use cluster::Element;
 use judge::judge;
-use slices::plan::Plan;
+use slices::Plan;
 use std::alloc::Global;
 use std::marker::Model;
 

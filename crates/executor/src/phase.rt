@@ -1,5 +1,5 @@
 //! How far an action has come, and why an event is refused.
-use cluster::ids::Element;
+use cluster::Element;
 use slices::rule::Broken;
 
 /// How far the action of an element has come; an idle element has none.

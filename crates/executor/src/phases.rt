@@ -8,11 +8,10 @@ ghost use Rattle.executor.specs.Phases.{Moves, first_phase, phase_at, phases_in}
 ghost use Rattle.executor.specs.Tables.{IsFirstPlace};
 
 use crate::phase::Phase;
-use base::memory::Memory;
-use catalogue::problem::Problem;
-use cluster::choices::Choice;
-use cluster::ids::Element;
-use slices::plan::Plan;
+use base::Memory;
+use catalogue::Problem;
+use cluster::{Choice, Element};
+use slices::Plan;
 use std::alloc::Global;
 
 /// The phase before the first event.

@@ -5,11 +5,11 @@ ghost use Rattle.slices.specs.Plans.{IsPlanOf, choices_of};
 ghost use Rattle.executor.specs.Tables.{AreTimes, IsFirstPlace, IsLeastOpenEnd, IsReadyAt, is_ended, is_open_at, lesser, open_end, starts_before, times_of, waits_at};
 
 use crate::phase::Phase;
-use base::memory::Memory;
-use catalogue::problem::Problem;
-use cluster::choices::{Choice, Instant};
-use cluster::ids::Element;
-use slices::plan::{Plan, end_in};
+use base::Memory;
+use catalogue::Problem;
+use cluster::{Choice, Element, Instant};
+use slices::Plan;
+use slices::plan::end_in;
 use std::alloc::Global;
 
 /// When an action starts and ends in the plan.

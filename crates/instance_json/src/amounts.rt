@@ -16,8 +16,8 @@ ghost use Rattle.instance_json.specs.Elements.{resource_amounts, amounts_from, a
 
 use crate::fault::InstanceFault;
 use crate::names::is_among;
+use cluster::Name;
 use cluster::limits::{MAX_AMOUNT, MAX_RESOURCES};
-use cluster::names::Name;
 use json_walk::PathRef;
 use serde_json::{Map, Value};
 use std::alloc::Global;

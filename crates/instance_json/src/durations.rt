@@ -19,10 +19,9 @@ ghost use Rattle.instance_json.specs.Durations.{unit_from, duration_from, given_
 use crate::fault::InstanceFault;
 use crate::keys::DURATION_KEYS;
 use crate::names;
-use cluster::durations::Duration;
-use cluster::kinds::{KIND_COUNT, KINDS, Kind, MACHINE_KIND_COUNT};
+use cluster::kinds::{KIND_COUNT, KINDS, MACHINE_KIND_COUNT};
 use cluster::limits::MAX_DURATION;
-use cluster::names::Name;
+use cluster::{Duration, Kind, Name};
 use json_walk::{FaultKind, PathRef};
 use serde_json::{Map, Value};
 use std::alloc::Global;

@@ -19,13 +19,10 @@ use crate::keys::{
 };
 use crate::lists::{groups_at, machines_at, nodes_at, parts_at};
 use crate::names;
-use catalogue::constraint::Constraint;
 use catalogue::limits::MAX_SCALE;
-use catalogue::lists::Vms;
-use cluster::ids::VmId;
-use cluster::inventory::Cluster;
+use catalogue::{Constraint, Vms};
 use cluster::limits::MAX_AMOUNT;
-use cluster::sets::NodeSet;
+use cluster::{Cluster, NodeSet, VmId};
 use json_walk::PathRef;
 use serde_json::Value;
 use std::alloc::Global;

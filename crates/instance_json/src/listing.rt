@@ -6,9 +6,9 @@ ghost use Rattle.cluster.specs.Limits.{max_machines};
 ghost use Rattle.instance_json.specs.Listed.{listed_machines};
 
 use base::memory::Memory;
-use catalogue::lists::{Parts, Vms};
-use cluster::ids::VmId;
-use cluster::sets::MachineSet;
+use catalogue::Vms;
+use catalogue::lists::Parts;
+use cluster::{MachineSet, VmId};
 use std::alloc::Global;
 use std::marker::Model;
 use std::mem;

@@ -17,10 +17,10 @@ ghost use Rattle.instance_json.specs.Lists.{machine_item, machines_after, machin
 use crate::fault::InstanceFault;
 use crate::listing::Listing;
 use crate::names;
+use catalogue::Vms;
 use catalogue::limits::{MAX_GROUPS, MAX_PARTS};
-use catalogue::lists::{Groups, Parts, Vms};
-use cluster::inventory::Cluster;
-use cluster::sets::NodeSet;
+use catalogue::lists::{Groups, Parts};
+use cluster::{Cluster, NodeSet};
 use json_walk::{FaultKind, PathRef};
 use serde_json::Value;
 use std::alloc::Global;

@@ -14,11 +14,10 @@ ghost use Rattle.instance_json.specs.Walk.{instance_fault_of};
 ghost use Rattle.instance_json.specs.Names.{name_from, new_name_from, resource_step, resources_from, listed_machine, listed_node, listed_resource};
 
 use crate::fault::InstanceFault;
-use base::memory::Memory;
-use cluster::ids::{Element, NodeId, VmId};
-use cluster::inventory::Cluster;
+use base::Memory;
 use cluster::limits::MAX_RESOURCES;
-use cluster::names::{Name, NameFault, is_name_text};
+use cluster::names::{NameFault, is_name_text};
+use cluster::{Cluster, Element, Name, NodeId, VmId};
 use json_walk::{FaultKind, PathRef};
 use serde_json::Value;
 use std::alloc::Global;

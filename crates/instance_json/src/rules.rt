@@ -17,11 +17,11 @@ ghost use Rattle.instance_json.specs.Rules.{constraint_by, constraint_from, cons
 use crate::constraint_kind::{CONSTRAINT_KINDS, ConstraintKind};
 use crate::fault::InstanceFault;
 use crate::fields;
-use base::memory::Memory;
-use catalogue::constraint::{CONSTRAINT_WORDS, Constraint, RuleFault};
+use base::Memory;
+use catalogue::constraint::{CONSTRAINT_WORDS, RuleFault};
 use catalogue::limits::MAX_CONSTRAINTS;
-use catalogue::problem::Problem;
-use cluster::inventory::Cluster;
+use catalogue::{Constraint, Problem};
+use cluster::Cluster;
 use json_walk::{PathRef, WalkFault};
 use serde_json::Value;
 use std::alloc::Global;

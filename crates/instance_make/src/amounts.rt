@@ -11,12 +11,10 @@ ghost use Rattle.instance_make.specs.Elements.{amounts_data, duration_data, dura
 ghost use Rattle.instance_make.specs.Elements.{durations_data, own_data};
 
 use crate::names::resource_name;
-use base::memory::Memory;
-use cluster::durations::Duration;
-use cluster::inventory::Cluster;
-use cluster::kinds::{KIND_COUNT, KINDS, Kind};
+use base::Memory;
+use cluster::kinds::{KIND_COUNT, KINDS};
 use cluster::limits::MAX_RESOURCES;
-use cluster::names::Name;
+use cluster::{Cluster, Duration, Kind, Name};
 use json_text::{ObjectOut, number};
 use serde_json::Value;
 use std::alloc::Global;

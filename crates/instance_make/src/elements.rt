@@ -9,11 +9,8 @@ ghost use Rattle.instance_make.specs.Elements.{node_data, host_data, machine_dat
 
 use crate::amounts::{amounts_value, put_own};
 use crate::names::node_name;
-use base::memory::Memory;
-use cluster::inventory::Cluster;
-use cluster::machines::Machine;
-use cluster::nodes::Node;
-use cluster::states::State;
+use base::Memory;
+use cluster::{Cluster, Machine, Node, State};
 use json_text::{ObjectOut, flag, word};
 use serde_json::Value;
 use std::alloc::Global;

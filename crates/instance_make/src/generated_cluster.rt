@@ -11,15 +11,11 @@ ghost use Rattle.instance_make.specs.Generated.{generated_duration, generated_no
 ghost use Rattle.instance_make.specs.Generated.{cpu_of, mem_of};
 
 use base::memory::Memory;
-use cluster::durations::Duration;
-use cluster::ids::NodeId;
-use cluster::inventory::{AddFault, Cluster};
-use cluster::kinds::{KIND_COUNT, Kind};
+use cluster::inventory::AddFault;
+use cluster::kinds::KIND_COUNT;
 use cluster::limits::MAX_RESOURCES;
-use cluster::machines::Machine;
-use cluster::names::{Name, NameFault};
-use cluster::nodes::Node;
-use cluster::states::State;
+use cluster::names::NameFault;
+use cluster::{Cluster, Duration, Kind, Machine, Name, Node, NodeId, State};
 use std::alloc::Global;
 
 /// How many nodes there are.

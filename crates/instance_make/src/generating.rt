@@ -11,12 +11,10 @@ ghost use Rattle.instance_make.specs.Generated.{node_total, machine_total, from,
 ghost use Rattle.instance_make.specs.Generated.{emptied, others, spread_of, generated};
 
 use crate::generated_cluster::{NODES, cluster};
-use base::memory::Memory;
-use catalogue::constraint::{Constraint, RuleFault};
-use catalogue::lists::Vms;
-use catalogue::problem::Problem;
-use cluster::ids::{NodeId, VmId};
-use cluster::sets::NodeSet;
+use base::Memory;
+use catalogue::constraint::RuleFault;
+use catalogue::{Constraint, Problem, Vms};
+use cluster::{NodeId, NodeSet, VmId};
 use std::alloc::Global;
 
 /// The last instant.

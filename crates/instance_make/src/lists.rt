@@ -10,11 +10,9 @@ ghost use Rattle.instance_make.specs.Rules.{machines_list, parts_list, nodes_lis
 ghost use Rattle.instance_make.specs.Rules.{node_name_at};
 
 use crate::names::{machine_name, node_name};
-use base::memory::Memory;
-use catalogue::lists::Vms;
-use cluster::ids::{NodeId, VmId};
-use cluster::inventory::Cluster;
-use cluster::sets::NodeSet;
+use base::Memory;
+use catalogue::Vms;
+use cluster::{Cluster, NodeId, NodeSet, VmId};
 use json_text::ListOut;
 use serde_json::Value;
 use std::alloc::Global;

@@ -7,9 +7,7 @@ ghost use Rattle.cluster.specs.Inventory.{name_of};
 ghost use Rattle.instance_make.specs.Elements.{machine_name, node_name, resource_name};
 
 use base::memory::Memory;
-use cluster::ids::{NodeId, VmId};
-use cluster::inventory::Cluster;
-use cluster::names::Name;
+use cluster::{Cluster, Name, NodeId, VmId};
 use json_text::word;
 use serde_json::Value;
 use std::alloc::Global;

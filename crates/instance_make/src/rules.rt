@@ -10,12 +10,10 @@ ghost use Rattle.instance_make.specs.Rules.{object_by, constraint_data};
 
 use crate::lists::{groups_list, machines_list, nodes_list, parts_list};
 use crate::names::{machine_name, resource_name};
-use base::memory::Memory;
-use catalogue::constraint::Constraint;
-use catalogue::lists::{Groups, Parts, Vms};
-use cluster::ids::VmId;
-use cluster::inventory::Cluster;
-use cluster::sets::NodeSet;
+use base::Memory;
+use catalogue::lists::{Groups, Parts};
+use catalogue::{Constraint, Vms};
+use cluster::{Cluster, NodeSet, VmId};
 use json_text::{ObjectOut, flag, number, word as text};
 use serde_json::Value;
 use std::alloc::Global;

@@ -5,7 +5,7 @@ ghost use Rattle.json_walk.specs.declared.fault.WalkFault.TheVariants as walk_fa
 ghost use Rattle.json_walk.specs.declared.fault.JsonFault.TheVariants as json_faults;
 
 use crate::path::PathText;
-use base::memory::Memory;
+use base::Memory;
 
 /// What is wrong with a value.
 #[derive(Clone, Copy, Debug, PartialEq, Eq)]

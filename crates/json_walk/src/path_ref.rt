@@ -3,7 +3,7 @@
 ghost use Rattle.std.specs.Prelude.{◌≡◌, IfOk};
 
 use crate::path::PathText;
-use base::memory::Memory;
+use base::Memory;
 use std::alloc::Global;
 
 /// A path made of lent parts: it costs nothing to make, and its text is written only where a

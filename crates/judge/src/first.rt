@@ -13,13 +13,12 @@ ghost use Rattle.judge.specs.Verdict.{ConstraintsHold, IsFirstUnmet, IsMetAt};
 ghost use Rattle.judge.specs.Where.{is_where};
 
 use crate::standing::{first_over, loads_at, machines_of, nodes_of, usable_nodes};
-use catalogue::problem::Problem;
-use cluster::choices::Instant;
-use cluster::ids::{NodeId, VmId};
+use catalogue::Problem;
 use cluster::limits::MAX_NODES;
+use cluster::{Instant, NodeId, VmId};
 use placement_rules::holds;
+use slices::Plan;
 use slices::holding::{Held, Holding};
-use slices::plan::Plan;
 use slices::rule::Rule;
 use slices::snapshot::holding_at;
 

@@ -10,10 +10,10 @@ ghost use Rattle.judge.specs.Verdict.{IsContinuous, IsLower, IsMetBefore, IsSusp
 
 use crate::next::{next_start, next_that_matters};
 use crate::standing::stands;
-use catalogue::problem::Problem;
+use catalogue::Problem;
 use placement_rules::holds;
+use slices::Plan;
 use slices::form::form_of;
-use slices::plan::Plan;
 
 /// The least instant at which a load exceeds a capacity or a machine stands on a node that is not
 /// usable, or one past the horizon.

@@ -8,8 +8,8 @@ ghost use Rattle.slices.specs.Stages.{one, weight_of};
 ghost use Rattle.slices.specs.declared.slice.Weight.TheVariants.{Amount};
 
 use catalogue::problem::Problem;
-use cluster::ids::{Element, VmId};
 use cluster::limits::{MAX_NODES, MAX_RESOURCES};
+use cluster::{Element, VmId};
 use slices::holding::{Held, Holding, amount};
 use slices::slice::What;
 

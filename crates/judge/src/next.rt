@@ -10,14 +10,11 @@ ghost use Rattle.slices.specs.Plans.{IsPlanOf, choices_of};
 ghost use Rattle.judge.specs.Starts.{AreMachines, AreNodes, IsInSome, IsNext, Matters};
 
 use crate::standing::{machines_of, nodes_of};
-use catalogue::lists::Vms;
-use catalogue::problem::Problem;
-use cluster::choices::Instant;
-use cluster::ids::{Element, NodeId, VmId};
-use cluster::sets::NodeSet;
+use catalogue::{Problem, Vms};
+use cluster::{Element, Instant, NodeId, NodeSet, VmId};
 use slices::actions::start;
-use slices::form::{Form, Separation};
-use slices::plan::Plan;
+use slices::form::Separation;
+use slices::{Form, Plan};
 
 /// The start of an element's action, where that is after t and before next, or else next.
 fn sooner(p: &Problem, plan: &Plan, e: Element, t: Instant, next: u32) -> u32

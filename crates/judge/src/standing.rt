@@ -11,12 +11,11 @@ ghost use Rattle.judge.specs.Standing.{AreUsable, AreUsableNodes, IsFirstIn, IsF
 ghost use Rattle.judge.specs.Where.{is_where};
 
 use crate::loads::{Loads, add_both, no_loads};
-use catalogue::problem::Problem;
-use cluster::choices::Instant;
-use cluster::ids::{NodeId, VmId};
+use catalogue::Problem;
 use cluster::limits::MAX_NODES;
+use cluster::{Instant, NodeId, VmId};
+use slices::Plan;
 use slices::holding::{Held, Holding};
-use slices::plan::Plan;
 use slices::snapshot::{holding_at, usable};
 
 /// How many machines there are.

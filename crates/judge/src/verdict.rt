@@ -5,8 +5,8 @@ ghost use Rattle.slices.specs.Rules.{IsFirstBroken, IsValid};
 
 use crate::first::first_broken_rule;
 use crate::least::least_broken;
-use catalogue::problem::Problem;
-use slices::plan::Plan;
+use catalogue::Problem;
+use slices::Plan;
 use slices::rule::Broken;
 
 /// The least instant at which a rule is broken, with the first rule that is broken there: loads by

@@ -1,13 +1,10 @@
 //! What no clause says: that calls succeed where there is memory, and the faults as they were meant.
 use crate::fixtures::{ONE, add_machine, add_node, base};
-use catalogue::constraint::{Constraint, RuleFault};
-use catalogue::lists::{Groups, Parts, Vms};
-use catalogue::problem::Problem;
+use catalogue::constraint::RuleFault;
+use catalogue::lists::{Groups, Parts};
 use catalogue::targets::{Target, Wish};
-use cluster::ids::{Element, NodeId, VmId};
-use cluster::inventory::Cluster;
-use cluster::sets::NodeSet;
-use cluster::states::State;
+use catalogue::{Constraint, Problem, Vms};
+use cluster::{Cluster, Element, NodeId, NodeSet, State, VmId};
 use std::alloc::Global;
 use std::test::Fail;
 

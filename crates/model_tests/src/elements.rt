@@ -1,14 +1,10 @@
 //! Each public call, once.
-use cluster::durations::Duration;
-use cluster::ids::{NodeId, VmId};
-use cluster::inventory::Cluster;
-use cluster::kinds::{KIND_COUNT, KIND_WORDS, Kind};
+use cluster::kinds::{KIND_COUNT, KIND_WORDS};
 use cluster::limits::MAX_RESOURCES;
-use cluster::machines::Machine;
-use cluster::names::{Name, is_name_text};
-use cluster::nodes::Node;
-use cluster::sets::{MachineSet, NodeSet};
-use cluster::states::State;
+use cluster::names::is_name_text;
+use cluster::{
+    Cluster, Duration, Kind, Machine, MachineSet, Name, Node, NodeId, NodeSet, State, VmId,
+};
 use std::alloc::Global;
 use std::test::Fail;
 

@@ -2,18 +2,13 @@
 ghost use Rattle.slices.specs.Plans.{IsPlanOf};
 
 use crate::fixtures::{ONE, add_machine, add_node, base};
-use catalogue::constraint::Constraint;
-use catalogue::lists::{Groups, Parts, Vms};
-use catalogue::problem::Problem;
-use cluster::choices::{Choice, Instant, Place};
-use cluster::durations::Duration;
-use cluster::ids::{NodeId, VmId};
-use cluster::inventory::Cluster;
-use cluster::sets::NodeSet;
-use cluster::states::State;
+use catalogue::lists::{Groups, Parts};
+use catalogue::{Constraint, Problem, Vms};
+use cluster::{Choice, Cluster, Duration, Instant, NodeId, NodeSet, Place, State, VmId};
 use judge::judge;
 use placement_rules::holds;
-use slices::plan::{Plan, is_plan};
+use slices::Plan;
+use slices::plan::is_plan;
 use slices::rule::{Broken, Rule};
 use std::alloc::Global;
 use std::test::Fail;

@@ -3,13 +3,11 @@ ghost use Rattle.std.specs.Prelude.{◌≡◌, IfOk, IfSome};
 ghost use Rattle.slices.specs.Plans.{IsPlanOf};
 
 use crate::fixtures::{ONE, add_machine, add_node, base};
-use catalogue::problem::Problem;
-use cluster::choices::{Choice, Place};
-use cluster::ids::{Element, NodeId, VmId};
-use cluster::inventory::Cluster;
-use cluster::states::State;
+use catalogue::Problem;
+use cluster::{Choice, Cluster, Element, NodeId, Place, State, VmId};
 use executor::{Monitor, Phase, StepFault};
-use slices::plan::{Plan, is_plan};
+use slices::Plan;
+use slices::plan::is_plan;
 use std::alloc::Global;
 use std::test::Fail;
 

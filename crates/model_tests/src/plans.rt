@@ -4,18 +4,13 @@ ghost use Rattle.std.specs.Prelude.{IfOk, IfSome};
 ghost use Rattle.slices.specs.Plans.{IsPlanOf};
 
 use crate::fixtures::{add_machine, add_node, base};
-use catalogue::problem::Problem;
-use cluster::choices::{Choice, Instant, Place};
-use cluster::durations::Duration;
-use cluster::ids::{Element, NodeId, VmId};
-use cluster::inventory::Cluster;
-use cluster::kinds::Kind;
-use cluster::states::State;
+use catalogue::Problem;
+use cluster::{Choice, Cluster, Duration, Element, Instant, Kind, NodeId, Place, State, VmId};
 use slices::actions::{duration, end_of, is_legal, kind_of, start};
-use slices::choice;
-use slices::plan::{Plan, cost, is_plan};
+use slices::plan::{cost, is_plan};
 use slices::snapshot::{action_at, image, powered, present, usable, used};
 use slices::stage::Progress;
+use slices::{Plan, choice};
 use std::alloc::Global;
 use std::test::Fail;
 

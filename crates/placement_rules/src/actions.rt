@@ -8,9 +8,8 @@ ghost use Rattle.slices.specs.Plans.{IsPlanOf, choices_of};
 ghost use Rattle.slices.specs.Snapshots.{snapshot_at};
 
 use catalogue::problem::Problem;
-use cluster::choices::Instant;
-use cluster::ids::VmId;
-use slices::plan::Plan;
+use cluster::{Instant, VmId};
+use slices::Plan;
 use slices::snapshot::action_at;
 use slices::stage::Progress;
 

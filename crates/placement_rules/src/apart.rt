@@ -14,15 +14,12 @@ ghost use Rattle.slices.specs.Stages.{one};
 ghost use Rattle.placement_rules.specs.Labels.{IsClaim, AreNoted, label_on, split_labels};
 
 use crate::counts::machines_of;
-use catalogue::lists::Vms;
-use catalogue::problem::Problem;
-use cluster::choices::Instant;
-use cluster::ids::VmId;
+use catalogue::{Problem, Vms};
 use cluster::limits::MAX_NODES;
-use cluster::sets::MachineSet;
+use cluster::{Instant, MachineSet, VmId};
+use slices::Plan;
 use slices::form::Separation;
 use slices::holding::{Held, Holding};
-use slices::plan::Plan;
 use slices::snapshot::holding_at;
 
 /// A table of nodes without labels.

@@ -10,13 +10,10 @@ ghost use Rattle.slices.specs.Snapshots.{snapshot_at, total, powered_nodes};
 ghost use Rattle.slices.specs.Holdings.{amount_in, count_in, image_in as the_image_in};
 
 use catalogue::problem::Problem;
-use cluster::choices::Instant;
-use cluster::ids::{NodeId, VmId};
-use cluster::sets::NodeSet;
+use cluster::{Instant, NodeId, NodeSet, VmId};
 use slices::holding::{Held, amount};
-use slices::plan::Plan;
-use slices::slice::Weight;
 use slices::snapshot::{holding_at, powered};
+use slices::{Plan, Weight};
 
 /// How many machines there are.
 pub(crate) fn machines_of(p: &Problem) -> usize

@@ -11,10 +11,10 @@ use crate::apart::are_apart;
 use crate::counts::{powered_in, total_on};
 use crate::groups::are_grouped;
 use crate::places::are_allowed;
-use catalogue::problem::Problem;
-use cluster::choices::Instant;
-use slices::form::{Form, form_of};
-use slices::plan::Plan;
+use catalogue::Problem;
+use cluster::Instant;
+use slices::form::form_of;
+use slices::{Form, Plan};
 
 /// Whether what is where at an instant is as the form asks.
 fn is_kept(p: &Problem, plan: &Plan, form: &Form, t: Instant) -> bool

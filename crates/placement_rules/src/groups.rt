@@ -13,13 +13,11 @@ ghost use Rattle.slices.specs.Stages.{one};
 ghost use Rattle.placement_rules.specs.Places.{AreReached};
 
 use crate::counts::nodes_of;
-use catalogue::problem::Problem;
-use cluster::choices::Instant;
-use cluster::ids::{NodeId, VmId};
-use cluster::sets::NodeSet;
+use catalogue::Problem;
+use cluster::{Instant, NodeId, NodeSet, VmId};
+use slices::Plan;
 use slices::form::Groups;
 use slices::holding::Held;
-use slices::plan::Plan;
 use slices::snapshot::holding_at;
 
 /// Puts the node where something is held into the set.

@@ -11,11 +11,10 @@ ghost use Rattle.slices.specs.Stages.{one};
 ghost use Rattle.placement_rules.specs.Places.{IsAllowed};
 
 use catalogue::problem::Problem;
-use cluster::choices::Instant;
-use cluster::ids::VmId;
+use cluster::{Instant, VmId};
+use slices::Plan;
 use slices::form::{Places, is_off_limits};
 use slices::holding::Held;
-use slices::plan::Plan;
 use slices::snapshot::holding_at;
 
 /// Whether a member may be where it is held.

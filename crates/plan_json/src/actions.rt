@@ -13,10 +13,9 @@ ghost use Rattle.plan_json.specs.Plans.{as_choice, is_kind, is_legal_action, act
 use crate::fault::PlanFault;
 use crate::fields::{Action, one_action};
 use crate::marks::Actions;
-use catalogue::problem::Problem;
-use cluster::choices::Choice;
-use cluster::kinds::Kind;
+use catalogue::Problem;
 use cluster::limits::{MAX_MACHINES, MAX_NODES};
+use cluster::{Choice, Kind};
 use json_walk::{FaultKind, PathRef};
 use serde_json::Value;
 use slices::actions::{is_legal, kind_of};

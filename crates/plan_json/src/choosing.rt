@@ -8,10 +8,9 @@ ghost use Rattle.plan_json.specs.Plans.{as_choice, choices_for, is_idle, first_t
 
 use crate::actions::as_choice;
 use crate::fields::Action;
-use base::memory::Memory;
-use catalogue::problem::Problem;
-use cluster::choices::Choice;
-use cluster::ids::Element;
+use base::Memory;
+use catalogue::Problem;
+use cluster::{Choice, Element};
 use slices::actions::is_legal;
 use std::alloc::Global;
 

@@ -3,9 +3,9 @@
 ghost use Rattle.std.specs.Prelude.{◌≡◌, ◌++◌, IfOk, codes, string_bytes};
 
 use crate::names::name;
-use base::memory::Memory;
-use catalogue::problem::Problem;
-use cluster::ids::Element;
+use base::Memory;
+use catalogue::Problem;
+use cluster::Element;
 use json_walk::{Fault, PathText, WalkFault};
 use std::alloc::{AllocError, AllocFailed, Global};
 

@@ -13,11 +13,8 @@ ghost use Rattle.plan_json.specs.Actions.{listed_element, listed_place, kind_fro
 
 use crate::fault::PlanFault;
 use catalogue::limits::MAX_HORIZON;
-use cluster::choices::{Instant, Place};
-use cluster::ids::Element;
-use cluster::inventory::Cluster;
-use cluster::kinds::Kind;
 use cluster::names::is_name_text;
+use cluster::{Cluster, Element, Instant, Kind, Place};
 use json_walk::{FaultKind, PathRef};
 use serde_json::Value;
 use std::alloc::Global;

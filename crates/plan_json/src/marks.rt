@@ -6,9 +6,8 @@ ghost use Rattle.plan_json.specs.Plans.{action_for, is_same};
 ghost use Rattle.plan_json.specs.Marks.{IsWithinLimits};
 
 use crate::fields::Action;
-use base::memory::Memory;
-use cluster::ids::Element;
-use cluster::sets::{MachineSet, NodeSet};
+use base::Memory;
+use cluster::{Element, MachineSet, NodeSet};
 use std::alloc::Global;
 use std::marker::Model;
 

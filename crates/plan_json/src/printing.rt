@@ -10,14 +10,13 @@ ghost use Rattle.plan_json.specs.Plans.{plan_of};
 ghost use Rattle.plan_json.specs.Print.{name_data, word_at, action_data, choice_data, actions_data, plan_data, plan_text};
 
 use crate::names::name;
-use base::memory::Memory;
-use catalogue::problem::Problem;
-use cluster::choices::{Choice, Instant, Place};
-use cluster::ids::Element;
+use base::Memory;
+use catalogue::Problem;
+use cluster::{Choice, Element, Instant, Place};
 use json_text::{ListOut, ObjectOut, number, print, word};
 use serde_json::Value;
+use slices::Plan;
 use slices::actions::kind_of;
-use slices::plan::Plan;
 use std::alloc::Global;
 
 /// The name of an element.

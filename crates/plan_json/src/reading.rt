@@ -18,10 +18,10 @@ use crate::choosing::{choices, first_to_act};
 use crate::fault::PlanFault;
 use crate::fields::Action;
 use crate::marks::Actions;
-use catalogue::problem::Problem;
+use catalogue::Problem;
 use json_walk::{JsonFault, MAX_TEXT_BYTES, PathRef, read_value};
 use serde_json::Value;
-use slices::plan::Plan;
+use slices::Plan;
 use std::alloc::Global;
 
 /// The keys of a plan.

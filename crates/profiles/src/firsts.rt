@@ -10,14 +10,11 @@ ghost use Rattle.profiles.specs.Levels.{IsBack, marked};
 ghost use Rattle.profiles.specs.Firsts.{AreFirstAt, AreFirsts, IsNoLater, slot_of as the_slot_of, start_count};
 
 use crate::levels::Levelled;
-use base::memory::Memory;
-use catalogue::problem::Problem;
-use cluster::choices::{Choice, Instant, Place};
-use cluster::ids::{Element, NodeId, VmId};
-use domains::domain::Domain;
+use base::Memory;
+use catalogue::Problem;
+use cluster::{Choice, Element, Instant, NodeId, Place, VmId};
 use domains::measure::{Measure, lowest};
-use domains::parts::{Change, Part};
-use domains::region::Region;
+use domains::{Change, Domain, Part, Region};
 use std::alloc::Global;
 use std::marker::Model;
 

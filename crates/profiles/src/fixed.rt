@@ -12,10 +12,10 @@ ghost use Rattle.profiles.specs.Fixed.{AreHosts, AreMostUses, AreOrders, AreTota
 
 use crate::host::{host_of, is_this};
 use crate::standing::uses::base;
-use base::memory::Memory;
-use catalogue::problem::Problem;
-use cluster::ids::{Element, NodeId, VmId};
-use slices::slice::Weight;
+use base::Memory;
+use catalogue::Problem;
+use cluster::{Element, NodeId, VmId};
+use slices::Weight;
 use std::alloc::Global;
 use std::marker::Model;
 

@@ -7,8 +7,7 @@ ghost use Rattle.relax.specs.Areas.{hosted_in};
 ghost use Rattle.profiles.specs.Hosts.{HostIs};
 
 use catalogue::problem::Problem;
-use cluster::ids::{Element, NodeId, VmId};
-use cluster::states::State;
+use cluster::{Element, NodeId, State, VmId};
 
 // the host of a machine in a state
 fn host_in(state: State) -> Option<NodeId>

@@ -9,9 +9,9 @@ ghost use Rattle.relax.specs.Areas.{IsSized};
 ghost use Rattle.profiles.specs.Movers.{AreMovers, IsGrown, IsListedOrStays, IsToldOf};
 
 use base::memory::Memory;
-use catalogue::problem::Problem;
-use cluster::ids::{Element, VmId};
-use domains::region::Region;
+use catalogue::Problem;
+use cluster::{Element, VmId};
+use domains::Region;
 use std::alloc::Global;
 use std::marker::Model;
 

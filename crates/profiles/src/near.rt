@@ -8,9 +8,9 @@ ghost use Rattle.profiles.specs.Near.{AreNear, IsNear, IsPut, list_at};
 
 use crate::host::host_of;
 use crate::number_lists::NumberLists;
-use base::memory::{Memory, Memory};
-use catalogue::problem::Problem;
-use cluster::ids::{Element, NodeId, VmId};
+use base::Memory;
+use catalogue::Problem;
+use cluster::{Element, NodeId, VmId};
 use std::alloc::Global;
 use std::marker::Model;
 

@@ -10,9 +10,9 @@ ghost use Rattle.reasons.specs.Sure.{sure};
 ghost use Rattle.relax.specs.Areas.{IsSized};
 
 use catalogue::problem::Problem;
-use cluster::choices::Instant;
-use cluster::ids::{Element, NodeId, VmId};
-use domains::view::{Lens, View, has_idle};
+use cluster::{Element, Instant, NodeId, VmId};
+use domains::view::has_idle;
+use domains::{Lens, View};
 use relax::sure::may_be_usable;
 
 /// The machine of which a lens may not show all choices.

@@ -5,12 +5,9 @@ ghost use Rattle.prop_core.specs.Lists.{BackSame, MarkedSame, Pairs, PostedSame,
 ghost use Rattle.prop_core.specs.Propagators.{IsNarrowed, IsRegionOf, SameRule, most, sets_before};
 
 use crate::propagator::Propagator;
-use base::memory::Memory;
-use catalogue::problem::Problem;
-use domains::domain::Domain;
-use domains::parts::Change;
-use domains::region::Region;
-use domains::undo::Before;
+use base::Memory;
+use catalogue::Problem;
+use domains::{Before, Change, Domain, Region};
 
 /// Posts each anew. After `Memory`, for want of memory, only `post_all` may follow.
 pub fn post_all(p: &Problem, g: &Region, rules: &mut Vec<Box<dyn Propagator>>) -> Result<(), Memory>

@@ -6,9 +6,9 @@ ghost use Rattle.prop_core.specs.Lists.{AllRight, Covered, Pairs, Rise, TopsAgre
 ghost use Rattle.prop_core.specs.Propagators.{IsAsked, IsRegionOf, IsRight, TopAgrees, counted};
 
 use crate::propagator::{Answer, Propagator};
-use base::memory::Memory;
-use catalogue::problem::Problem;
-use domains::region::Region;
+use base::Memory;
+use catalogue::Problem;
+use domains::Region;
 
 // asks one
 fn ask(rule: &mut Box<dyn Propagator>, p: &Problem, g: &Region) -> Result<Answer, Memory>

@@ -3,7 +3,7 @@ ghost use Rattle.std.specs.Prelude.{◌≡◌, ◌↔◌, ◌&&◌, IsTrue};
 ghost use Rattle.prop_core.specs.Lists.{Covered, is_covered};
 
 use crate::propagator::Propagator;
-use reasons::reason::ReasonKind;
+use reasons::ReasonKind;
 
 // whether it covers a kind
 fn covers_kind(rule: &Box<dyn Propagator>, kind: ReasonKind) -> bool

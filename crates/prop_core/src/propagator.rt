@@ -4,13 +4,10 @@ ghost use Rattle.domains.specs.Sets.{sets};
 ghost use Rattle.prop_core.specs.Propagators.{IsAsked, IsBack, IsMarked, IsNarrowed, IsPosted, IsRegionOf, IsRight, IsTold, IsUnchanged, Meaning, SameRule, TopAgrees, counted, most, sets_before};
 
 use base::memory::Memory;
-use catalogue::problem::Problem;
-use cluster::ids::Element;
-use domains::domain::Domain;
-use domains::parts::{Change, Part};
-use domains::region::Region;
-use domains::undo::Before;
-use reasons::reason::{Reason, ReasonKind};
+use catalogue::Problem;
+use cluster::Element;
+use domains::{Before, Change, Domain, Part, Region};
+use reasons::{Reason, ReasonKind};
 
 /// What a propagator answers of a region.
 #[derive(Clone, Copy)]

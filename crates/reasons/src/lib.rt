@@ -3,3 +3,5 @@
 
 pub mod laws;
 pub mod reason;
+
+pub use reason::{Reason, ReasonKind};

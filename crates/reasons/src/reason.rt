@@ -1,7 +1,5 @@
 //! Reasons: why a region of plans holds none that is of use.
-use cluster::choices::Instant;
-use cluster::ids::{Element, NodeId, VmId};
-use cluster::sets::NodeSet;
+use cluster::{Element, Instant, NodeId, NodeSet, VmId};
 
 /// Why a region holds no valid plan, or none that costs less than the one handed in.
 ///

@@ -3,16 +3,12 @@ ghost use Rattle.std.specs.Prelude.{◌≡◌, ◌<◌, ◌≤◌, length, IfOk}
 ghost use Rattle.relax.specs.Areas.{IsSized};
 
 use crate::fixtures::running;
-use catalogue::constraint::Constraint;
-use catalogue::lists::Vms;
-use catalogue::problem::Problem;
+use catalogue::{Constraint, Problem, Vms};
 use closing::closed::closed;
 use closing::look::Look;
 use closing::watch::{look_at_constraint, look_at_load, look_at_total_load, look_at_usable};
-use cluster::choices::{Choice, Instant, Place};
-use cluster::ids::{Element, NodeId, VmId};
-use domains::parts::{Change, Part, Side};
-use domains::region::Region;
+use cluster::{Choice, Element, Instant, NodeId, Place, VmId};
+use domains::{Change, Part, Region, Side};
 use relax::start::start_region;
 use std::alloc::Global;
 use std::process::Abort;

@@ -8,15 +8,13 @@ ghost use Rattle.slices.specs.Elements.{machine_count};
 
 use crate::fixtures::running;
 use bound::lower_bound::LowerBound;
-use catalogue::problem::Problem;
-use cluster::choices::Place;
-use cluster::ids::{Element, NodeId, VmId};
-use domains::domain::Domain;
-use domains::parts::{Change, Part, Side};
+use catalogue::Problem;
+use cluster::{Element, NodeId, Place, VmId};
+use domains::{Change, Domain, Part, Side};
 use relax::start::start_region;
 use std::alloc::Global;
 use std::test::Fail;
-use trail::trail::Trail;
+use trail::Trail;
 
 const THERE: Place = Place::At(NodeId(1));
 

@@ -1,12 +1,6 @@
 //! What several tests stand on.
-
 use cluster::durations::Duration;
-use cluster::ids::NodeId;
-use cluster::inventory::Cluster;
-use cluster::machines::Machine;
-use cluster::names::Name;
-use cluster::nodes::Node;
-use cluster::states::State;
+use cluster::{Cluster, Machine, Name, Node, NodeId, State};
 use std::alloc::Global;
 use std::test::Fail;
 

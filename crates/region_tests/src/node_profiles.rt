@@ -6,13 +6,9 @@ ghost use Rattle.relax.specs.Areas.{IsSized};
 ghost use Rattle.profiles.specs.NodeLoad.{IsProfile};
 
 use crate::fixtures::running;
-use catalogue::problem::Problem;
-use cluster::choices::{Instant, Place};
-use cluster::ids::{Element, NodeId, VmId};
-use domains::domain::Domain;
-use domains::parts::{Change, Part, Side};
-use domains::region::Region;
-use domains::undo::Before;
+use catalogue::Problem;
+use cluster::{Element, Instant, NodeId, Place, VmId};
+use domains::{Before, Change, Domain, Part, Region, Side};
 use profiles::node_load::profile::Profile;
 use relax::start::start_region;
 use std::alloc::Global;

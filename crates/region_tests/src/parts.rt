@@ -3,13 +3,11 @@ ghost use Rattle.std.specs.Prelude.{◌≡◌, ◌<◌, ◌≤◌, ℕ, min, IfO
 ghost use Rattle.region_tests.specs.Starts.{start_of};
 
 use cluster::choices::{Choice, Instant, Place};
-use cluster::ids::{Element, NodeId, VmId};
-use domains::domain::Domain;
+use cluster::{Element, NodeId, VmId};
 use domains::measure::{Measure, lowest_lost};
-use domains::parts::{Change, Part, Row, Side};
-use domains::region::Region;
 use domains::undo::Lost;
-use domains::view::{Lens, View, lowest_seen};
+use domains::view::lowest_seen;
+use domains::{Change, Domain, Lens, Part, Region, Row, Side, View};
 use std::alloc::Global;
 use std::process::Abort;
 use std::test::Fail;

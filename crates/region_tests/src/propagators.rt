@@ -7,24 +7,20 @@ ghost use Rattle.prop_core.specs.Propagators.{IsRegionOf, IsRight, counted};
 ghost use Rattle.prop_core.specs.Tests.{keeps_nothing};
 
 use crate::fixtures::running;
-use base::memory::Memory;
-use catalogue::problem::Problem;
-use cluster::ids::{Element, NodeId, VmId};
-use cluster::sets::NodeSet;
-use domains::domain::Domain;
-use domains::parts::{Change, Part, Side};
-use domains::region::Region;
-use domains::undo::Before;
+use base::Memory;
+use catalogue::Problem;
+use cluster::{Element, NodeId, NodeSet, VmId};
+use domains::{Before, Change, Domain, Part, Region, Side};
 use prop_core::all::{back_all, mark_all, post_all, tell_all};
 use prop_core::asking::ask_all;
 use prop_core::cover::covered;
 use prop_core::propagator::{Answer, Propagator};
-use reasons::reason::{Reason, ReasonKind};
+use reasons::{Reason, ReasonKind};
 use relax::refutes::refutes;
 use relax::start::start_region;
 use std::alloc::Global;
 use std::test::Fail;
-use trail::trail::Trail;
+use trail::Trail;
 
 /// Machine 0 runs on node 0, and uses 2 of the 1 that this has; it may go to node 1. Each action lasts 3, and all
 /// end by 10.

@@ -2,15 +2,13 @@
 ghost use Rattle.std.specs.Prelude.{◌≡◌, ◌<◌, [], ◌∷◌, IfOk, OnOk, length};
 
 use cluster::choices::{Instant, Place};
-use cluster::ids::{Element, NodeId, VmId};
-use domains::domain::Domain;
-use domains::parts::{Change, Part, Row, Side};
-use domains::region::Region;
-use domains::undo::{Before, Lost};
+use cluster::{Element, NodeId, VmId};
+use domains::undo::Lost;
+use domains::{Before, Change, Domain, Part, Region, Row, Side};
 use std::alloc::Global;
 use std::process::Abort;
 use std::test::Fail;
-use trail::trail::Trail;
+use trail::Trail;
 
 const HERE: Place = Place::At(NodeId(0));
 

@@ -15,13 +15,11 @@ ghost use Rattle.relax.specs.Areas.{IsSized, nodes_of};
 use crate::area::{Area, area_of};
 use crate::sure::surely_in;
 use crate::totals::{least_cost, load, powered_nodes, room, total};
-use catalogue::constraint::Constraint;
-use catalogue::problem::Problem;
-use cluster::choices::Instant;
-use cluster::ids::{NodeId, VmId};
-use cluster::sets::NodeSet;
-use domains::view::View;
-use slices::form::{Form, Separation, form_of};
+use catalogue::{Constraint, Problem};
+use cluster::{Instant, NodeId, NodeSet, VmId};
+use domains::View;
+use slices::Form;
+use slices::form::{Separation, form_of};
 
 /// Whether a plan of a cost is handed in, and the sum of the least ends is no less. The sum is added up
 /// where it is not handed in as well.

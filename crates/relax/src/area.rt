@@ -8,8 +8,7 @@ ghost use Rattle.slices.specs.Stages.{one};
 ghost use Rattle.relax.specs.Areas.{nodes_of};
 
 use catalogue::problem::Problem;
-use cluster::ids::{Element, NodeId};
-use cluster::sets::NodeSet;
+use cluster::{Element, NodeId, NodeSet};
 
 /// Nodes: one, all of the problem, those of a set, or those that are not one or not in a set.
 #[derive(Clone, Copy)]

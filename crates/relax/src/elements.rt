@@ -10,11 +10,9 @@ ghost use Rattle.relax.specs.Areas.{IsSized};
 use crate::area::Area;
 use crate::forbidden::{forbids_pair, forbids_place};
 use crate::sure::{may_be_usable, surely_has_image, surely_in};
-use catalogue::constraint::Constraint;
-use catalogue::problem::Problem;
-use cluster::choices::Instant;
-use cluster::ids::{Element, NodeId, VmId};
-use domains::view::View;
+use catalogue::{Constraint, Problem};
+use cluster::{Element, Instant, NodeId, VmId};
+use domains::View;
 
 /// Whether two machines that a constraint keeps apart are surely on a node.
 pub fn is_pair(

@@ -21,18 +21,16 @@ ghost use Rattle.relax.specs.Areas.{IsSized, IsWeight, nodes_of};
 
 use crate::area::{Area, has, node_total};
 use crate::moves::{is_out_by, is_to_run, move_time};
-use catalogue::problem::Problem;
+use catalogue::Problem;
 use catalogue::targets::{Target, Wish};
-use cluster::choices::{Instant, Place};
-use cluster::ids::{Element, NodeId, VmId};
-use cluster::states::State;
-use domains::domain::Domain;
-use domains::parts::Row;
-use domains::view::{Sight, View, shown};
+use cluster::{Element, Instant, NodeId, Place, State, VmId};
+use domains::view::{Sight, shown};
+use domains::{Domain, Row, View};
+use slices::Weight;
 use slices::actions::kind_of;
 use slices::elements::state_of;
 use slices::holding::amount;
-use slices::slice::{Weight, What};
+use slices::slice::What;
 
 // a place's number in the order of places
 fn place_number(place: Place) -> u64

@@ -5,10 +5,10 @@ ghost use Rattle.slices.specs.Forms.{separation_seen};
 ghost use Rattle.slices.specs.Holds.{ForbidsPair, ForbidsPlace, IsInPart, Separates};
 
 use catalogue::constraint::Constraint;
-use catalogue::lists::Vms;
-use catalogue::problem::Problem;
-use cluster::ids::{NodeId, VmId};
-use slices::form::{Form, Separation, form_of, is_off_limits};
+use catalogue::{Problem, Vms};
+use cluster::{NodeId, VmId};
+use slices::Form;
+use slices::form::{Separation, form_of, is_off_limits};
 
 // whether a machine is in another part than that of a number
 fn is_in_other(parts: &[Vms], i: usize, w: VmId) -> bool

@@ -16,13 +16,11 @@ ghost use Rattle.relax.specs.Members.{AreAllOut, IsOneIn};
 
 use crate::area::{Area, node_total};
 use crate::sure::{surely_in, surely_so_far};
-use catalogue::constraint::Constraint;
-use catalogue::problem::Problem;
-use cluster::choices::Instant;
-use cluster::ids::{NodeId, VmId};
-use cluster::sets::NodeSet;
-use domains::view::View;
-use slices::form::{Form, Groups, form_of};
+use catalogue::{Constraint, Problem};
+use cluster::{Instant, NodeId, NodeSet, VmId};
+use domains::View;
+use slices::Form;
+use slices::form::{Groups, form_of};
 use slices::stage::Progress;
 
 // the place in a list of a machine that is surely present on nodes of an area; the first place that is

@@ -18,3 +18,5 @@ pub mod start;
 pub mod sure;
 pub mod totals;
 pub mod whole;
+
+pub use area::Area;

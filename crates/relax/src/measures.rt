@@ -13,16 +13,14 @@ ghost use Rattle.slices.specs.declared.slice.Weight.TheVariants.{Amount as Amoun
 ghost use Rattle.relax.specs.Areas.{IsWeight, goes_in as the_goes_in, hosted_in, nodes_of};
 
 use crate::area::{Area, has};
-use catalogue::problem::Problem;
-use cluster::choices::{Choice, Instant, Place};
-use cluster::ids::{Element, NodeId, VmId};
-use cluster::states::State;
+use catalogue::Problem;
+use cluster::{Choice, Element, Instant, NodeId, Place, State, VmId};
 use domains::measure::Measure;
+use slices::Weight;
 use slices::actions::{duration, kind_of};
 use slices::choice::{action, holding, powered, usable};
 use slices::elements::state_of;
 use slices::holding::{Held, amount};
-use slices::slice::Weight;
 use slices::stage::Progress;
 
 fn amount_on(p: &Problem, v: VmId, r: u8, area: &Area, held: Option<Held>) -> u64

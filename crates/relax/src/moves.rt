@@ -17,14 +17,11 @@ ghost use Rattle.relax.specs.Areas.{IsSized, goes_in as the_goes_in, nodes_of};
 
 use crate::area::{Area, has};
 use crate::measures::goes_in;
-use catalogue::problem::Problem;
+use catalogue::Problem;
 use catalogue::targets::{Target, Wish};
-use cluster::choices::{Choice, Instant};
-use cluster::ids::{Element, NodeId, VmId};
-use cluster::kinds::Kind;
-use cluster::states::State;
-use domains::parts::Row;
-use domains::view::{Sight, View, shown};
+use cluster::{Choice, Element, Instant, Kind, NodeId, State, VmId};
+use domains::view::{Sight, shown};
+use domains::{Row, View};
 use slices::actions::duration;
 use slices::elements::state_of;
 

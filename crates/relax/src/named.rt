@@ -7,11 +7,9 @@ ghost use Rattle.slices.specs.Elements.{machine_count, node_count};
 ghost use Rattle.reasons.specs.Reasons.{AreListed, IsNamed};
 
 use crate::area::is_node;
-use catalogue::problem::Problem;
-use cluster::choices::Instant;
-use cluster::ids::{Element, NodeId, VmId};
-use cluster::sets::NodeSet;
-use reasons::reason::Reason;
+use catalogue::Problem;
+use cluster::{Element, Instant, NodeId, NodeSet, VmId};
+use reasons::Reason;
 use slices::elements::has_element;
 
 // whether a machine is listed

@@ -17,14 +17,11 @@ ghost use Rattle.relax.specs.Areas.{IsSized, goes_in, hosted_in};
 
 use crate::area::{Area, is_node};
 use crate::sure::{least_held, may_be_usable};
-use catalogue::problem::Problem;
-use cluster::choices::{Instant, Place};
-use cluster::ids::{Element, NodeId, VmId};
-use cluster::states::State;
-use domains::domain::Domain;
-use domains::view::{Lens, View};
+use catalogue::Problem;
+use cluster::{Element, Instant, NodeId, Place, State, VmId};
+use domains::{Domain, Lens, View};
+use slices::Weight;
 use slices::elements::state_of;
-use slices::slice::Weight;
 
 // ---- one machine
 

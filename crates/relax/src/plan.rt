@@ -7,11 +7,10 @@ ghost use Rattle.domains.specs.Sets.{HasElement, IsFixed, IsOnly, sets};
 ghost use Rattle.relax.specs.Areas.{AreLegal, IsSized};
 
 use base::memory::Memory;
-use catalogue::problem::Problem;
-use cluster::choices::Choice;
-use cluster::ids::Element;
-use domains::region::Region;
-use slices::plan::Plan;
+use catalogue::Problem;
+use cluster::{Choice, Element};
+use domains::Region;
+use slices::Plan;
 use std::alloc::Global;
 
 /// The one plan of a region in which each element has exactly one choice, a legal one. The only error

@@ -14,14 +14,10 @@ use crate::elements::{is_pair, is_place, is_unusable};
 use crate::groups::is_group;
 use crate::named::is_named;
 use crate::sure::has_none;
-use catalogue::problem::Problem;
-use cluster::choices::Instant;
-use cluster::ids::{Element, NodeId, VmId};
-use cluster::sets::NodeSet;
-use domains::parts::Part;
-use domains::region::Region;
-use domains::view::{Lens, View};
-use reasons::reason::Reason;
+use catalogue::Problem;
+use cluster::{Element, Instant, NodeId, NodeSet, VmId};
+use domains::{Lens, Part, Region, View};
+use reasons::Reason;
 
 /// Whether a reason refutes a region, where a plan of a cost is handed in, or none. It takes no memory.
 pub fn refutes(p: &Problem, bound: Option<u64>, g: &Region, reason: &Reason) -> bool

@@ -12,13 +12,10 @@ ghost use Rattle.relax.specs.Areas.{AreLegal, IsSized};
 ghost use Rattle.relax.specs.Rows.{rows_of};
 
 use crate::area::node_total;
-use base::memory::Memory;
-use catalogue::problem::Problem;
-use cluster::choices::{Choice, Place};
-use cluster::ids::{Element, NodeId, VmId};
-use domains::domain::Domain;
-use domains::parts::Row;
-use domains::region::Region;
+use base::Memory;
+use catalogue::Problem;
+use cluster::{Choice, Element, NodeId, Place, VmId};
+use domains::{Domain, Region, Row};
 use slices::actions::{duration, is_legal, kind_of};
 use std::alloc::Global;
 

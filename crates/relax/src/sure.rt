@@ -23,15 +23,13 @@ use crate::measures::{
     EndOf, HeldFrom, HeldIn, IsPowered, IsSoFar, IsUnusable, goes_in, is_hosted_in,
 };
 use crate::moves::may_have_left;
-use catalogue::problem::Problem;
-use cluster::choices::{Choice, Instant};
-use cluster::ids::{Element, NodeId, VmId};
-use domains::domain::Domain;
+use catalogue::Problem;
+use cluster::{Choice, Element, Instant, NodeId, VmId};
 use domains::measure::Nought;
-use domains::parts::Row;
-use domains::view::{Sight, View, lowest_seen, shown};
+use domains::view::{Sight, lowest_seen, shown};
+use domains::{Domain, Row, View};
+use slices::Weight;
 use slices::elements::state_of;
-use slices::slice::Weight;
 use slices::stage::Progress;
 
 // whether a value, if there is one, is above 0

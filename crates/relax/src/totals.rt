@@ -16,11 +16,10 @@ ghost use Rattle.relax.specs.Areas.{IsSized, IsWeight, nodes_of};
 use crate::area::{Area, has};
 use crate::one_node;
 use crate::sure::{least_end, least_held, may_be_usable, surely_powered};
-use catalogue::problem::Problem;
-use cluster::choices::Instant;
-use cluster::ids::{Element, NodeId, VmId};
-use domains::view::View;
-use slices::slice::Weight;
+use catalogue::Problem;
+use cluster::{Element, Instant, NodeId, VmId};
+use domains::View;
+use slices::Weight;
 
 /// The sum of the least that machines hold on the nodes of an area.
 pub fn total(p: &Problem, view: &View, weight: Weight, area: &Area, t: Instant) -> u64

@@ -12,13 +12,10 @@ ghost use Rattle.relax.specs.Areas.{AreLegal, IsSized};
 
 use crate::area::Area;
 use crate::sure;
-use catalogue::problem::Problem;
-use cluster::choices::Instant;
-use cluster::ids::{Element, NodeId, VmId};
-use cluster::sets::NodeSet;
-use domains::region::Region;
-use domains::view::{Lens, View};
-use slices::slice::Weight;
+use catalogue::Problem;
+use cluster::{Element, Instant, NodeId, NodeSet, VmId};
+use domains::{Lens, Region, View};
+use slices::Weight;
 
 /// The least that a machine uses of a resource on the nodes of a set at an instant, 0 where it has no
 /// choice.

@@ -6,10 +6,10 @@ ghost use Rattle.slices.specs.Plans.{IsPlanOf, choices_of};
 ghost use Rattle.replay.specs.Events.{events, is_event, turns, turns_below};
 
 use base::memory::Memory;
-use catalogue::problem::Problem;
-use cluster::choices::{Choice, Instant};
-use cluster::ids::Element;
-use slices::plan::{Plan, end_in};
+use catalogue::Problem;
+use cluster::{Choice, Element, Instant};
+use slices::Plan;
+use slices::plan::end_in;
 use std::alloc::Global;
 
 /// Marks the start and the end of an element's action, if it has one.

@@ -7,11 +7,11 @@ ghost use Rattle.slices.specs.Rules.{InRange};
 ghost use Rattle.replay.specs.Lines.{at_line, broken_line, loads_text, node_text, nodes_text, resource_name, rule_text, verdict_line};
 
 use base::memory::Memory;
-use catalogue::problem::Problem;
-use cluster::choices::Instant;
-use cluster::ids::{Element, NodeId};
+use catalogue::Problem;
+use cluster::{Element, Instant, NodeId};
 use judge::{Broken, Loads, Rule, loads_at};
-use slices::plan::{Plan, cost};
+use slices::Plan;
+use slices::plan::cost;
 use std::alloc::Global;
 
 fn resource_name(p: &Problem, r: u8) -> &str

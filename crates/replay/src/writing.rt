@@ -9,11 +9,11 @@ ghost use Rattle.replay.specs.Report.{IsPrefixOfReport, IsVerdict, report_text};
 
 use crate::events::events;
 use crate::lines::{at_line, verdict_line};
-use catalogue::problem::Problem;
-use cluster::choices::Instant;
+use catalogue::Problem;
+use cluster::Instant;
 use judge::{Broken, judge};
 use plan_io::{OutFault, Sink, write_text};
-use slices::plan::Plan;
+use slices::Plan;
 use std::alloc::Global;
 
 /// Writes a line for each of some instants.

@@ -12,16 +12,10 @@ ghost use Rattle.rule_frame.specs.Indexes.{AreLooking, AreMarked, IsAdded, IsInd
 
 use crate::keeper::Keeper;
 use crate::marks::Marks;
-use base::memory::{Memory, Memory};
-use catalogue::constraint::Constraint;
-use catalogue::lists::Vms;
-use catalogue::problem::Problem;
-use cluster::ids::{Element, NodeId, VmId};
-use cluster::sets::NodeSet;
-use domains::domain::Domain;
-use domains::parts::Change;
-use domains::region::Region;
-use domains::undo::Before;
+use base::Memory;
+use catalogue::{Constraint, Problem, Vms};
+use cluster::{Element, NodeId, NodeSet, VmId};
+use domains::{Before, Change, Domain, Region};
 use profiles::number_lists::NumberLists;
 use std::alloc::Global;
 use std::default::MadeWith;

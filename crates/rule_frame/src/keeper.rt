@@ -5,11 +5,8 @@ ghost use Rattle.prop_core.specs.Propagators.{IsNarrowed, IsRegionOf, most, sets
 ghost use Rattle.rule_frame.specs.Caches.{Cache, IsCacheBack, IsCacheFor, IsCacheMarked, IsCachePosted, IsCacheSame, IsCacheTold};
 
 use base::memory::Memory;
-use catalogue::problem::Problem;
-use domains::domain::Domain;
-use domains::parts::Change;
-use domains::region::Region;
-use domains::undo::Before;
+use catalogue::Problem;
+use domains::{Before, Change, Domain, Region};
 
 /// Keeps what a rule's looks need of the region, in levels from 0 on.
 pub trait Keeper: Drop {

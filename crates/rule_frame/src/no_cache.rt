@@ -2,12 +2,9 @@
 ghost use Rattle.std.specs.Prelude.{◌≡◌};
 
 use crate::keeper::Keeper;
-use base::memory::Memory;
-use catalogue::problem::Problem;
-use domains::domain::Domain;
-use domains::parts::Change;
-use domains::region::Region;
-use domains::undo::Before;
+use base::Memory;
+use catalogue::Problem;
+use domains::{Before, Change, Domain, Region};
 
 /// Keeps nothing but the number of its levels. It takes no memory.
 #[derive(Clone, Copy, Default)]

@@ -10,11 +10,10 @@ ghost use Rattle.rule_frame.specs.Caches.{IsCacheFor};
 
 use crate::keeper::Keeper;
 use crate::watcher::Watcher;
-use catalogue::problem::Problem;
-use cluster::ids::Element;
-use domains::parts::{Change, Part, Side};
-use domains::region::Region;
-use reasons::reason::Reason;
+use catalogue::Problem;
+use cluster::Element;
+use domains::{Change, Part, Region, Side};
+use reasons::Reason;
 use slices::elements::has_element;
 
 /// A cut that may hold: a part of an element's choices, and why they may be taken away.

@@ -16,17 +16,12 @@ ghost use Rattle.rule_frame.specs.Changes.{AreClean, IsDisturbed, IsKept};
 use crate::keeper::Keeper;
 use crate::marks::Marks;
 use crate::suggestion::Suggestion;
-use base::memory::Memory;
-use catalogue::problem::Problem;
+use base::Memory;
+use catalogue::Problem;
 use closing::look::Look;
-use cluster::choices::{Choice, Instant};
-use cluster::ids::Element;
-use domains::domain::Domain;
-use domains::parts::{Change, Part};
-use domains::region::Region;
-use domains::undo::Before;
-use domains::view::View;
-use reasons::reason::{Reason, ReasonKind};
+use cluster::{Choice, Element, Instant};
+use domains::{Before, Change, Domain, Part, Region, View};
+use reasons::{Reason, ReasonKind};
 
 /// What asking the watches finds.
 #[derive(Clone, Copy)]

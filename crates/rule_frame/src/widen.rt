@@ -11,13 +11,10 @@ ghost use Rattle.rule_frame.specs.Caches.{IsCacheFor};
 
 use crate::keeper::Keeper;
 use crate::watcher::Watcher;
-use catalogue::problem::Problem;
-use cluster::choices::{Choice, Instant, Place};
-use cluster::ids::Element;
-use domains::domain::Domain;
-use domains::parts::{Part, Row};
-use domains::region::Region;
-use reasons::reason::Reason;
+use catalogue::Problem;
+use cluster::{Choice, Element, Instant, Place};
+use domains::{Domain, Part, Region, Row};
+use reasons::Reason;
 use relax::measures::end;
 
 // the row that an end of the choices is of: its first start, or its last

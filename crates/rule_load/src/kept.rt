@@ -1,5 +1,5 @@
 //! What is kept beside a region, as far as a node needs it.
-use cluster::choices::Instant;
+use cluster::Instant;
 use profiles::fixed::Fixed;
 use profiles::standing::numbers::Standing;
 

@@ -21,14 +21,11 @@ ghost use Rattle.rule_load.specs.Watched.{watch_at};
 
 use crate::nodes::node_total;
 use crate::standings::Standings;
-use catalogue::problem::Problem;
-use cluster::choices::Place;
-use cluster::ids::{Element, VmId};
-use domains::domain::Domain;
+use catalogue::Problem;
+use cluster::{Element, Place, VmId};
 use domains::measure::lowest_lost;
-use domains::parts::{Change, Part, Side};
-use domains::region::Region;
-use domains::undo::{Before, Lost};
+use domains::undo::Lost;
+use domains::{Before, Change, Domain, Part, Region, Side};
 use profiles::host::host_of;
 use profiles::standing::leaves::leaves_of;
 use profiles::standing::numbers::{Arrival, Leaving};

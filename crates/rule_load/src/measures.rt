@@ -7,8 +7,7 @@ ghost use Rattle.rule_load.specs.Parts.{left_over, usable_count};
 ghost use Rattle.rule_load.specs.Totals.{hurry_count};
 
 use catalogue::problem::Problem;
-use cluster::choices::{Choice, Instant};
-use cluster::ids::NodeId;
+use cluster::{Choice, Instant, NodeId};
 use domains::measure::Measure;
 use profiles::standing::numbers::{Leaving, NEVER};
 use slices::choice::usable;

@@ -12,11 +12,11 @@ use crate::kept::Kept;
 use crate::period::Period;
 use crate::settle::confirmed;
 use crate::turns::next_change;
-use catalogue::problem::Problem;
+use catalogue::Problem;
 use closing::look::Look;
 use closing::watch::look_at_load;
-use cluster::ids::NodeId;
-use domains::region::Region;
+use cluster::NodeId;
+use domains::Region;
 
 // the first case in which a node may be overloaded
 fn first_doubt(p: &Problem, g: &Region, kept: Kept<'_>, n: NodeId) -> Option<Doubt>

@@ -9,8 +9,7 @@ ghost use Rattle.reasons.specs.Reasons.{AreListed};
 ghost use Rattle.rule_load.specs.Watched.{nodes_at};
 
 use catalogue::problem::Problem;
-use cluster::ids::NodeId;
-use cluster::sets::NodeSet;
+use cluster::{NodeId, NodeSet};
 
 /// How many nodes there are.
 pub(crate) fn node_total(p: &Problem) -> usize

@@ -25,20 +25,18 @@ ghost use Rattle.rule_load.specs.Kept.{AreKeptAt};
 use crate::kept::Kept;
 use crate::period::Period;
 use crate::uses::most_kept;
-use catalogue::problem::Problem;
-use cluster::choices::{Instant, Place};
-use cluster::ids::{Element, NodeId, VmId};
-use domains::domain::Domain;
-use domains::parts::Row;
-use domains::view::{Lens, Sight, View, shown};
+use catalogue::Problem;
+use cluster::{Element, Instant, NodeId, Place, VmId};
+use domains::view::{Sight, shown};
+use domains::{Domain, Lens, Row, View};
 use profiles::fixed::{Fixed, resource_total};
 use profiles::near::is_listed;
 use profiles::seen::{is_narrowed, narrowed, room_seen};
 use profiles::standing::numbers::{Standing, standing_of};
 use profiles::standing::uses::gain;
-use relax::area::Area;
+use relax::Area;
 use relax::sure::least_held;
-use slices::slice::Weight;
+use slices::Weight;
 
 // what a machine with these numbers surely uses of a node
 #[inline(always)]

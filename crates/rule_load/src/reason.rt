@@ -16,11 +16,10 @@ ghost use Rattle.rule_load.specs.Watched.{nodes_at};
 use crate::nodes::{node_at, watched_nodes};
 use crate::over::overloaded_at;
 use crate::standings::Standings;
-use catalogue::problem::Problem;
-use cluster::choices::Instant;
-use cluster::sets::NodeSet;
-use domains::view::View;
-use reasons::reason::Reason;
+use catalogue::Problem;
+use cluster::{Instant, NodeSet};
+use domains::View;
+use reasons::Reason;
 use relax::amounts::is_overload;
 
 /// The first resource of which the nodes of a set lack capacity.

@@ -16,15 +16,11 @@ ghost use Rattle.rule_load.specs.Kept.{cache_of};
 use crate::nodes::{node_set, node_total};
 use crate::over::is_over;
 use crate::standings::Standings;
-use catalogue::problem::Problem;
-use cluster::choices::Instant;
-use cluster::ids::{Element, NodeId};
-use cluster::sets::NodeSet;
-use domains::parts::Part;
-use domains::region::Region;
-use domains::view::{Lens, View};
+use catalogue::Problem;
+use cluster::{Element, Instant, NodeId, NodeSet};
+use domains::{Lens, Part, Region, View};
 use profiles::fixed::resource_total;
-use reasons::reason::Reason;
+use reasons::Reason;
 use relax::refutes::refutes_inside;
 
 // the node of a set that has one alone; None where it has more, or none

@@ -18,11 +18,10 @@ ghost use Rattle.rule_load.specs.declared.period.Period.{Period as AnyPeriod};
 
 use crate::measures::IsUsable;
 use crate::period::Period;
-use catalogue::problem::Problem;
-use cluster::choices::Instant;
-use cluster::ids::{Element, NodeId};
-use domains::region::Region;
-use domains::view::{Lens, View, lowest_seen};
+use catalogue::Problem;
+use cluster::{Element, Instant, NodeId};
+use domains::view::lowest_seen;
+use domains::{Lens, Region, View};
 use relax::sure::may_be_usable;
 
 /// The capacity of a node for a resource, 0 where it cannot be usable at the first or the last instant.

@@ -17,14 +17,10 @@ use crate::doubt::Doubt;
 use crate::kept::Kept;
 use crate::nodes::node_total;
 use crate::over::overloaded_at;
-use catalogue::problem::Problem;
+use catalogue::Problem;
 use closing::look::Look;
-use cluster::choices::{Choice, Instant, Place};
-use cluster::ids::{Element, NodeId};
-use domains::domain::Domain;
-use domains::parts::Row;
-use domains::region::Region;
-use domains::view::{Lens, View};
+use cluster::{Choice, Element, Instant, NodeId, Place};
+use domains::{Domain, Lens, Region, Row, View};
 
 // whether a row starts or ends at a place with a start
 fn has_end(rows: &[Row], place: Place, start: Instant) -> bool

@@ -12,13 +12,10 @@ ghost use Rattle.profiles.specs.Standing.Tables.{AreStanding, no_standing};
 ghost use Rattle.rule_load.specs.Kept.{AreKeptAt, Grows, IsListedBy, IsListedFor};
 
 use crate::kept::Kept;
-use base::memory::{Memory, Memory};
-use catalogue::problem::Problem;
-use cluster::ids::{Element, NodeId, VmId};
-use domains::domain::Domain;
-use domains::parts::Change;
-use domains::region::Region;
-use domains::undo::Before;
+use base::Memory;
+use catalogue::Problem;
+use cluster::{Element, NodeId, VmId};
+use domains::{Before, Change, Domain, Region};
 use profiles::firsts::Firsts;
 use profiles::fixed::Fixed;
 use profiles::movers::Movers;

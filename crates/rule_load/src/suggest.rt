@@ -13,20 +13,18 @@ use crate::period::Period;
 use crate::room::room_of;
 use crate::turns::next_change;
 use crate::uses::{may_come, most_used};
-use base::memory::{Memory, Memory};
-use catalogue::problem::Problem;
-use cluster::choices::{Choice, Instant, Place};
-use cluster::ids::{Element, NodeId, VmId};
-use domains::parts::{Change, Part, Row, Side};
-use domains::region::Region;
+use base::Memory;
+use catalogue::Problem;
+use cluster::{Choice, Element, Instant, NodeId, Place, VmId};
+use domains::{Change, Part, Region, Row, Side};
 use profiles::fixed::resource_total;
 use profiles::host::is_host;
 use profiles::standing::numbers::{NEVER, Standing};
 use profiles::standing::uses::base;
-use reasons::reason::Reason;
+use reasons::Reason;
 use relax::measures::end;
 use rule_frame::suggestion::Suggestion;
-use slices::slice::Weight;
+use slices::Weight;
 use std::alloc::Global;
 
 /// An overload of a node that a machine makes.

@@ -15,10 +15,10 @@ use crate::period::Period;
 use crate::room::steady_room;
 use crate::total_uses::{machines_fit, most_total};
 use crate::turns::next_change_anywhere;
-use catalogue::problem::Problem;
+use catalogue::Problem;
 use closing::look::Look;
 use closing::watch::look_at_total_load;
-use domains::region::Region;
+use domains::Region;
 use profiles::fixed::{Fixed, resource_total};
 use profiles::standing::numbers::Standing;
 

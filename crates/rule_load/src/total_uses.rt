@@ -23,16 +23,15 @@ ghost use Rattle.rule_load.specs.Totals.{may_wait as the_may_wait, most_anywhere
 use crate::measures::Hurries;
 use crate::period::Period;
 use crate::uses::has_left;
-use catalogue::problem::Problem;
-use cluster::choices::Instant;
-use cluster::ids::{Element, VmId};
-use domains::region::Region;
-use domains::view::{Lens, View, lowest_seen};
+use catalogue::Problem;
+use cluster::{Element, Instant, VmId};
+use domains::view::lowest_seen;
+use domains::{Lens, Region, View};
 use profiles::firsts::Start;
 use profiles::fixed::Fixed;
 use profiles::standing::numbers::Standing;
 use profiles::standing::uses::base;
-use slices::slice::Weight;
+use slices::Weight;
 
 // whether a value, if there is one, is 0
 fn is_zero(lowest: Option<u64>) -> bool

@@ -9,11 +9,9 @@ ghost use Rattle.profiles.specs.Fixed.{IsFixed};
 ghost use Rattle.rule_load.specs.Kept.{AreKeptAt};
 
 use crate::kept::Kept;
-use catalogue::problem::Problem;
-use cluster::choices::{Choice, Instant};
-use cluster::ids::{Element, NodeId, VmId};
-use domains::parts::Row;
-use domains::region::Region;
+use catalogue::Problem;
+use cluster::{Choice, Element, Instant, NodeId, VmId};
+use domains::{Region, Row};
 use profiles::fixed::Fixed;
 use profiles::standing::numbers::Standing;
 use relax::measures::end;

@@ -19,17 +19,15 @@ ghost use Rattle.rule_load.specs.Periods.{IsMost, most_kept as the_most_kept};
 use crate::kept::Kept;
 use crate::measures::LeftOver;
 use crate::period::Period;
-use catalogue::problem::Problem;
-use cluster::choices::{Instant, Place};
-use cluster::ids::{Element, NodeId, VmId};
-use domains::parts::{Change, Part, Side};
-use domains::region::Region;
-use domains::view::{Lens, View, lowest_seen};
+use catalogue::Problem;
+use cluster::{Element, Instant, NodeId, Place, VmId};
+use domains::view::lowest_seen;
+use domains::{Change, Lens, Part, Region, Side, View};
 use profiles::fixed::Fixed;
 use profiles::standing::leaves::leaves_of;
 use profiles::standing::numbers::{Arrival, Leaving, NEVER, Standing};
 use profiles::standing::uses::{base, comes_by, gain};
-use slices::slice::Weight;
+use slices::Weight;
 
 // what a machine uses of a node on which it still is, or to which it has come, or both
 #[inline(never)]

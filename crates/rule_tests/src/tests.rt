@@ -8,7 +8,7 @@ mod shown;
 mod standard;
 
 use cases::{CASES, Case};
-use catalogue::problem::Problem;
+use catalogue::Problem;
 use constraint_rules::rules::{GroupRule, PairRule, PlaceRule, SetRule};
 use driving::run;
 use instance_json::read_instance;

@@ -1,5 +1,5 @@
 //! What a search keeps beside the steps that it has written.
-use slices::plan::Plan;
+use slices::Plan;
 
 /// A plan that was met, with its cost.
 #[derive(Drop)]

@@ -1,5 +1,5 @@
 //! What a search answers.
-use slices::plan::Plan;
+use slices::Plan;
 
 /// What was found of a problem.
 #[derive(Drop)]

@@ -10,13 +10,10 @@ ghost use Rattle.search.specs.Works.{IsGround};
 
 use base::memory::Memory;
 use bound::lower_bound::LowerBound;
-use catalogue::problem::Problem;
-use domains::domain::Domain;
-use domains::parts::Change;
-use domains::region::Region;
-use domains::undo::Before;
+use catalogue::Problem;
+use domains::{Before, Change, Domain, Region};
 use std::alloc::Global;
-use trail::trail::Trail;
+use trail::Trail;
 
 /// The region at hand with its marks, the sum of its least ends, and a domain in which the trail keeps
 /// an old one while a change is told.

@@ -14,15 +14,15 @@ use crate::counts::{Best, Counts};
 use crate::ground::Ground;
 use crate::levels::{mark_levels, narrow_all};
 use branching::brancher::Brancher;
-use catalogue::problem::Problem;
+use catalogue::Problem;
 use cert_write::CertWriter;
-use cluster::ids::Element;
-use domains::parts::{Change, Part, Side};
+use cluster::Element;
+use domains::{Change, Part, Side};
 use plan_io::{Desk, OutFault};
 use prop_core::propagator::Propagator;
 use relax::plan::plan_of;
 use std::alloc::Global;
-use trees::steps::Step;
+use trees::Step;
 
 /// The lower of a number and another, if there is another.
 pub fn lower(n: u64, known: Option<u64>) -> u64

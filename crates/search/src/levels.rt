@@ -10,9 +10,9 @@ ghost use Rattle.prop_core.specs.Propagators.{SameRule};
 ghost use Rattle.search.specs.Works.{IsGround};
 
 use crate::ground::Ground;
-use base::memory::Memory;
-use catalogue::problem::Problem;
-use domains::parts::Change;
+use base::Memory;
+use catalogue::Problem;
+use domains::Change;
 use prop_core::all::{back_all, mark_all, tell_all};
 use prop_core::propagator::Propagator;
 

@@ -24,15 +24,15 @@ use crate::counts::Counts;
 use crate::ground::Ground;
 use crate::levels::narrow_all;
 use branching::brancher::Brancher;
-use catalogue::problem::Problem;
+use catalogue::Problem;
 use cert_write::CertWriter;
-use cluster::ids::Element;
-use domains::parts::{Change, Part, Side};
+use cluster::Element;
+use domains::{Change, Part, Side};
 use plan_io::{Desk, OutFault};
 use prop_core::asking::ask_all;
 use prop_core::propagator::{Answer, Propagator};
-use reasons::reason::Reason;
-use trees::steps::Step;
+use reasons::Reason;
+use trees::Step;
 
 /// What one look at a region has found.
 #[derive(Clone, Copy)]

@@ -22,18 +22,18 @@ use crate::looks::fail;
 use crate::staying::{stay, staying_plan};
 use crate::turns::run;
 use branching::brancher::Brancher;
-use catalogue::problem::Problem;
+use catalogue::Problem;
 use cert_write::CertWriter;
-use cluster::ids::{Element, NodeId, VmId};
-use domains::region::Region;
+use cluster::{Element, NodeId, VmId};
+use domains::Region;
 use plan_io::{Desk, OutFault};
 use prop_core::all::post_all;
 use prop_core::propagator::Propagator;
-use reasons::reason::Reason;
+use reasons::Reason;
 use relax::start::start_region;
 use slices::plan::cost;
 use std::alloc::Global;
-use trees::steps::Goal;
+use trees::Goal;
 
 // the first element without a choice
 fn first_empty(p: &Problem, g: &Region) -> Option<Element>

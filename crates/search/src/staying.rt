@@ -8,16 +8,17 @@ ghost use Rattle.search.specs.Staying.{IsStayed, IsStayingPlan, MayStay};
 ghost use Rattle.search.specs.Written.{IsKept, LeavesText};
 
 use crate::found::Found;
-use base::memory::Memory;
-use catalogue::problem::Problem;
+use base::Memory;
+use catalogue::Problem;
 use cert_write::CertWriter;
-use cluster::choices::Choice;
+use cluster::Choice;
 use judge::judge;
 use plan_io::{Desk, OutFault};
-use reasons::reason::Reason;
-use slices::plan::{Plan, is_plan};
+use reasons::Reason;
+use slices::Plan;
+use slices::plan::is_plan;
 use std::alloc::Global;
-use trees::steps::{Goal, Step};
+use trees::{Goal, Step};
 
 // whether the judge finds no broken rule in a plan
 fn is_valid(p: &Problem, plan: &Plan) -> bool

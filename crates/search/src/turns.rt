@@ -17,14 +17,13 @@ use crate::leaves::{settle, split};
 use crate::levels::{back_levels, narrow_all};
 use crate::looks::{close, fail};
 use branching::brancher::Brancher;
-use catalogue::problem::Problem;
+use catalogue::Problem;
 use cert_write::CertWriter;
-use cluster::ids::Element;
-use domains::parts::{Change, Part, Side};
-use domains::region::Region;
+use cluster::Element;
+use domains::{Change, Part, Region, Side};
 use plan_io::{Desk, OutFault};
 use prop_core::propagator::Propagator;
-use reasons::reason::Reason;
+use reasons::Reason;
 use std::alloc::Global;
 
 /// Closes the region and writes a leaf, or splits it and goes inside the part, which is answered.

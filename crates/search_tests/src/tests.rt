@@ -10,7 +10,7 @@ mod problems;
 
 use branching::brancher::Brancher;
 use branching::least_start::LeastStart;
-use catalogue::problem::Problem;
+use catalogue::Problem;
 use cert_write::CertWriter;
 use ends::Ends;
 use far_first::FarFirst;

@@ -13,13 +13,9 @@ ghost use Rattle.slices.specs.Stages.{stage_from};
 
 use crate::elements::{is_online, is_place, state_of};
 use crate::stage::{Stage, WAITING};
-use catalogue::problem::Problem;
+use catalogue::Problem;
 use catalogue::targets::{Target, Wish};
-use cluster::choices::{Choice, Instant, Place};
-use cluster::durations::Duration;
-use cluster::ids::{Element, NodeId, VmId};
-use cluster::kinds::Kind;
-use cluster::states::State;
+use cluster::{Choice, Duration, Element, Instant, Kind, NodeId, Place, State, VmId};
 
 /// What is wanted of a machine: without a wish it keeps its state.
 fn end_wish(state: State, wish: Wish) -> Wish

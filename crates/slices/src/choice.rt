@@ -11,9 +11,8 @@ use crate::elements::{is_online, state_of};
 use crate::holding::{Holding, holding_from};
 use crate::slice::{Slices, idle_slices, slices_by};
 use crate::stage::{Progress, Stage, WAITING};
-use catalogue::problem::Problem;
-use cluster::choices::{Choice, Instant};
-use cluster::ids::{Element, NodeId, VmId};
+use catalogue::Problem;
+use cluster::{Choice, Element, Instant, NodeId, VmId};
 
 /// All that a machine holds over the action of a choice.
 #[tactic(auto, unfolding(crate::specs::Stages::slices_of))]

@@ -5,9 +5,7 @@ ghost use Rattle.catalogue.specs.Instance.{IsElement};
 ghost use Rattle.slices.specs.Elements.{state_of, is_place};
 
 use catalogue::problem::Problem;
-use cluster::choices::Place;
-use cluster::ids::{Element, NodeId, VmId};
-use cluster::states::State;
+use cluster::{Element, NodeId, Place, State, VmId};
 
 /// Whether an element is one of the problem.
 pub fn has_element(p: &Problem, e: Element) -> bool

@@ -8,12 +8,9 @@ ghost use Rattle.slices.specs.Holds.{IsOffLimits, runs_elsewhere as the_runs_els
 
 use crate::elements::state_of;
 use crate::slice::Weight;
-use catalogue::constraint::Constraint;
-use catalogue::lists::{self, Parts, Vms};
-use catalogue::problem::Problem;
-use cluster::ids::{NodeId, VmId};
-use cluster::sets::NodeSet;
-use cluster::states::State;
+use catalogue::lists::{self, Parts};
+use catalogue::{Constraint, Problem, Vms};
+use cluster::{NodeId, NodeSet, State, VmId};
 
 /// Which machines are kept apart.
 #[derive(Clone, Copy)]

@@ -9,8 +9,8 @@ ghost use Rattle.slices.specs.declared.slice.Weight.TheVariants.{Amount};
 use crate::actions::usage;
 use crate::slice::{Slice, Slices, What, covers};
 use crate::stage::Stage;
-use catalogue::problem::Problem;
-use cluster::ids::{Element, NodeId, VmId};
+use catalogue::Problem;
+use cluster::{Element, NodeId, VmId};
 
 /// A node on which a machine is present, and whether it takes its present use or its demand there.
 #[derive(Clone, Copy)]

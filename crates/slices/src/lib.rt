@@ -12,3 +12,7 @@ pub mod rule;
 pub mod slice;
 pub mod snapshot;
 pub mod stage;
+
+pub use form::Form;
+pub use plan::Plan;
+pub use slice::Weight;

@@ -7,9 +7,8 @@ ghost use Rattle.slices.specs.Plans.{choices_of, parted, HasElement, IsPlanOf};
 ghost use Rattle.slices.specs.Costs.{cost_of};
 
 use crate::actions::{end_of, is_legal};
-use catalogue::problem::Problem;
-use cluster::choices::{Choice, Instant};
-use cluster::ids::{Element, NodeId, VmId};
+use catalogue::Problem;
+use cluster::{Choice, Element, Instant, NodeId, VmId};
 use std::marker::Model;
 
 /// One choice for each element.

@@ -1,6 +1,5 @@
 //! What a plan has to keep at each instant.
-use cluster::choices::Instant;
-use cluster::ids::{NodeId, VmId};
+use cluster::{Instant, NodeId, VmId};
 
 /// One thing that a plan has to keep: the load of a node for a resource is within its capacity;
 /// a node on which a machine is present or has its image is usable; the constraint of a number

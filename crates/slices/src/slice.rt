@@ -3,10 +3,7 @@ ghost use Rattle.std.specs.Prelude.{◌≡◌};
 ghost use Rattle.slices.specs.Stages.{slice, idle_slices, acting_slices, slices_by, covers};
 
 use crate::stage::Stage;
-use cluster::choices::Place;
-use cluster::ids::NodeId;
-use cluster::kinds::Kind;
-use cluster::states::State;
+use cluster::{Kind, NodeId, Place, State};
 
 /// The stretch of an action over which a slice is held.
 ///

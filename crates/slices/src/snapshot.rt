@@ -14,9 +14,8 @@ use crate::choice;
 use crate::holding::{Held, Holding, amount};
 use crate::plan::Plan;
 use crate::stage::Progress;
-use catalogue::problem::Problem;
-use cluster::choices::Instant;
-use cluster::ids::{Element, NodeId, VmId};
+use catalogue::Problem;
+use cluster::{Element, Instant, NodeId, VmId};
 
 /// All that a machine holds at an instant.
 #[tactic(auto, unfolding(crate::specs::Snapshots::snapshot, crate::specs::Snapshots::stages_at, crate::specs::Snapshots::held_at))]

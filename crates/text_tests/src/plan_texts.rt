@@ -1,16 +1,7 @@
 //! Texts of plans for one small problem, with the line that each gives.
-
 use base::memory::Memory;
-use catalogue::constraint::Constraint;
-use catalogue::lists::Vms;
-use catalogue::problem::Problem;
-use cluster::durations::Duration;
-use cluster::ids::{NodeId, VmId};
-use cluster::inventory::Cluster;
-use cluster::machines::Machine;
-use cluster::names::Name;
-use cluster::nodes::Node;
-use cluster::states::State;
+use catalogue::{Constraint, Problem, Vms};
+use cluster::{Cluster, Duration, Machine, Name, Node, NodeId, State, VmId};
 use plan_json::{print_plan, read_plan};
 use std::alloc::Global;
 use std::test::Fail;

@@ -7,3 +7,5 @@
 
 mod log;
 pub mod trail;
+
+pub use trail::Trail;

@@ -7,11 +7,9 @@ ghost use Rattle.domains.specs.Undo.{restored};
 ghost use Rattle.trail.specs.Logs.{undone, CanUndo, HasKept};
 
 use base::memory::Memory;
-use cluster::ids::Element;
-use domains::domain::Domain;
-use domains::parts::Part;
-use domains::region::Region;
+use cluster::Element;
 use domains::undo::Lost;
+use domains::{Domain, Part, Region};
 
 /// One entry of the log.
 #[derive(Drop)]

@@ -7,12 +7,10 @@ ghost use Rattle.domains.specs.Undo.{domain_before, restored};
 ghost use Rattle.trail.specs.Logs.{Marked};
 
 use crate::log::{Entry, cut, keep, undo};
-use base::memory::Memory;
-use cluster::ids::Element;
-use domains::domain::Domain;
-use domains::parts::{Change, Part, Side};
-use domains::region::Region;
-use domains::undo::{Before, Lost};
+use base::Memory;
+use cluster::Element;
+use domains::undo::Lost;
+use domains::{Before, Change, Domain, Part, Region, Side};
 use std::alloc::Global;
 use std::marker::Model;
 

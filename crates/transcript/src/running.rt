@@ -11,11 +11,11 @@ ghost use Rattle.transcript.specs.Transcript.{ExecuteGives, IsDue, RunGives, poi
 
 use crate::conclusion::{Conclusion, EventFault, ExecuteFault};
 use crate::lines::{EventKind, Line, event_of, read_line};
-use catalogue::problem::Problem;
-use cluster::ids::Element;
+use catalogue::Problem;
+use cluster::Element;
 use executor::{Monitor, NewFault};
 use plan_io::{Sink, Source, write_text};
-use slices::plan::Plan;
+use slices::Plan;
 use std::alloc::{AllocError, Global};
 
 /// The line that the action of an element starts.

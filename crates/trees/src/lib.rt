@@ -3,3 +3,5 @@
 
 pub mod laws;
 pub mod steps;
+
+pub use steps::{Goal, Step};

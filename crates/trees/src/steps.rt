@@ -1,7 +1,7 @@
 //! Steps of a certificate tree, in the order in which they are read, and what it claims at its end.
-use cluster::ids::Element;
-use domains::parts::Part;
-use reasons::reason::Reason;
+use cluster::Element;
+use domains::Part;
+use reasons::Reason;
 
 /// One step of a tree: what is done with the first region that is open.
 #[derive(Clone, Copy)]

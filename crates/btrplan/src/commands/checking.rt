@@ -19,15 +19,15 @@ use crate::fault::{Ending, Fault, Outcome};
 use crate::inputs::instance::problem_at;
 use crate::inputs::plan::any_plan_at;
 use crate::inputs::refusal;
-use base::memory::Memory;
-use catalogue::problem::Problem;
+use base::Memory;
+use catalogue::Problem;
 use cert_check::{CheckFault, Verdict};
 use cert_model::why::Why;
 use cert_read::LineFault;
 use plan_io::Desk;
-use slices::plan::Plan;
+use slices::Plan;
 use std::alloc::Global;
-use trees::steps::Goal;
+use trees::Goal;
 
 /// Why a line does not hold, in a word.
 fn why_text(why: Why) -> &'static str

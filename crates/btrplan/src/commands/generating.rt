@@ -13,7 +13,7 @@ ghost use Rattle.btrplan.specs.Commands.Generating.{generated_line, HasGenerated
 ghost use Rattle.btrplan.specs.Endings.{Ends};
 
 use crate::fault::{Ending, Fault, Outcome};
-use base::memory::Memory;
+use base::Memory;
 use instance_make::print_instance;
 use plan_io::{Desk, OutFault, write_whole};
 use std::alloc::Global;

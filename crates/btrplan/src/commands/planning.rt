@@ -22,15 +22,16 @@ ghost use Rattle.btrplan.specs.Endings.{Ends, IsOfWriting, outcome_status};
 
 use crate::fault::{Ending, Fault, Outcome};
 use crate::inputs::instance::problem_at;
-use base::memory::Memory;
+use base::Memory;
 use branching::brancher::Brancher;
-use catalogue::problem::Problem;
+use catalogue::Problem;
 use cert_write::CertWriter;
 use plan_io::{Desk, OutFault, write_whole};
 use plan_json::print_plan;
 use prop_core::propagator::Propagator;
 use search::{Found, solve};
-use slices::plan::{Plan, cost};
+use slices::Plan;
+use slices::plan::cost;
 use std::alloc::Global;
 
 /// The plan of an answer, if it has one.

@@ -16,10 +16,10 @@ ghost use Rattle.btrplan.specs.Printed.{PrintsPrefix};
 use crate::fault::{Ending, Fault, Outcome};
 use crate::inputs::instance::problem_at;
 use crate::inputs::plan::plan_at;
-use catalogue::problem::Problem;
+use catalogue::Problem;
 use plan_io::{Desk, Sink};
 use replay::report;
-use slices::plan::Plan;
+use slices::Plan;
 use slices::rule::Broken;
 use std::alloc::Global;
 

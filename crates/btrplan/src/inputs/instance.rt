@@ -8,8 +8,8 @@ ghost use Rattle.btrplan.specs.Endings.{Reads, IsRefusal, IsOfReading};
 
 use crate::fault::Fault;
 use crate::inputs::{bytes_at, refusal};
-use base::memory::Memory;
-use catalogue::problem::Problem;
+use base::Memory;
+use catalogue::Problem;
 use instance_json::{InstanceFault, read_instance};
 use plan_io::Desk;
 use std::alloc::Global;

@@ -12,11 +12,11 @@ ghost use Rattle.btrplan.specs.Endings.{Reads, IsRefusal, IsOfReading};
 
 use crate::fault::Fault;
 use crate::inputs::{bytes_at, refusal};
-use base::memory::Memory;
-use catalogue::problem::Problem;
+use base::Memory;
+use catalogue::Problem;
 use plan_io::Desk;
 use plan_json::{PlanFault, read_plan};
-use slices::plan::Plan;
+use slices::Plan;
 use std::alloc::Global;
 
 /// The fault with the line of a plan's fault.

@@ -5,8 +5,7 @@ ghost use Rattle.domains.specs.Choices.{choices};
 ghost use Rattle.closing.specs.Parts.{FailAtEnds, FailAtRow, IsEndThat, IsRowEndThat, PassOnlyAt};
 
 use cluster::choices::{Choice, Instant, Place};
-use domains::domain::Domain;
-use domains::parts::{Part, Row};
+use domains::{Domain, Part, Row};
 
 /// A test of single choices.
 pub trait Test {

@@ -5,8 +5,7 @@ ghost use Rattle.slices.specs.Stages.{one};
 ghost use Rattle.relax.specs.Areas.{hosted_in};
 
 use catalogue::problem::Problem;
-use cluster::ids::{NodeId, VmId};
-use cluster::states::State;
+use cluster::{NodeId, State, VmId};
 
 // whether a node is the host of a state
 fn is_host_in(state: State, n: NodeId) -> bool

@@ -12,15 +12,12 @@ ghost use Rattle.relax.specs.Areas.{IsSized, IsWeight, goes_in, hosted_in, nodes
 ghost use Rattle.closing.specs.Most.{IsMostOf, IsMostSure, if_so, unit_of};
 
 use catalogue::problem::Problem;
-use cluster::choices::{Choice, Place};
-use cluster::ids::{Element, VmId};
-use cluster::states::State;
-use domains::domain::Domain;
-use domains::parts::Row;
-use domains::region::Region;
-use relax::area::{Area, has};
+use cluster::{Choice, Element, Place, State, VmId};
+use domains::{Domain, Region, Row};
+use relax::Area;
+use relax::area::has;
 use relax::measures::held;
-use slices::slice::Weight;
+use slices::Weight;
 
 /// The most that a machine holds in one place.
 pub fn unit(p: &Problem, v: VmId, weight: Weight) -> u64

@@ -15,13 +15,10 @@ ghost use Rattle.closing.specs.Stands.{AreWithin, IsOn, IsWithin, has_node_of, i
 use crate::base::counts::nodes_of;
 use crate::base::ends::{Test, end_at, end_that};
 use crate::base::hosts::is_host;
-use catalogue::problem::Problem;
-use cluster::choices::{Choice, Instant, Place};
-use cluster::ids::{Element, NodeId, VmId};
-use domains::domain::Domain;
-use domains::region::Region;
-use domains::view::{Lens, View};
-use relax::area::Area;
+use catalogue::Problem;
+use cluster::{Choice, Element, Instant, NodeId, Place, VmId};
+use domains::{Domain, Lens, Region, View};
+use relax::Area;
 use relax::sure::surely_in;
 use slices::choice::holding;
 use slices::holding::Held;

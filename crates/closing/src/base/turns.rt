@@ -10,11 +10,9 @@ ghost use Rattle.closing.specs.Turns.{AreListed, turning};
 ghost use Rattle.closing.specs.Watches.{only_of};
 
 use crate::base::counts::{machines_of, nodes_of};
-use catalogue::problem::Problem;
-use cluster::choices::Instant;
-use cluster::ids::{Element, NodeId, VmId};
-use domains::parts::Row;
-use domains::region::Region;
+use catalogue::Problem;
+use cluster::{Element, Instant, NodeId, VmId};
+use domains::{Region, Row};
 
 /// At which starts a look looks: what starts elsewhere cannot break it.
 #[derive(Clone, Copy)]

@@ -13,15 +13,13 @@ ghost use Rattle.closing.specs.Parts.{HoldsAbove as IsHeldAbove, IsAbove, IsSpar
 use crate::base::counts::machines_of;
 use crate::base::ends::{Test, end_that};
 use crate::base::most::{most_ever, most_of};
-use catalogue::problem::Problem;
-use cluster::choices::{Choice, Instant};
-use cluster::ids::{Element, VmId};
-use domains::region::Region;
-use domains::view::{Lens, View};
-use relax::area::Area;
+use catalogue::Problem;
+use cluster::{Choice, Element, Instant, VmId};
+use domains::{Lens, Region, View};
+use relax::Area;
 use relax::measures::held;
 use relax::sure::least_held;
-use slices::slice::Weight;
+use slices::Weight;
 
 /// Whether a machine holds more on the nodes of an area at an instant than a bound.
 #[derive(Drop)]

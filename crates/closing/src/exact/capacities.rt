@@ -13,17 +13,14 @@ use crate::base::counts::nodes_of;
 use crate::base::ends::{Test, end_that};
 use crate::exact::above::machine_above;
 use crate::look::Look;
-use catalogue::problem::Problem;
-use cluster::choices::{Choice, Instant};
-use cluster::ids::{Element, NodeId};
-use cluster::sets::NodeSet;
-use domains::region::Region;
-use domains::view::{Lens, View};
-use relax::area::Area;
+use catalogue::Problem;
+use cluster::{Choice, Element, Instant, NodeId, NodeSet};
+use domains::{Lens, Region, View};
+use relax::Area;
 use relax::sure::surely_powered;
 use relax::totals::{powered_nodes, total};
+use slices::Weight;
 use slices::choice::powered;
-use slices::slice::Weight;
 
 /// A look at whether what machines hold on the nodes exceeds an amount.
 pub fn amount_found(

@@ -17,11 +17,11 @@ use crate::exact::groups::group_found;
 use crate::exact::pairs::{lonely_found, split_found, spread_found};
 use crate::exact::places::placed_found;
 use crate::look::Look;
-use catalogue::constraint::Constraint;
-use catalogue::problem::Problem;
-use cluster::choices::Instant;
-use domains::region::Region;
-use slices::form::{Form, Separation, form_of};
+use catalogue::{Constraint, Problem};
+use cluster::Instant;
+use domains::Region;
+use slices::Form;
+use slices::form::{Separation, form_of};
 
 // whether two machines that are kept apart are on one node
 fn separated_found(p: &Problem, g: &Region, separation: &Separation, t: Instant) -> Look

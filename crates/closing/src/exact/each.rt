@@ -10,10 +10,9 @@ ghost use Rattle.closing.specs.Looks.{IsFound};
 ghost use Rattle.closing.specs.Stands.{IsAnyOf};
 
 use crate::look::Look;
-use catalogue::problem::Problem;
-use cluster::choices::Instant;
-use cluster::ids::VmId;
-use domains::region::Region;
+use catalogue::Problem;
+use cluster::{Instant, VmId};
+use domains::Region;
 
 /// A condition on what is sure, for each machine.
 pub trait OfMachine {

@@ -15,12 +15,9 @@ ghost use Rattle.closing.specs.Stands.{IsGroupWith};
 
 use crate::base::ends::{Test, end_that};
 use crate::look::Look;
-use catalogue::constraint::Constraint;
-use catalogue::problem::Problem;
-use cluster::choices::{Choice, Instant};
-use cluster::ids::{Element, VmId};
-use domains::region::Region;
-use domains::view::{Lens, View};
+use catalogue::{Constraint, Problem};
+use cluster::{Choice, Element, Instant, VmId};
+use domains::{Lens, Region, View};
 use relax::groups::is_group;
 
 // whether the condition is met with a machine set to a choice

@@ -15,15 +15,14 @@ use crate::base::ends::end_that;
 use crate::exact::above::machine_above;
 use crate::exact::usable::NotUsable;
 use crate::look::Look;
-use catalogue::problem::Problem;
-use cluster::choices::{Choice, Instant};
-use cluster::ids::{Element, NodeId};
-use domains::region::Region;
-use domains::view::{Lens, View};
-use relax::area::{Area, has};
+use catalogue::Problem;
+use cluster::{Choice, Element, Instant, NodeId};
+use domains::{Lens, Region, View};
+use relax::Area;
+use relax::area::has;
 use relax::sure::may_be_usable;
 use relax::totals::{load, room};
-use slices::slice::Weight;
+use slices::Weight;
 
 // an end of a node's choices under which the area lacks more capacity than is spare
 fn end_missed(

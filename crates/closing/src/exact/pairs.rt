@@ -14,12 +14,9 @@ use crate::base::stands::{are_beside, end_beside, standing};
 use crate::exact::each::{OfMachine, found_in};
 use crate::look::Look;
 use crate::quick::apart::{are_apart, are_parts_apart};
-use catalogue::lists::Vms;
-use catalogue::problem::Problem;
-use cluster::choices::Instant;
-use cluster::ids::{Element, VmId};
-use cluster::sets::MachineSet;
-use domains::region::Region;
+use catalogue::{Problem, Vms};
+use cluster::{Element, Instant, MachineSet, VmId};
+use domains::Region;
 
 // a look at whether two machines are on one node
 fn two_found(p: &Problem, g: &Region, v: VmId, w: VmId, t: Instant) -> Look

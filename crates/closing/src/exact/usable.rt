@@ -14,16 +14,14 @@ use crate::base::counts::machines_of;
 use crate::base::ends::{Test, end_at, end_that};
 use crate::base::hosts::is_host;
 use crate::look::Look;
-use catalogue::problem::Problem;
-use cluster::choices::{Choice, Instant, Place};
-use cluster::ids::{Element, NodeId, VmId};
-use domains::region::Region;
-use domains::view::{Lens, View};
-use relax::area::Area;
+use catalogue::Problem;
+use cluster::{Choice, Element, Instant, NodeId, Place, VmId};
+use domains::{Lens, Region, View};
+use relax::Area;
 use relax::measures::held;
 use relax::sure::{may_be_usable, surely_has_image, surely_in};
+use slices::Weight;
 use slices::choice::usable;
-use slices::slice::Weight;
 
 /// Whether a node is not usable at an instant.
 #[derive(Drop)]

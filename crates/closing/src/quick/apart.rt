@@ -13,12 +13,9 @@ ghost use Rattle.relax.specs.Areas.{IsSized};
 ghost use Rattle.closing.specs.Stands.{AreApart, StaysClear, has_node_of};
 
 use crate::base::stands::{Stands, end_beside, standing};
-use catalogue::lists::Vms;
-use catalogue::problem::Problem;
-use cluster::choices::Instant;
-use cluster::ids::{Element, VmId};
-use domains::domain::Domain;
-use domains::region::Region;
+use catalogue::{Problem, Vms};
+use cluster::{Element, Instant, VmId};
+use domains::{Domain, Region};
 
 // whether a domain has a choice, and so an end
 #[tactic(auto, using(relax::proofs::Public::idle_in, crate::proofs::StandLemmas::row_end))]

@@ -8,11 +8,11 @@ ghost use Rattle.closing.specs.Kinds.{IsBroken};
 ghost use Rattle.closing.specs.Looks.{IsFreeOf};
 
 use crate::quick::within::stays_within;
-use catalogue::constraint::Constraint;
-use catalogue::problem::Problem;
-use domains::region::Region;
-use relax::area::Area;
-use slices::form::{Form, form_of};
+use catalogue::{Constraint, Problem};
+use domains::Region;
+use relax::Area;
+use slices::Form;
+use slices::form::form_of;
 
 /// Whether it is seen at once that a constraint is broken at no instant, whatever the starts are: what it bounds
 /// stays within its amount.

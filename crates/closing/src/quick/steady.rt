@@ -14,14 +14,13 @@ ghost use Rattle.closing.specs.Most.{HasSteadyRoom, StaysUsable};
 
 use crate::base::counts::{nodes_of, resources_of};
 use crate::quick::within::stays_within;
-use catalogue::problem::Problem;
-use cluster::choices::Choice;
-use cluster::ids::{Element, NodeId};
-use domains::domain::Domain;
-use domains::region::Region;
-use relax::area::{Area, has};
+use catalogue::Problem;
+use cluster::{Choice, Element, NodeId};
+use domains::{Domain, Region};
+use relax::Area;
+use relax::area::has;
+use slices::Weight;
 use slices::choice::usable;
-use slices::slice::Weight;
 
 // whether Idle is the only choice
 fn can_only_stay(domain: &Domain) -> bool

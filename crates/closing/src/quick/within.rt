@@ -8,11 +8,11 @@ ghost use Rattle.closing.specs.Most.{AreWithin, IsMostOf, IsMostSure, StaysWithi
 
 use crate::base::counts::machines_of;
 use crate::base::most::{most_ever, most_of, most_sure};
-use catalogue::problem::Problem;
-use cluster::ids::VmId;
-use domains::region::Region;
-use relax::area::Area;
-use slices::slice::Weight;
+use catalogue::Problem;
+use cluster::VmId;
+use domains::Region;
+use relax::Area;
+use slices::Weight;
 
 // how much more than what it surely holds a machine may hold, or what others may, where that is more; its rows are
 // read only where that matters

@@ -15,14 +15,10 @@ ghost use Rattle.profiles.specs.NodeLoad.{IsProfile};
 
 use crate::node_load::share::{Share, shares_of, total_use};
 use crate::standing::table::Table;
-use base::memory::Memory;
-use catalogue::problem::Problem;
-use cluster::choices::Instant;
-use cluster::ids::NodeId;
-use domains::domain::Domain;
-use domains::parts::Change;
-use domains::region::Region;
-use domains::undo::Before;
+use base::Memory;
+use catalogue::Problem;
+use cluster::{Instant, NodeId};
+use domains::{Before, Change, Domain, Region};
 use std::alloc::Global;
 use std::marker::Model;
 

@@ -9,10 +9,9 @@ ghost use Rattle.profiles.specs.NodeLoad.{AreShares, AreSmall, IsShare, IsSmall,
 use crate::host::is_host;
 use crate::standing::numbers::Standing;
 use crate::standing::uses::{base, comes_by, gain};
-use catalogue::problem::Problem;
-use cluster::choices::Instant;
-use cluster::ids::{Element, NodeId, VmId};
-use slices::slice::Weight;
+use catalogue::Problem;
+use cluster::{Element, Instant, NodeId, VmId};
+use slices::Weight;
 use std::alloc::Global;
 
 /// What a machine has of a resource on a node until it leaves, and what it brings there.

@@ -7,10 +7,7 @@ ghost use Rattle.profiles.specs.Standing.Leaves.{AreLeaves};
 ghost use Rattle.profiles.specs.Standing.Standings.{leave_of};
 
 use catalogue::problem::Problem;
-use cluster::choices::{Choice, Place};
-use cluster::ids::{Element, NodeId, VmId};
-use cluster::kinds::Kind;
-use cluster::states::State;
+use cluster::{Choice, Element, Kind, NodeId, Place, State, VmId};
 use slices::actions::{duration, kind_of};
 
 /// How a running machine leaves its host for another node: it keeps the host for so long after the start.

@@ -12,13 +12,11 @@ ghost use Rattle.profiles.specs.Standing.Leaves.{AreLeaves};
 ghost use Rattle.profiles.specs.Standing.Standings.{IsStanding, comes_by, have_come, kept_until as the_kept_until, leave_of};
 
 use crate::standing::leaves::{Leaves, leaves_of, left_by};
-use catalogue::problem::Problem;
-use cluster::choices::{Choice, Instant, Place};
-use cluster::ids::{Element, NodeId, VmId};
-use cluster::kinds::Kind;
-use domains::domain::Domain;
+use catalogue::Problem;
+use cluster::{Choice, Element, Instant, Kind, NodeId, Place, VmId};
 use domains::measure::{Measure, lowest, lowest_lost};
-use domains::undo::{Before, Lost};
+use domains::undo::Lost;
+use domains::{Before, Domain};
 use relax::measures::end;
 use slices::actions::kind_of;
 

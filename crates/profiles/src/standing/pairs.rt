@@ -8,12 +8,10 @@ ghost use Rattle.reasons.specs.Sure.{sure};
 ghost use Rattle.relax.specs.Areas.{IsSized};
 
 use crate::standing::stays::surely_at;
-use catalogue::constraint::Constraint;
-use catalogue::problem::Problem;
-use cluster::choices::Instant;
-use cluster::ids::{Element, NodeId, VmId};
-use domains::view::View;
-use reasons::reason::Reason;
+use catalogue::{Constraint, Problem};
+use cluster::{Element, Instant, NodeId, VmId};
+use domains::View;
+use reasons::Reason;
 use relax::forbidden::forbids_pair;
 
 /// Whether two machines that a constraint keeps apart are surely on a node.

@@ -12,12 +12,10 @@ ghost use Rattle.relax.specs.Areas.{IsSized};
 use crate::seen::is_narrowed;
 use crate::standing::leaves::runs_on;
 use crate::standing::numbers::leave;
-use catalogue::problem::Problem;
-use cluster::choices::Instant;
-use cluster::ids::{Element, NodeId, VmId};
-use domains::domain::Domain;
-use domains::view::View;
-use relax::area::Area;
+use catalogue::Problem;
+use cluster::{Element, Instant, NodeId, VmId};
+use domains::{Domain, View};
+use relax::Area;
 use relax::sure::surely_in;
 
 // whether a machine may stay that runs on a node

@@ -11,13 +11,10 @@ ghost use Rattle.profiles.specs.Standing.Tables.{AreStanding, no_standing, sets_
 
 use crate::levels::Levelled;
 use crate::standing::numbers::{Standing, is_same, standing_after, standing_of};
-use base::memory::Memory;
-use catalogue::problem::Problem;
-use cluster::ids::{Element, VmId};
-use domains::domain::Domain;
-use domains::parts::Change;
-use domains::region::Region;
-use domains::undo::Before;
+use base::Memory;
+use catalogue::Problem;
+use cluster::{Element, VmId};
+use domains::{Before, Change, Domain, Region};
 use std::alloc::Global;
 use std::marker::Model;
 

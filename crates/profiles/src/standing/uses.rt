@@ -8,14 +8,12 @@ ghost use Rattle.profiles.specs.Standing.Standings.{base as the_base, brought as
 
 use crate::host::is_host;
 use crate::standing::numbers::{Arrival, Standing};
-use catalogue::problem::Problem;
-use cluster::choices::{Instant, Place};
-use cluster::ids::{Element, NodeId, VmId};
-use cluster::kinds::Kind;
-use cluster::states::State;
+use catalogue::Problem;
+use cluster::{Element, Instant, Kind, NodeId, Place, State, VmId};
+use slices::Weight;
 use slices::actions::kind_of;
 use slices::holding::amount;
-use slices::slice::{Weight, What};
+use slices::slice::What;
 
 fn state(p: &Problem, v: VmId) -> State
     requires { IsElement p.now.given (Element.Vm v) }

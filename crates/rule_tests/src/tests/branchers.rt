@@ -5,12 +5,11 @@ ghost use Rattle.relax.specs.Areas.{AreLegal, IsSized};
 use crate::tests::problem;
 use branching::brancher::Brancher;
 use branching::most_failures::MostFailures;
-use catalogue::problem::Problem;
+use catalogue::Problem;
 use closing::closed::closed;
-use cluster::ids::{Element, NodeId, VmId};
-use domains::parts::Part;
-use domains::region::Region;
-use reasons::reason::Reason;
+use cluster::{Element, NodeId, VmId};
+use domains::{Part, Region};
+use reasons::Reason;
 use relax::start::start_region;
 use std::test::Fail;
 

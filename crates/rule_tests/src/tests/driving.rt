@@ -7,17 +7,16 @@ ghost use Rattle.prop_core.specs.Lists.{AllRight};
 
 use crate::tests::plain::is_there;
 use crate::tests::shown::left_text;
-use base::memory::Memory;
-use catalogue::problem::Problem;
-use domains::domain::Domain;
-use domains::parts::{Change, Side};
+use base::Memory;
+use catalogue::Problem;
+use domains::{Change, Domain, Side};
 use prop_core::all::{back_all, mark_all, post_all, tell_all};
 use prop_core::asking::ask_all;
 use prop_core::propagator::{Answer, Propagator};
 use relax::start::start_region;
 use std::alloc::Global;
 use std::test::Fail;
-use trail::trail::Trail;
+use trail::Trail;
 
 /// A trail of the start region, on which the rules are posted.
 fn started(

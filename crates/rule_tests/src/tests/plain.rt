@@ -5,13 +5,11 @@ ghost use Rattle.relax.specs.Areas.{IsSized};
 
 use crate::tests::shown::left_text;
 use crate::tests::standard::standard_reasons;
-use base::memory::Memory;
-use catalogue::problem::Problem;
-use cluster::ids::Element;
-use domains::domain::Domain;
-use domains::parts::{Change, Part};
-use domains::region::Region;
-use reasons::reason::Reason;
+use base::Memory;
+use catalogue::Problem;
+use cluster::Element;
+use domains::{Change, Domain, Part, Region};
+use reasons::Reason;
 use relax::refutes::refutes_inside;
 use relax::start::start_region;
 use std::alloc::Global;

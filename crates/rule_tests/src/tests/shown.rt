@@ -2,10 +2,8 @@
 ghost use Rattle.relax.specs.Areas.{IsSized};
 
 use catalogue::problem::Problem;
-use cluster::choices::Place;
-use domains::domain::Domain;
-use domains::parts::Row;
-use domains::region::Region;
+use cluster::Place;
+use domains::{Domain, Region, Row};
 use std::alloc::Global;
 use std::test::Fail;
 

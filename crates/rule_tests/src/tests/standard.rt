@@ -1,11 +1,8 @@
 //! The standard reasons of a problem, each of them: at each instant, of each node, machine and constraint.
-
 use base::memory::Memory;
-use catalogue::problem::Problem;
-use cluster::choices::Instant;
-use cluster::ids::{NodeId, VmId};
-use cluster::sets::NodeSet;
-use reasons::reason::Reason;
+use catalogue::Problem;
+use cluster::{Instant, NodeId, NodeSet, VmId};
+use reasons::Reason;
 use std::alloc::Global;
 
 /// The nodes of a problem, each alone, and behind them all together.

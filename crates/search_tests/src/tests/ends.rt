@@ -6,16 +6,12 @@ ghost use Rattle.prop_core.specs.Propagators.{CutHolds, IsRegionOf, IsRight, May
 ghost use Rattle.prop_core.specs.Tests.{keeps_nothing};
 
 use base::memory::Memory;
-use catalogue::problem::Problem;
+use catalogue::Problem;
 use closing::closed::closed;
-use cluster::ids::{Element, NodeId, VmId};
-use cluster::sets::NodeSet;
-use domains::domain::Domain;
-use domains::parts::{Change, Part, Side};
-use domains::region::Region;
-use domains::undo::Before;
+use cluster::{Element, NodeId, NodeSet, VmId};
+use domains::{Before, Change, Domain, Part, Region, Side};
 use prop_core::propagator::{Answer, Propagator};
-use reasons::reason::{Reason, ReasonKind};
+use reasons::{Reason, ReasonKind};
 use relax::refutes::refutes_inside;
 
 /// Covers all kinds, and cuts an end of the choices of an element by the load of a node or of all, or by the first

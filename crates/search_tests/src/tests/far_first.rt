@@ -7,13 +7,11 @@ ghost use Rattle.trees.specs.Proving.{IsSplit};
 
 use branching::brancher::Brancher;
 use branching::least_start::least_start;
-use catalogue::problem::Problem;
-use cluster::choices::Place;
-use cluster::ids::{Element, NodeId, VmId};
-use domains::parts::{Change, Part, Side};
-use domains::region::Region;
-use reasons::reason::Reason;
-use slices::plan::Plan;
+use catalogue::Problem;
+use cluster::{Element, NodeId, Place, VmId};
+use domains::{Change, Part, Region, Side};
+use reasons::Reason;
+use slices::Plan;
 
 /// Splits the first machine by its starts on the second node from 7 on, where that can be, and else as `LeastStart`.
 #[derive(Clone, Copy)]

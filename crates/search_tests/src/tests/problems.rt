@@ -1,5 +1,5 @@
 //! The problems that the tests search.
-use catalogue::problem::Problem;
+use catalogue::Problem;
 use instance_json::read_instance;
 use std::alloc::Global;
 use std::test::Fail;
