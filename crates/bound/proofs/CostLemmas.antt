@@ -1,26 +1,15 @@
 -- The sum of least ends: how great it is, and what one element has of it.
-use Rattle.std.proofs.Common.{◌≡◌, ◌≢◌, ℕ, ◌+◌, ◌≤◌, List, [], ◌∷◌, IsTrue, Bool, true, false, refl, sym, ap, ◌∙◌, arith}
-use Rattle.std.specs.List.{Contains, filter}
-use Rattle.std.proofs.lemmas.Bool.Decides.{Decides-eqb}
-use Rattle.std.proofs.lemmas.List.{get_or-set_same, get_or-set_other}
-use Rattle.base.specs.Least.{least}
-use Rattle.base.proofs.Sums.{sum_to-bound, sum_to-change, sum_to-same, sum_to-term}
+use Rattle.std.proofs.Common.{IsTrue}
+use Rattle.base.proofs.Public.{◌≡◌, ◌≢◌, ℕ, ◌+◌, ◌≤◌, List, [], ◌∷◌, Bool, true, false, refl, sym, ap, ◌∙◌, arith, Contains, filter, Decides-eqb, get_or-set_same, get_or-set_other, sum_to-bound, sum_to-change, sum_to-same, sum_to-term}
+use Rattle.relax.specs.Prelude.{AreLegal, choices, domain_at, DomainView, end_of, HasElement, Instance, is_legal, IsElement, IsInstance, IsSized, keeping, least, least_cost, machine_count, max_cost, node, node_count, RegionView, same_element, Sets, sets, staying, vm, with_domain}
 use Rattle.cluster.specs.declared.choices.Choice.{Choice}
 use Rattle.cluster.specs.declared.choices.Choice.TheVariants.{Idle, Act}
 use Rattle.cluster.specs.declared.ids.Element.{Element}
 use Rattle.cluster.specs.declared.ids.Element.TheVariants.{Vm, Node}
-use Rattle.catalogue.specs.Instance.{Instance, IsElement, IsInstance}
-use Rattle.slices.specs.Actions.{end_of, is_legal}
-use Rattle.slices.specs.Elements.{machine_count, node_count, vm, node}
-use Rattle.slices.specs.Limits.{max_cost}
-use Rattle.slices.proofs.Public.{legal_acts_last}
-use Rattle.domains.specs.Choices.{DomainView, choices, staying}
-use Rattle.domains.specs.Sets.{RegionView, HasElement, Sets, domain_at, keeping, same_element, sets, with_domain}
-use Rattle.domains.proofs.Public.{contains_here, filter_is_fewer, least_of_each, same_is}
-use Rattle.reasons.specs.Sure.{least_cost}
-use Rattle.relax.specs.Areas.{AreLegal, IsSized}
-use Rattle.relax.proofs.Public.{legal_stays}
 use Rattle.bound.specs.Laws.{CostIsSmall, CostPutBack, NarrowingTells, SameCost}
+use Rattle.slices.proofs.Public.{legal_acts_last}
+use Rattle.domains.proofs.Public.{contains_here, filter_is_fewer, least_of_each, same_is}
+use Rattle.relax.proofs.Public.{legal_stays}
 
 pub same_cost : SameCost
 unfolding least_cost

@@ -1,16 +1,10 @@
 -- The least end of an element before it lost choices, and after.
-use Rattle.std.proofs.Common.{◌≡◌, ℕ, ◌+◌, ◌≤◌, max, unwrap_or, Option, Some, None, List, [], ◌∷◌, refl, sym, ap, ◌∙◌, arith}
-use Rattle.std.specs.List.{filter}
-use Rattle.base.specs.Least.{lower, lowest, least}
+use Rattle.base.proofs.Public.{◌≡◌, ℕ, ◌+◌, ◌≤◌, max, unwrap_or, Option, Some, None, List, [], ◌∷◌, refl, sym, ap, ◌∙◌, arith, filter}
+use Rattle.relax.specs.Prelude.{AreFewer, choices, DomainView, least, lost_choices, lower, lower_option, lowest, restored, stays}
 use Rattle.cluster.specs.declared.choices.Choice.{Choice}
 use Rattle.domains.specs.declared.undo.Lost.{Lost}
-use Rattle.domains.specs.Choices.{DomainView, choices}
-use Rattle.domains.specs.Laws.{AreFewer}
-use Rattle.domains.specs.Measures.{lower_option}
-use Rattle.domains.specs.Parts.{stays}
-use Rattle.domains.specs.Undo.{restored, lost_choices}
-use Rattle.domains.proofs.Public.{lowest_before}
 use Rattle.bound.specs.Losses.{least_with}
+use Rattle.domains.proofs.Public.{lowest_before}
 
 -- where no part is left out, all stay
 pub all_stay : (cs : List Choice) → filter (stays None) cs ≡ cs

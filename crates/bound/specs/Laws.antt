@@ -1,14 +1,8 @@
 -- Laws of the sum of least ends, for those who keep one beside a region that is changed.
-use Rattle.std.specs.Prelude.{◌≡◌, ◌≢◌, ℕ, ◌≤◌, Bool, length}
+use Rattle.base.specs.Prelude.{◌≡◌, ◌≢◌, ℕ, ◌≤◌, Bool, length}
+use Rattle.relax.specs.Prelude.{AreFewer, AreLegal, choices, domain_at, DomainView, HasElement, Instance, IsElement, IsInstance, IsSized, keeping, least_cost, max_cost, RegionView, Sets, sets, with_domain}
 use Rattle.cluster.specs.declared.choices.Choice.{Choice}
 use Rattle.cluster.specs.declared.ids.Element.{Element}
-use Rattle.catalogue.specs.Instance.{Instance, IsElement, IsInstance}
-use Rattle.slices.specs.Limits.{max_cost}
-use Rattle.domains.specs.Choices.{DomainView, choices}
-use Rattle.domains.specs.Laws.{AreFewer}
-use Rattle.domains.specs.Sets.{RegionView, HasElement, Sets, domain_at, keeping, sets, with_domain}
-use Rattle.reasons.specs.Sure.{least_cost}
-use Rattle.relax.specs.Areas.{AreLegal, IsSized}
 
 -- the same sets have the same sum
 abbrev pub SameCost : Type 0

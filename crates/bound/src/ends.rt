@@ -1,13 +1,7 @@
 //! The least end of one element, and what a change of its domain makes of a sum of least ends.
-ghost use Rattle.std.specs.Prelude.{◌≡◌, ◌+◌, ◌≤◌, filter, max};
-ghost use Rattle.base.specs.Least.{least, lowest as lowest_of};
-ghost use Rattle.catalogue.specs.Instance.{IsElement};
-ghost use Rattle.slices.specs.Actions.{end_of};
-ghost use Rattle.slices.specs.Limits.{max_cost};
-ghost use Rattle.domains.specs.Choices.{choices};
-ghost use Rattle.domains.specs.Laws.{AreFewer};
-ghost use Rattle.domains.specs.Parts.{stays};
-ghost use Rattle.domains.specs.Undo.{domain_before, lost_choices};
+ghost use Rattle.std.specs.Prelude.{filter};
+ghost use Rattle.base.specs.Prelude.{◌≡◌, ◌+◌, ◌≤◌, max};
+ghost use Rattle.relax.specs.Prelude.{AreFewer, choices, domain_before, end_of, IsElement, least, lost_choices, lowest as lowest_of, max_cost, stays};
 ghost use Rattle.bound.specs.Losses.{least_with};
 
 use catalogue::problem::Problem;

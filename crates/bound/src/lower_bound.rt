@@ -1,12 +1,6 @@
 //! The running sum.
-ghost use Rattle.std.specs.Prelude.{◌≡◌, ◌<◌, ◌∷◌, [], OnErr, OnOk, IfOk, length};
-ghost use Rattle.catalogue.specs.Instance.{IsElement};
-ghost use Rattle.domains.specs.Choices.{choices};
-ghost use Rattle.domains.specs.Laws.{AreFewer};
-ghost use Rattle.domains.specs.Sets.{domain_at, sets, with_domain};
-ghost use Rattle.domains.specs.Undo.{domain_before};
-ghost use Rattle.reasons.specs.Sure.{least_cost as least_cost_of};
-ghost use Rattle.relax.specs.Areas.{AreLegal, IsSized};
+ghost use Rattle.base.specs.Prelude.{◌≡◌, ◌<◌, ◌∷◌, [], OnErr, OnOk, IfOk, length};
+ghost use Rattle.relax.specs.Prelude.{AreFewer, AreLegal, choices, domain_at, domain_before, IsElement, IsSized, least_cost as least_cost_of, sets, with_domain};
 
 use crate::ends::after_change;
 use base::Memory;

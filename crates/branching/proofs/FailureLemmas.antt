@@ -1,15 +1,7 @@
 -- The most failures among elements, one after another.
 use Rattle.std.proofs.Common.{◌≡◌, ◌⊎◌, inl, inr, ℕ, ◌+◌, ◌<◌, ◌≤◌, length, refl, sym, ap, ◌∙◌, subst, arith}
-use Rattle.cluster.specs.declared.ids.Element.{Element}
-use Rattle.cluster.specs.declared.ids.Element.TheVariants.{Vm, Node}
-use Rattle.cluster.specs.Elements.{element_at, element_count, element_number}
-use Rattle.cluster.specs.Inventory.{Inventory, IsListed}
+use Rattle.branching.specs.Prelude.{ComesBefore, Element, element_at, element_count, element_number, HasElement, HasMostFailures, Instance, Inventory, inventory_of, IsBetter, IsFirstUnfixed, IsFixedAt, IsListed, IsSized, IsUnfixed, Node, RegionView, Vm}
 use Rattle.cluster.proofs.Public.{element_at-element_number, element_number-element_at, element_number-lt}
-use Rattle.catalogue.specs.Instance.{Instance, inventory_of}
-use Rattle.domains.specs.Sets.{RegionView, ComesBefore, HasElement, IsFirstUnfixed, IsFixedAt}
-use Rattle.relax.specs.Areas.{IsSized}
-use Rattle.branching.specs.Better.{IsBetter}
-use Rattle.branching.specs.Elements.{HasMostFailures, IsUnfixed}
 
 -- of the elements of the first so many numbers none has more, and none before the best one as many
 pub record HasMostUpto (p : Instance) (failures : Element → ℕ) (g : RegionView) (x : ℕ) (best : Element) : Type 0 where

@@ -1,18 +1,10 @@
 -- Parts of a domain with two choices that hold one and leave one out.
-use Rattle.std.proofs.Common.{◌≡◌, ◌≢◌, ◌⊎◌, inl, inr, ℕ, zero, suc, ◌+◌, ◌-◌, ◌/◌, ◌<◌, ◌≤◌, ◌==◌, ◌&&◌, nat_le, not, Bool, true, false, cond, List, [], ◌∷◌, ◌++◌, length, slice_index_or, refl, sym, ap, ◌∙◌, arith}
-use Rattle.std.specs.List.{Contains, filter, flat_map}
-use Rattle.std.proofs.lemmas.Bool.Decides.{nat_tests}
-use Rattle.cluster.specs.declared.choices.Choice.{Choice}
-use Rattle.cluster.specs.declared.choices.Choice.TheVariants.{Idle as Stay, Act}
-use Rattle.cluster.specs.declared.choices.Place.{Place}
-use Rattle.domains.specs.declared.parts.Part.{Part}
-use Rattle.domains.specs.declared.parts.Part.TheVariants.{Idle, Upto, From}
-use Rattle.domains.specs.declared.parts.Row.{Row}
-use Rattle.domains.specs.Choices.{DomainView, Climbs, choices, place_index, row_choices, same_place, no_row, starts_from}
-use Rattle.domains.specs.Parts.{in_part, out_of_part}
+use Rattle.std.proofs.Common.{slice_index_or}
+use Rattle.base.proofs.Public.{◌≡◌, ◌≢◌, ◌⊎◌, inl, inr, ℕ, zero, suc, ◌+◌, ◌-◌, ◌/◌, ◌<◌, ◌≤◌, ◌==◌, ◌&&◌, nat_le, not, Bool, true, false, cond, List, [], ◌∷◌, ◌++◌, length, refl, sym, ap, ◌∙◌, arith, Contains, filter, flat_map, nat_tests}
+use Rattle.branching.specs.Prelude.{Act, Choice, choices, Climbs, DomainView, first_start, From, Idle, in_part, IsOpen, no_row, out_of_part, Part, Place, place_index, Row, row_choices, row_of, same_place, Splits, starts_from, Upto}
+use Rattle.cluster.specs.declared.choices.Choice.TheVariants.{Idle as Stay}
 use Rattle.domains.proofs.Public.{contains_filter}
 use Rattle.reasons.proofs.Public.{ends_of_rows}
-use Rattle.branching.specs.Parts.{IsOpen, Splits, first_start, row_of}
 
 -- ---- rows in order
 

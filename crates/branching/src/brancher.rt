@@ -1,10 +1,6 @@
 //! What a search asks where to split.
-ghost use Rattle.std.specs.Prelude.{◌≡◌};
-ghost use Rattle.domains.specs.Sets.{IsFixed, sets};
-ghost use Rattle.reasons.specs.Closed.{HaveChoices};
-ghost use Rattle.relax.specs.Areas.{AreLegal, IsSized};
-ghost use Rattle.slices.specs.Plans.{IsPlanOf};
-ghost use Rattle.trees.specs.Proving.{IsSplit};
+ghost use Rattle.base.specs.Prelude.{◌≡◌};
+ghost use Rattle.branching.specs.Prelude.{AreLegal, HaveChoices, IsFixed, IsPlanOf, IsSized, IsSplit, sets};
 
 use catalogue::problem::Problem;
 use cluster::Element;

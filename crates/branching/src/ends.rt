@@ -1,8 +1,6 @@
 //! When the rows of an element end first.
-ghost use Rattle.std.specs.Prelude.{◌≡◌, ◌<◌, length};
-ghost use Rattle.catalogue.specs.Instance.{IsElement};
-ghost use Rattle.cluster.specs.declared.choices.Choice.TheVariants.{Act};
-ghost use Rattle.slices.specs.Actions.{end_of};
+ghost use Rattle.base.specs.Prelude.{◌≡◌, ◌<◌, length};
+ghost use Rattle.branching.specs.Prelude.{Act, end_of, IsElement};
 
 use catalogue::problem::Problem;
 use cluster::{Choice, Element};

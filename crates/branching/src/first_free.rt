@@ -1,10 +1,6 @@
 //! The first element that is not fixed, by half a row.
-ghost use Rattle.std.specs.Prelude.{◌≡◌};
-ghost use Rattle.branching.specs.Parts.{IsFirstFree};
-ghost use Rattle.domains.specs.Sets.{IsFirstUnfixed, IsFixed, domain_at, sets};
-ghost use Rattle.reasons.specs.Closed.{HaveChoices};
-ghost use Rattle.relax.specs.Areas.{AreLegal, IsSized};
-ghost use Rattle.trees.specs.Proving.{IsSplit};
+ghost use Rattle.base.specs.Prelude.{◌≡◌};
+ghost use Rattle.branching.specs.Prelude.{AreLegal, domain_at, HaveChoices, IsFirstFree, IsFirstUnfixed, IsFixed, IsSized, IsSplit, sets};
 
 use crate::brancher::Brancher;
 use crate::open::first_open;

@@ -1,8 +1,6 @@
 //! What a known plan forces: a choice of which the other side fails by its cost.
-ghost use Rattle.std.specs.Prelude.{IfSome};
-ghost use Rattle.branching.specs.Elements.{IsUnfixed};
-ghost use Rattle.catalogue.specs.Instance.{IsElement};
-ghost use Rattle.relax.specs.Areas.{IsSized};
+ghost use Rattle.base.specs.Prelude.{IfSome};
+ghost use Rattle.branching.specs.Prelude.{IsElement, IsSized, IsUnfixed};
 
 use crate::ends::{first_end, soonest};
 use catalogue::Problem;

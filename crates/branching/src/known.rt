@@ -1,7 +1,6 @@
 //! What `StayFirst` works out once for a problem.
-ghost use Rattle.std.specs.Prelude.{◌<◌, ◌≤◌, length};
-ghost use Rattle.catalogue.specs.Instance.{IsElement};
-ghost use Rattle.catalogue.specs.Limits.{max_capacity};
+ghost use Rattle.base.specs.Prelude.{◌<◌, ◌≤◌, length};
+ghost use Rattle.branching.specs.Prelude.{IsElement, max_capacity};
 
 use crate::ends::first_end;
 use crate::order::Order;

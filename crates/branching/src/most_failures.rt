@@ -1,14 +1,11 @@
 //! The element of which most failures were reported.
-ghost use Rattle.std.specs.Prelude.{◌≡◌, IfOk, IfSome, IfNone, length, slice_index_or};
+ghost use Rattle.base.specs.Prelude.{◌≡◌, IfOk, IfSome, IfNone, length, slice_index_or};
+ghost use Rattle.relax.specs.Prelude.{AreLegal, domain_at, HasElement, HaveChoices, IsFixed, IsSized, machine_count, node_count, sets};
 ghost use Rattle.branching.specs.Better.{IsBetter};
 ghost use Rattle.branching.specs.Elements.{HasMostFailures, IsUnfixed};
 ghost use Rattle.branching.specs.Failures.{failures_of, raised as raised_at, with_failure};
 ghost use Rattle.branching.specs.Parts.{IsLeastStart};
 ghost use Rattle.cluster.specs.declared.ids.Element.{Element as AnyElement};
-ghost use Rattle.domains.specs.Sets.{HasElement, IsFixed, domain_at, sets};
-ghost use Rattle.reasons.specs.Closed.{HaveChoices};
-ghost use Rattle.relax.specs.Areas.{AreLegal, IsSized};
-ghost use Rattle.slices.specs.Elements.{machine_count, node_count};
 ghost use Rattle.trees.specs.Proving.{IsSplit};
 
 use crate::brancher::Brancher;

@@ -1,8 +1,6 @@
 //! Which of the elements that are not fixed is taken, for each reason to take one.
-ghost use Rattle.std.specs.Prelude.{IfSome};
-ghost use Rattle.branching.specs.Elements.{IsUnfixed};
-ghost use Rattle.catalogue.specs.Instance.{IsElement};
-ghost use Rattle.relax.specs.Areas.{IsSized};
+ghost use Rattle.base.specs.Prelude.{IfSome};
+ghost use Rattle.branching.specs.Prelude.{IsElement, IsSized, IsUnfixed};
 
 use crate::ends::{first_end, soonest};
 use crate::order::Order;

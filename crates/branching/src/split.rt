@@ -1,7 +1,6 @@
 //! Parts of one domain with two choices at least.
-ghost use Rattle.std.specs.Prelude.{◌≡◌, ◌<◌, ◌≤◌, length};
-ghost use Rattle.catalogue.specs.Instance.{IsElement};
-ghost use Rattle.branching.specs.Parts.{IsFirstFree, IsLeastStart, IsOpen, Splits, StartsFirst, row_of};
+ghost use Rattle.base.specs.Prelude.{◌≡◌, ◌<◌, ◌≤◌, length};
+ghost use Rattle.branching.specs.Prelude.{IsElement, IsFirstFree, IsLeastStart, IsOpen, row_of, Splits, StartsFirst};
 
 use crate::ends::soonest;
 use catalogue::Problem;

@@ -1,10 +1,6 @@
 //! Those that may stay are fixed first, and whole places before starts.
-ghost use Rattle.std.specs.Prelude.{◌≡◌};
-ghost use Rattle.branching.specs.Elements.{IsUnfixed};
-ghost use Rattle.domains.specs.Sets.{IsFixed, sets};
-ghost use Rattle.reasons.specs.Closed.{HaveChoices};
-ghost use Rattle.relax.specs.Areas.{AreLegal, IsSized};
-ghost use Rattle.trees.specs.Proving.{IsSplit};
+ghost use Rattle.base.specs.Prelude.{◌≡◌};
+ghost use Rattle.branching.specs.Prelude.{AreLegal, HaveChoices, IsFixed, IsSized, IsSplit, IsUnfixed, sets};
 
 use crate::brancher::Brancher;
 use crate::forced::forced;

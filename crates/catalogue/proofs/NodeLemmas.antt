@@ -1,15 +1,8 @@
 -- Which sets of nodes are listed.
-use Rattle.std.proofs.Common.{◌≡◌, ℕ, zero, suc, ◌<◌, ◌≤◌, ◌-◌, ◌+◌, not, slice_index_or, ⊎_elim, ◌∙◌, ap, sym, true≢false, refl, IsTrue, ◌↔◌, ◌&&◌, Bool, true, false, length, arith}
-use Rattle.std.specs.List.{list_all, range_with_len}
-use Rattle.std.proofs.lemmas.Bool.{cases_lt}
-use Rattle.std.proofs.lemmas.List.Folds.{list_all_at}
-use Rattle.std.proofs.lemmas.List.FromFn.{length-range_with_len, get_or-range_with_len}
-use Rattle.cluster.specs.Inventory.{Inventory}
-use Rattle.cluster.specs.Limits.{max_nodes}
-use Rattle.cluster.specs.declared.sets.NodeSet.{NodeSet}
-use Rattle.cluster.specs.Sets.{has_node, IsWithin}
+use Rattle.std.proofs.Common.{slice_index_or, IsTrue, ◌↔◌}
+use Rattle.base.proofs.Public.{◌≡◌, ℕ, zero, suc, ◌<◌, ◌≤◌, ◌-◌, ◌+◌, not, ⊎_elim, ◌∙◌, ap, sym, true≢false, refl, ◌&&◌, Bool, true, false, length, arith, list_all, range_with_len, cases_lt, list_all_at, length-range_with_len, get_or-range_with_len}
+use Rattle.catalogue.specs.Prelude.{are_nodes, has_node, Inventory, IsWithin, max_nodes, NodeSet}
 use Rattle.cluster.proofs.Public.{has_node-past}
-use Rattle.catalogue.specs.Faults.{are_nodes}
 
 -- a set of listed nodes has none past them
 pub IsWithin-are_nodes : (k : Inventory) (s : NodeSet) → are_nodes k s ≡ true → IsWithin s (length k.nodes)

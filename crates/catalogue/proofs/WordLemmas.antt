@@ -1,11 +1,8 @@
 -- Words of constraints are read back as what they were printed of.
-use Rattle.std.proofs.Common.{◌≡◌, Some, map, refl}
-use Rattle.std.specs.List.{position}
-use Rattle.std.specs.Str.{bytes_eq}
-use Rattle.catalogue.specs.declared.constraint.Constraint.{Constraint}
+use Rattle.std.proofs.Common.{map}
+use Rattle.base.proofs.Public.{◌≡◌, Some, refl, position, bytes_eq}
+use Rattle.catalogue.specs.Prelude.{Constraint, constraint_number, constraint_word, CONSTRAINT_WORDS, constraint_words}
 use Rattle.catalogue.specs.declared.constraint.Constraint.TheVariants.{Spread, Ban, Fence, Gather, Lonely, Among, Split, Root, Precedence, Serialize, Preserve, ResourceCapacity, RunningCapacity, MaxOnline, Overbook, Online, Offline, Running, Sleeping, Ready, Killed}
-use Rattle.catalogue.specs.declared.constraint.TheConstants.{CONSTRAINT_WORDS}
-use Rattle.catalogue.specs.Words.{constraint_number, constraint_words, constraint_word}
 
 -- the table of the code
 pub constraint_words-CONSTRAINT_WORDS : constraint_words ≡ map (λ w. w.now) CONSTRAINT_WORDS

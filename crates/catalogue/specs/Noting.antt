@@ -1,6 +1,5 @@
-use Rattle.std.specs.Prelude.{◌≡◌, ℕ, ◌<◌, length}
-use Rattle.cluster.specs.Inventory.{Inventory}
-use Rattle.cluster.specs.Limits.{max_resources}
+use Rattle.base.specs.Prelude.{◌≡◌, ℕ, ◌<◌, length}
+use Rattle.cluster.specs.Prelude.{Inventory, max_resources}
 use Rattle.catalogue.specs.declared.constraint.Constraint.{Constraint}
 use Rattle.catalogue.specs.declared.tables.Tables.{Tables}
 use Rattle.catalogue.specs.Values.{preserved_with, limit_with, written_of, machine_wish_with, node_wish_with}

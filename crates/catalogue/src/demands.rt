@@ -1,9 +1,6 @@
 //! The table of the amounts that are to be preserved, one for each machine and resource.
-ghost use Rattle.std.specs.Prelude.{◌≡◌, ℕ, ◌<◌, ◌&&◌, ◌==◌, length, max, true, if◌then◌else◌, slice_index, OnOk, OnErr};
-ghost use Rattle.cluster.specs.Limits.{max_resources};
-ghost use Rattle.catalogue.specs.Faults.{are_below, is_member};
-ghost use Rattle.catalogue.specs.Values.{preserved_with};
-ghost use Rattle.catalogue.specs.Cells.{HasRows, cell};
+ghost use Rattle.base.specs.Prelude.{◌≡◌, ℕ, ◌<◌, ◌&&◌, ◌==◌, length, max, true, if◌then◌else◌, slice_index, OnOk, OnErr};
+ghost use Rattle.catalogue.specs.Prelude.{are_below, cell, HasRows, is_member, max_resources, preserved_with};
 ghost use Rattle.catalogue.specs.declared.constraint.Constraint.TheVariants.{Preserve};
 
 use base::memory::Memory;

@@ -1,10 +1,6 @@
 //! The table of the limits that overbooking sets, one for each node and resource.
-ghost use Rattle.std.specs.Prelude.{◌≡◌, ℕ, ◌<◌, ◌≤◌, ◌&&◌, ◌==◌, ◌*◌, ◌/◌, length, None, Some, slice_index_or, if◌then◌else◌, OnOk, OnErr};
-ghost use Rattle.cluster.specs.Limits.{max_resources, max_amount};
-ghost use Rattle.cluster.specs.Sets.{has_node};
-ghost use Rattle.catalogue.specs.Limits.{max_scale};
-ghost use Rattle.catalogue.specs.Values.{lesser_of, limit_with, written_of};
-ghost use Rattle.catalogue.specs.Cells.{HasRows, limit_cell};
+ghost use Rattle.base.specs.Prelude.{◌≡◌, ℕ, ◌<◌, ◌≤◌, ◌&&◌, ◌==◌, ◌*◌, ◌/◌, length, None, Some, slice_index_or, if◌then◌else◌, OnOk, OnErr};
+ghost use Rattle.catalogue.specs.Prelude.{has_node, HasRows, lesser_of, limit_cell, limit_with, max_amount, max_resources, max_scale, written_of};
 ghost use Rattle.catalogue.specs.declared.constraint.Constraint.TheVariants.{Overbook};
 
 use base::memory::Memory;

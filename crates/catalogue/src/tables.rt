@@ -1,10 +1,6 @@
 //! What the constraints say of each element, kept ready.
-ghost use Rattle.std.specs.Prelude.{◌≡◌, ◌<◌, ℕ, [], length, true, OnOk, OnErr};
-ghost use Rattle.cluster.specs.Sets.{has_node};
-ghost use Rattle.catalogue.specs.Cells.{wish_cell};
-ghost use Rattle.catalogue.specs.Faults.{are_machines, is_member, is_rule};
-ghost use Rattle.catalogue.specs.Values.{wish_where};
-ghost use Rattle.catalogue.specs.Noting.{HaveRows, Notes, SameRows};
+ghost use Rattle.base.specs.Prelude.{◌≡◌, ◌<◌, ℕ, [], length, true, OnOk, OnErr};
+ghost use Rattle.catalogue.specs.Prelude.{are_machines, has_node, HaveRows, is_member, is_rule, Notes, SameRows, wish_cell, wish_where};
 
 use crate::constraint::Constraint;
 use crate::demands::note_preserve;

@@ -1,10 +1,6 @@
 //! Whether a machine stands twice, by the set of those that stood so far.
-ghost use Rattle.std.specs.Prelude.{◌≡◌, true, List, ◌++◌, ◌&&◌};
-ghost use Rattle.std.specs.List.{list_all};
-ghost use Rattle.cluster.specs.Limits.{max_machines};
-ghost use Rattle.cluster.specs.declared.ids.VmId.{VmId};
-ghost use Rattle.catalogue.specs.Faults.{all_of, are_below, differ};
-ghost use Rattle.catalogue.specs.Twice.{are_new};
+ghost use Rattle.base.specs.Prelude.{◌≡◌, true, List, ◌++◌, ◌&&◌, list_all};
+ghost use Rattle.catalogue.specs.Prelude.{all_of, are_below, are_new, differ, max_machines, VmId};
 
 use crate::lists::Vms;
 use cluster::{MachineSet, VmId};

@@ -1,10 +1,6 @@
 //! The tables of what is wanted of each machine and each node.
-ghost use Rattle.std.specs.Prelude.{◌≡◌, ℕ, ◌<◌, ◌≤◌, length, true, OnOk, OnErr};
-ghost use Rattle.cluster.specs.Limits.{max_nodes};
-ghost use Rattle.cluster.specs.Sets.{has_node};
-ghost use Rattle.catalogue.specs.Faults.{are_below, is_member};
-ghost use Rattle.catalogue.specs.Values.{wish_with, wish_where};
-ghost use Rattle.catalogue.specs.Cells.{HasRows, wish_cell};
+ghost use Rattle.base.specs.Prelude.{◌≡◌, ℕ, ◌<◌, ◌≤◌, length, true, OnOk, OnErr};
+ghost use Rattle.catalogue.specs.Prelude.{are_below, has_node, HasRows, is_member, max_nodes, wish_cell, wish_where, wish_with};
 
 use crate::targets::{Target, Wish};
 use base::Memory;

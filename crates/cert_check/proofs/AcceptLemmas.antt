@@ -1,38 +1,11 @@
 -- What is written of a tree is accepted, and there is no other verdict on it.
 use Rattle.std.proofs.Common.{◌≡◌, ◌∙◌, inl, inr, ℕ, Bool, true, false, List, [], ◌∷◌, ◌++◌, map, Option, Some, None, Result, Ok, Err, refl, sym, ap, subst, append-nil}
-use Rattle.base.specs.Least.{lowest}
-use Rattle.catalogue.specs.Instance.{Instance, IsInstance}
-use Rattle.slices.specs.Plans.{Choices}
-use Rattle.domains.specs.Sets.{Sets}
-use Rattle.reasons.specs.Start.{start_sets}
-use Rattle.reasons.specs.Sure.{least_cost}
+use Rattle.cert_check.specs.Prelude.{AreTaken, AtEach, bound_of, certificate_text, CertificateIsAccepted, CheckFault, Choices, Cut, Decide, decisions, End, Fail, Goal as GoalWhy, has_left, Instance, IsEndWhy, IsFault, IsFit, IsGoal, IsGoalRefused, IsHandedIn, IsInstance, IsLean, IsProof, IsRefused, IsStepRefused, IsTextWhy, IsWrong, IsYes, IsYesUnlessOutside, Leads, LeadsTo, Lean, LeanAt, least_along, least_cost, least_of, Left, left_set, Line, lines_of, LinesGive, lower_of, lowest, Memory, Name, named_step, No, Over, Part, PartHolds, Plan, PlanHolds, Position, Proves, ReadsOn, Reason, ReasonHolds, Sets, shown, start, start_sets, step_text, StepHolds, steps_of, StepText, Structure, Tree, turn, Verdict, WalkAt, Why, Yes}
 use Rattle.trees.specs.declared.steps.Goal.{Goal}
 use Rattle.trees.specs.declared.steps.Step.{Step}
-use Rattle.trees.specs.declared.steps.Step.TheVariants.{Decide, Cut, Fail, Plan as PlanStep, Left}
-use Rattle.trees.specs.Trees.{Tree, AtEach, Leads, steps_of}
-use Rattle.trees.specs.Goals.{decisions, has_left, left_set, lower_of, shown}
-use Rattle.trees.specs.Proving.{Proves, StepHolds}
-use Rattle.trees.specs.Searching.{IsLean, LeanAt}
-use Rattle.trees.specs.Certificates.{IsHandedIn, bound_of, least_of}
+use Rattle.trees.specs.declared.steps.Step.TheVariants.{Plan as PlanStep}
 use Rattle.trees.proofs.Public.{at_each_both, at_each_map, gathered_whole, leads_same, leads_split, leads_tree}
-use Rattle.cert_model.specs.declared.why.Why.{Why}
-use Rattle.cert_model.specs.declared.why.Why.TheVariants.{Structure, Name, Part, Reason, Plan, Goal as GoalWhy, Lean}
-use Rattle.cert_model.specs.Walks.{IsEndWhy, IsFault, IsProof, IsRefused, IsWrong, LeadsTo, PartHolds, PlanHolds, ReasonHolds, WalkAt, least_along}
-use Rattle.cert_text.specs.declared.text.StepText.{StepText}
-use Rattle.cert_text.specs.Spelling.{certificate_text, step_text}
-use Rattle.cert_text.specs.Texts.{IsGoal}
-use Rattle.cert_read.specs.declared.line.Line.TheVariants.{End, Over}
-use Rattle.cert_read.specs.declared.position.Position.{Position}
-use Rattle.cert_read.specs.Laws.{ReadsOn, lines_of}
-use Rattle.cert_read.specs.Lines.{start, turn}
 use Rattle.cert_read.proofs.Public.{certificates_read_back}
-use Rattle.cert_check.specs.declared.verdict.CheckFault.{CheckFault}
-use Rattle.cert_check.specs.declared.verdict.CheckFault.TheVariants.{Line, Memory}
-use Rattle.cert_check.specs.declared.verdict.Verdict.{Verdict}
-use Rattle.cert_check.specs.declared.verdict.Verdict.TheVariants.{Yes, No}
-use Rattle.cert_check.specs.Laws.{CertificateIsAccepted, IsYesUnlessOutside}
-use Rattle.cert_check.specs.Names.{named_step}
-use Rattle.cert_check.specs.Verdicts.{AreTaken, IsFit, IsGoalRefused, IsStepRefused, IsTextWhy, IsYes, LinesGive}
 use Rattle.cert_check.proofs.LineLemmas.{front_named, front_read, goal_next, no_fault, no_fault_here, read_up, step_next}
 use Rattle.cert_check.proofs.NamedLemmas.{step_here}
 use Rattle.cert_check.proofs.WrittenLemmas.{AreNamedSteps, all_here, all_named, all_written, goal_fits, one_named}

@@ -1,22 +1,11 @@
 -- The lines of a text that was written are the steps and the goal of its tree, and nothing else is read of it.
 use Rattle.std.proofs.Common.{◌≡◌, ◌∙◌, ℕ, ◌==◌, Bool, true, false, List, [], ◌∷◌, ◌++◌, drop, length, map, Some, Result, Ok, Err, refl, sym, ap, subst, if◌then◌else◌}
-use Rattle.catalogue.specs.Instance.{Instance, IsInstance}
+use Rattle.cert_check.specs.Prelude.{AreSteps, as_line, End, end_at, end_of, Faults, first_line_at, header_bytes, Instance, is_end, IsInstance, IsOutside, line_at, LineFault, lines_of, LineText, named_step, NotALine, Over, Position, position_after, ReadFault, ReadsOn, Short, Step as StepLine, step_text, StepText, text_at, TooLong, turn}
 use Rattle.trees.specs.declared.steps.Goal.{Goal}
 use Rattle.trees.specs.declared.steps.Step.{Step}
-use Rattle.cert_text.specs.declared.text.LineText.{LineText}
 use Rattle.cert_text.specs.declared.text.LineText.TheVariants.{Step as StepLineText, End as EndText}
-use Rattle.cert_text.specs.declared.text.StepText.{StepText}
-use Rattle.cert_text.specs.Spelling.{step_text}
 use Rattle.cert_read.specs.declared.line.Line.{Line}
-use Rattle.cert_read.specs.declared.line.Line.TheVariants.{Step as StepLine, End, Over}
-use Rattle.cert_read.specs.declared.line.LineFault.{LineFault}
-use Rattle.cert_read.specs.declared.line.LineFault.TheVariants.{NotALine, TooLong, Short, ReadFault, Memory}
-use Rattle.cert_read.specs.declared.position.Position.{Position}
-use Rattle.cert_read.specs.Laws.{ReadsOn, lines_of}
-use Rattle.cert_read.specs.Lines.{as_line, end_at, end_of, first_line_at, header_bytes, is_end, line_at, position_after, text_at, turn}
-use Rattle.cert_read.specs.Reader.{Faults, IsOutside}
-use Rattle.cert_check.specs.Names.{named_step}
-use Rattle.cert_check.specs.Verdicts.{AreSteps}
+use Rattle.cert_read.specs.declared.line.LineFault.TheVariants.{Memory}
 use Rattle.cert_check.proofs.WrittenLemmas.{AreNamedSteps, all_here, first_named}
 
 -- ---- where the file is over, the position stays

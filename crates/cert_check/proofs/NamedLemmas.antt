@@ -1,31 +1,14 @@
 -- The text of a step names that step.
-use Rattle.std.proofs.Common.{◌≡◌, ◌∙◌, ℕ, zero, suc, ◌+◌, ◌<◌, ◌≤◌, ◌==◌, ◌&&◌, ◌||◌, Bool, true, false, nat_lt, List, [], ◌∷◌, length, map, Some, refl, sym, ap, arith, inl, inr}
-use Rattle.std.specs.List.{filter, list_all, range_with_len}
-use Rattle.std.proofs.lemmas.Bool.{and_parts, cases_eq, cases_lt}
-use Rattle.std.proofs.lemmas.Bool.Decides.{nat_tests}
-use Rattle.cluster.specs.Limits.{max_nodes}
-use Rattle.cluster.specs.Sets.{has_node, no_nodes, with_node}
+use Rattle.std.proofs.Common.{map}
+use Rattle.base.proofs.Public.{◌≡◌, ◌∙◌, ℕ, zero, suc, ◌+◌, ◌<◌, ◌≤◌, ◌==◌, ◌&&◌, ◌||◌, Bool, true, false, nat_lt, List, [], ◌∷◌, length, Some, refl, sym, ap, arith, inl, inr, filter, list_all, range_with_len, and_parts, cases_eq, cases_lt, nat_tests}
+use Rattle.cert_check.specs.Prelude.{AreListed, as_instant, At, Element, element_name, first_nodes, From, has_all, has_node, HasPart, HasPlace, Idle, Instance, inventory_of, IsElement, IsInstance, IsNamed, IsNumber, machine_count, max_nodes, named_constraint, named_element, named_hall, named_load, named_machine, named_node, named_nodes, named_pair, named_part, named_place, named_reason, named_resource, named_stay, named_step, named_use, no_nodes, Node, node, node_added, node_count, NodeId, nodes_added, nodes_text, NodeSet, Nowhere, part_text, place_name, reason_text, resource_name, step_text, Upto, Vm, VmId, with_node, Word}
 use Rattle.cluster.specs.declared.choices.Place.{Place}
-use Rattle.cluster.specs.declared.choices.Place.TheVariants.{Nowhere, At}
-use Rattle.cluster.specs.declared.ids.Element.{Element}
-use Rattle.cluster.specs.declared.ids.Element.TheVariants.{Vm, Node}
-use Rattle.cluster.specs.declared.ids.NodeId.{NodeId}
-use Rattle.cluster.specs.declared.ids.VmId.{VmId}
-use Rattle.cluster.specs.declared.sets.NodeSet.{NodeSet}
-use Rattle.cluster.proofs.Public.{element_named-name_of, resource_named-listed, has_node-no_nodes, has_node-with_node, same_set}
-use Rattle.catalogue.specs.Instance.{Instance, IsElement, IsInstance, inventory_of}
-use Rattle.slices.specs.Elements.{machine_count, node, node_count}
 use Rattle.domains.specs.declared.parts.Part.{Part}
-use Rattle.domains.specs.declared.parts.Part.TheVariants.{Idle, Upto, From}
-use Rattle.reasons.specs.Reasons.{AreListed, IsNamed}
 use Rattle.reasons.specs.declared.reason.Reason.{Reason}
-use Rattle.reasons.specs.declared.reason.Reason.TheVariants as reason
 use Rattle.trees.specs.declared.steps.Step.{Step}
+use Rattle.cluster.proofs.Public.{element_named-name_of, resource_named-listed, has_node-no_nodes, has_node-with_node, same_set}
+use Rattle.reasons.specs.declared.reason.Reason.TheVariants as reason
 use Rattle.trees.specs.declared.steps.Step.TheVariants as step
-use Rattle.cert_text.specs.Kinds.{Word}
-use Rattle.cert_text.specs.Spelling.{HasPart, HasPlace, element_name, has_all, nodes_text, part_text, place_name, reason_text, resource_name, step_text}
-use Rattle.cert_text.specs.Texts.{IsNumber}
-use Rattle.cert_check.specs.Names.{as_instant, first_nodes, named_constraint, named_element, named_hall, named_load, named_machine, named_node, named_nodes, named_pair, named_part, named_place, named_reason, named_resource, named_stay, named_step, named_use, node_added, nodes_added}
 
 -- ---- numbers
 

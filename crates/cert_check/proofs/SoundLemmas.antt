@@ -1,14 +1,7 @@
 -- A yes is sound.
 use Rattle.std.proofs.Common.{Bool, List, ℕ, IfOk, Option, Result, Ok, Err, subst, sym}
-use Rattle.catalogue.specs.Instance.{Instance, IsInstance}
-use Rattle.slices.specs.Plans.{Choices}
-use Rattle.trees.specs.Certificates.{GoalHolds, IsHandedIn, bound_of}
+use Rattle.cert_check.specs.Prelude.{bound_of, CheckFault, Choices, Concludes, GoalHolds, Instance, IsHandedIn, IsInstance, IsSound, No, Verdict, Yes}
 use Rattle.cert_model.proofs.Public.{proofs_hold}
-use Rattle.cert_check.specs.declared.verdict.CheckFault.{CheckFault}
-use Rattle.cert_check.specs.declared.verdict.Verdict.{Verdict}
-use Rattle.cert_check.specs.declared.verdict.Verdict.TheVariants.{Yes, No}
-use Rattle.cert_check.specs.Turns.{Concludes}
-use Rattle.cert_check.specs.Verdicts.{IsSound}
 
 pub yes_is_sound : (p : Instance) → IsInstance p → (plan : Option Choices) → IsHandedIn p plan → (strict : Bool) (tells : Type 0) (file : List ℕ) (result : Result Verdict CheckFault) → Concludes p (bound_of p plan) strict tells file result → IfOk result (IsSound p plan)
 yes_is_sound p sound plan handed strict tells file (Ok (Yes goal least)) said =

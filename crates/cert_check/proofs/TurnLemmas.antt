@@ -1,25 +1,10 @@
 -- One more line.
-use Rattle.std.proofs.Common.{◌≡◌, inl, inr, ℕ, ◌<◌, ◌==◌, Bool, true, false, List, [], ◌∷◌, ◌++◌, drop, map, Option, Some, None, Result, Ok, Err, IsErrAnd, MatchOption, refl, sym, ap, subst, ◌∙◌, arith, if◌then◌else◌}
-use Rattle.std.proofs.lemmas.List.{length-append, map-append}
-use Rattle.catalogue.specs.Instance.{Instance}
+use Rattle.std.proofs.Common.{map, Result, Err, MatchOption, if◌then◌else◌}
+use Rattle.base.proofs.Public.{◌≡◌, inl, inr, ℕ, ◌<◌, ◌==◌, Bool, true, false, List, [], ◌∷◌, ◌++◌, drop, Option, Some, None, Ok, IsErrAnd, refl, sym, ap, subst, ◌∙◌, arith, length-append, map-append}
+use Rattle.cert_check.specs.Prelude.{AreSteps, bytes_of, Concludes, End, end_at, end_of, Ends, Faults, first_line_at, Instance, IsEndWhy, IsLeast, IsMoved, IsProof, IsShown, IsTaken, IsTextWhy, IsUnderway, Kept, least_along, Line, line_at, LineFault, named_step, No, Over, Position, shown, start, Step as StepLine, StepText, TextAnswers, turn, Why, Yes}
 use Rattle.trees.specs.declared.steps.Goal.{Goal}
 use Rattle.trees.specs.declared.steps.Step.{Step}
-use Rattle.trees.specs.Goals.{shown}
-use Rattle.plan_io.specs.Files.{bytes_of}
-use Rattle.cert_model.specs.declared.why.Why.{Why}
-use Rattle.cert_model.specs.Walks.{Ends, IsEndWhy, IsLeast, IsProof, Kept, least_along}
-use Rattle.cert_text.specs.declared.text.StepText.{StepText}
 use Rattle.cert_read.specs.declared.line.Line.{Line as ALine}
-use Rattle.cert_read.specs.declared.line.Line.TheVariants.{Step as StepLine, End, Over}
-use Rattle.cert_read.specs.declared.line.LineFault.{LineFault}
-use Rattle.cert_read.specs.declared.position.Position.{Position}
-use Rattle.cert_read.specs.Lines.{end_at, end_of, first_line_at, line_at, start, turn}
-use Rattle.cert_read.specs.Reader.{Faults, IsMoved}
-use Rattle.cert_check.specs.declared.verdict.CheckFault.TheVariants.{Line}
-use Rattle.cert_check.specs.declared.verdict.Verdict.TheVariants.{Yes, No}
-use Rattle.cert_check.specs.Names.{named_step}
-use Rattle.cert_check.specs.Turns.{Concludes, IsTaken, IsUnderway, TextAnswers}
-use Rattle.cert_check.specs.Verdicts.{AreSteps, IsShown, IsTextWhy}
 
 -- ---- one more step that was read
 

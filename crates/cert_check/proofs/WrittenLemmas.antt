@@ -1,37 +1,16 @@
 -- The steps of a tree that proves all legal choices can be written, and name what they are.
-use Rattle.std.proofs.Common.{◌≡◌, ℕ, ◌+◌, ◌*◌, ◌≤◌, Bool, true, false, List, [], ◌∷◌, ◌++◌, map, Option, Some, None, IsTrue, refl, sym, subst, arith}
-use Rattle.std.specs.List.{All}
-use Rattle.std.proofs.lemmas.List.Elements.{All-head, All-tail, All-weaker}
-use Rattle.base.proofs.Sums.{sum_to-bound}
-use Rattle.base.specs.Sums.{sum_to}
-use Rattle.cluster.specs.declared.choices.Choice.{Choice}
-use Rattle.cluster.specs.declared.choices.Choice.TheVariants.{Idle, Act}
-use Rattle.cluster.specs.declared.ids.Element.{Element}
-use Rattle.catalogue.specs.Instance.{Instance, IsInstance}
-use Rattle.slices.specs.Actions.{end_of, is_legal}
-use Rattle.slices.specs.Costs.{cost_of}
-use Rattle.slices.specs.Elements.{machine_count, node, node_count, vm}
-use Rattle.slices.specs.Limits.{max_cost}
-use Rattle.slices.specs.Plans.{Choices, IsPlan}
-use Rattle.slices.proofs.Public.{ends_by_duration, legal_acts_last}
-use Rattle.domains.specs.Parts.{in_part, out_of_part}
-use Rattle.domains.specs.Sets.{IsIn, Sets}
-use Rattle.domains.proofs.Public.{plan_stays}
-use Rattle.reasons.specs.Start.{start_sets}
+use Rattle.std.proofs.Common.{map, IsTrue}
+use Rattle.base.proofs.Public.{◌≡◌, ℕ, ◌+◌, ◌*◌, ◌≤◌, Bool, true, false, List, [], ◌∷◌, ◌++◌, Option, Some, None, refl, sym, subst, arith, All, All-head, All-tail, All-weaker, sum_to-bound}
+use Rattle.cert_check.specs.Prelude.{Act, AreWritable, bound_of, children, Choice, Choices, cost_of, Cut, Decide, decisions, Element, Fail, goal_of, HasStep, HasWritablePart, in_part, Instance, is_legal, IsGoal, IsHandedIn, IsIn, IsInstance, IsNumber, IsPlan, IsPlanLeaf, IsWritable, Leads, Left, machine_count, max_cost, named_step, node, node_count, out_of_part, Proves, Sets, start_sets, step_text, StepHolds, steps_of, sum_to, Tree, vm}
+use Rattle.cluster.specs.declared.choices.Choice.TheVariants.{Idle}
+use Rattle.slices.specs.Actions.{end_of}
 use Rattle.trees.specs.declared.steps.Step.{Step}
-use Rattle.trees.specs.declared.steps.Step.TheVariants.{Decide, Cut, Fail, Plan, Left}
-use Rattle.trees.specs.Trees.{Leads, Tree, children, steps_of}
-use Rattle.trees.specs.Proving.{IsPlanLeaf, Proves, StepHolds}
-use Rattle.trees.specs.Goals.{decisions, goal_of}
-use Rattle.trees.specs.Certificates.{IsHandedIn, bound_of}
+use Rattle.trees.specs.declared.steps.Step.TheVariants.{Plan}
+use Rattle.slices.proofs.Public.{ends_by_duration, legal_acts_last}
+use Rattle.domains.proofs.Public.{plan_stays}
 use Rattle.reasons.proofs.Public.{start_is_plan}
 use Rattle.trees.proofs.Public.{leads_tree, only_in}
-use Rattle.cert_text.specs.Spelling.{HasStep, step_text}
-use Rattle.cert_text.specs.Texts.{IsGoal, IsNumber}
 use Rattle.cert_text.proofs.Public.{named_reason}
-use Rattle.cert_read.specs.Laws.{AreWritable}
-use Rattle.cert_check.specs.Laws.{HasWritablePart, IsWritable}
-use Rattle.cert_check.specs.Names.{named_step}
 use Rattle.cert_check.proofs.NamedLemmas.{IsNamedStep, step_here}
 
 -- ---- a tree whose steps can be written

@@ -1,18 +1,9 @@
 -- What is proved of a certificate that is written from a tree: the check accepts it.
-use Rattle.std.specs.Prelude.{◌≡◌, ℕ, ◌<◌, ◌^◌, Bool, true, List, Option, Result, Ok, Err}
-use Rattle.std.specs.List.{All}
-use Rattle.catalogue.specs.Instance.{Instance, IsInstance}
-use Rattle.slices.specs.Plans.{Choices}
-use Rattle.reasons.specs.Start.{start_sets}
+use Rattle.base.specs.Prelude.{◌≡◌, ℕ, ◌<◌, ◌^◌, Bool, true, List, Option, Result, Ok, Err, All}
+use Rattle.cert_read.specs.Prelude.{certificate_text, Choices, decisions, HasPart, Instance, IsCertificate, IsHandedIn, IsInstance, IsLean, IsOutside, least_of, start_sets, steps_of, Tree}
 use Rattle.trees.specs.declared.steps.Goal.{Goal}
 use Rattle.trees.specs.declared.steps.Step.{Step}
 use Rattle.trees.specs.declared.steps.Step.TheVariants.{Decide, Cut, Fail, Plan, Left}
-use Rattle.trees.specs.Trees.{Tree, steps_of}
-use Rattle.trees.specs.Goals.{decisions}
-use Rattle.trees.specs.Searching.{IsLean}
-use Rattle.trees.specs.Certificates.{IsCertificate, IsHandedIn, least_of}
-use Rattle.cert_text.specs.Spelling.{HasPart, certificate_text}
-use Rattle.cert_read.specs.Reader.{IsOutside}
 use Rattle.cert_check.specs.declared.verdict.CheckFault.{CheckFault}
 use Rattle.cert_check.specs.declared.verdict.CheckFault.TheVariants.{Line, Memory}
 use Rattle.cert_check.specs.declared.verdict.Verdict.{Verdict}

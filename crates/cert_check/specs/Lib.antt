@@ -6,3 +6,4 @@ pub mod Verdicts
 pub mod Laws
 -- and what holds from line to line
 pub mod Turns
+pub mod Prelude

@@ -1,7 +1,6 @@
 -- Which step of a problem the text of a step names, if it names one.
-use Rattle.std.specs.Prelude.{ℕ, zero, suc, List, [], ◌∷◌, length, min, nat_lt, Option, Some, None, if◌then◌else◌}
-use Rattle.cluster.specs.Inventory.{element_named, resource_named}
-use Rattle.cluster.specs.Sets.{has_node, no_nodes, with_node}
+use Rattle.base.specs.Prelude.{ℕ, zero, suc, List, [], ◌∷◌, length, min, nat_lt, Option, Some, None, if◌then◌else◌}
+use Rattle.cert_read.specs.Prelude.{element_named, has_node, Instance, inventory_of, no_nodes, node_count, resource_named, with_node, Word}
 use Rattle.cluster.specs.declared.choices.Place.{Place}
 use Rattle.cluster.specs.declared.choices.Place.TheVariants.{Nowhere, At}
 use Rattle.cluster.specs.declared.ids.Element.{Element}
@@ -9,14 +8,9 @@ use Rattle.cluster.specs.declared.ids.Element.TheVariants.{Vm, Node}
 use Rattle.cluster.specs.declared.ids.NodeId.{NodeId}
 use Rattle.cluster.specs.declared.ids.VmId.{VmId}
 use Rattle.cluster.specs.declared.sets.NodeSet.{NodeSet}
-use Rattle.catalogue.specs.Instance.{Instance, inventory_of}
-use Rattle.slices.specs.Elements.{node_count}
 use Rattle.domains.specs.declared.parts.Part.{Part}
-use Rattle.domains.specs.declared.parts.Part.TheVariants as part
 use Rattle.reasons.specs.declared.reason.Reason.{Reason}
-use Rattle.reasons.specs.declared.reason.Reason.TheVariants as reason
 use Rattle.trees.specs.declared.steps.Step.{Step}
-use Rattle.trees.specs.declared.steps.Step.TheVariants as step
 use Rattle.cert_text.specs.declared.text.NodesText.{NodesText}
 use Rattle.cert_text.specs.declared.text.NodesText.TheVariants.{All, Listed}
 use Rattle.cert_text.specs.declared.text.PartText.{PartText}
@@ -25,7 +19,9 @@ use Rattle.cert_text.specs.declared.text.ReasonText.{ReasonText}
 use Rattle.cert_text.specs.declared.text.ReasonText.TheVariants.{Empty, Bound, Load, Pair, Place as PlaceReason, Group, SetLoad, Power, Usable, Hall}
 use Rattle.cert_text.specs.declared.text.StepText.{StepText}
 use Rattle.cert_text.specs.declared.text.StepText.TheVariants.{Decide, Cut, Fail, Plan, Left}
-use Rattle.cert_text.specs.Kinds.{Word}
+use Rattle.domains.specs.declared.parts.Part.TheVariants as part
+use Rattle.reasons.specs.declared.reason.Reason.TheVariants as reason
+use Rattle.trees.specs.declared.steps.Step.TheVariants as step
 
 -- what is named, and what is made of it
 infixl 10 ◌>>=◌

@@ -1,11 +1,9 @@
 -- Helping only: what one line changes, and what is known between two lines.
-use Rattle.std.specs.Prelude.{◌≡◌, ℕ, ◌≤◌, Bool, false, List, [], ◌∷◌, ◌++◌, length, Option, Some, Result, Ok, Err, MatchOption}
-use Rattle.catalogue.specs.Instance.{Instance}
+use Rattle.base.specs.Prelude.{◌≡◌, ℕ, ◌≤◌, Bool, false, List, [], ◌∷◌, ◌++◌, length, Option, Some, Result, Ok, Err, MatchOption}
+use Rattle.cert_model.specs.Prelude.{Instance, IsProof, Kept, least_along, shown, Stands}
 use Rattle.trees.specs.declared.steps.Goal.{Goal}
 use Rattle.trees.specs.declared.steps.Step.{Step}
-use Rattle.trees.specs.Goals.{shown}
 use Rattle.cert_model.specs.declared.why.Why.{Why}
-use Rattle.cert_model.specs.Walks.{IsProof, Kept, Stands, least_along}
 use Rattle.cert_text.specs.declared.text.StepText.{StepText}
 use Rattle.cert_read.specs.declared.position.Position.{Position}
 use Rattle.cert_check.specs.declared.lines.Going.{Going}

@@ -1,22 +1,15 @@
 -- The verdict on a certificate: its lines are taken in order, and the first that decides gives it.
-use Rattle.std.specs.Prelude.{◌≡◌, ◌⊎◌, ℕ, Bool, List, [], ◌∷◌, map, Option, Some, None, Result, Ok, Err}
-use Rattle.catalogue.specs.Instance.{Instance}
-use Rattle.slices.specs.Plans.{Choices}
-use Rattle.slices.specs.Rules.{IsValid}
-use Rattle.domains.specs.Sets.{Sets}
+use Rattle.base.specs.Prelude.{◌≡◌, ◌⊎◌, ℕ, Bool, List, [], ◌∷◌, map, Option, Some, None, Result, Ok, Err}
+use Rattle.cert_read.specs.Prelude.{CountsLine, Faults, start, turn}
+use Rattle.cert_model.specs.Prelude.{bound_of, Choices, GoalHolds, Instance, IsEndWhy, IsHandedIn, IsProof, IsRefused, IsValid, LeadsTo, least_along, Sets, shown}
 use Rattle.trees.specs.declared.steps.Goal.{Goal}
 use Rattle.trees.specs.declared.steps.Step.{Step as TreeStep}
-use Rattle.trees.specs.Goals.{shown}
-use Rattle.trees.specs.Certificates.{GoalHolds, IsHandedIn, bound_of}
 use Rattle.cert_model.specs.declared.why.Why.{Why}
 use Rattle.cert_model.specs.declared.why.Why.TheVariants.{Structure, Name, Plan}
-use Rattle.cert_model.specs.Walks.{IsEndWhy, IsProof, IsRefused, LeadsTo, least_along}
 use Rattle.cert_text.specs.declared.text.StepText.{StepText}
 use Rattle.cert_read.specs.declared.line.Line.TheVariants.{Step, End, Over}
 use Rattle.cert_read.specs.declared.line.LineFault.{LineFault}
 use Rattle.cert_read.specs.declared.position.Position.{Position}
-use Rattle.cert_read.specs.Lines.{start, turn}
-use Rattle.cert_read.specs.Reader.{CountsLine, Faults}
 use Rattle.cert_check.specs.declared.verdict.CheckFault.{CheckFault}
 use Rattle.cert_check.specs.declared.verdict.CheckFault.TheVariants.{Line, Memory}
 use Rattle.cert_check.specs.declared.verdict.Verdict.{Verdict}

@@ -1,11 +1,6 @@
 //! The check of a certificate.
-ghost use Rattle.std.specs.Prelude.{◌≡◌, false, IfOk, IfSome, IsTrue};
-ghost use Rattle.std.specs.Option.{option_copied};
-ghost use Rattle.plan_io.specs.Files.{bytes_of};
-ghost use Rattle.slices.specs.Plans.{IsPlanOf};
-ghost use Rattle.trees.specs.Certificates.{IsHandedIn};
-ghost use Rattle.cert_model.specs.Walks.{choices_handed};
-ghost use Rattle.cert_check.specs.Verdicts.{CheckGives, CountsCheck, IsFit, IsSound};
+ghost use Rattle.base.specs.Prelude.{◌≡◌, false, IfOk, IfSome, IsTrue, option_copied};
+ghost use Rattle.cert_check.specs.Prelude.{bytes_of, CheckGives, choices_handed, CountsCheck, IsFit, IsHandedIn, IsPlanOf, IsSound};
 
 use crate::lines::check_lines;
 use crate::verdict::{CheckFault, Verdict};

@@ -1,17 +1,6 @@
 //! The lines of a certificate, one after another, up to the one that decides.
-ghost use Rattle.std.specs.Prelude.{◌≡◌, ◌<◌, ◌^◌, ℕ, Bool, List, true, IfOk, IfSome, IsTrue, Ok, Option as AnyOption};
-ghost use Rattle.std.specs.Option.{option_copied};
-ghost use Rattle.plan_io.specs.Files.{bytes_of};
-ghost use Rattle.slices.specs.Plans.{IsPlanOf};
-ghost use Rattle.trees.specs.Certificates.{bound_of};
-ghost use Rattle.cert_model.specs.Walks.{choices_handed};
-ghost use Rattle.cert_read.specs.declared.line.Line.TheVariants.{End};
-ghost use Rattle.cert_read.specs.declared.position.Position.{Position};
-ghost use Rattle.cert_read.specs.Lines.{turn as read_at};
-ghost use Rattle.cert_read.specs.Reader.{StandsIn};
-ghost use Rattle.catalogue.specs.Instance.{Instance};
-ghost use Rattle.cert_check.specs.Turns.{Concludes, IsGoing, IsUnderway, TurnGives};
-ghost use Rattle.cert_check.specs.Verdicts.{CountsCheck};
+ghost use Rattle.base.specs.Prelude.{◌≡◌, ◌<◌, ◌^◌, ℕ, Bool, List, true, IfOk, IfSome, IsTrue, Ok, Option as AnyOption, option_copied};
+ghost use Rattle.cert_check.specs.Prelude.{bound_of, bytes_of, choices_handed, Concludes, CountsCheck, End, Instance, IsGoing, IsPlanOf, IsUnderway, Position, StandsIn, turn as read_at, TurnGives};
 
 use crate::take::take;
 use crate::verdict::{CheckFault, Verdict};

@@ -1,8 +1,6 @@
 //! One step of a certificate, taken by its names.
-ghost use Rattle.std.specs.Prelude.{◌≡◌, IfOk, OnErr};
-ghost use Rattle.cert_model.specs.Walks.{IsStanding, IsUnchanged};
-ghost use Rattle.cert_check.specs.Names.{named_step};
-ghost use Rattle.cert_check.specs.Turns.{TextAnswers};
+ghost use Rattle.base.specs.Prelude.{◌≡◌, IfOk, OnErr};
+ghost use Rattle.cert_check.specs.Prelude.{IsStanding, IsUnchanged, named_step, TextAnswers};
 
 use crate::named::step_of;
 use base::Memory;

@@ -1,11 +1,7 @@
 -- What is counted of steps, with one more step.
 use Rattle.std.proofs.Common.{◌≡◌, ℕ, List, [], ◌∷◌, ◌++◌, sym, ap, ◌∙◌, Option, Some, append-nil}
-use Rattle.base.specs.Least.{lower, lowest}
-use Rattle.trees.specs.declared.steps.Step.{Step}
-use Rattle.trees.specs.declared.steps.Step.TheVariants.{Plan, Left}
-use Rattle.domains.specs.Sets.{Sets}
-use Rattle.trees.specs.Goals.{left_set}
-use Rattle.trees.specs.Searching.{plan_costs}
+use Rattle.cert_model.specs.Prelude.{Left, left_set, lower, lowest, plan_costs, Sets, Step}
+use Rattle.trees.specs.declared.steps.Step.TheVariants.{Plan}
 use Rattle.trees.proofs.Public.{lowest_push, plan_costs_append}
 
 abbrev cheapest_of : List ℕ → Option ℕ

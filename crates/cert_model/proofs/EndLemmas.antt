@@ -1,22 +1,9 @@
 -- The sum of the least ends where one element is narrowed.
-use Rattle.std.proofs.Common.{◌≡◌, ◌≢◌, ℕ, ◌+◌, ◌≤◌, Bool, true, false, not, List, [], ◌∷◌, Option, Some, None, unwrap_or, refl, ap, subst, arith, IsTrue}
-use Rattle.std.specs.List.{Contains, filter}
-use Rattle.std.proofs.lemmas.Bool.{eq-eqb, false_from_ne_true}
-use Rattle.base.specs.Least.{least, lower, lowest}
-use Rattle.cluster.specs.declared.choices.Choice.{Choice}
-use Rattle.cluster.specs.declared.ids.Element.{Element}
-use Rattle.cluster.specs.declared.ids.Element.TheVariants.{Vm, Node as TheNode}
-use Rattle.catalogue.specs.Instance.{Instance, IsElement, IsInstance}
-use Rattle.slices.specs.Actions.{end_of, is_legal}
-use Rattle.slices.specs.Limits.{max_cost}
+use Rattle.std.proofs.Common.{IsTrue}
+use Rattle.base.proofs.Public.{◌≡◌, ◌≢◌, ℕ, ◌+◌, ◌≤◌, Bool, true, false, not, List, [], ◌∷◌, Option, Some, None, unwrap_or, refl, ap, subst, arith, Contains, filter, eq-eqb, false_from_ne_true}
+use Rattle.cert_model.specs.Prelude.{AreLegal, Choice, Element, end_of, in_part, Instance, is_legal, IsElement, IsInstance, keeping, least, least_cost, least_with, lower, lower_option, lowest, max_cost, Node as TheNode, same_element, Sets, stays, Vm}
 use Rattle.domains.specs.declared.parts.Part.{Part}
-use Rattle.domains.specs.Measures.{lower_option}
-use Rattle.domains.specs.Parts.{in_part, stays}
-use Rattle.domains.specs.Sets.{Sets, keeping, same_element}
 use Rattle.domains.proofs.Public.{filter_is_fewer, same_is}
-use Rattle.reasons.specs.Sure.{least_cost}
-use Rattle.relax.specs.Areas.{AreLegal}
-use Rattle.bound.specs.Losses.{least_with}
 use Rattle.bound.proofs.Public.{cost_change, cost_is_small, cost_term}
 
 -- ---- a set that is narrowed

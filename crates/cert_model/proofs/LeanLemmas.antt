@@ -1,16 +1,7 @@
 -- Undecided sets, by what is kept of the steps before.
-use Rattle.std.proofs.Common.{◌≡◌, ℕ, ◌<◌, List, sym, subst, Option, Some, None}
-use Rattle.std.specs.Prelude.{IfSome}
-use Rattle.base.specs.Least.{lowest}
-use Rattle.cluster.specs.declared.ids.Element.TheVariants.{Vm, Node}
-use Rattle.catalogue.specs.Instance.{Instance}
-use Rattle.domains.specs.Sets.{IsFixed, RegionView, sets}
-use Rattle.reasons.specs.Closed.{IsClosed}
-use Rattle.reasons.specs.Sure.{least_cost}
-use Rattle.trees.specs.declared.steps.Step.{Step}
-use Rattle.trees.specs.Searching.{AreFixed, IsUndecided, plan_costs}
+use Rattle.base.proofs.Public.{◌≡◌, ℕ, ◌<◌, List, sym, subst, Option, Some, None, IfSome}
+use Rattle.cert_model.specs.Prelude.{AreFixed, Instance, IsClosed, IsFixed, IsSized, IsUndecided, least_cost, lowest, Node, plan_costs, RegionView, sets, Step, Vm}
 use Rattle.trees.proofs.Public.{IsAbove, above_cheapest}
-use Rattle.relax.specs.Areas.{IsSized}
 
 -- ---- below each plan, or below the cheapest
 

@@ -1,13 +1,7 @@
 -- A region that is one plan.
-use Rattle.std.proofs.Common.{◌≡◌, ℕ, ◌≤◌, sym, subst, ◌∙◌, Option, Some}
-use Rattle.std.specs.Option.{IsSomeAnd}
-use Rattle.catalogue.specs.Instance.{Instance}
-use Rattle.slices.specs.Plans.{Choices}
-use Rattle.slices.specs.Rules.{IsValid}
-use Rattle.domains.specs.Sets.{IsOnly, Sets}
-use Rattle.reasons.specs.Sure.{least_cost}
+use Rattle.base.proofs.Public.{◌≡◌, ℕ, ◌≤◌, sym, subst, ◌∙◌, Option, Some, IsSomeAnd}
+use Rattle.cert_model.specs.Prelude.{Choices, Instance, IsOnly, IsPlanLeaf, IsValid, least_cost, Sets}
 use Rattle.reasons.proofs.Public.{only_costs}
-use Rattle.trees.specs.Proving.{IsPlanLeaf}
 
 -- its cost is the sum of the least ends
 pub plan_leaf : (p : Instance) (bound : Option ℕ) (s : Sets) (sum cost known : ℕ) (plan : Choices) → bound ≡ Some known → known ≤ cost → sum ≡ cost → sum ≡ least_cost p s → IsOnly s plan → IsValid p plan → IsPlanLeaf p bound s cost

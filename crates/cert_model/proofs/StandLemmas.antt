@@ -1,28 +1,10 @@
 -- A walk that stands for steps: what is due, and one more step.
-use Rattle.std.proofs.Common.{◌≡◌, ◌≤◌, ◌<◌, ◌+◌, ◌^◌, ℕ, Bool, List, [], ◌∷◌, ◌++◌, map, length, refl, sym, ap, subst, ◌∙◌, arith, Option, Some, None, is_some}
-use Rattle.std.specs.List.{Contains}
-use Rattle.std.proofs.lemmas.List.{map-append}
-use Rattle.base.specs.Least.{lowest}
-use Rattle.cluster.specs.declared.ids.Element.{Element}
-use Rattle.catalogue.specs.Instance.{Instance}
-use Rattle.domains.specs.Parts.{in_part, out_of_part}
-use Rattle.domains.specs.Sets.{RegionView, Sets, sets}
-use Rattle.reasons.specs.Start.{start_sets}
-use Rattle.reasons.specs.Sure.{least_cost}
+use Rattle.std.proofs.Common.{◌^◌, map}
+use Rattle.base.proofs.Public.{◌≡◌, ◌≤◌, ◌<◌, ◌+◌, ℕ, Bool, List, [], ◌∷◌, ◌++◌, length, refl, sym, ap, subst, ◌∙◌, arith, Option, Some, None, is_some, Contains, map-append}
+use Rattle.cert_model.specs.Prelude.{AreLegal, children, Cut, Decide, decisions, Due, due_sets, due_sums, Element, Fact, Fail, Frontier, gathered_along, goal_of, has_left, in_part, Instance, IsSized, Kept, later_sets, later_sums, Leads, LeadsTo, least_cost, Left, left_along, left_set, lowest, Nothing, open_of, open_sets, open_sums, out_of_part, outer_sets, Outside, outside, plan_costs, RegionView, Sets, sets, shown, Stands, start_sets, Step, sums_of, WalkAt, Whole}
+use Rattle.trees.specs.declared.steps.Step.TheVariants.{Plan}
 use Rattle.reasons.proofs.Public.{start_is_legal}
-use Rattle.trees.specs.declared.steps.Step.{Step}
-use Rattle.trees.specs.declared.steps.Step.TheVariants.{Decide, Cut, Fail, Plan, Left}
-use Rattle.trees.specs.Trees.{Fact, Leads, children, gathered_along, outside}
-use Rattle.trees.specs.Goals.{decisions, goal_of, has_left, left_set, shown}
-use Rattle.trees.specs.Searching.{plan_costs}
 use Rattle.trees.proofs.Public.{decisions_append, gathered_push, leads_push, leads_same}
-use Rattle.relax.specs.Areas.{AreLegal, IsSized}
-use Rattle.cert_model.specs.declared.frontier.Due.{Due}
-use Rattle.cert_model.specs.declared.frontier.Due.TheVariants.{Nothing, Outside, Whole}
-use Rattle.cert_model.specs.declared.frontier.Frontier.{Frontier}
-use Rattle.cert_model.specs.Open.{due_sets, due_sums, outer_sets}
-use Rattle.cert_model.specs.Frontiers.{later_sets, later_sums, open_sets, open_sums}
-use Rattle.cert_model.specs.Walks.{Kept, LeadsTo, Stands, WalkAt, left_along, open_of, sums_of}
 use Rattle.cert_model.proofs.EndLemmas.{narrow_legal}
 
 -- ---- choices stay legal along steps

@@ -1,17 +1,7 @@
 -- What some machines use is no more than what all do.
-use Rattle.std.proofs.Common.{◌≡◌, inl, inr, ℕ, zero, suc, ◌+◌, ◌<◌, ◌≤◌, nat_lt, IsTrue, arith}
-use Rattle.std.proofs.lemmas.Bool.{cases_lt}
-use Rattle.std.proofs.lemmas.Bool.Decides.{nat_tests}
-use Rattle.base.specs.Sums.{sum_to}
-use Rattle.catalogue.specs.Instance.{Instance}
-use Rattle.slices.specs.declared.slice.Weight.TheVariants.{Amount}
-use Rattle.slices.specs.Elements.{machine_count}
-use Rattle.slices.specs.Limits.{max_held}
-use Rattle.slices.specs.Snapshots.{Snapshot, room}
-use Rattle.slices.specs.Stages.{Nodes}
-use Rattle.reasons.specs.Reasons.{IsOverload}
-use Rattle.cert_model.specs.declared.weighed.Weighed.{Weighed}
-use Rattle.cert_model.specs.Weighed.{IsWeighed}
+use Rattle.std.proofs.Common.{IsTrue}
+use Rattle.base.proofs.Public.{◌≡◌, inl, inr, ℕ, zero, suc, ◌+◌, ◌<◌, ◌≤◌, nat_lt, arith, cases_lt, nat_tests}
+use Rattle.cert_model.specs.Prelude.{Amount, Instance, IsOverload, IsWeighed, machine_count, max_held, Nodes, room, Snapshot, sum_to, Weighed}
 
 -- a sum of more terms is no less
 grows : (a b : ℕ) (f : ℕ → ℕ) → a ≤ b → sum_to a f ≤ sum_to b f

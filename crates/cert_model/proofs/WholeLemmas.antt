@@ -1,19 +1,7 @@
 -- Steps that leave nothing open are a proof, and what they show holds.
 use Rattle.std.proofs.Common.{◌≡◌, ℕ, Bool, true, false, List, [], ◌∷◌, refl, sym, ap, subst, ◌∙◌, Option}
-use Rattle.base.specs.Least.{lowest}
-use Rattle.catalogue.specs.Instance.{Instance}
-use Rattle.domains.specs.Sets.{Sets}
-use Rattle.reasons.specs.Start.{start_sets}
-use Rattle.reasons.specs.Sure.{least_cost}
-use Rattle.trees.specs.declared.steps.Step.{Step}
-use Rattle.trees.specs.Trees.{AtEach, Tree, steps_of}
-use Rattle.trees.specs.Proving.{Proves, StepHolds}
-use Rattle.trees.specs.Goals.{least_shown, left_set, lower_of, shown}
-use Rattle.trees.specs.Searching.{IsLean, LeanAt}
-use Rattle.trees.specs.Certificates.{GoalHolds, bound_of}
+use Rattle.cert_model.specs.Prelude.{AtEach, bound_of, GoalHolds, Instance, IsLean, IsProof, LeadsTo, LeanAt, least_along, least_cost, least_shown, left_set, lower_of, lowest, ProofsHold, Proves, Sets, shown, start_sets, Step, StepHolds, steps_of, Tree, WalkAt}
 use Rattle.trees.proofs.Public.{at_each_both, at_each_map, certificates_hold, gathered_whole, leads_same, leads_tree, tree_of}
-use Rattle.cert_model.specs.Laws.{ProofsHold}
-use Rattle.cert_model.specs.Walks.{IsProof, LeadsTo, WalkAt, least_along}
 
 -- ---- steps and trees
 

@@ -1,11 +1,8 @@
 -- What a walk that ends well says of all plans of the instance.
-use Rattle.std.specs.Prelude.{◌≡◌, Bool, List, Option}
-use Rattle.catalogue.specs.Instance.{Instance, IsInstance}
-use Rattle.slices.specs.Plans.{Choices}
+use Rattle.base.specs.Prelude.{◌≡◌, Bool, List, Option}
+use Rattle.trees.specs.Prelude.{bound_of, Choices, GoalHolds, Instance, IsHandedIn, IsInstance, shown}
 use Rattle.trees.specs.declared.steps.Goal.{Goal}
 use Rattle.trees.specs.declared.steps.Step.{Step}
-use Rattle.trees.specs.Goals.{shown}
-use Rattle.trees.specs.Certificates.{GoalHolds, IsHandedIn, bound_of}
 use Rattle.cert_model.specs.Walks.{IsProof, least_along}
 
 -- where the steps are a proof for the plan that was handed in, or for none, the goal that they show holds

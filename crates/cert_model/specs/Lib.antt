@@ -7,3 +7,4 @@ pub mod Laws
 -- what the code keeps beside it
 pub mod Frontiers
 pub mod Weighed
+pub mod Prelude

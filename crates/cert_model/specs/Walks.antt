@@ -1,20 +1,9 @@
 -- What a walk over the steps of a certificate keeps, and what its answers mean.
-use Rattle.std.specs.Prelude.{◌≡◌, ◌≢◌, ◌⊎◌, ℕ, ◌+◌, ◌<◌, ◌^◌, Bool, true, List, [], ◌∷◌, ◌++◌, length, map, Option, Some, None, MatchOption}
-use Rattle.catalogue.specs.Instance.{Instance, IsElement}
-use Rattle.base.specs.Least.{lowest}
-use Rattle.slices.specs.Elements.{machine_count, node_count}
-use Rattle.slices.specs.Plans.{Choices, PlanChoices, choices_of}
-use Rattle.domains.specs.Sets.{RegionView, Sets, sets}
-use Rattle.reasons.specs.Reasons.{Refutes}
-use Rattle.reasons.specs.Start.{start_sets}
-use Rattle.reasons.specs.Sure.{least_cost}
+use Rattle.base.specs.Prelude.{◌≡◌, ◌≢◌, ◌⊎◌, ℕ, ◌+◌, ◌<◌, ◌^◌, Bool, true, List, [], ◌∷◌, ◌++◌, length, map, Option, Some, None, MatchOption}
+use Rattle.trees.specs.Prelude.{Choices, choices_of, decisions, gathered_along, inside, Instance, IsElement, IsLean, IsPlanLeaf, IsSplit, Leads, LeanAt, least_cost, left_set, lower_of, lowest, machine_count, node_count, plan_costs, PlanChoices, Proves, Refutes, RegionView, Sets, sets, shown, start_sets, StepHolds, steps_of, Tree}
 use Rattle.trees.specs.declared.steps.Goal.{Goal as TreeGoal}
 use Rattle.trees.specs.declared.steps.Step.{Step}
 use Rattle.trees.specs.declared.steps.Step.TheVariants.{Decide, Cut, Fail, Plan as PlanStep, Left}
-use Rattle.trees.specs.Trees.{Tree, Leads, gathered_along, inside, steps_of}
-use Rattle.trees.specs.Proving.{IsPlanLeaf, IsSplit, Proves, StepHolds}
-use Rattle.trees.specs.Goals.{decisions, left_set, lower_of, shown}
-use Rattle.trees.specs.Searching.{IsLean, LeanAt, plan_costs}
 use Rattle.cert_model.specs.declared.frontier.Due.{Due}
 use Rattle.cert_model.specs.declared.frontier.Outer.{Outer}
 use Rattle.cert_model.specs.declared.why.Why.{Why}

@@ -1,12 +1,7 @@
 -- Helping only: what some of the machines before a number use.
-use Rattle.std.specs.Prelude.{ℕ, ◌*◌, ◌≤◌}
-use Rattle.base.specs.Sums.{sum_to}
-use Rattle.catalogue.specs.Instance.{Instance}
+use Rattle.base.specs.Prelude.{ℕ, ◌*◌, ◌≤◌}
+use Rattle.bound.specs.Prelude.{Instance, machine_count, max_held, Nodes, Snapshot, sum_to}
 use Rattle.slices.specs.declared.slice.Weight.TheVariants.{Amount}
-use Rattle.slices.specs.Elements.{machine_count}
-use Rattle.slices.specs.Limits.{max_held}
-use Rattle.slices.specs.Snapshots.{Snapshot}
-use Rattle.slices.specs.Stages.{Nodes}
 use Rattle.cert_model.specs.declared.weighed.Weighed.{Weighed}
 
 -- no more than all of them

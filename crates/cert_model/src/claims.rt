@@ -1,15 +1,7 @@
 //! What a step claims of the region that is due, tried in order.
-ghost use Rattle.std.specs.Prelude.{◌≡◌, ◌↔◌, [], false, filter, IfOk, IfSome, IsTrue};
-ghost use Rattle.catalogue.specs.Instance.{IsElement};
-ghost use Rattle.domains.specs.Parts.{on_side};
-ghost use Rattle.domains.specs.Sets.{HasElement, sets};
-ghost use Rattle.domains.specs.Views.{seen};
-ghost use Rattle.reasons.specs.Reasons.{Refutes};
-ghost use Rattle.reasons.specs.Sure.{least_cost};
-ghost use Rattle.trees.specs.Trees.{inside};
-ghost use Rattle.trees.specs.Proving.{IsPlanLeaf, IsSplit, StepHolds};
-ghost use Rattle.relax.specs.Areas.{AreLegal, IsSized};
-ghost use Rattle.cert_model.specs.Walks.{IsFault, PartHolds, PlanHolds, ReasonHolds};
+ghost use Rattle.std.specs.Prelude.{filter};
+ghost use Rattle.base.specs.Prelude.{◌≡◌, ◌↔◌, [], false, IfOk, IfSome, IsTrue};
+ghost use Rattle.cert_model.specs.Prelude.{AreLegal, HasElement, inside, IsElement, IsFault, IsPlanLeaf, IsSized, IsSplit, least_cost, on_side, PartHolds, PlanHolds, ReasonHolds, Refutes, seen, sets, StepHolds};
 
 use crate::ends::sum_seen;
 use crate::nearby::Nearby;

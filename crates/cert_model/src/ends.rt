@@ -1,15 +1,6 @@
 //! The sum of the least ends of a region, kept from step to step.
-ghost use Rattle.std.specs.Prelude.{◌≡◌, ◌≤◌};
-ghost use Rattle.catalogue.specs.Instance.{IsElement};
-ghost use Rattle.base.specs.Least.{lowest};
-ghost use Rattle.slices.specs.Actions.{end_of};
-ghost use Rattle.slices.specs.Limits.{max_cost};
-ghost use Rattle.domains.specs.Parts.{on_side};
-ghost use Rattle.domains.specs.Sets.{keeping, sets};
-ghost use Rattle.domains.specs.Views.{seen};
-ghost use Rattle.reasons.specs.Sure.{least_cost as least_cost_of};
-ghost use Rattle.trees.specs.Trees.{inside, outside};
-ghost use Rattle.relax.specs.Areas.{AreLegal, IsSized};
+ghost use Rattle.base.specs.Prelude.{◌≡◌, ◌≤◌};
+ghost use Rattle.cert_model.specs.Prelude.{AreLegal, end_of, inside, IsElement, IsSized, keeping, least_cost as least_cost_of, lowest, max_cost, on_side, outside, seen, sets};
 
 use bound::ends::after_loss;
 use catalogue::Problem;

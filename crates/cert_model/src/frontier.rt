@@ -1,8 +1,6 @@
 //! What is open: one region that is changed and undone, and the outer sides of the decisions in it.
-ghost use Rattle.std.specs.Prelude.{◌≡◌, ◌∷◌, [], OnOk, OnErr, length};
-ghost use Rattle.domains.specs.Sets.{HasElement, sets};
-ghost use Rattle.trees.specs.Trees.{inside, outside};
-ghost use Rattle.cert_model.specs.Frontiers.{AreSame, AreSameSize, IsEntered, IsKept, later_sets, later_sums, open_sets, open_sums};
+ghost use Rattle.base.specs.Prelude.{◌≡◌, ◌∷◌, [], OnOk, OnErr, length};
+ghost use Rattle.cert_model.specs.Prelude.{AreSame, AreSameSize, HasElement, inside, IsEntered, IsKept, later_sets, later_sums, open_sets, open_sums, outside, sets};
 
 use crate::nearby::Nearby;
 use base::Memory;

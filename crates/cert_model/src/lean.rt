@@ -1,11 +1,6 @@
 //! Whether a step is lean.
-ghost use Rattle.std.specs.Prelude.{◌≡◌, ◌↔◌, ◌<◌, false, List, IfSome, IsTrue};
-ghost use Rattle.base.specs.Least.{lowest};
-ghost use Rattle.domains.specs.Sets.{sets};
-ghost use Rattle.reasons.specs.Sure.{least_cost};
-ghost use Rattle.trees.specs.declared.steps.Step.{Step as AnyStep};
-ghost use Rattle.trees.specs.Searching.{IsUndecided, LeanAt, plan_costs};
-ghost use Rattle.relax.specs.Areas.{IsSized};
+ghost use Rattle.base.specs.Prelude.{◌≡◌, ◌↔◌, ◌<◌, false, List, IfSome, IsTrue};
+ghost use Rattle.cert_model.specs.Prelude.{IsSized, IsUndecided, LeanAt, least_cost, lowest, plan_costs, sets, Step as AnyStep};
 
 use catalogue::problem::Problem;
 use closing::closed::closed;

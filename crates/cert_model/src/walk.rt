@@ -1,14 +1,6 @@
 //! The walk.
-ghost use Rattle.std.specs.Prelude.{◌≡◌, ◌++◌, [], List, map, IfOk, IfSome, OnErr, OnOk};
-ghost use Rattle.std.specs.Option.{option_copied};
-ghost use Rattle.catalogue.specs.Instance.{Instance};
-ghost use Rattle.slices.specs.Plans.{IsPlanOf};
-ghost use Rattle.base.specs.Least.{lowest};
-ghost use Rattle.domains.specs.Sets.{sets};
-ghost use Rattle.reasons.specs.Sure.{least_cost};
-ghost use Rattle.trees.specs.Certificates.{bound_of};
-ghost use Rattle.trees.specs.Searching.{plan_costs};
-ghost use Rattle.trees.specs.Trees.{children};
+ghost use Rattle.base.specs.Prelude.{◌≡◌, ◌++◌, [], List, map, IfOk, IfSome, OnErr, OnOk, option_copied, lowest};
+ghost use Rattle.trees.specs.Prelude.{bound_of, children, Instance, IsPlanOf, least_cost, plan_costs, sets};
 ghost use Rattle.trees.specs.declared.steps.Step.{Step as AnyStep};
 ghost use Rattle.relax.specs.Areas.{AreLegal, IsSized};
 ghost use Rattle.cert_model.specs.Frontiers.{AreSame, AreSameSize, IsKept, later_sets, later_sums, open_sets, open_sums};

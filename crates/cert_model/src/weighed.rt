@@ -1,12 +1,6 @@
 //! Whether a reason is seen to refute: some machines alone use too much of the nodes of a set, or two are on a node.
-ghost use Rattle.std.specs.Prelude.{◌≡◌, ℕ, ◌<◌, length, IsTrue, Option as AnyOption};
-ghost use Rattle.cluster.specs.Sets.{has_node};
-ghost use Rattle.slices.specs.Elements.{machine_count};
-ghost use Rattle.domains.specs.Views.{seen};
-ghost use Rattle.reasons.specs.Reasons.{IsOverload, Refutes};
-ghost use Rattle.reasons.specs.Sure.{sure};
-ghost use Rattle.relax.specs.Areas.{IsSized, nodes_of};
-ghost use Rattle.cert_model.specs.Weighed.{IsWeighed};
+ghost use Rattle.base.specs.Prelude.{◌≡◌, ℕ, ◌<◌, length, IsTrue, Option as AnyOption};
+ghost use Rattle.cert_model.specs.Prelude.{has_node, IsOverload, IsSized, IsWeighed, machine_count, nodes_of, Refutes, seen, sure};
 
 use crate::nearby::Nearby;
 use catalogue::Problem;

@@ -1,25 +1,10 @@
 -- What was written is read back.
-use Rattle.std.proofs.Common.{◌≡◌, ◌∙◌, ℕ, ◌+◌, ◌<◌, ◌≤◌, ◌==◌, true, false, List, [], ◌∷◌, ◌++◌, length, drop, nat_lt, Some, Ok, refl, sym, ap, arith, add-zero, lit<, lit≤, inl, inr, append_assoc, length-append}
-use Rattle.std.proofs.lemmas.Bool.{cases_eq}
-use Rattle.std.proofs.lemmas.Bool.Decides.{nat_tests}
-use Rattle.std.proofs.lemmas.List.{drop-drop}
-use Rattle.std.proofs.lemmas.List.Sums.{AllPass-from_list_all, position_or_len_is}
-use Rattle.std.proofs.Math.Seq.{drop-append-add, take-append_seam}
-use Rattle.std.specs.List.{Contains, flat_map, slice_index_or}
-use Rattle.catalogue.specs.Instance.{Instance, IsInstance}
-use Rattle.trees.specs.declared.steps.Goal.{Goal}
+use Rattle.std.proofs.Common.{length-append}
+use Rattle.base.proofs.Public.{◌≡◌, ◌∙◌, ℕ, ◌+◌, ◌<◌, ◌≤◌, ◌==◌, true, false, List, [], ◌∷◌, ◌++◌, length, drop, nat_lt, Some, Ok, refl, sym, ap, arith, add-zero, lit<, lit≤, inl, inr, append_assoc, cases_eq, nat_tests, drop-drop, AllPass-from_list_all, position_or_len_is, drop-append-add, take-append_seam, Contains, flat_map, slice_index_or}
+use Rattle.cert_read.specs.Prelude.{AreWritable, as_line, bytes_before_newline, certificate_text, End, end_at, end_line, first_line_at, Goal, header, header_bytes, header_line, Instance, is_end, IsGoal, IsInstance, IsLine, joined, Line, line_at, line_bytes, line_words, lines_of, LineText, max_line, Over, Position, position_after, reading, ReadsOn, start, Step as StepLine, step_line, step_text, text_at, turn}
 use Rattle.trees.specs.declared.steps.Step.{Step}
-use Rattle.cert_text.specs.declared.text.LineText.{LineText}
 use Rattle.cert_text.specs.declared.text.LineText.TheVariants.{Step as StepText, End as EndText}
-use Rattle.cert_text.specs.Reading.{reading}
-use Rattle.cert_text.specs.Spelling.{certificate_text, end_line, header_line, step_line, step_text}
-use Rattle.cert_text.specs.Texts.{IsGoal, IsLine, header, joined, line_words, max_line}
 use Rattle.cert_text.proofs.Public.{lines_fit, lines_have_no_newline, readings_are_exact, steps_are_lines}
-use Rattle.cert_read.specs.declared.line.Line.{Line}
-use Rattle.cert_read.specs.declared.line.Line.TheVariants.{Step as StepLine, End, Over}
-use Rattle.cert_read.specs.declared.position.Position.{Position}
-use Rattle.cert_read.specs.Laws.{AreWritable, ReadsOn, lines_of}
-use Rattle.cert_read.specs.Lines.{as_line, bytes_before_newline, end_at, first_line_at, header_bytes, is_end, line_at, line_bytes, position_after, start, text_at, turn}
 use Rattle.cert_read.proofs.LineLemmas.{nothing_left}
 use Rattle.cert_read.proofs.NewlineLemmas.{before_both, step_by}
 use Rattle.cert_read.proofs.TurnLemmas.{turn_goes_on, turn_is_end}

@@ -1,17 +1,7 @@
 -- What is known of a line from the bytes that are held.
-use Rattle.std.proofs.Common.{◌≡◌, ◌∙◌, ℕ, ◌+◌, ◌<◌, ◌≤◌, List, [], ◌∷◌, ◌++◌, length, take, drop, Result, Ok, Err, true, false, nat_lt, refl, sym, ap, arith, inl, inr, take-append-drop, length-take, length-append}
-use Rattle.std.proofs.lemmas.Bool.{cases_lt}
-use Rattle.std.proofs.lemmas.Bool.Decides.{nat_tests}
-use Rattle.std.proofs.lemmas.List.{take-append-le}
-use Rattle.std.specs.Io.{StartsWith}
-use Rattle.base.proofs.Prefixes.{all_of}
-use Rattle.cert_text.specs.Texts.{max_line}
-use Rattle.cert_read.specs.declared.line.Line.TheVariants.{Over}
-use Rattle.cert_read.specs.declared.line.LineFault.{LineFault}
-use Rattle.cert_read.specs.declared.line.LineFault.TheVariants.{NotALine, TooLong, Short, ReadFault, Memory}
-use Rattle.cert_read.specs.declared.position.Position.{Position}
-use Rattle.cert_read.specs.Lines.{bytes_before_newline, end_at, end_of, line_bytes}
-use Rattle.cert_read.specs.Reader.{Faults, IsOutside}
+use Rattle.std.proofs.Common.{Result, Err, take-append-drop, length-take, length-append}
+use Rattle.base.proofs.Public.{◌≡◌, ◌∙◌, ℕ, ◌+◌, ◌<◌, ◌≤◌, List, [], ◌∷◌, ◌++◌, length, take, drop, Ok, true, false, nat_lt, refl, sym, ap, arith, inl, inr, cases_lt, nat_tests, take-append-le, StartsWith, all_of}
+use Rattle.cert_read.specs.Prelude.{bytes_before_newline, end_at, end_of, Faults, IsOutside, line_bytes, LineFault, max_line, Memory, NotALine, Over, Position, ReadFault, Short, TooLong}
 use Rattle.cert_read.proofs.NewlineLemmas.{before_both, before_first, before_le}
 
 -- a fault that says nothing of the bytes

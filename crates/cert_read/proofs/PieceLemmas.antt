@@ -1,9 +1,7 @@
 -- What a read adds to the bytes that are held.
-use Rattle.std.proofs.Common.{◌≡◌, ◌∙◌, ℕ, ◌+◌, ◌-◌, ◌≤◌, List, ◌++◌, length, take, drop, sym, ap, arith, length-drop}
-use Rattle.std.proofs.lemmas.List.{drop-drop, take-append-le}
-use Rattle.std.specs.Io.{StartsWith}
+use Rattle.std.proofs.Common.{length-drop}
+use Rattle.base.proofs.Public.{◌≡◌, ◌∙◌, ℕ, ◌+◌, ◌-◌, ◌≤◌, List, ◌++◌, length, take, drop, sym, ap, arith, drop-drop, take-append-le, StartsWith, grown}
 use Rattle.plan_io.specs.Files.{ReadsAt}
-use Rattle.base.proofs.Prefixes.{grown}
 
 -- what was read after the bytes that were held goes on from them
 pub read_more : (file held new buf rest : List ℕ) (place at n : ℕ) → at ≡ place + length held → StartsWith (drop place file) held → ReadsAt file at n buf → n ≤ length buf → new ≡ held ++ take n (buf ++ rest) →

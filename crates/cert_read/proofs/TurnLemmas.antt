@@ -1,19 +1,7 @@
 -- From the bytes of a line to what is read, and to the position after it.
-use Rattle.std.proofs.Common.{◌≡◌, ◌∙◌, ℕ, ◌+◌, ◌<◌, ◌==◌, Bool, true, false, List, ◌++◌, length, take, drop, Some, None, Result, Ok, Err, refl, sym, ap, arith, length-take, if◌then◌else◌}
-use Rattle.std.proofs.lemmas.Bool.Decides.{nat_tests}
-use Rattle.std.proofs.lemmas.List.{drop-append-le, drop-drop}
-use Rattle.std.specs.Io.{StartsWith}
-use Rattle.std.specs.Str.{bytes_eq}
-use Rattle.base.proofs.Prefixes.{longer}
-use Rattle.cert_text.specs.declared.text.LineText.{LineText}
-use Rattle.cert_text.specs.Reading.{reading}
-use Rattle.cert_text.specs.Texts.{header}
-use Rattle.cert_read.specs.declared.line.Line.{Line}
-use Rattle.cert_read.specs.declared.line.LineFault.{LineFault}
-use Rattle.cert_read.specs.declared.line.LineFault.TheVariants.{NotALine, TooLong, Short, ReadFault, Memory}
-use Rattle.cert_read.specs.declared.position.Position.{Position}
-use Rattle.cert_read.specs.Lines.{as_line, end_at, first_line_at, header_bytes, is_end, line_at, line_bytes, position_after, text_at, turn}
-use Rattle.cert_read.specs.Reader.{Faults, Gives}
+use Rattle.std.proofs.Common.{Result, Err, length-take, if◌then◌else◌}
+use Rattle.base.proofs.Public.{◌≡◌, ◌∙◌, ℕ, ◌+◌, ◌<◌, ◌==◌, Bool, true, false, List, ◌++◌, length, take, drop, Some, None, Ok, refl, sym, ap, arith, nat_tests, drop-append-le, drop-drop, StartsWith, bytes_eq, longer}
+use Rattle.cert_read.specs.Prelude.{as_line, end_at, Faults, first_line_at, Gives, header, header_bytes, is_end, Line, line_at, line_bytes, LineFault, LineText, Memory, NotALine, Position, position_after, ReadFault, reading, Short, text_at, TooLong, turn}
 use Rattle.cert_read.proofs.LineLemmas.{split}
 
 -- ---- the line, read

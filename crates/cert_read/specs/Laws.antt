@@ -1,10 +1,8 @@
 -- What is proved of certificates that were written: they are read back.
-use Rattle.std.specs.Prelude.{◌≡◌, ℕ, List, [], ◌∷◌, Ok}
-use Rattle.catalogue.specs.Instance.{Instance, IsInstance}
+use Rattle.base.specs.Prelude.{◌≡◌, ℕ, List, [], ◌∷◌, Ok}
+use Rattle.cert_text.specs.Prelude.{certificate_text, HasStep, Instance, IsGoal, IsInstance, step_text}
 use Rattle.trees.specs.declared.steps.Goal.{Goal}
 use Rattle.trees.specs.declared.steps.Step.{Step}
-use Rattle.cert_text.specs.Spelling.{HasStep, certificate_text, step_text}
-use Rattle.cert_text.specs.Texts.{IsGoal}
 use Rattle.cert_read.specs.declared.line.Line.{Line}
 use Rattle.cert_read.specs.declared.line.Line.TheVariants.{Step as StepLine, End, Over}
 use Rattle.cert_read.specs.declared.position.Position.{Position}

@@ -1,22 +1,12 @@
 -- The lines of steps and goals are no longer than lines may be.
-use Rattle.std.proofs.Common.{◌≡◌, ℕ, zero, suc, ◌+◌, ◌≤◌, Bool, true, false, length, refl, arith, length-append}
-use Rattle.std.proofs.lemmas.List.{length-map}
-use Rattle.std.specs.List.{filter, range_with_len}
-use Rattle.cluster.specs.Sets.{has_node}
-use Rattle.cluster.specs.declared.sets.NodeSet.{NodeSet}
-use Rattle.catalogue.specs.Instance.{Instance, IsInstance}
-use Rattle.slices.specs.Elements.{node, node_count}
-use Rattle.domains.specs.declared.parts.Part.{Part}
+use Rattle.std.proofs.Common.{length-append}
+use Rattle.base.proofs.Public.{◌≡◌, ℕ, zero, suc, ◌+◌, ◌≤◌, Bool, true, false, length, refl, arith, length-map, filter, range_with_len}
+use Rattle.cert_text.specs.Prelude.{element_name, End, Goal, goal_words, has_all, has_node, HasStep, Instance, IsGoal, IsInstance, joined, line_words, node, node_count, node_numbers, nodes_text, nodes_words, NodeSet, Part, part_text, part_words, Reason, reason_text, reason_words, Step as StepLine, step_text, step_words}
 use Rattle.domains.specs.declared.parts.Part.TheVariants.{Idle, Upto, From}
-use Rattle.reasons.specs.declared.reason.Reason.{Reason}
-use Rattle.reasons.specs.declared.reason.Reason.TheVariants as reason
-use Rattle.trees.specs.declared.steps.Goal.{Goal}
 use Rattle.trees.specs.declared.steps.Goal.TheVariants.{Optimal, Infeasible, Undecided}
 use Rattle.trees.specs.declared.steps.Step.{Step}
+use Rattle.reasons.specs.declared.reason.Reason.TheVariants as reason
 use Rattle.trees.specs.declared.steps.Step.TheVariants as step
-use Rattle.cert_text.specs.declared.text.LineText.TheVariants.{Step as StepLine, End}
-use Rattle.cert_text.specs.Spelling.{HasStep, element_name, has_all, node_numbers, nodes_text, part_text, reason_text, step_text}
-use Rattle.cert_text.specs.Texts.{IsGoal, goal_words, joined, line_words, nodes_words, part_words, reason_words, step_words}
 use Rattle.cert_text.proofs.SplitLemmas.{line_short}
 use Rattle.cert_text.proofs.StepLemmas.{step_line_is}
 

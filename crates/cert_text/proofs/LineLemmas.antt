@@ -1,23 +1,11 @@
 -- Reasons, goals and lines are read from their texts, and from no others.
-use Rattle.std.proofs.Common.{◌≡◌, ◌∙◌, List, [], ◌∷◌, ◌++◌, Some, refl, sym, ap, append_assoc}
 use Rattle.std.proofs.lemmas.List.{append-nil}
-use Rattle.std.specs.Fmt.{decimal}
-use Rattle.reasons.specs.declared.reason.ReasonKind.{ReasonKind}
+use Rattle.base.proofs.Public.{◌≡◌, ◌∙◌, List, [], ◌∷◌, ◌++◌, Some, refl, sym, ap, append_assoc, decimal}
+use Rattle.cert_text.specs.Prelude.{Bound, Cut as TheCut, Decide as TheDecide, Empty, End, Fail as TheFail, Goal, goal, goal_kind, goal_of, goal_word, goal_words, GoalKind, Group, Hall, Infeasible as TheInfeasible, IsGoal, IsLine, IsReason, Left as TheLeft, line, line_kind, line_of, line_word, line_words, LineKind, LineText, Load, nodes_words, Optimal as TheOptimal, Pair, part, part_words, Place, Plan as ThePlan, Power, reason, reason_kind, reason_of, reason_word, reason_words, ReasonKind, ReasonText, SetLoad, Step, Undecided as TheUndecided, Usable, Word}
 use Rattle.reasons.specs.declared.reason.ReasonKind.TheVariants.{Empty as TheEmpty, Bound as TheBound, Load as TheLoad, Pair as ThePair, Place as ThePlace, Group as TheGroup, SetLoad as TheSetLoad, Power as ThePower, Usable as TheUsable, Hall as TheHall}
-use Rattle.trees.specs.declared.steps.Goal.{Goal}
 use Rattle.trees.specs.declared.steps.Goal.TheVariants.{Optimal, Infeasible, Undecided}
-use Rattle.cert_text.specs.declared.kinds.GoalKind.{GoalKind}
-use Rattle.cert_text.specs.declared.kinds.GoalKind.TheVariants.{Optimal as TheOptimal, Infeasible as TheInfeasible, Undecided as TheUndecided}
-use Rattle.cert_text.specs.declared.kinds.LineKind.{LineKind}
-use Rattle.cert_text.specs.declared.kinds.LineKind.TheVariants.{Decide as TheDecide, Cut as TheCut, Fail as TheFail, Plan as ThePlan, Left as TheLeft, End as TheEnd}
-use Rattle.cert_text.specs.declared.text.LineText.{LineText}
-use Rattle.cert_text.specs.declared.text.LineText.TheVariants.{Step, End}
-use Rattle.cert_text.specs.declared.text.ReasonText.{ReasonText}
-use Rattle.cert_text.specs.declared.text.ReasonText.TheVariants.{Empty, Bound, Load, Pair, Place, Group, SetLoad, Power, Usable, Hall}
+use Rattle.cert_text.specs.declared.kinds.LineKind.TheVariants.{End as TheEnd}
 use Rattle.cert_text.specs.declared.text.StepText.TheVariants.{Decide, Cut, Fail, Plan, Left}
-use Rattle.cert_text.specs.Kinds.{Word, goal_word, line_word, reason_word}
-use Rattle.cert_text.specs.Reading.{goal, goal_kind, goal_of, line, line_kind, line_of, part, reason, reason_kind, reason_of}
-use Rattle.cert_text.specs.Texts.{IsGoal, IsLine, IsReason, goal_words, line_words, nodes_words, part_words, reason_words}
 use Rattle.cert_text.proofs.ReadingLemmas.{both, given, goal_kind_back, goal_kind_only, line_kind_back, line_kind_only, name_back, name_then, number_back, number_then, reason_kind_back, reason_kind_only}
 use Rattle.cert_text.proofs.PartLemmas.{nodes_back, nodes_then, part_back, part_only}
 

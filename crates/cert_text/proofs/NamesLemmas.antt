@@ -1,12 +1,7 @@
 -- Lists of names.
-use Rattle.std.proofs.Common.{◌≡◌, ◌≢◌, ◌∙◌, ◌+◌, true, false, List, [], ◌∷◌, ◌++◌, length, Some, None, refl, sym, ap, append_assoc, arith}
-use Rattle.std.proofs.lemmas.Bool.{and_from, and_right}
 use Rattle.std.proofs.lemmas.List.{append-nil}
-use Rattle.std.proofs.lemmas.List.Folds.{list_all-append}
-use Rattle.std.specs.List.{list_all}
-use Rattle.cluster.specs.Names.{is_name}
-use Rattle.cert_text.specs.Kinds.{Word}
-use Rattle.cert_text.specs.Reading.{name, names_of}
+use Rattle.base.proofs.Public.{◌≡◌, ◌≢◌, ◌∙◌, ◌+◌, true, false, List, [], ◌∷◌, ◌++◌, length, Some, None, refl, sym, ap, append_assoc, arith, and_from, and_right, list_all-append, list_all}
+use Rattle.cert_text.specs.Prelude.{is_name, name, names_of, Word}
 use Rattle.cert_text.proofs.ReadingLemmas.{name_only, name_none}
 
 -- one name more

@@ -1,15 +1,7 @@
 -- The names of the nodes of a set, one after the other.
-use Rattle.std.proofs.Common.{◌≡◌, inl, inr, ℕ, zero, suc, ◌+◌, ◌<◌, ◌≤◌, Bool, true, false, IsTrue, List, [], ◌∷◌, ◌++◌, map, refl, sym, ap, ◌∙◌, append-nil, arith, if◌then◌else◌}
-use Rattle.std.specs.List.{filter, flat_map, range_with_len}
-use Rattle.std.proofs.lemmas.Bool.{cases_eq}
-use Rattle.base.proofs.Ranges.{flat_map_more, text_more}
-use Rattle.cluster.specs.Sets.{has_node}
-use Rattle.cluster.specs.declared.sets.NodeSet.{NodeSet}
-use Rattle.catalogue.specs.Instance.{Instance}
-use Rattle.slices.specs.Elements.{node}
-use Rattle.cert_text.specs.Kinds.{Word}
-use Rattle.cert_text.specs.Spaced.{all_spaced, spaced, spaced_if_in}
-use Rattle.cert_text.specs.Spelling.{element_name, node_names, node_numbers}
+use Rattle.std.proofs.Common.{IsTrue, map, if◌then◌else◌}
+use Rattle.base.proofs.Public.{◌≡◌, inl, inr, ℕ, zero, suc, ◌+◌, ◌<◌, ◌≤◌, Bool, true, false, List, [], ◌∷◌, ◌++◌, refl, sym, ap, ◌∙◌, append-nil, arith, filter, flat_map, range_with_len, cases_eq, flat_map_more, text_more}
+use Rattle.cert_text.specs.Prelude.{all_spaced, element_name, has_node, Instance, node, node_names, node_numbers, NodeSet, spaced, spaced_if_in, Word}
 
 -- what passes a test, each by a function, joined: each that passes by the function, and the others by nothing
 abbrev passing : (ℕ → Bool) → (ℕ → Word) → List ℕ → List ℕ

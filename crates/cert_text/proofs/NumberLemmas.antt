@@ -1,17 +1,6 @@
 -- A number is read from its decimal text, and from no other.
-use Rattle.std.proofs.Common.{◌≡◌, ◌∙◌, ℕ, ◌<◌, ◌^◌, true, false, List, length, slice_index, Some, None, Result, Ok, Err, sym, ap, arith, rules, lit<, inl, inr}
-use Rattle.std.proofs.lemmas.Bool.{cases_Bool, cases_eq, cases_lt}
-use Rattle.std.proofs.lemmas.Bool.Decides.{nat_tests}
-use Rattle.std.proofs.lemmas.Fmt.{decimal-digits_value, digits_decimal, digits_value-decimal, decimal_nonempty, first_decimal, decimal_digit, IsAscii-from_digits}
-use Rattle.std.proofs.lemmas.Grind.{common_steps}
-use Rattle.std.proofs.lemmas.Result.{OkIff-at_err, OkIff-at_ok}
-use Rattle.std.proofs.lemmas.Str.{IsUtf8-from_ascii}
-use Rattle.std.proofs.lemmas.Str.Parse.{IsNumeralModel, numerals_by_value, parse_digits}
-use Rattle.std.specs.Char.{is_ascii_digit}
-use Rattle.std.specs.Fmt.{decimal}
-use Rattle.std.specs.List.{list_all}
-use Rattle.std.specs.Str.{IsUtf8}
-use Rattle.std.specs.Str.Parse.{ParsesUnsigned, digits_value}
+use Rattle.std.proofs.Common.{◌^◌, Result, Err}
+use Rattle.base.proofs.Public.{◌≡◌, ◌∙◌, ℕ, ◌<◌, true, false, List, length, slice_index, Some, None, Ok, sym, ap, arith, rules, lit<, inl, inr, cases_Bool, cases_eq, cases_lt, nat_tests, decimal-digits_value, digits_decimal, digits_value-decimal, decimal_nonempty, first_decimal, decimal_digit, IsAscii-from_digits, common_steps, OkIff-at_err, OkIff-at_ok, IsUtf8-from_ascii, IsNumeralModel, numerals_by_value, parse_digits, is_ascii_digit, decimal, list_all, IsUtf8, ParsesUnsigned, digits_value}
 use Rattle.cert_text.specs.Numbers.{is_numeral, number_of}
 
 pub own : IsNumeralModel (λ ds. list_all is_ascii_digit ds ≡ true) (digits_value 10)

@@ -1,20 +1,8 @@
 -- Parts, lists of nodes, reasons, goals and lines are read from their texts, and from no others.
-use Rattle.std.proofs.Common.{◌≡◌, ◌≢◌, ◌∙◌, Bool, true, false, List, [], ◌∷◌, ◌++◌, Option, Some, None, option_map, refl, ap, codes, inl, inr}
-use Rattle.std.proofs.lemmas.Bool.{cases_Bool}
-use Rattle.std.proofs.lemmas.Slice.Eq.{bytes_eq-Decides}
-use Rattle.std.specs.Fmt.{decimal}
-use Rattle.std.specs.List.{list_all}
-use Rattle.std.specs.Str.{bytes_eq}
-use Rattle.cluster.specs.Names.{is_name}
-use Rattle.cert_text.specs.declared.kinds.PartKind.{PartKind}
-use Rattle.cert_text.specs.declared.kinds.PartKind.TheVariants.{Idle as TheIdle, Upto as TheUpto, From as TheFrom}
-use Rattle.cert_text.specs.declared.text.NodesText.{NodesText}
-use Rattle.cert_text.specs.declared.text.NodesText.TheVariants.{All as AllNodes, Listed}
-use Rattle.cert_text.specs.declared.text.PartText.{PartText}
+use Rattle.std.proofs.Common.{option_map, codes}
+use Rattle.base.proofs.Public.{◌≡◌, ◌≢◌, ◌∙◌, Bool, true, false, List, [], ◌∷◌, ◌++◌, Option, Some, None, refl, ap, inl, inr, cases_Bool, bytes_eq-Decides, decimal, list_all, bytes_eq}
+use Rattle.cert_text.specs.Prelude.{All as AllNodes, AreNodes, From as TheFrom, Idle as TheIdle, is_name, IsPart, Listed, listed_in, nodes, nodes_in, nodes_words, NodesText, part, part_kind, part_of, part_word, part_words, PartKind, PartText, place_word, Reading, Upto as TheUpto, Word, ◌>>=◌}
 use Rattle.cert_text.specs.declared.text.PartText.TheVariants.{Idle, Upto, From}
-use Rattle.cert_text.specs.Kinds.{Word, part_word}
-use Rattle.cert_text.specs.Reading.{Reading, ◌>>=◌, listed_in, nodes, nodes_in, part, part_kind, part_of}
-use Rattle.cert_text.specs.Texts.{AreNodes, IsPart, nodes_words, part_words, place_word}
 use Rattle.cert_text.proofs.ReadingLemmas.{both, given, number_back, number_then, part_kind_back, part_kind_only, place_back, place_then}
 
 -- ---- parts

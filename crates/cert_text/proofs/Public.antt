@@ -4,14 +4,9 @@ pub use Rattle.cert_text.proofs.NumberLemmas.{number_of-decimal, decimal-number_
 -- ---- a reason that names what the instance has can be written
 pub use Rattle.cert_text.proofs.StepLemmas.{named_reason}
 -- ---- the laws of lines
-use Rattle.std.proofs.Common.{◌≡◌, ◌∙◌, ℕ, List, [], ◌∷◌, Option, Some, None, refl, sym, ap}
 use Rattle.std.proofs.lemmas.List.{append-nil}
-use Rattle.std.proofs.lemmas.List.Splits.{join_with_byte-slice_split}
-use Rattle.cert_text.specs.declared.text.LineText.{LineText}
-use Rattle.cert_text.specs.Kinds.{Word}
-use Rattle.cert_text.specs.Laws.{LinesFit, LinesHaveNoNewline, LinesHaveOneReading, ReadingsAreExact, StepsAreLines}
-use Rattle.cert_text.specs.Reading.{all_read, line, reading, words_of}
-use Rattle.cert_text.specs.Texts.{Spells, joined, line_words}
+use Rattle.base.proofs.Public.{◌≡◌, ◌∙◌, ℕ, List, [], ◌∷◌, Option, Some, None, refl, sym, ap, join_with_byte-slice_split}
+use Rattle.cert_text.specs.Prelude.{all_read, joined, line, line_words, LinesFit, LinesHaveNoNewline, LinesHaveOneReading, LineText, reading, ReadingsAreExact, Spells, StepsAreLines, Word, words_of}
 use Rattle.cert_text.proofs.LengthLemmas.{end_line_fits, step_line_fits}
 use Rattle.cert_text.proofs.LineLemmas.{line_back, line_only}
 use Rattle.cert_text.proofs.StepLemmas.{step_line_is}

@@ -1,24 +1,9 @@
 -- Words are read from their texts, and from no others.
-use Rattle.std.proofs.Common.{◌≡◌, ◌∙◌, ℕ, ◌≢◌, Bool, true, false, List, [], ◌∷◌, Option, Some, None, option_map, refl, sym, ap, codes, inl, inr}
-use Rattle.std.proofs.lemmas.Bool.{and_left, cases_Bool}
-use Rattle.std.proofs.lemmas.Slice.Eq.{bytes_eq-Decides}
-use Rattle.std.specs.Fmt.{decimal}
-use Rattle.std.specs.List.{list_all}
-use Rattle.std.specs.Str.{bytes_eq}
-use Rattle.cluster.specs.Names.{is_name}
-use Rattle.reasons.specs.declared.reason.ReasonKind.{ReasonKind}
+use Rattle.std.proofs.Common.{option_map, codes}
+use Rattle.base.proofs.Public.{◌≡◌, ◌∙◌, ℕ, ◌≢◌, Bool, true, false, List, [], ◌∷◌, Option, Some, None, refl, sym, ap, inl, inr, and_left, cases_Bool, bytes_eq-Decides, decimal, list_all, bytes_eq}
+use Rattle.cert_text.specs.Prelude.{Cut as TheCut, Decide as TheDecide, Fail as TheFail, From as TheFrom, give, goal_kind, GOAL_KINDS, goal_word, GoalKind, goes_on, Idle as TheIdle, Infeasible as TheInfeasible, is_name, IsName, IsNumber, IsPlace, Left as TheLeft, line_kind, LINE_KINDS, line_word, LineKind, name, name_in, named, number, number_of, one, Optimal as TheOptimal, part_kind, PART_KINDS, part_word, PartKind, place, place_in, place_word, Plan as ThePlan, Reading, reason_kind, REASON_KINDS, reason_word, ReasonKind, Undecided as TheUndecided, Upto as TheUpto, Word, ◌>>=◌}
 use Rattle.reasons.specs.declared.reason.ReasonKind.TheVariants.{Empty as TheEmpty, Bound as TheBound, Load as TheLoad, Pair as ThePair, Place as ThePlace, Group as TheGroup, SetLoad as TheSetLoad, Power as ThePower, Usable as TheUsable, Hall as TheHall}
-use Rattle.cert_text.specs.declared.kinds.GoalKind.{GoalKind}
-use Rattle.cert_text.specs.declared.kinds.GoalKind.TheVariants.{Optimal as TheOptimal, Infeasible as TheInfeasible, Undecided as TheUndecided}
-use Rattle.cert_text.specs.declared.kinds.LineKind.{LineKind}
-use Rattle.cert_text.specs.declared.kinds.LineKind.TheVariants.{Decide as TheDecide, Cut as TheCut, Fail as TheFail, Plan as ThePlan, Left as TheLeft, End as TheEnd}
-use Rattle.cert_text.specs.declared.kinds.PartKind.{PartKind}
-use Rattle.cert_text.specs.declared.kinds.PartKind.TheVariants.{Idle as TheIdle, Upto as TheUpto, From as TheFrom}
-use Rattle.cert_text.specs.declared.kinds.TheConstants.{GOAL_KINDS, LINE_KINDS, PART_KINDS, REASON_KINDS}
-use Rattle.cert_text.specs.Kinds.{Word, goal_word, line_word, named, part_word, reason_word}
-use Rattle.cert_text.specs.Numbers.{number_of}
-use Rattle.cert_text.specs.Reading.{Reading, give, goes_on, ◌>>=◌, one, name_in, place_in, name, place, number, line_kind, part_kind, goal_kind, reason_kind}
-use Rattle.cert_text.specs.Texts.{IsName, IsNumber, IsPlace, place_word}
+use Rattle.cert_text.specs.declared.kinds.LineKind.TheVariants.{End as TheEnd}
 use Rattle.cert_text.proofs.NumberLemmas.{decimal-number_of, number_of-decimal}
 
 -- ---- readings of two steps, and of one word

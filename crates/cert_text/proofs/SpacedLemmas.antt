@@ -1,10 +1,7 @@
 -- Words after blanks, and words with a blank between each two.
-use Rattle.std.proofs.Common.{◌≡◌, ℕ, List, [], ◌∷◌, ◌++◌, sym, ap, append_assoc}
 use Rattle.std.proofs.lemmas.List.{append-nil}
-use Rattle.std.proofs.lemmas.List.Concat.{flat_map-append}
-use Rattle.cert_text.specs.Kinds.{Word}
-use Rattle.cert_text.specs.Spaced.{all_spaced, spaced}
-use Rattle.cert_text.specs.Texts.{joined}
+use Rattle.base.proofs.Public.{◌≡◌, ℕ, List, [], ◌∷◌, ◌++◌, sym, ap, append_assoc, flat_map-append}
+use Rattle.cert_text.specs.Prelude.{all_spaced, joined, spaced, Word}
 
 -- the first word, and each other one after a blank
 pub joined-spaced : (w : Word) (ws : List Word) → joined (w ∷ ws) ≡ w ++ all_spaced ws

@@ -1,39 +1,12 @@
 -- Lines are cut at their blanks into their words, and have no newline.
-use Rattle.std.proofs.Common.{◌≡◌, ◌≢◌, ◌∙◌, ℕ, ◌==◌, Bool, true, false, List, [], ◌∷◌, ◌++◌, nat_le, nat_lt, Option, Some, None, codes, refl, ap, arith, ◌*◌, lit<, length-append, length, ◌&&◌, ◌≤◌}
-use Rattle.std.proofs.lemmas.Bool.{and_from, and_parts}
-use Rattle.std.proofs.lemmas.Bool.Decides.{nat_tests}
-use Rattle.std.proofs.lemmas.Fmt.{digits_decimal, length-decimal-le}
-use Rattle.std.proofs.lemmas.Grind.{common_steps}
-use Rattle.std.proofs.lemmas.List.Folds.{list_all-append}
-use Rattle.std.proofs.lemmas.List.Splits.{slice_split_at, slice_split_none}
-use Rattle.std.proofs.lemmas.List.Sums.{AllPass-from_list_all}
-use Rattle.std.proofs.Math.Nat.{lt_trans}
-use Rattle.std.specs.Char.{is_ascii_digit}
-use Rattle.std.specs.Fmt.{decimal}
-use Rattle.std.specs.List.{All, Contains, list_all}
-use Rattle.cluster.specs.Names.{goes_on_name, is_name}
-use Rattle.reasons.specs.declared.reason.ReasonKind.{ReasonKind}
+use Rattle.std.proofs.Common.{codes, length-append}
+use Rattle.base.proofs.Public.{◌≡◌, ◌≢◌, ◌∙◌, ℕ, ◌==◌, Bool, true, false, List, [], ◌∷◌, ◌++◌, nat_le, nat_lt, Option, Some, None, refl, ap, arith, ◌*◌, lit<, length, ◌&&◌, ◌≤◌, and_from, and_parts, nat_tests, digits_decimal, length-decimal-le, common_steps, list_all-append, slice_split_at, slice_split_none, AllPass-from_list_all, lt_trans, is_ascii_digit, decimal, All, Contains, list_all}
+use Rattle.cert_text.specs.Prelude.{All as AllNodes, AreNodes, Bound, Cut as TheCut, Decide as TheDecide, Empty, End, Fail as TheFail, From as TheFrom, Goal, goal_word, goal_words, GoalKind, goes_on_name, Group, Hall, Idle as TheIdle, Infeasible as TheInfeasible, is_name, IsGoal, IsLine, IsName, IsNumber, IsPart, IsPlace, IsReason, joined, Left as TheLeft, line_word, line_words, LineKind, LineText, Listed, Load, nodes_words, NodesText, Optimal as TheOptimal, Pair, part_word, part_words, PartKind, PartText, Place, place_word, Plan as ThePlan, Power, reason_word, reason_words, ReasonKind, ReasonText, SetLoad, Step, Undecided as TheUndecided, Upto as TheUpto, Usable, Word, words_of}
 use Rattle.reasons.specs.declared.reason.ReasonKind.TheVariants.{Empty as TheEmpty, Bound as TheBound, Load as TheLoad, Pair as ThePair, Place as ThePlace, Group as TheGroup, SetLoad as TheSetLoad, Power as ThePower, Usable as TheUsable, Hall as TheHall}
-use Rattle.trees.specs.declared.steps.Goal.{Goal}
 use Rattle.trees.specs.declared.steps.Goal.TheVariants.{Optimal, Infeasible, Undecided}
-use Rattle.cert_text.specs.declared.kinds.GoalKind.{GoalKind}
-use Rattle.cert_text.specs.declared.kinds.GoalKind.TheVariants.{Optimal as TheOptimal, Infeasible as TheInfeasible, Undecided as TheUndecided}
-use Rattle.cert_text.specs.declared.kinds.LineKind.{LineKind}
-use Rattle.cert_text.specs.declared.kinds.LineKind.TheVariants.{Decide as TheDecide, Cut as TheCut, Fail as TheFail, Plan as ThePlan, Left as TheLeft, End as TheEnd}
-use Rattle.cert_text.specs.declared.kinds.PartKind.{PartKind}
-use Rattle.cert_text.specs.declared.kinds.PartKind.TheVariants.{Idle as TheIdle, Upto as TheUpto, From as TheFrom}
-use Rattle.cert_text.specs.declared.text.LineText.{LineText}
-use Rattle.cert_text.specs.declared.text.LineText.TheVariants.{Step, End}
-use Rattle.cert_text.specs.declared.text.NodesText.{NodesText}
-use Rattle.cert_text.specs.declared.text.NodesText.TheVariants.{All as AllNodes, Listed}
-use Rattle.cert_text.specs.declared.text.PartText.{PartText}
+use Rattle.cert_text.specs.declared.kinds.LineKind.TheVariants.{End as TheEnd}
 use Rattle.cert_text.specs.declared.text.PartText.TheVariants.{Idle, Upto, From}
-use Rattle.cert_text.specs.declared.text.ReasonText.{ReasonText}
-use Rattle.cert_text.specs.declared.text.ReasonText.TheVariants.{Empty, Bound, Load, Pair, Place, Group, SetLoad, Power, Usable, Hall}
 use Rattle.cert_text.specs.declared.text.StepText.TheVariants.{Decide, Cut, Fail, Plan, Left}
-use Rattle.cert_text.specs.Kinds.{Word, goal_word, line_word, part_word, reason_word}
-use Rattle.cert_text.specs.Reading.{words_of}
-use Rattle.cert_text.specs.Texts.{AreNodes, IsGoal, IsLine, IsName, IsNumber, IsPart, IsPlace, IsReason, goal_words, joined, line_words, nodes_words, part_words, place_word, reason_words}
 use Rattle.cert_text.proofs.NumberLemmas.{own}
 
 -- ---- words without blanks and newlines

@@ -1,26 +1,13 @@
 -- The steps of a problem are lines, where they can be written.
-use Rattle.std.proofs.Common.{◌≡◌, ◌≢◌, ◌∙◌, ℕ, zero, suc, ◌+◌, ◌<◌, ◌≤◌, Bool, true, false, List, [], length, map, refl, sym, ap, arith, inl, inr}
-use Rattle.std.proofs.lemmas.Bool.{and_from, cases_lt}
-use Rattle.std.specs.List.{filter, list_all, range_with_len}
-use Rattle.cluster.specs.Names.{is_name}
-use Rattle.cluster.specs.Sets.{has_node}
+use Rattle.std.proofs.Common.{map}
+use Rattle.base.proofs.Public.{◌≡◌, ◌≢◌, ◌∙◌, ℕ, zero, suc, ◌+◌, ◌<◌, ◌≤◌, Bool, true, false, List, [], length, refl, sym, ap, arith, inl, inr, and_from, cases_lt, filter, list_all, range_with_len}
+use Rattle.cert_text.specs.Prelude.{AreListed, AreNodes, At, Element, element_name, has_all, has_node, HasPart, HasPlace, HasReason, HasStep, Instance, inventory_of, is_name, IsElement, IsInstance, IsName, IsNamed, IsNumber, IsPart, IsPlace, IsReason, IsStep, node, node_count, node_names, nodes_text, NodeSet, Nowhere, Part, part_text, place_name, Reason, reason_text, resource_name, step_text, vm, Word}
 use Rattle.cluster.specs.declared.choices.Place.{Place}
-use Rattle.cluster.specs.declared.choices.Place.TheVariants.{Nowhere, At}
-use Rattle.cluster.specs.declared.ids.Element.{Element}
-use Rattle.cluster.specs.declared.sets.NodeSet.{NodeSet}
-use Rattle.cluster.proofs.Public.{is_name-name_of}
-use Rattle.catalogue.specs.Instance.{Instance, IsElement, IsInstance, inventory_of}
-use Rattle.slices.specs.Elements.{node, node_count, vm}
-use Rattle.domains.specs.declared.parts.Part.{Part}
 use Rattle.domains.specs.declared.parts.Part.TheVariants.{Idle, Upto, From}
-use Rattle.reasons.specs.Reasons.{AreListed, IsNamed}
-use Rattle.reasons.specs.declared.reason.Reason.{Reason}
-use Rattle.reasons.specs.declared.reason.Reason.TheVariants as reason
 use Rattle.trees.specs.declared.steps.Step.{Step}
+use Rattle.cluster.proofs.Public.{is_name-name_of}
+use Rattle.reasons.specs.declared.reason.Reason.TheVariants as reason
 use Rattle.trees.specs.declared.steps.Step.TheVariants as step
-use Rattle.cert_text.specs.Kinds.{Word}
-use Rattle.cert_text.specs.Spelling.{HasPart, HasPlace, HasReason, HasStep, element_name, has_all, node_names, nodes_text, part_text, place_name, reason_text, resource_name, step_text}
-use Rattle.cert_text.specs.Texts.{AreNodes, IsName, IsNumber, IsPart, IsPlace, IsReason, IsStep}
 
 element_named : (p : Instance) → IsInstance p → (e : Element) → IsElement p e → IsName (element_name p e)
 element_named p is e there = is_name-name_of (inventory_of p) e is.inventory there

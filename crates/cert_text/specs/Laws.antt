@@ -1,6 +1,5 @@
 -- What is proved of lines.
-use Rattle.std.specs.Prelude.{◌≡◌, ℕ, ◌≤◌, List, length, Some}
-use Rattle.std.specs.List.{Contains}
+use Rattle.base.specs.Prelude.{◌≡◌, ℕ, ◌≤◌, List, length, Some, Contains}
 use Rattle.catalogue.specs.Instance.{Instance, IsInstance}
 use Rattle.trees.specs.declared.steps.Goal.{Goal}
 use Rattle.trees.specs.declared.steps.Step.{Step}

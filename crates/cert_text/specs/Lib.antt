@@ -8,3 +8,4 @@ pub mod Numbers
 pub mod Reading
 pub mod Spaced
 pub mod Laws
+pub mod Prelude

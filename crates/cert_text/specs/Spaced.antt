@@ -1,10 +1,7 @@
 -- Helping only: words that each stand after a blank.
-use Rattle.std.specs.Prelude.{ℕ, List, [], ◌∷◌, if◌then◌else◌}
-use Rattle.std.specs.List.{flat_map}
-use Rattle.cluster.specs.Sets.{has_node}
+use Rattle.base.specs.Prelude.{ℕ, List, [], ◌∷◌, if◌then◌else◌, flat_map}
+use Rattle.trees.specs.Prelude.{has_node, Instance, node}
 use Rattle.cluster.specs.declared.sets.NodeSet.{NodeSet}
-use Rattle.catalogue.specs.Instance.{Instance}
-use Rattle.slices.specs.Elements.{node}
 use Rattle.cert_text.specs.Kinds.{Word}
 use Rattle.cert_text.specs.Spelling.{element_name}
 

@@ -1,22 +1,17 @@
 -- Which lines the steps of a problem are.
-use Rattle.std.specs.Prelude.{ℕ, ◌<◌, ◌^◌, Bool, List, [], ◌++◌, length, map, slice_index_or, Option, Some, None, codes, if◌then◌else◌}
-use Rattle.std.specs.List.{filter, flat_map, list_all, range_with_len}
-use Rattle.cluster.specs.Inventory.{name_of}
-use Rattle.cluster.specs.Sets.{has_node}
+use Rattle.base.specs.Prelude.{ℕ, ◌<◌, ◌^◌, Bool, List, [], ◌++◌, length, map, slice_index_or, Option, Some, None, codes, if◌then◌else◌, filter, flat_map, list_all, range_with_len}
+use Rattle.trees.specs.Prelude.{AreListed, has_node, Instance, inventory_of, IsElement, machine_count, name_of, node, node_count}
 use Rattle.cluster.specs.declared.choices.Place.{Place}
 use Rattle.cluster.specs.declared.choices.Place.TheVariants.{Nowhere, At}
 use Rattle.cluster.specs.declared.ids.Element.{Element}
 use Rattle.cluster.specs.declared.ids.Element.TheVariants.{Vm, Node}
 use Rattle.cluster.specs.declared.sets.NodeSet.{NodeSet}
-use Rattle.catalogue.specs.Instance.{Instance, IsElement, inventory_of}
-use Rattle.slices.specs.Elements.{machine_count, node, node_count}
 use Rattle.domains.specs.declared.parts.Part.{Part}
 use Rattle.domains.specs.declared.parts.Part.TheVariants.{Idle as IdlePart, Upto as UptoPart, From as FromPart}
-use Rattle.reasons.specs.Reasons.{AreListed}
 use Rattle.reasons.specs.declared.reason.Reason.{Reason}
-use Rattle.reasons.specs.declared.reason.Reason.TheVariants as reason
 use Rattle.trees.specs.declared.steps.Goal.{Goal}
 use Rattle.trees.specs.declared.steps.Step.{Step}
+use Rattle.reasons.specs.declared.reason.Reason.TheVariants as reason
 use Rattle.trees.specs.declared.steps.Step.TheVariants as step
 use Rattle.cert_text.specs.declared.text.LineText.TheVariants.{Step as StepLine, End}
 use Rattle.cert_text.specs.declared.text.NodesText.{NodesText}

@@ -1,13 +1,6 @@
 //! Lines of steps and goals, put together in a buffer that is kept from line to line.
-ghost use Rattle.std.specs.Prelude.{◌≡◌, ◌<◌, ◌≤◌, ℕ, false, [], ◌∷◌, ◌++◌, IsTrue, OnOk, length, string_bytes};
-ghost use Rattle.std.specs.Fmt.{decimal};
-ghost use Rattle.cluster.specs.Sets.{has_node};
-ghost use Rattle.catalogue.specs.Instance.{IsElement};
-ghost use Rattle.reasons.specs.Reasons.{AreListed};
-ghost use Rattle.slices.specs.Elements.{machine_count, node_count};
-ghost use Rattle.cert_text.specs.Spaced.{all_spaced, spaced};
-ghost use Rattle.cert_text.specs.Spelling.{HasPart, HasPlace, HasReason, HasStep, element_name, end_line, has_all, node_names, nodes_text, part_text, place_name, reason_text, resource_name, step_line, step_text};
-ghost use Rattle.cert_text.specs.Texts.{goal_words, joined, nodes_words, part_words, place_word, reason_words, step_words};
+ghost use Rattle.base.specs.Prelude.{◌≡◌, ◌<◌, ◌≤◌, ℕ, false, [], ◌∷◌, ◌++◌, IsTrue, OnOk, length, string_bytes, decimal};
+ghost use Rattle.cert_text.specs.Prelude.{all_spaced, AreListed, element_name, end_line, goal_words, has_all, has_node, HasPart, HasPlace, HasReason, HasStep, IsElement, joined, machine_count, node_count, node_names, nodes_text, nodes_words, part_text, part_words, place_name, place_word, reason_text, reason_words, resource_name, spaced, step_line, step_text, step_words};
 
 use crate::kinds::{GoalKind, LineKind, PartKind, reason_word};
 use base::Memory;

@@ -1,13 +1,6 @@
 -- The bits of words.
-use Rattle.std.proofs.Common.{ap, ◌+◌, ◌-◌, ◌≤◌, ◌≡◌, ◌≢◌, ℕ, ◌<◌, ◌/◌, ◌%◌, ◌*◌, ◌^◌, ◌||◌, ◌==◌, ◌∙◌, zero, suc, false, List, length, replicate, slice_index, get_or-set_same, get_or-set_other, refl, sym, arith, ⊎_elim}
-use Rattle.std.specs.Int.{bit_at, trailing_zeros, w64}
-use Rattle.std.proofs.Math.Nat.{lt-div-mul-add}
-use Rattle.std.proofs.Math.Pow.{pow-lt}
-use Rattle.std.proofs.lemmas.Bool.{cases_eq, cases_lt}
-use Rattle.std.proofs.lemmas.Grind.{common_steps}
-use Rattle.std.proofs.lemmas.List.{ext_get_or, get_or_past}
-use Rattle.std.proofs.lemmas.Nat.{shr-shr, shr_le, pow_pos}
-use Rattle.std.proofs.lemmas.Nat.Bits.{bit_at_set_same, bit_at_set_other, same_from_bits_below, bit_at-lt, bit_at-trailing_zeros, bit_at-zero, bit_at_above}
+use Rattle.std.proofs.Common.{◌^◌, get_or-set_same, get_or-set_other}
+use Rattle.base.proofs.Public.{ap, ◌+◌, ◌-◌, ◌≤◌, ◌≡◌, ◌≢◌, ℕ, ◌<◌, ◌/◌, ◌%◌, ◌*◌, ◌||◌, ◌==◌, ◌∙◌, zero, suc, false, List, length, replicate, slice_index, refl, sym, arith, ⊎_elim, bit_at, trailing_zeros, w64, lt-div-mul-add, pow-lt, cases_eq, cases_lt, common_steps, ext_get_or, get_or_past, shr-shr, shr_le, pow_pos, bit_at_set_same, bit_at_set_other, same_from_bits_below, bit_at-lt, bit_at-trailing_zeros, bit_at-zero, bit_at_above}
 use Rattle.cluster.specs.Bits.{HasNoBit, IsFirstBit, has_bit, with_bit, IsBits}
 
 -- a bit within a word, as code shifts it

@@ -1,11 +1,6 @@
 -- Elements and their numbers.
-use Rattle.std.proofs.Common.{◌≡◌, ℕ, ◌+◌, ◌-◌, ◌<◌, ◌≤◌, Bool, true, false, length, nat_lt, arith, refl, ap}
-use Rattle.std.proofs.lemmas.Grind.{common_steps}
-use Rattle.std.specs.Prelude.{if◌then◌else◌}
-use Rattle.cluster.specs.declared.ids.Element.{Element}
-use Rattle.cluster.specs.declared.ids.Element.TheVariants.{Vm, Node as NodeElement}
-use Rattle.cluster.specs.Inventory.{Inventory, IsListed}
-use Rattle.cluster.specs.Elements.{element_at, element_count, element_number}
+use Rattle.base.proofs.Public.{◌≡◌, ℕ, ◌+◌, ◌-◌, ◌<◌, ◌≤◌, Bool, true, false, length, nat_lt, arith, refl, ap, common_steps, if◌then◌else◌}
+use Rattle.cluster.specs.Prelude.{Element, element_at, element_count, element_number, Inventory, IsListed, Node as NodeElement, Vm}
 
 -- the number of a listed element is below the count
 pub element_number-lt : (k : Inventory) (e : Element) → IsListed k e → element_number k e < element_count k

@@ -1,9 +1,7 @@
 -- What holds of hosts.
 use Rattle.std.proofs.Common.{◌≡◌, ℕ, zero, suc, ◌<◌, true, List, [], ◌∷◌, ◌++◌, length, arith, sym, true≢false}
-use Rattle.cluster.specs.declared.states.State.{State}
-use Rattle.cluster.specs.declared.states.State.TheVariants.{Init, Ready, Running, Sleeping, Gone}
+use Rattle.cluster.specs.Prelude.{Gone, host_is_online, Init, is_online, Ready, Running, Sleeping, State}
 use Rattle.cluster.specs.declared.nodes.Node.{Node}
-use Rattle.cluster.specs.Inventory.{is_online, host_is_online}
 
 -- an online node is one of the list
 pub is_online-lt : (nodes : List Node) (h : ℕ) → is_online nodes h ≡ true → h < length nodes

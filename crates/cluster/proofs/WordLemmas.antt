@@ -1,17 +1,7 @@
 -- Words are read back as what they were printed of.
-use Rattle.std.proofs.Common.{◌≡◌, ℕ, ◌<◌, List, [], Some, slice_get, slice_index_or, ap, option_map, option_and_then, Option, None, refl, sym, arith, ◌∙◌}
-use Rattle.std.specs.List.{position}
-use Rattle.std.specs.Str.{bytes_eq}
-use Rattle.std.proofs.lemmas.Option.{slice_get-map, get_or_from_slice_get}
-use Rattle.std.proofs.lemmas.List.Quantifiers.{position-Some}
-use Rattle.std.proofs.lemmas.Slice.Eq.{bytes_eq-Decides}
-use Rattle.cluster.specs.declared.kinds.Kind.{Kind}
-use Rattle.cluster.specs.declared.kinds.Kind.TheVariants.{Forge, Boot, Shutdown, Suspend, Resume, Migrate, Allocate, Kill, NodeBoot, NodeShutdown}
-use Rattle.cluster.specs.declared.kinds.TheConstants.{KINDS}
-use Rattle.cluster.specs.declared.states.State.{State}
-use Rattle.cluster.specs.declared.states.State.TheVariants.{Init, Ready, Running, Sleeping, Gone}
-use Rattle.cluster.specs.Kinds.{kind_count, kind_number, kinds, kind_words, kind_word, kind_of_word}
-use Rattle.cluster.specs.States.{state_number, state_words, state_word}
+use Rattle.std.proofs.Common.{slice_get, slice_index_or, option_map}
+use Rattle.base.proofs.Public.{◌≡◌, ℕ, ◌<◌, List, [], Some, ap, option_and_then, Option, None, refl, sym, arith, ◌∙◌, position, bytes_eq, slice_get-map, get_or_from_slice_get, position-Some, bytes_eq-Decides}
+use Rattle.cluster.specs.Prelude.{Allocate, Boot, Forge, Gone, Init, Kill, Kind, kind_count, kind_number, kind_of_word, kind_word, kind_words, KINDS, kinds, Migrate, NodeBoot, NodeShutdown, Ready, Resume, Running, Shutdown, Sleeping, State, state_number, state_word, state_words, Suspend}
 
 -- what stands at the place of a word is the word
 pub word-at_place : (words : List (List ℕ)) (word : List ℕ) (i : ℕ) → position (bytes_eq word) words ≡ Some i → slice_index_or words i [] ≡ word

@@ -1,7 +1,4 @@
 -- Helping only: words of 64 bits, in which a set keeps its numbers.
-use Rattle.std.specs.Prelude.{◌≡◌, ℕ, ◌^◌, ◌<◌, ◌/◌, ◌%◌, ◌==◌, Bool, List, length, replicate, slice_index, slice_set, bit_or}
-use Rattle.std.specs.Int.{bit_at}
-use Rattle.std.specs.List.{All}
 use Rattle.std.proofs.Common.{◌∙◌, ◌≤◌, lit<, subst, sym, ⊎_elim}
 use Rattle.std.proofs.Math.Nat.{mod-lt}
 use Rattle.std.proofs.Math.Pow.{pow-lt}
@@ -9,6 +6,7 @@ use Rattle.std.proofs.lemmas.Bool.{cases_lt}
 use Rattle.std.proofs.lemmas.List.{length-set, length-replicate, get_or_past}
 use Rattle.std.proofs.lemmas.List.Elements.{All-set, All-replicate}
 use Rattle.std.proofs.lemmas.Nat.{or_lt}
+use Rattle.base.specs.Prelude.{◌≡◌, ℕ, ◌^◌, ◌<◌, ◌/◌, ◌%◌, ◌==◌, Bool, List, length, replicate, slice_index, slice_set, bit_or, bit_at, All}
 
 -- whether the words keep the number
 abbrev pub has_bit : List ℕ → ℕ → Bool

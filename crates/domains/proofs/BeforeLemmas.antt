@@ -1,14 +1,8 @@
 -- What a domain was before a cut: what it has, and what it has lost.
-use Rattle.std.proofs.Common.{◌⊎◌, inl, inr, nat_lt, Bool, true, false, cond, List, [], ◌∷◌}
-use Rattle.std.specs.List.{Contains, flat_map}
-use Rattle.std.proofs.lemmas.List.Elements.{Contains-append_cases, Contains-append_left, Contains-append_right}
-use Rattle.cluster.specs.declared.choices.Choice.{Choice}
+use Rattle.base.proofs.Public.{◌⊎◌, inl, inr, nat_lt, Bool, true, false, cond, List, [], ◌∷◌, Contains, flat_map, Contains-append_cases, Contains-append_left, Contains-append_right}
+use Rattle.domains.specs.Prelude.{Choice, LostIsRestored, Nothing, place_index, put_row, RestoredIsBoth, Row, row_choices, same_place}
 use Rattle.cluster.specs.declared.choices.Choice.TheVariants.{Idle as Stay}
-use Rattle.domains.specs.declared.parts.Row.{Row}
-use Rattle.domains.specs.declared.undo.Lost.TheVariants.{Nothing, Idle, Row as LostRow}
-use Rattle.domains.specs.Choices.{place_index, row_choices, same_place}
-use Rattle.domains.specs.Laws.{RestoredIsBoth, LostIsRestored}
-use Rattle.domains.specs.Undo.{put_row}
+use Rattle.domains.specs.declared.undo.Lost.TheVariants.{Idle, Row as LostRow}
 use Rattle.domains.proofs.SplitLemmas.{contains_cases, contains_here, contains_none}
 
 put_is_both : (r : Row) (rows : List Row) (c : Choice) → Contains (flat_map row_choices (put_row r rows)) c → Contains (flat_map row_choices rows) c ⊎ Contains (row_choices r) c

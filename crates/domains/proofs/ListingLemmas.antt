@@ -1,13 +1,6 @@
 -- A list of domains and its counts.
-use Rattle.std.proofs.Common.{◌≡◌, ◌≢◌, ◌⊎◌, inl, inr, ℕ, ◌+◌, ◌-◌, ◌*◌, ◌<◌, ◌≤◌, ◌==◌, Bool, true, false, cond, List, length, get_or, set, slice_index, replicate, refl, sym, ap, ◌∙◌, arith, add-one}
-use Rattle.std.specs.Prelude.{◌^◌}
-use Rattle.std.proofs.lemmas.Bool.Decides.{nat_tests, Decides-eqb}
-use Rattle.std.proofs.lemmas.List.{length-set, get_or-set_same, get_or-set_other, get_or-replicate, get_or_read}
-use Rattle.std.proofs.lemmas.List.Elements.{All-set}
-use Rattle.base.specs.Sums.{sum_to}
-use Rattle.base.proofs.Sums.{sum_to-same, sum_to-term, sum_to-bound, sum_to-change}
-use Rattle.domains.specs.Choices.{DomainView, is_one, staying, Climbs}
-use Rattle.domains.specs.Kept.{block_of, block_count, unfixed, unfixed_in, AreCounted, AreListed, AreFixed, IsFirstFrom}
+use Rattle.base.proofs.Public.{◌≡◌, ◌≢◌, ◌⊎◌, inl, inr, ℕ, ◌+◌, ◌-◌, ◌*◌, ◌<◌, ◌≤◌, ◌==◌, Bool, true, false, cond, List, length, get_or, set, slice_index, replicate, refl, sym, ap, ◌∙◌, arith, add-one, ◌^◌, nat_tests, Decides-eqb, length-set, get_or-set_same, get_or-set_other, get_or-replicate, get_or_read, All-set, sum_to-same, sum_to-term, sum_to-bound, sum_to-change}
+use Rattle.domains.specs.Prelude.{AreCounted, AreFixed, AreListed, block_count, block_of, Climbs, DomainView, is_one, IsFirstFrom, staying, sum_to, unfixed, unfixed_in}
 
 unfixed-le : (d : DomainView) → unfixed d ≤ 1
 unfixed-le d = by (is_one d)

@@ -1,18 +1,9 @@
 -- The least value over the choices of a domain, row by row.
-use Rattle.std.proofs.Common.{◌≡◌, ◌⊎◌, inl, inr, ℕ, zero, suc, ◌+◌, ◌-◌, ◌<◌, ◌≤◌, ◌==◌, min, Bool, true, cond, Option, Some, None, List, [], ◌∷◌, ◌++◌, length, get_or, take, drop, append-nil, append_assoc, refl, sym, ap, ◌∙◌, arith}
-use Rattle.std.specs.List.{filter, flat_map}
-use Rattle.std.specs.Option.{option_eq}
-use Rattle.std.proofs.lemmas.Bool.Decides.{Decides-eqb}
-use Rattle.std.proofs.lemmas.List.Elements.{filter-append}
-use Rattle.std.proofs.lemmas.List.{flat_map_more, take_more, take-append-drop}
-use Rattle.std.proofs.lemmas.List.Concat.{flat_map-append}
-use Rattle.base.specs.Least.{lower, lowest}
-use Rattle.cluster.specs.declared.choices.Place.{Place}
-use Rattle.cluster.specs.declared.choices.Choice.{Choice}
-use Rattle.cluster.specs.declared.choices.Choice.TheVariants.{Idle, Act}
-use Rattle.domains.specs.declared.parts.Row.{Row}
-use Rattle.domains.specs.Choices.{starts_from, row_choices, choices, DomainView}
-use Rattle.domains.specs.Measures.{lower_option}
+use Rattle.std.proofs.Common.{min}
+use Rattle.std.proofs.lemmas.List.{flat_map_more}
+use Rattle.base.proofs.Public.{◌≡◌, ◌⊎◌, inl, inr, ℕ, zero, suc, ◌+◌, ◌-◌, ◌<◌, ◌≤◌, ◌==◌, Bool, true, cond, Option, Some, None, List, [], ◌∷◌, ◌++◌, length, get_or, take, drop, append-nil, append_assoc, refl, sym, ap, ◌∙◌, arith, filter, flat_map, option_eq, Decides-eqb, filter-append, take_more, take-append-drop, flat_map-append}
+use Rattle.domains.specs.Prelude.{Act, Choice, choices, DomainView, lower, lower_option, lowest, Place, Row, row_choices, starts_from}
+use Rattle.cluster.specs.declared.choices.Choice.TheVariants.{Idle}
 
 pub lowest-append : (f : Choice → ℕ) (xs ys : List Choice) → lowest f (xs ++ ys) ≡ lower_option (lowest f xs) (lowest f ys)
 lowest-append f [] ys = refl

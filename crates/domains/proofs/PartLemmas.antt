@@ -1,17 +1,7 @@
 -- What a part leaves of the rows at its place and elsewhere.
-use Rattle.std.proofs.Common.{◌≡◌, ◌≢◌, ℕ, zero, suc, ◌+◌, ◌<◌, ◌≤◌, Bool, true, false, not, List, [], ◌∷◌, ◌++◌, cond, refl, sym, ap, ◌∙◌, arith, length, get_or, set, append-nil}
-use Rattle.std.specs.List.{filter, flat_map, remove}
-use Rattle.std.proofs.lemmas.Bool.Decides.{nat_tests}
-use Rattle.std.proofs.lemmas.List.Elements.{filter-append}
-use Rattle.cluster.specs.declared.choices.Place.{Place}
-use Rattle.cluster.specs.declared.choices.Choice.{Choice}
-use Rattle.cluster.specs.declared.choices.Choice.TheVariants.{Idle as Stay, Act}
-use Rattle.domains.specs.declared.parts.Row.{Row}
-use Rattle.domains.specs.declared.parts.Part.{Part}
-use Rattle.domains.specs.declared.parts.Part.TheVariants.{Idle, Upto, From}
-use Rattle.domains.specs.Choices.{DomainView, choices, row_choices, place_index, Climbs}
-use Rattle.domains.specs.Parts.{in_part, out_of_part}
-use Rattle.domains.specs.Rows.{IsPartAt, IsFound, IsGap}
+use Rattle.base.proofs.Public.{◌≡◌, ◌≢◌, ℕ, zero, suc, ◌+◌, ◌<◌, ◌≤◌, Bool, true, false, not, List, [], ◌∷◌, ◌++◌, cond, refl, sym, ap, ◌∙◌, arith, length, get_or, set, append-nil, filter, flat_map, remove, nat_tests, filter-append}
+use Rattle.domains.specs.Prelude.{Act, Choice, choices, Climbs, DomainView, From, Idle, in_part, IsFound, IsGap, IsPartAt, out_of_part, Part, Place, place_index, Row, row_choices, Upto}
+use Rattle.cluster.specs.declared.choices.Choice.TheVariants.{Idle as Stay}
 use Rattle.domains.proofs.StartLemmas.{row_none, row_all}
 use Rattle.domains.proofs.RowLemmas.{Climbs-at}
 

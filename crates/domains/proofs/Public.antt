@@ -2,28 +2,12 @@
 
 -- which choices are in a list, and in what a filter keeps of it
 pub use Rattle.domains.proofs.SplitLemmas.{contains_here, contains_one, contains_filter, filter_contains}
-use Rattle.std.proofs.Common.{◌≡◌, ◌⊎◌, inl, inr, ℕ, ◌≤◌, ◌==◌, ◌&&◌, ◌||◌, nat_lt, min, not, Bool, true, false, cond, Option, Some, None, ◌+◌, ◌-◌, List, [], ◌∷◌, ◌++◌, length, refl, sym, ap, ◌∙◌, arith}
-use Rattle.std.specs.List.{filter, flat_map, Contains}
-use Rattle.std.proofs.lemmas.List.Elements.{filter-append, Contains-append_cases, Contains-append_left, Contains-append_right}
-use Rattle.std.proofs.lemmas.Bool.Decides.{nat_tests, Decides-eqb}
-use Rattle.base.specs.Least.{lower, lowest, least}
-use Rattle.cluster.specs.declared.ids.Element.{Element}
-use Rattle.cluster.specs.declared.ids.Element.TheVariants.{Vm, Node}
-use Rattle.cluster.specs.declared.choices.Choice.{Choice}
-use Rattle.domains.specs.Parts.{in_part, out_of_part}
-use Rattle.cluster.specs.declared.choices.Choice.TheVariants.{Idle, Act}
-use Rattle.domains.specs.declared.parts.Row.{Row}
-use Rattle.domains.specs.declared.view.Lens.{Lens}
-use Rattle.domains.specs.declared.view.Lens.TheVariants.{Whole, Inside, Outside, Set}
-use Rattle.domains.specs.declared.view.Sight.{Sight}
-use Rattle.domains.specs.declared.view.Sight.TheVariants.{All, In, Out, Only}
-use Rattle.domains.specs.Choices.{DomainView, choices, row_choices}
-use Rattle.domains.specs.Views.{seen, sight_of, sight_at, idle_seen, rows_under, shows, SeenByRows}
-use Rattle.domains.specs.Undo.{restored, lost_choices}
+use Rattle.std.proofs.Common.{min}
+use Rattle.base.proofs.Public.{◌≡◌, ◌⊎◌, inl, inr, ℕ, ◌≤◌, ◌==◌, ◌&&◌, ◌||◌, nat_lt, not, Bool, true, false, cond, Option, Some, None, ◌+◌, ◌-◌, List, [], ◌∷◌, ◌++◌, length, refl, sym, ap, ◌∙◌, arith, filter, flat_map, Contains, filter-append, Contains-append_cases, Contains-append_left, Contains-append_right, nat_tests, Decides-eqb}
+use Rattle.domains.specs.Prelude.{Act, All, AreFewer, Choice, choices, CountFalls, CountFallsBelow, domain_at, DomainView, Element, FilterIsFewer, idle_seen, In, in_part, is_above_none, is_nought, IsIn, IsOneOf, keeping, least, LeastGrows, LeastOfEach, Lens, lost_choices, lower, lowest, LowestBefore, may, MayByLeast, MayEach, MayStays, Node, Only, OpenHasTwo, Out, out_of_part, PartsAreDisjoint, PartsCover, PlanSplits, PlanStays, RegionView, restored, Row, row_choices, rows_under, same_element, seen, SeenByRows, Set, Sets, sets, shows, Sight, sight_at, sight_of, size, SizeFalls, SizeIsPositive, SplitAddsUp, surely, SurelyByLeast, SurelyEach, SurelyStays, Vm, Whole}
+use Rattle.cluster.specs.declared.choices.Choice.TheVariants.{Idle}
+use Rattle.domains.specs.declared.view.Lens.TheVariants.{Inside, Outside}
 use Rattle.domains.proofs.MeasureLemmas.{filter_true, lowest-append}
-use Rattle.domains.specs.Sets.{RegionView, Sets, domain_at, sets, keeping, same_element, surely, may, IsIn}
-use Rattle.domains.specs.Sizes.{size, IsOneOf}
-use Rattle.domains.specs.Laws.{PartsCover, PartsAreDisjoint, PlanSplits, PlanStays, SplitAddsUp, SizeFalls, SizeIsPositive, OpenHasTwo, CountFalls, CountFallsBelow, LeastOfEach, SurelyEach, MayEach, FilterIsFewer, SurelyStays, MayStays, LeastGrows, SurelyByLeast, MayByLeast, LowestBefore, AreFewer, is_above_none, is_nought}
 use Rattle.domains.proofs.SplitLemmas.{contains_none, contains_cases, contains_later, size-split, size-le, size-positive, size-two, count-le, count-lt}
 -- what a domain was, is what it has and what it has lost
 pub use Rattle.domains.proofs.BeforeLemmas.{restored_is_both, lost_is_restored}

@@ -1,12 +1,6 @@
 -- A domain of a region, changed and set back.
-use Rattle.std.proofs.Common.{◌≡◌, ℕ, List, get_or, set, ap, ◌∙◌}
-use Rattle.std.proofs.lemmas.List.{set-set, set-get_or}
-use Rattle.cluster.specs.declared.ids.Element.{Element}
-use Rattle.cluster.specs.declared.ids.Element.TheVariants.{Vm, Node}
-use Rattle.domains.specs.declared.undo.Lost.{Lost}
-use Rattle.domains.specs.Choices.{DomainView, staying}
-use Rattle.domains.specs.Sets.{RegionView, domain_at, with_domain}
-use Rattle.domains.specs.Undo.{restored}
+use Rattle.base.proofs.Public.{◌≡◌, ℕ, List, get_or, set, ap, ◌∙◌, set-set, set-get_or}
+use Rattle.domains.specs.Prelude.{domain_at, DomainView, Element, Lost, Node, RegionView, restored, staying, Vm, with_domain}
 
 set_back : (ds : List DomainView) (i : ℕ) (d : DomainView) → set (set ds i d) i (get_or ds i staying) ≡ ds
 set_back ds i d = set-set ds i d (get_or ds i staying) ∙ set-get_or ds i staying

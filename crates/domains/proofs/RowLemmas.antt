@@ -1,10 +1,7 @@
 -- Rows whose places climb.
-use Rattle.std.proofs.Common.{◌≡◌, ◌⊎◌, inl, inr, ℕ, zero, suc, ◌+◌, ◌-◌, ◌<◌, ◌≤◌, List, [], ◌∷◌, ◌++◌, min, arith, refl, length, get_or, set}
-use Rattle.std.proofs.lemmas.List.{get_or_default}
-use Rattle.std.specs.List.{All, remove}
-use Rattle.std.proofs.lemmas.List.Elements.{All-head, All-tail}
-use Rattle.domains.specs.declared.parts.Row.{Row}
-use Rattle.domains.specs.Choices.{place_index, Climbs}
+use Rattle.std.proofs.Common.{min}
+use Rattle.base.proofs.Public.{◌≡◌, ◌⊎◌, inl, inr, ℕ, zero, suc, ◌+◌, ◌-◌, ◌<◌, ◌≤◌, List, [], ◌∷◌, ◌++◌, arith, refl, length, get_or, set, get_or_default, All, remove, All-head, All-tail}
+use Rattle.domains.specs.Prelude.{Climbs, place_index, Row}
 
 -- rows that climb from an index on do so from a lower one
 pub Climbs-lower : (low from : ℕ) (rows : List Row) → low ≤ from → Climbs from rows → Climbs low rows

@@ -1,11 +1,8 @@
 -- How many choices a domain has.
-use Rattle.std.proofs.Common.{◌≡◌, ℕ, zero, suc, ◌+◌, ◌-◌, ◌≤◌, ◌==◌, nat_eq, Bool, true, false, IsTrue, cond, List, [], ◌∷◌, ◌++◌, refl, ap, ◌∙◌, arith, length, get_or, length-append, append-nil}
-use Rattle.std.specs.List.{flat_map}
-use Rattle.std.proofs.lemmas.Bool.Decides.{nat_tests, Decides-eqb}
-use Rattle.cluster.specs.declared.choices.Place.{Place}
+use Rattle.std.proofs.Common.{nat_eq, IsTrue, length-append}
+use Rattle.base.proofs.Public.{◌≡◌, ℕ, zero, suc, ◌+◌, ◌-◌, ◌≤◌, ◌==◌, Bool, true, false, cond, List, [], ◌∷◌, ◌++◌, refl, ap, ◌∙◌, arith, length, get_or, append-nil, flat_map, nat_tests, Decides-eqb}
+use Rattle.domains.specs.Prelude.{choices, Climbs, DomainView, is_one, Place, place_index, Row, row_choices, starts_from}
 use Rattle.cluster.specs.declared.choices.Choice.TheVariants.{Idle}
-use Rattle.domains.specs.declared.parts.Row.{Row}
-use Rattle.domains.specs.Choices.{DomainView, choices, starts_from, row_choices, place_index, is_one, Climbs}
 use Rattle.domains.proofs.RowLemmas.{Climbs-at}
 
 length-starts : (p : Place) (from count : ℕ) → length (starts_from p from count) ≡ count

@@ -1,9 +1,5 @@
 -- Free slots, and then rows.
-use Rattle.std.proofs.Common.{◌≡◌, ℕ, zero, suc, ◌+◌, ◌<◌, ◌≤◌, List, [], ◌∷◌, ◌++◌, length, set, take, drop, refl, sym, ap, ◌∙◌, append_assoc, arith}
-use Rattle.std.specs.List.{insert, remove, refill}
-use Rattle.std.proofs.lemmas.List.Edits.{length-paste}
-use Rattle.std.proofs.Math.Seq.{paste}
-use Rattle.std.proofs.lemmas.List.{drop-drop, drop-set-add, drop_at, length-drop, length-set, length-take-le, set_at, take_at}
+use Rattle.base.proofs.Public.{◌≡◌, ℕ, zero, suc, ◌+◌, ◌<◌, ◌≤◌, List, [], ◌∷◌, ◌++◌, length, set, take, drop, refl, sym, ap, ◌∙◌, append_assoc, arith, insert, remove, refill, length-paste, paste, drop-drop, drop-set-add, drop_at, length-drop, length-set, length-take-le, set_at, take_at}
 use Rattle.domains.specs.declared.parts.Row.{Row}
 
 remove_none : (i : ℕ) → let none : List Row = [] in none ≡ remove none i

@@ -1,17 +1,6 @@
 -- What one element's set adds to products and sums over all.
-use Rattle.std.proofs.Common.{◌≡◌, ◌≢◌, ◌⊎◌, inl, inr, ℕ, zero, suc, ◌+◌, ◌*◌, ◌<◌, ◌≤◌, Bool, true, false, cond, not, List, [], ◌∷◌, length, refl, sym, ap, ◌∙◌, arith}
-use Rattle.std.specs.List.{filter, Contains}
-use Rattle.std.proofs.Math.Nat.{mul-add, add-mul, mul-le-mul_left, mul-le-mul_right, le_trans}
-use Rattle.std.proofs.lemmas.Bool.Decides.{Decides-eqb, nat_tests}
-use Rattle.std.proofs.lemmas.List.Filters.{length-filter_both}
-use Rattle.base.specs.Sums.{product_to}
-use Rattle.base.proofs.Sums.{sum_to-le, sum_to-change}
-use Rattle.base.proofs.Products.{product_to-split}
-use Rattle.cluster.specs.declared.ids.Element.{Element}
-use Rattle.cluster.specs.declared.ids.Element.TheVariants.{Vm, Node}
-use Rattle.cluster.specs.declared.choices.Choice.{Choice}
-use Rattle.domains.specs.Sets.{Sets, keeping, same_element}
-use Rattle.domains.specs.Sizes.{size, choice_count, machine_choices, node_choices, IsOneOf}
+use Rattle.base.proofs.Public.{◌≡◌, ◌≢◌, ◌⊎◌, inl, inr, ℕ, zero, suc, ◌+◌, ◌*◌, ◌<◌, ◌≤◌, Bool, true, false, cond, not, List, [], ◌∷◌, length, refl, sym, ap, ◌∙◌, arith, filter, Contains, mul-add, add-mul, mul-le-mul_left, mul-le-mul_right, le_trans, Decides-eqb, nat_tests, length-filter_both, sum_to-le, sum_to-change, product_to-split}
+use Rattle.domains.specs.Prelude.{Choice, choice_count, Element, IsOneOf, keeping, machine_choices, Node, node_choices, product_to, same_element, Sets, size, Vm}
 
 -- ---- membership, step by step
 

@@ -1,15 +1,6 @@
 -- Starts of one row, and what a test keeps of them.
-use Rattle.std.proofs.Common.{◌≡◌, ℕ, zero, suc, ◌+◌, ◌-◌, ◌<◌, ◌≤◌, Bool, true, false, ◌&&◌, [], ◌∷◌, ◌++◌, refl, sym, ap, ◌∙◌, arith, append-nil, ◌⊎◌}
-use Rattle.std.specs.List.{filter}
-use Rattle.std.specs.Prelude.{nat_le}
-use Rattle.std.proofs.lemmas.Bool.Decides.{nat_tests}
-use Rattle.std.proofs.lemmas.List.Elements.{filter-append}
-use Rattle.cluster.specs.declared.choices.Place.{Place}
-use Rattle.cluster.specs.declared.choices.Choice.{Choice}
-use Rattle.cluster.specs.declared.choices.Choice.TheVariants.{Act}
-use Rattle.domains.specs.declared.parts.Row.{Row}
-use Rattle.domains.specs.Choices.{starts_from, row_choices}
-use Rattle.domains.specs.Rows.{KeepsBetween}
+use Rattle.base.proofs.Public.{◌≡◌, ℕ, zero, suc, ◌+◌, ◌-◌, ◌<◌, ◌≤◌, Bool, true, false, ◌&&◌, [], ◌∷◌, ◌++◌, refl, sym, ap, ◌∙◌, arith, append-nil, ◌⊎◌, filter, nat_le, nat_tests, filter-append}
+use Rattle.domains.specs.Prelude.{Act, Choice, KeepsBetween, Place, Row, row_choices, starts_from}
 
 -- starts of one place, cut in two
 starts-append : (p : Place) (from m n count : ℕ) → count ≡ m + n → starts_from p from count ≡ starts_from p from m ++ starts_from p (from + m) n

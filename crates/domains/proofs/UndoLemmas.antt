@@ -1,12 +1,6 @@
 -- A row that is put back.
-use Rattle.std.proofs.Common.{◌≡◌, ◌⊎◌, inl, inr, ℕ, zero, suc, ◌+◌, ◌<◌, ◌≤◌, nat_lt, true, false, List, [], ◌∷◌, refl, ap, ◌∙◌, arith, length, get_or, set}
-use Rattle.std.specs.List.{insert, remove}
-use Rattle.std.proofs.lemmas.Bool.Decides.{nat_tests}
-use Rattle.std.proofs.lemmas.List.{set-set, set-get_or, length-set, get_or-set_same}
-use Rattle.domains.specs.declared.parts.Row.{Row}
-use Rattle.domains.specs.Choices.{place_index, same_place, Climbs}
-use Rattle.domains.specs.Rows.{IsFound, IsGap}
-use Rattle.domains.specs.Undo.{put_row}
+use Rattle.base.proofs.Public.{◌≡◌, ◌⊎◌, inl, inr, ℕ, zero, suc, ◌+◌, ◌<◌, ◌≤◌, nat_lt, true, false, List, [], ◌∷◌, refl, ap, ◌∙◌, arith, length, get_or, set, insert, remove, nat_tests, set-set, set-get_or, length-set, get_or-set_same}
+use Rattle.domains.specs.Prelude.{Climbs, IsFound, IsGap, place_index, put_row, Row, same_place}
 use Rattle.domains.proofs.RowLemmas.{Climbs-at, Climbs-lower, Climbs-set}
 
 -- a row goes past those at lower places, and before those at higher ones

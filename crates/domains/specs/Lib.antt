@@ -8,3 +8,4 @@ pub mod Sizes
 pub mod Views
 pub mod Measures
 pub mod Laws
+pub mod Prelude

@@ -1,6 +1,5 @@
 -- What the code says of least values.
-use Rattle.std.specs.Prelude.{ℕ, Option, Some, None}
-use Rattle.base.specs.Least.{lower}
+use Rattle.base.specs.Prelude.{ℕ, Option, Some, None, lower}
 
 -- the lower of two values, as far as they are there
 abbrev pub lower_option : Option ℕ → Option ℕ → Option ℕ

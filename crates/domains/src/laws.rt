@@ -1,6 +1,5 @@
 //! Laws of sets of choices: each is the contract of a function that does nothing.
-ghost use Rattle.domains.specs.Laws.{PartsCover, PartsAreDisjoint, PlanSplits, PlanStays, SplitAddsUp, SizeFalls, SizeIsPositive, OpenHasTwo, CountFalls, CountFallsBelow, LeastOfEach, SurelyEach, MayEach, FilterIsFewer, SurelyStays, MayStays, LeastGrows, SurelyByLeast, MayByLeast, RestoredIsBoth, LostIsRestored, LowestBefore};
-ghost use Rattle.domains.specs.Views.{SeenByRows};
+ghost use Rattle.domains.specs.Prelude.{CountFalls, CountFallsBelow, FilterIsFewer, LeastGrows, LeastOfEach, LostIsRestored, LowestBefore, MayByLeast, MayEach, MayStays, OpenHasTwo, PartsAreDisjoint, PartsCover, PlanSplits, PlanStays, RestoredIsBoth, SeenByRows, SizeFalls, SizeIsPositive, SplitAddsUp, SurelyByLeast, SurelyEach, SurelyStays};
 
 /// Each choice is inside or outside of a part.
 pub fn parts_cover()

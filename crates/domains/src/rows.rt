@@ -1,9 +1,7 @@
 //! One row and a part; the row at a place.
-ghost use Rattle.std.specs.Prelude.{◌≡◌, ℕ, ◌+◌, ◌<◌, ◌≤◌, Bool, List, [], ◌∷◌, filter, IfSome, IfOk, IfErr, nat_le, ◌&&◌, length, slice_get, slice_index_or, IsTrue};
-ghost use Rattle.cluster.specs.declared.choices.Choice.{Choice as AnyChoice};
-ghost use Rattle.domains.specs.Choices.{Climbs, place_index, same_place, row_choices};
-ghost use Rattle.domains.specs.Parts.{in_part, out_of_part};
-ghost use Rattle.domains.specs.Rows.{option_choices, IsRowAt, KeepsBetween, IsFound, IsGap, IsPartAt};
+ghost use Rattle.std.specs.Prelude.{filter};
+ghost use Rattle.base.specs.Prelude.{◌≡◌, ℕ, ◌+◌, ◌<◌, ◌≤◌, Bool, List, [], ◌∷◌, IfSome, IfOk, IfErr, nat_le, ◌&&◌, length, slice_get, slice_index_or, IsTrue};
+ghost use Rattle.domains.specs.Prelude.{Choice as AnyChoice, Climbs, in_part, IsFound, IsGap, IsPartAt, IsRowAt, KeepsBetween, option_choices, out_of_part, place_index, row_choices, same_place};
 
 use crate::parts::{Part, Row};
 use cluster::{Instant, Place};

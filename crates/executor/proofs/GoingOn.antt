@@ -1,23 +1,9 @@
 -- An execution goes on as long as nothing fails, and ends where the plan does.
-use Rattle.std.proofs.Common.{◌≡◌, ◌≢◌, ◌⊎◌, inl, inr, ℕ, zero, suc, ◌+◌, ◌<◌, ◌≤◌, true, false, IsSome, IsTrue, Option, Some, None, unwrap_or, refl, sym, ap, subst, ◌∙◌, arith}
-use Rattle.std.specs.Option.{option_map_or}
-use Rattle.std.proofs.lemmas.Bool.{cases_eq, cases_lt, false≢true, leb-true}
-use Rattle.cluster.specs.declared.choices.Choice.{Choice}
-use Rattle.cluster.specs.declared.choices.Choice.TheVariants.{Idle, Act}
-use Rattle.cluster.specs.declared.choices.Place.{Place}
-use Rattle.cluster.specs.declared.ids.Element.{Element}
-use Rattle.cluster.specs.Elements.{element_at, element_count, element_number}
+use Rattle.std.proofs.Common.{IsTrue}
+use Rattle.base.proofs.Public.{◌≡◌, ◌≢◌, ◌⊎◌, inl, inr, ℕ, zero, suc, ◌+◌, ◌<◌, ◌≤◌, true, false, IsSome, Option, Some, None, unwrap_or, refl, sym, ap, subst, ◌∙◌, arith, option_map_or, cases_eq, cases_lt, false≢true, leb-true}
+use Rattle.executor.specs.Prelude.{Act, action_duration, Choice, Choices, choices_of, Element, element_at, element_count, element_number, Ended, EndsAsPlanned, Failed, Idle, Instance, inventory_of, is_over_by, IsElement, NeverStandsStill, None as NoAction, Phase, Phases, Place, Running, stages_in, start_of, Waiting, waits}
 use Rattle.cluster.proofs.Public.{element_at-element_number, element_number-lt}
-use Rattle.catalogue.specs.Instance.{Instance, IsElement, inventory_of}
-use Rattle.slices.specs.Actions.{action_duration}
-use Rattle.slices.specs.Plans.{Choices, choices_of}
-use Rattle.slices.specs.Starts.{start_of}
 use Rattle.slices.proofs.Public.{ends_by_duration, over_as_planned}
-use Rattle.executor.specs.declared.phase.Phase.{Phase}
-use Rattle.executor.specs.declared.phase.Phase.TheVariants.{None as NoAction, Waiting, Running, Ended, Failed}
-use Rattle.executor.specs.Laws.{EndsAsPlanned, NeverStandsStill}
-use Rattle.executor.specs.Phases.{Phases, stages_in}
-use Rattle.executor.specs.Steps.{is_over_by, waits}
 use Rattle.executor.proofs.SafeLemmas.{lasts_in}
 
 -- ---- phases

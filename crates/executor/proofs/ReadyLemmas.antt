@@ -1,11 +1,7 @@
 -- An action that waits is ready exactly where it starts before the least end of what has not ended.
-use Rattle.std.proofs.Common.{◌≡◌, inl, inr, ℕ, ◌+◌, ◌<◌, ◌≤◌, Bool, true, false, not, ◌&&◌, min, nat_le, if◌then◌else◌, List, length, Option, Some, None, IfSome, IsTrue, slice_index_or, refl, sym, subst, ◌∙◌, arith}
-use Rattle.std.proofs.lemmas.Bool.{cases_eq, cases_lt, false≢true, leb-true, le-leb, lt-ltb, ltb-true}
-use Rattle.executor.specs.declared.phase.Phase.{Phase}
-use Rattle.executor.specs.declared.phase.Phase.TheVariants.{Waiting}
-use Rattle.executor.specs.declared.times.Times.{Times}
-use Rattle.executor.specs.Phases.{phase_at}
-use Rattle.executor.specs.Tables.{IsLeastOpenEnd, IsReadyAt, is_ended, lesser, open_end, open_end_at, starts_before, waits_between}
+use Rattle.std.proofs.Common.{min, if◌then◌else◌, IfSome, IsTrue, slice_index_or}
+use Rattle.base.proofs.Public.{◌≡◌, inl, inr, ℕ, ◌+◌, ◌<◌, ◌≤◌, Bool, true, false, not, ◌&&◌, nat_le, List, length, Option, Some, None, refl, sym, subst, ◌∙◌, arith, cases_eq, cases_lt, false≢true, leb-true, le-leb, lt-ltb, ltb-true}
+use Rattle.executor.specs.Prelude.{is_ended, IsLeastOpenEnd, IsReadyAt, lesser, open_end, open_end_at, Phase, phase_at, starts_before, Times, Waiting, waits_between}
 
 -- ---- the least end
 

@@ -1,22 +1,8 @@
 -- An execution of a valid plan keeps the rules: it is a part of the plan at the last start among what has started.
-use Rattle.std.proofs.Common.{◌≡◌, ◌≢◌, inl, inr, ℕ, ◌+◌, ◌≤◌, Bool, true, false, List, [], ◌∷◌, IsSome, IsTrue, Some, refl, sym, ap, subst, ◌∙◌, arith}
-use Rattle.std.proofs.lemmas.Bool.{cases_Bool, false≢true, le-leb, leb-true}
-use Rattle.cluster.specs.declared.choices.Choice.{Choice}
-use Rattle.cluster.specs.declared.choices.Choice.TheVariants.{Idle, Act}
-use Rattle.cluster.specs.declared.choices.Place.{Place}
-use Rattle.cluster.specs.declared.ids.Element.{Element}
-use Rattle.catalogue.specs.Instance.{Instance, IsElement, IsInstance}
-use Rattle.slices.specs.Actions.{action_duration, is_legal}
-use Rattle.slices.specs.Parts.{IsStagePart}
-use Rattle.slices.specs.Plans.{Choices, IsPlanOf, PlanChoices, choices_of}
-use Rattle.slices.specs.Snapshots.{stage_at, stages_at}
-use Rattle.slices.specs.Starts.{LastStart, start_of}
+use Rattle.std.proofs.Common.{IsTrue}
+use Rattle.base.proofs.Public.{◌≡◌, ◌≢◌, inl, inr, ℕ, ◌+◌, ◌≤◌, Bool, true, false, List, [], ◌∷◌, IsSome, Some, refl, sym, ap, subst, ◌∙◌, arith, cases_Bool, false≢true, le-leb, leb-true}
+use Rattle.executor.specs.Prelude.{Act, action_duration, Choice, Choices, choices_of, Element, Ended, Event, EveryRunIsSafe, ExecutionsAreSafe, Failed, first_phases, Idle, Instance, is_legal, is_over_by, IsElement, IsExecution, IsInstance, IsPlanOf, IsStagePart, LastStart, None as NoAction, Phase, Phases, Place, PlanChoices, Running, Runs, stage_at, stage_in, stages_at, stages_in, start_of, Waiting, waits}
 use Rattle.slices.proofs.Public.{ends_by_duration, execution_keeps, has_last_start, legal_acts_last, past-idle}
-use Rattle.executor.specs.declared.phase.Phase.{Phase}
-use Rattle.executor.specs.declared.phase.Phase.TheVariants.{None as NoAction, Waiting, Running, Ended, Failed}
-use Rattle.executor.specs.Laws.{EveryRunIsSafe, ExecutionsAreSafe}
-use Rattle.executor.specs.Phases.{Phases, first_phases, stage_in, stages_in}
-use Rattle.executor.specs.Steps.{Event, IsExecution, Runs, is_over_by, waits}
 use Rattle.executor.proofs.StepLemmas.{begins_well, steps_keep}
 
 -- ---- actions of plans

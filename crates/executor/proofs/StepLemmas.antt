@@ -1,19 +1,8 @@
 -- Each step of an execution keeps what is so at every moment.
-use Rattle.std.proofs.Common.{◌≡◌, ◌≢◌, ◌↔◌, ◌⊎◌, inl, inr, ℕ, false, IsNone, IsTrue, refl, sym, ap, subst, ◌∙◌}
-use Rattle.std.specs.Option.{option_map_or}
-use Rattle.std.proofs.lemmas.Bool.{cases_eq, false≢true, true≢false}
-use Rattle.cluster.specs.declared.choices.Choice.{Choice}
-use Rattle.cluster.specs.declared.choices.Choice.TheVariants.{Idle, Act}
-use Rattle.cluster.specs.declared.ids.Element.{Element}
-use Rattle.cluster.specs.declared.ids.Element.TheVariants.{Vm, Node as TheNode}
-use Rattle.catalogue.specs.Instance.{Instance}
-use Rattle.slices.specs.Plans.{Choices}
-use Rattle.slices.specs.Starts.{start_of}
-use Rattle.executor.specs.declared.phase.Phase.{Phase}
-use Rattle.executor.specs.declared.phase.Phase.TheVariants.{None as NoAction, Waiting, Running, Ended, Failed}
-use Rattle.executor.specs.Laws.{BeginsWell, StepsKeep}
-use Rattle.executor.specs.Phases.{Moves, Phases, first_phase}
-use Rattle.executor.specs.Steps.{Start, End, Fail, IsExecution, is_over_by, waits}
+use Rattle.std.proofs.Common.{◌↔◌, IsNone, IsTrue}
+use Rattle.std.proofs.lemmas.Bool.{true≢false}
+use Rattle.base.proofs.Public.{◌≡◌, ◌≢◌, ◌⊎◌, inl, inr, ℕ, false, refl, sym, ap, subst, ◌∙◌, option_map_or, cases_eq, false≢true}
+use Rattle.executor.specs.Prelude.{Act, BeginsWell, Choice, Choices, Element, End, Ended, Fail, Failed, first_phase, Idle, Instance, is_over_by, IsExecution, Moves, Node as TheNode, None as NoAction, Phase, Phases, Running, Start, start_of, StepsKeep, Vm, Waiting, waits}
 
 -- ---- elements
 

@@ -1,26 +1,9 @@
 -- What the tables of a monitor say of elements.
-use Rattle.std.proofs.Common.{◌≡◌, ◌≢◌, ◌↔◌, ◌⊎◌, inl, inr, ℕ, ◌+◌, ◌<◌, Bool, true, false, not, ◌&&◌, List, length, Option, Some, None, IsTrue, slice_index_or, slice_set, refl, sym, ap, subst, ◌∙◌, arith}
-use Rattle.std.specs.Option.{option_map_or}
-use Rattle.std.proofs.lemmas.Bool.{cases_lt, false≢true, lt-ltb, le-ltb}
-use Rattle.std.proofs.lemmas.List.{get_or_past, get_or-set_same, get_or-set_other, length-set}
-use Rattle.cluster.specs.declared.choices.Choice.{Choice}
-use Rattle.cluster.specs.declared.choices.Choice.TheVariants.{Idle, Act}
-use Rattle.cluster.specs.declared.ids.Element.{Element}
-use Rattle.cluster.specs.declared.ids.Element.TheVariants.{Vm, Node as TheNode}
-use Rattle.cluster.specs.Elements.{element_at, element_count, element_number}
+use Rattle.std.proofs.Common.{◌↔◌, IsTrue, slice_index_or, slice_set}
+use Rattle.base.proofs.Public.{◌≡◌, ◌≢◌, ◌⊎◌, inl, inr, ℕ, ◌+◌, ◌<◌, Bool, true, false, not, ◌&&◌, List, length, Option, Some, None, refl, sym, ap, subst, ◌∙◌, arith, option_map_or, cases_lt, false≢true, lt-ltb, le-ltb, get_or_past, get_or-set_same, get_or-set_other, length-set}
+use Rattle.executor.specs.Prelude.{Act, AllEnded, AreTimes, Choice, Choices, choices_of, Element, element_at, element_count, element_number, Ended, Failed, first_phase, first_phases, Idle, Instance, inventory_of, is_ended, is_open_at, is_over_by, IsElement, IsFirst, IsHindrance, IsOpen, IsPlanOf, IsReadyAt, machine_count, MayStart, Moves, Node as TheNode, None as NoAction, Phase, phase_at, phases_in, PlanChoices, Running, start_of, Times, times_of, Vm, Waiting, waits, waits_at, waits_between}
 use Rattle.cluster.proofs.Public.{IsListed-element_at, element_at-element_number, element_number-element_at, element_number-lt}
-use Rattle.catalogue.specs.Instance.{Instance, IsElement, inventory_of}
-use Rattle.slices.specs.Elements.{machine_count}
-use Rattle.slices.specs.Plans.{Choices, IsPlanOf, PlanChoices, choices_of}
-use Rattle.slices.specs.Starts.{start_of}
 use Rattle.slices.proofs.Public.{past-idle}
-use Rattle.executor.specs.declared.phase.Phase.{Phase}
-use Rattle.executor.specs.declared.phase.Phase.TheVariants.{None as NoAction, Waiting, Running, Ended, Failed}
-use Rattle.executor.specs.declared.times.Times.{Times}
-use Rattle.executor.specs.Answers.{IsFirst, IsHindrance, IsOpen}
-use Rattle.executor.specs.Phases.{AllEnded, Moves, first_phase, first_phases, phase_at, phases_in}
-use Rattle.executor.specs.Steps.{MayStart, is_over_by, waits}
-use Rattle.executor.specs.Tables.{AreTimes, IsReadyAt, is_ended, is_open_at, times_of, waits_at, waits_between}
 
 -- ---- numbers
 

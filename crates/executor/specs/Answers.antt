@@ -1,9 +1,7 @@
 -- What the calls of a monitor answer.
-use Rattle.std.specs.Prelude.{◌≡◌, ◌≢◌, ◌⊎◌, ◌<◌, IsTrue, Result, Ok, Err}
+use Rattle.base.specs.Prelude.{◌≡◌, ◌≢◌, ◌⊎◌, ◌<◌, IsTrue, Result, Ok, Err}
+use Rattle.judge.specs.Prelude.{Choices, element_number, Instance, inventory_of, IsElement}
 use Rattle.cluster.specs.declared.ids.Element.{Element}
-use Rattle.cluster.specs.Elements.{element_number}
-use Rattle.catalogue.specs.Instance.{Instance, IsElement, inventory_of}
-use Rattle.slices.specs.Plans.{Choices}
 use Rattle.executor.specs.declared.phase.Phase.{Phase}
 use Rattle.executor.specs.declared.phase.Phase.TheVariants.{Waiting, Running, Ended, Failed}
 use Rattle.executor.specs.declared.phase.StepFault.{StepFault}

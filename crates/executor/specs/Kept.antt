@@ -1,9 +1,6 @@
 -- What a monitor keeps.
-use Rattle.std.specs.Prelude.{◌≡◌, length}
-use Rattle.cluster.specs.Elements.{element_count}
-use Rattle.catalogue.specs.Instance.{inventory_of}
-use Rattle.slices.specs.Plans.{IsPlanOf, choices_of}
-use Rattle.slices.specs.Rules.{IsValid}
+use Rattle.base.specs.Prelude.{◌≡◌, length}
+use Rattle.judge.specs.Prelude.{choices_of, element_count, inventory_of, IsPlanOf, IsValid}
 use Rattle.executor.specs.declared.monitor.Monitor.TheInside.{Inside}
 use Rattle.executor.specs.Steps.{IsExecution}
 use Rattle.executor.specs.Phases.{phases_in}

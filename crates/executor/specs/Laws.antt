@@ -1,11 +1,8 @@
 -- The laws of executions.
-use Rattle.std.specs.Prelude.{◌≡◌, ◌≢◌, List, false}
+use Rattle.base.specs.Prelude.{◌≡◌, ◌≢◌, List, false}
+use Rattle.judge.specs.Prelude.{Choices, choices_of, InRange, Instance, IsInstance, IsPlanOf, IsValid, Keeps, PlanChoices, snapshot, snapshot_at}
 use Rattle.cluster.specs.declared.ids.Element.{Element}
-use Rattle.catalogue.specs.Instance.{Instance, IsInstance}
 use Rattle.slices.specs.declared.rule.Rule.{Rule}
-use Rattle.slices.specs.Plans.{Choices, PlanChoices, IsPlanOf, choices_of}
-use Rattle.slices.specs.Rules.{InRange, IsValid, Keeps}
-use Rattle.slices.specs.Snapshots.{snapshot, snapshot_at}
 use Rattle.executor.specs.declared.phase.Phase.TheVariants.{Waiting, Running, Failed}
 use Rattle.executor.specs.Phases.{AllEnded, Phases, first_phases, stages_in}
 use Rattle.executor.specs.Steps.{Event, IsExecution, IsStep, MayStart, Runs}

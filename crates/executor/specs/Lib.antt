@@ -7,3 +7,4 @@ pub mod Views
 -- how the monitor keeps it
 pub mod Tables
 pub mod Kept
+pub mod Prelude

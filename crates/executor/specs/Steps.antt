@@ -1,13 +1,9 @@
 -- Executions: which action waits for which, and what each event does.
-use Rattle.std.specs.Prelude.{◌≡◌, ◌≢◌, ◌↔◌, ℕ, Bool, false, nat_le, List, [], ◌∷◌, IsNone, IsTrue}
-use Rattle.std.specs.Option.{option_map_or}
+use Rattle.base.specs.Prelude.{◌≡◌, ◌≢◌, ◌↔◌, ℕ, Bool, false, nat_le, List, [], ◌∷◌, IsNone, IsTrue, option_map_or}
+use Rattle.judge.specs.Prelude.{Choices, end_of, Instance, start_of}
 use Rattle.cluster.specs.declared.choices.Choice.{Choice}
 use Rattle.cluster.specs.declared.choices.Choice.TheVariants.{Idle, Act}
 use Rattle.cluster.specs.declared.ids.Element.{Element}
-use Rattle.catalogue.specs.Instance.{Instance}
-use Rattle.slices.specs.Actions.{end_of}
-use Rattle.slices.specs.Plans.{Choices}
-use Rattle.slices.specs.Starts.{start_of}
 use Rattle.executor.specs.declared.phase.Phase.TheVariants.{None as NoAction, Waiting, Running, Ended, Failed}
 use Rattle.executor.specs.Phases.{Phases, Moves}
 

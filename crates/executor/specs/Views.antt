@@ -1,9 +1,7 @@
 -- What contracts see of a monitor.
-use Rattle.std.specs.Prelude.{◌≡◌, List, Result, Ok, Err}
+use Rattle.base.specs.Prelude.{◌≡◌, List, Result, Ok, Err}
+use Rattle.judge.specs.Prelude.{choices_of, IsFirstBroken, IsPlanOf, IsValid, PlanChoices, SoundInstance}
 use Rattle.cluster.specs.declared.ids.Element.{Element}
-use Rattle.catalogue.specs.Instance.{SoundInstance}
-use Rattle.slices.specs.Plans.{PlanChoices, IsPlanOf, choices_of}
-use Rattle.slices.specs.Rules.{IsFirstBroken, IsValid}
 use Rattle.executor.specs.declared.phase.NewFault.{NewFault}
 use Rattle.executor.specs.declared.phase.NewFault.TheVariants.{NotValid, Memory}
 use Rattle.executor.specs.declared.phase.Phase.{Phase}

@@ -1,15 +1,7 @@
 //! What hinders an action from starting, and which one may start.
-ghost use Rattle.std.specs.Prelude.{◌≡◌, ◌↔◌, length, IsSome, IsTrue, MatchOption};
-ghost use Rattle.cluster.specs.Elements.{element_count};
-ghost use Rattle.cluster.specs.declared.ids.Element.{Element as AnElement};
-ghost use Rattle.catalogue.specs.Instance.{IsElement, inventory_of};
-ghost use Rattle.slices.specs.Plans.{IsPlanOf, choices_of};
+ghost use Rattle.base.specs.Prelude.{◌≡◌, ◌↔◌, length, IsSome, IsTrue, MatchOption};
+ghost use Rattle.executor.specs.Prelude.{AllEnded, AreTimes, choices_of, Element as AnElement, element_count, inventory_of, IsAtTheEnd, IsElement, IsExecution, IsFirst, IsHindrance, IsIdle, IsPlanOf, MayStart, phases_in};
 ghost use Rattle.executor.specs.declared.phase.Phase.TheVariants as Phase;
-ghost use Rattle.executor.specs.Answers.{IsFirst, IsHindrance};
-ghost use Rattle.executor.specs.Laws.{IsAtTheEnd, IsIdle};
-ghost use Rattle.executor.specs.Steps.{IsExecution, MayStart};
-ghost use Rattle.executor.specs.Phases.{AllEnded, phases_in};
-ghost use Rattle.executor.specs.Tables.{AreTimes};
 
 use crate::phase::Phase;
 use crate::phases::{all_ended, first_failed};

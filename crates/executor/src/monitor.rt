@@ -1,13 +1,12 @@
 //! The monitor of an execution.
-ghost use Rattle.std.specs.Prelude.{◌≡◌, ◌↔◌, IsSome, IsTrue, MatchOption};
+ghost use Rattle.base.specs.Prelude.{◌≡◌, ◌↔◌, IsSome, IsTrue, MatchOption};
+ghost use Rattle.judge.specs.Prelude.{choices_of, IsElement, IsPlanOf};
 ghost use Rattle.cluster.specs.declared.ids.Element.{Element as AnElement};
-ghost use Rattle.catalogue.specs.Instance.{IsElement};
-ghost use Rattle.slices.specs.Plans.{IsPlanOf, choices_of};
-ghost use Rattle.executor.specs.declared.phase.Phase.TheVariants as Phase;
 ghost use Rattle.executor.specs.Answers.{IsFirst, StartGives, StopGives};
 ghost use Rattle.executor.specs.Laws.{IsAtTheEnd, IsIdle, IsSafe};
 ghost use Rattle.executor.specs.Phases.{AllEnded};
 ghost use Rattle.executor.specs.Views.{IsMonitor, IsSameWork, MayStartNow, NewGives, phases_of};
+ghost use Rattle.executor.specs.declared.phase.Phase.TheVariants as Phase;
 
 use crate::hindrance::{first_that_may_start, hindrance, is_finished};
 use crate::phase::{NewFault, Phase, StepFault};

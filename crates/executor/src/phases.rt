@@ -1,11 +1,7 @@
 //! The table of phases, by the numbers of elements.
-ghost use Rattle.std.specs.Prelude.{◌≡◌, ◌↔◌, ◌⊎◌, ℕ, ◌<◌, length, IfOk, IsTrue};
-ghost use Rattle.cluster.specs.Elements.{element_at, element_count};
-ghost use Rattle.catalogue.specs.Instance.{IsElement, inventory_of};
-ghost use Rattle.slices.specs.Plans.{IsPlanOf, choices_of};
+ghost use Rattle.base.specs.Prelude.{◌≡◌, ◌↔◌, ◌⊎◌, ℕ, ◌<◌, length, IfOk, IsTrue};
+ghost use Rattle.executor.specs.Prelude.{choices_of, element_at, element_count, first_phase, inventory_of, IsElement, IsFirstPlace, IsPlanOf, Moves, phase_at, phases_in};
 ghost use Rattle.executor.specs.declared.phase.Phase.TheVariants as Phase;
-ghost use Rattle.executor.specs.Phases.{Moves, first_phase, phase_at, phases_in};
-ghost use Rattle.executor.specs.Tables.{IsFirstPlace};
 
 use crate::phase::Phase;
 use base::Memory;

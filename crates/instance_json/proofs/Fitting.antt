@@ -1,20 +1,7 @@
 -- Amounts and durations that are read place by place are within the limits of a cluster.
-use Rattle.std.proofs.Common.{◌≡◌, ℕ, zero, suc, ◌+◌, ◌-◌, ◌<◌, ◌≤◌, ◌==◌, ◌&&◌, Bool, true, false, List, [], ◌∷◌, length, map, replicate, take, drop, slice_set, get_or, Option, Some, None, is_none, unwrap_or, nat_lt, nat_le, refl, sym, ap, ◌∙◌, arith, if◌then◌else◌, ⊎_elim, zero-add}
-use Rattle.std.proofs.lemmas.Bool.{and_from, and_parts, cases_lt, lt-ltb, le-ltb, le-leb, lt-leb}
-use Rattle.std.proofs.lemmas.List.{length-set, drop-replicate, drop-set-lt, drop-set-add, take-set-le, get_or-map, get_or_default}
-use Rattle.std.proofs.lemmas.List.FromFn.{get_or-range_with_len}
-use Rattle.std.proofs.Math.Seq.{take-set-lt}
-use Rattle.std.specs.List.{list_all}
-use Rattle.cluster.specs.declared.kinds.Kind.{Kind}
-use Rattle.cluster.specs.declared.kinds.TheConstants.{KINDS}
-use Rattle.cluster.specs.declared.durations.Duration.{Duration}
-use Rattle.cluster.specs.Kinds.{kind_count, machine_kind_count, kind_number}
-use Rattle.cluster.specs.Limits.{max_amount, max_resources}
-use Rattle.cluster.specs.Inventory.{duration_fits, own_fits, amounts_fit}
-use Rattle.instance_json.specs.declared.durations.Owner.{Owner}
-use Rattle.instance_json.specs.declared.durations.Owner.TheVariants.{Machine, Node, Either}
-use Rattle.instance_json.specs.Durations.{no_durations, one_instant}
-use Rattle.instance_json.specs.Fitting.{kind_fits, owner_fits}
+use Rattle.std.proofs.Common.{map, slice_set, if◌then◌else◌}
+use Rattle.base.proofs.Public.{◌≡◌, ℕ, zero, suc, ◌+◌, ◌-◌, ◌<◌, ◌≤◌, ◌==◌, ◌&&◌, Bool, true, false, List, [], ◌∷◌, length, replicate, take, drop, get_or, Option, Some, None, is_none, unwrap_or, nat_lt, nat_le, refl, sym, ap, ◌∙◌, arith, ⊎_elim, zero-add, and_from, and_parts, cases_lt, lt-ltb, le-ltb, le-leb, lt-leb, length-set, drop-replicate, drop-set-lt, drop-set-add, take-set-le, get_or-map, get_or_default, get_or-range_with_len, take-set-lt, list_all}
+use Rattle.instance_json.specs.Prelude.{amounts_fit, Duration, duration_fits, Either, Kind, kind_count, kind_fits, kind_number, KINDS, Machine, machine_kind_count, max_amount, max_resources, no_durations, Node, one_instant, own_fits, Owner, owner_fits}
 
 list_all-set : {X : Type 0} (p : X → Bool) (xs : List X) (i : ℕ) (y : X) → list_all p xs ≡ true → p y ≡ true → list_all p (slice_set xs i y) ≡ true
 list_all-set p [] i y all here = refl

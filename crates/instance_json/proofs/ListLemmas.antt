@@ -1,20 +1,9 @@
 -- Lists of machines and sets of nodes, one more at a time.
-use Rattle.std.proofs.Common.{◌≡◌, ℕ, ◌+◌, ◌<◌, ◌||◌, ◌==◌, Bool, true, false, not, List, [], ◌∷◌, ◌++◌, length, nat_lt, refl, sym, ap, ◌∙◌, arith}
-use Rattle.std.proofs.lemmas.Grind.{common_steps}
 use Rattle.std.proofs.lemmas.List.{append_assoc, append-nil}
-use Rattle.std.proofs.lemmas.Bool.{and_from, and_parts}
-use Rattle.std.proofs.lemmas.List.Folds.{list_all-append, list_any-append}
-use Rattle.std.specs.List.{list_all}
-use Rattle.cluster.specs.declared.ids.VmId.{VmId}
-use Rattle.cluster.specs.declared.sets.NodeSet.{NodeSet}
-use Rattle.cluster.specs.declared.sets.MachineSet.{MachineSet}
-use Rattle.cluster.specs.Limits.{max_nodes}
-use Rattle.cluster.specs.Sets.{has_machine, has_node, IsWithin, no_nodes, with_node}
+use Rattle.base.proofs.Public.{◌≡◌, ℕ, ◌+◌, ◌<◌, ◌||◌, ◌==◌, Bool, true, false, not, List, [], ◌∷◌, ◌++◌, length, nat_lt, refl, sym, ap, ◌∙◌, arith, common_steps, and_from, and_parts, list_all-append, list_any-append, list_all}
+use Rattle.instance_json.specs.Prelude.{all_of, are_machines, are_nodes, AreMarked, differ, has_machine, has_node, Inventory, is_member, IsWithin, MachineSet, max_nodes, no_nodes, NodeSet, VmId, with_node}
 use Rattle.cluster.proofs.Public.{has_node-no_nodes, has_node-with_node}
-use Rattle.cluster.specs.Inventory.{Inventory}
-use Rattle.catalogue.specs.Faults.{is_member, differ, all_of, are_machines, are_nodes}
 use Rattle.catalogue.proofs.Public.{are_nodes-within, IsWithin-are_nodes}
-use Rattle.instance_json.specs.Listed.{AreMarked}
 
 -- one more item that passes
 pub list_all_more : {X : Type 0} (p : X → Bool) (xs : List X) (x : X) → list_all p xs ≡ true → p x ≡ true → list_all p (xs ++ x ∷ []) ≡ true

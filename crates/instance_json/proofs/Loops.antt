@@ -1,11 +1,8 @@
 -- A loop that fills places from the first one on does what `map_walk` says.
-use Rattle.std.proofs.Common.{◌≡◌, ℕ, zero, suc, ◌+◌, ◌<◌, ◌≤◌, List, [], ◌∷◌, ◌++◌, length, take, drop, slice_set, get_or, add-one, Option, Some, None, Ok, Err, refl, sym, ap, ◌∙◌, arith, append_assoc}
-use Rattle.std.proofs.Math.Seq.{take-suc-set}
-use Rattle.std.proofs.lemmas.List.{append-nil, get_or_default}
-use Rattle.json_walk.specs.Walk.{◌>>=◌, Fails}
-use Rattle.instance_json.specs.declared.fault.InstanceFault.{InstanceFault}
-use Rattle.json_walk.specs.Members.{map_walk}
-use Rattle.instance_json.specs.Walk.{Walk}
+use Rattle.std.proofs.Common.{slice_set, Err}
+use Rattle.std.proofs.lemmas.List.{append-nil}
+use Rattle.base.proofs.Public.{◌≡◌, ℕ, zero, suc, ◌+◌, ◌<◌, ◌≤◌, List, [], ◌∷◌, ◌++◌, length, take, drop, get_or, add-one, Option, Some, None, Ok, refl, sym, ap, ◌∙◌, arith, append_assoc, take-suc-set, get_or_default}
+use Rattle.instance_json.specs.Prelude.{Fails, InstanceFault, map_walk, Walk, ◌>>=◌}
 
 -- the places before one are what the test gives of the items before it
 abbrev pub Fills : {X A : Type 0} → (X → Walk A) → List X → ℕ → List A → Type 0

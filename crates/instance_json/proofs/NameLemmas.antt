@@ -1,13 +1,6 @@
 -- What is known of names that are given and used.
-use Rattle.std.proofs.Common.{◌≡◌, ℕ, ◌<◌, ◌++◌, ◌||◌, Bool, not, List, [], ◌∷◌, length, Some, true, false, arith, refl, ap, ◌∙◌}
-use Rattle.std.proofs.lemmas.Bool.{and_from}
-use Rattle.std.proofs.lemmas.Cmp.{nat_list_eq_equiv}
-use Rattle.std.proofs.lemmas.Grind.{common_steps}
-use Rattle.std.proofs.lemmas.List.Folds.{list_any-append}
-use Rattle.std.specs.List.{list_any, position}
-use Rattle.std.specs.Str.{bytes_eq}
+use Rattle.base.proofs.Public.{◌≡◌, ℕ, ◌<◌, ◌++◌, ◌||◌, Bool, not, List, [], ◌∷◌, length, Some, true, false, arith, refl, ap, ◌∙◌, and_from, nat_list_eq_equiv, common_steps, list_any-append, list_any, position, bytes_eq, position-Some}
 use Rattle.cluster.specs.Inventory.{are_distinct}
-use Rattle.std.proofs.lemmas.List.Quantifiers.{position-Some}
 
 -- names that differ, with one more that is not among them
 pub distinct_more : (xs : List (List ℕ)) (n : List ℕ) → are_distinct xs ≡ true → list_any (bytes_eq n) xs ≡ false → are_distinct (xs ++ n ∷ []) ≡ true

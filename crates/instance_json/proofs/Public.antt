@@ -1,32 +1,13 @@
 -- What crates above may cite: what is printed of words, names and lists is read back. All else under proofs/ is private.
 use Rattle.std.proofs.Common.{◌≡◌, ℕ, suc, ◌<◌, true, List, [], ◌∷◌, length, get_or, Some, Ok, slice_get, refl, arith}
+use Rattle.instance_json.specs.Prelude.{Among, Ban, Constraint, CONSTRAINT_KINDS, constraint_number, constraint_word, constraint_words, ConstraintKind, Either, Fence, Field, field_of, Gather, Inventory, is_name, IsInventory, IsListed, Killed, listed_machine, listed_node, Lonely, Machine, map_walk, MaxOnline, name_from, name_of, Node, NodeId, Offline, Online, Overbook, Owner, Precedence, Preserve, Ready, ResourceCapacity, Root, Running, RunningCapacity, Serialize, Sleeping, Split, Spread, State, state_number, state_word, state_words, STATES, StateWord, text_of, Vm, VmId, Walk, word_field, word_field_of, word_of}
+use Rattle.cluster.specs.declared.ids.Element.TheVariants.{Node as NodeElement}
 use Rattle.serde_json.specs.Data.{Data, string}
-use Rattle.json_walk.specs.Walk.{field_of, text_of, word_of, word_field_of}
-use Rattle.cluster.specs.declared.ids.NodeId.{NodeId}
-use Rattle.cluster.specs.declared.ids.VmId.{VmId}
-use Rattle.cluster.specs.declared.ids.Element.TheVariants.{Vm, Node as NodeElement}
-use Rattle.cluster.specs.declared.states.State.{State}
 use Rattle.cluster.specs.declared.states.State.TheVariants as states
-use Rattle.cluster.specs.Inventory.{Inventory, IsInventory, IsListed, name_of}
-use Rattle.cluster.specs.Names.{is_name}
-use Rattle.cluster.specs.States.{state_number, state_word, state_words}
 use Rattle.cluster.proofs.Public.{element_named-name_of, is_name-name_of, place-state_word}
-use Rattle.catalogue.specs.declared.constraint.Constraint.{Constraint}
 use Rattle.catalogue.specs.declared.constraint.Constraint.TheVariants as constraint
-use Rattle.catalogue.specs.Words.{constraint_number, constraint_word, constraint_words}
 use Rattle.catalogue.proofs.Public.{place-constraint_word}
-use Rattle.instance_json.specs.declared.constraint_kind.ConstraintKind.{ConstraintKind}
-use Rattle.instance_json.specs.declared.constraint_kind.ConstraintKind.TheVariants.{Spread, Ban, Fence, Gather, Lonely, Among, Split, Root, Precedence, Serialize, Preserve, ResourceCapacity, RunningCapacity, MaxOnline, Overbook, Online, Offline, Running, Sleeping, Ready, Killed}
-use Rattle.instance_json.specs.declared.constraint_kind.TheConstants.{CONSTRAINT_KINDS}
-use Rattle.instance_json.specs.declared.durations.Owner.{Owner}
-use Rattle.instance_json.specs.declared.durations.Owner.TheVariants.{Machine, Node, Either}
-use Rattle.instance_json.specs.declared.states.StateWord.{StateWord}
 use Rattle.instance_json.specs.declared.states.StateWord.TheVariants as words
-use Rattle.instance_json.specs.declared.states.TheConstants.{STATES}
-use Rattle.json_walk.specs.Members.{map_walk, word_field}
-use Rattle.instance_json.specs.declared.fault.InstanceFault.TheVariants.{Field}
-use Rattle.instance_json.specs.Walk.{Walk}
-use Rattle.instance_json.specs.Names.{name_from, listed_machine, listed_node}
 
 -- ---- words
 

@@ -1,11 +1,7 @@
 -- A constraint that was read has no fault.
-use Rattle.std.proofs.Common.{◌≡◌, ◌<◌, ◌&&◌, Bool, true, false, not, length, nat_le, Some, None, if◌then◌else◌, arith}
-use Rattle.std.proofs.lemmas.Grind.{common_steps}
-use Rattle.catalogue.specs.declared.constraint.Constraint.{Constraint}
-use Rattle.catalogue.specs.declared.constraint.RuleFault.TheVariants.{TooMany, NoSuch, Twice, TooGreat}
-use Rattle.catalogue.specs.Limits.{max_constraints}
-use Rattle.catalogue.specs.Instance.{Instance, inventory_of, rule_fault}
-use Rattle.catalogue.specs.Faults.{are_named_machines, are_named_nodes, is_named_resource, differ, machines_in, is_fitting, is_rule, constraint_fault}
+use Rattle.std.proofs.Common.{if◌then◌else◌}
+use Rattle.base.proofs.Public.{◌≡◌, ◌<◌, ◌&&◌, Bool, true, false, not, length, nat_le, Some, None, arith, common_steps}
+use Rattle.instance_json.specs.Prelude.{are_named_machines, are_named_nodes, Constraint, constraint_fault, differ, Instance, inventory_of, is_fitting, is_named_resource, is_rule, machines_in, max_constraints, NoSuch, rule_fault, TooGreat, TooMany, Twice}
 
 by_tests : (full : Bool) (a b c d e : Bool) → full ≡ false → (a && b && c && d && e) ≡ true
     → (if full then Some TooMany else if not (a && b && c) then Some NoSuch else if not d then Some Twice else if e then None else Some TooGreat) ≡ None

@@ -1,20 +1,15 @@
 -- Durations.
-use Rattle.std.specs.Prelude.{ℕ, Bool, true, List, map, replicate, ◌==◌, ◌&&◌, nat_lt, nat_le, Option, Some, None, unwrap_or, Ok, Err, codes, if◌then◌else◌}
-use Rattle.std.specs.List.{list_any, list_all}
-use Rattle.std.specs.Str.{bytes_eq}
-use Rattle.serde_json.specs.Data.{Data}
-use Rattle.serde_json.specs.Find.{get}
+use Rattle.base.specs.Prelude.{ℕ, Bool, true, List, map, replicate, ◌==◌, ◌&&◌, nat_lt, nat_le, Option, Some, None, unwrap_or, Ok, Err, codes, if◌then◌else◌, list_any, list_all, bytes_eq}
+use Rattle.json_walk.specs.Prelude.{as_walk, fault_at, key_path, keys_of, map_walk, number_field, object_of, only_keys, optional_by, optional_number, wants, ◌>>=◌, ◌>>◌}
+use Rattle.catalogue.specs.Prelude.{kind_count, kind_number, kind_word, kinds, machine_kind_count, max_duration}
 use Rattle.json_walk.specs.declared.fault.FaultKind.TheVariants.{Missing, Unknown}
-use Rattle.json_walk.specs.Path.{key_path}
-use Rattle.json_walk.specs.Walk.{◌>>=◌, ◌>>◌, wants, object_of, keys_of, fault_at}
 use Rattle.cluster.specs.declared.kinds.Kind.{Kind}
 use Rattle.cluster.specs.declared.durations.Duration.{Duration}
-use Rattle.cluster.specs.Kinds.{kind_count, machine_kind_count, kind_number, kind_word, kinds}
-use Rattle.cluster.specs.Limits.{max_duration}
+use Rattle.serde_json.specs.Data.{Data}
+use Rattle.serde_json.specs.Find.{get}
 use Rattle.instance_json.specs.declared.keys.TheConstants.{DURATION_KEYS}
 use Rattle.instance_json.specs.declared.durations.Owner.{Owner}
 use Rattle.instance_json.specs.declared.durations.Owner.TheVariants.{Machine, Node, Either}
-use Rattle.json_walk.specs.Members.{as_walk, only_keys, optional_by, number_field, optional_number, map_walk}
 use Rattle.instance_json.specs.declared.fault.InstanceFault.TheVariants.{Field}
 use Rattle.instance_json.specs.Walk.{Walk, Test}
 use Rattle.instance_json.specs.Names.{listed_resource}

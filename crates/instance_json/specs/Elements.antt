@@ -1,26 +1,19 @@
 -- Nodes and machines.
-use Rattle.std.specs.Prelude.{ℕ, ◌-◌, List, [], ◌∷◌, ◌++◌, length, map, replicate, true, nat_le, Ok, codes}
-use Rattle.std.specs.List.{list_any, list_all}
-use Rattle.std.specs.Str.{bytes_eq}
-use Rattle.serde_json.specs.Data.{Data}
-use Rattle.json_walk.specs.Path.{item_path}
-use Rattle.json_walk.specs.Walk.{◌>>=◌, ◌>>◌, wants, object_of, keys_of, list_of}
-use Rattle.json_walk.specs.Each.{each}
+use Rattle.base.specs.Prelude.{ℕ, ◌-◌, List, [], ◌∷◌, ◌++◌, length, map, replicate, true, nat_le, Ok, codes, list_any, list_all, bytes_eq}
+use Rattle.json_walk.specs.Prelude.{as_walk, each, field_by, item_path, keys_of, list_of, map_walk, object_of, only_keys, optional_by, optional_flag, optional_number, wants, word_field, ◌>>=◌, ◌>>◌}
+use Rattle.catalogue.specs.Prelude.{Inventory, is_online, max_amount, max_machines, max_nodes, max_resources, state_words}
 use Rattle.cluster.specs.declared.ids.NodeId.{NodeId}
 use Rattle.cluster.specs.declared.states.State.{State}
 use Rattle.cluster.specs.declared.states.State.TheVariants.{Init, Ready, Running, Sleeping, Gone}
 use Rattle.cluster.specs.declared.nodes.Node.{Node}
 use Rattle.cluster.specs.declared.machines.Machine.{Machine}
-use Rattle.cluster.specs.Inventory.{Inventory, is_online}
-use Rattle.cluster.specs.Limits.{max_amount, max_machines, max_nodes, max_resources}
-use Rattle.cluster.specs.States.{state_words}
+use Rattle.serde_json.specs.Data.{Data}
 use Rattle.instance_json.specs.declared.fault.InstanceFault.TheVariants.{Field, NoSuch, BadHost, Limit}
 use Rattle.instance_json.specs.declared.durations.Owner.TheVariants as owners
 use Rattle.instance_json.specs.declared.keys.TheConstants.{NODE_KEYS, MACHINE_KEYS, HOSTED_KEYS}
 use Rattle.instance_json.specs.declared.states.StateWord.{StateWord}
 use Rattle.instance_json.specs.declared.states.StateWord.TheVariants as state_word
 use Rattle.instance_json.specs.declared.states.TheConstants.{STATES}
-use Rattle.json_walk.specs.Members.{as_walk, only_keys, field_by, optional_by, optional_number, optional_flag, word_field, map_walk}
 use Rattle.instance_json.specs.Walk.{Walk, Test}
 use Rattle.instance_json.specs.Names.{new_name_from, listed_node}
 use Rattle.instance_json.specs.Durations.{own_durations}

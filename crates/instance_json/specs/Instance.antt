@@ -1,17 +1,11 @@
 -- The instance that bytes have, or their first fault.
-use Rattle.std.specs.Prelude.{ℕ, List, [], length, map, nat_le, Ok, codes}
-use Rattle.std.specs.Option.{ok_or}
-use Rattle.serde_json.specs.Data.{Data}
-use Rattle.json_walk.specs.Path.{root}
-use Rattle.json_walk.specs.Walk.{◌>>=◌, ◌>>◌, wants}
-use Rattle.json_walk.specs.Json.{json_of}
+use Rattle.base.specs.Prelude.{ℕ, List, [], length, map, nat_le, Ok, codes, ok_or}
+use Rattle.json_walk.specs.Prelude.{field_by, json_of, number_field, only_keys, root, wants, ◌>>=◌, ◌>>◌}
+use Rattle.catalogue.specs.Prelude.{Instance, Inventory, max_horizon}
 use Rattle.json_walk.specs.declared.reading.TheConstants.{MAX_TEXT_BYTES}
-use Rattle.cluster.specs.Inventory.{Inventory}
-use Rattle.catalogue.specs.Instance.{Instance}
-use Rattle.catalogue.specs.Limits.{max_horizon}
+use Rattle.serde_json.specs.Data.{Data}
 use Rattle.instance_json.specs.declared.keys.TheConstants.{ROOT_KEYS}
 use Rattle.instance_json.specs.declared.fault.InstanceFault.TheVariants.{Field, TooLong, NotJson}
-use Rattle.json_walk.specs.Members.{only_keys, field_by, number_field}
 use Rattle.instance_json.specs.Walk.{Walk, Test}
 use Rattle.instance_json.specs.Names.{resources_from}
 use Rattle.instance_json.specs.Durations.{base_durations}

@@ -8,3 +8,4 @@ pub mod Rules
 pub mod Instance
 pub mod Fitting
 pub mod Listed
+pub mod Prelude

@@ -1,9 +1,8 @@
 -- Helping only: the machines of lists that are read one after the other, and their marks.
-use Rattle.std.specs.Prelude.{◌≡◌, ℕ, true, List, ◌++◌}
+use Rattle.base.specs.Prelude.{◌≡◌, ℕ, true, List, ◌++◌}
+use Rattle.catalogue.specs.Prelude.{all_of, differ, has_machine, is_member}
 use Rattle.cluster.specs.declared.ids.VmId.{VmId}
 use Rattle.cluster.specs.declared.sets.MachineSet.{MachineSet}
-use Rattle.cluster.specs.Sets.{has_machine}
-use Rattle.catalogue.specs.Faults.{is_member, differ, all_of}
 
 -- the lists before, and the one that is being read
 pub record Listed : Type 0 where

@@ -1,18 +1,12 @@
 -- Lists of names, and lists of such lists.
-use Rattle.std.specs.Prelude.{ℕ, List, [], ◌∷◌, ◌++◌, length, not, nat_lt, nat_le, Ok}
-use Rattle.serde_json.specs.Data.{Data}
+use Rattle.base.specs.Prelude.{ℕ, List, [], ◌∷◌, ◌++◌, length, not, nat_lt, nat_le, Ok}
+use Rattle.json_walk.specs.Prelude.{as_walk, each, fault_at, item_path, list_of, wants, ◌>>=◌, ◌>>◌}
+use Rattle.catalogue.specs.Prelude.{all_of, has_node, Inventory, is_member, max_groups, max_parts, no_nodes, with_node}
 use Rattle.json_walk.specs.declared.fault.FaultKind.TheVariants.{OutOfRange}
-use Rattle.json_walk.specs.Path.{item_path}
-use Rattle.json_walk.specs.Walk.{◌>>=◌, ◌>>◌, wants, list_of, fault_at}
-use Rattle.json_walk.specs.Each.{each}
 use Rattle.cluster.specs.declared.ids.VmId.{VmId}
 use Rattle.cluster.specs.declared.sets.NodeSet.{NodeSet}
-use Rattle.cluster.specs.Sets.{has_node, no_nodes, with_node}
-use Rattle.cluster.specs.Inventory.{Inventory}
-use Rattle.catalogue.specs.Faults.{is_member, all_of}
-use Rattle.catalogue.specs.Limits.{max_groups, max_parts}
+use Rattle.serde_json.specs.Data.{Data}
 use Rattle.instance_json.specs.declared.fault.InstanceFault.TheVariants.{Field, Twice, Limit}
-use Rattle.json_walk.specs.Members.{as_walk}
 use Rattle.instance_json.specs.Walk.{Walk, Test}
 use Rattle.instance_json.specs.Names.{listed_machine, listed_node}
 

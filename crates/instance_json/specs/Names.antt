@@ -1,22 +1,14 @@
 -- Names, and what they name.
-use Rattle.std.specs.Prelude.{ℕ, List, [], ◌∷◌, ◌++◌, length, not, nat_le, Option, Some, None, Ok}
-use Rattle.std.specs.Option.{ok_or}
-use Rattle.std.specs.List.{list_any, position}
-use Rattle.std.specs.Str.{bytes_eq}
-use Rattle.serde_json.specs.Data.{Data}
+use Rattle.base.specs.Prelude.{ℕ, List, [], ◌∷◌, ◌++◌, length, not, nat_le, Option, Some, None, Ok, ok_or, list_any, position, bytes_eq}
+use Rattle.json_walk.specs.Prelude.{as_walk, each, fault_at, item_path, list_of, text_of, wants, ◌>>=◌, ◌>>◌}
+use Rattle.catalogue.specs.Prelude.{element_named, Inventory, is_name, is_taken, max_resources}
 use Rattle.json_walk.specs.declared.fault.FaultKind.TheVariants.{OutOfRange}
-use Rattle.json_walk.specs.Path.{item_path}
-use Rattle.json_walk.specs.Walk.{◌>>=◌, ◌>>◌, wants, text_of, list_of, fault_at}
-use Rattle.json_walk.specs.Each.{each}
 use Rattle.cluster.specs.declared.ids.NodeId.{NodeId}
 use Rattle.cluster.specs.declared.ids.VmId.{VmId}
 use Rattle.cluster.specs.declared.ids.Element.{Element}
 use Rattle.cluster.specs.declared.ids.Element.TheVariants.{Vm, Node as NodeElement}
-use Rattle.cluster.specs.Limits.{max_resources}
-use Rattle.cluster.specs.Names.{is_name}
-use Rattle.cluster.specs.Inventory.{Inventory, element_named, is_taken}
+use Rattle.serde_json.specs.Data.{Data}
 use Rattle.instance_json.specs.declared.fault.InstanceFault.TheVariants.{Field, Twice, NoSuch, Limit}
-use Rattle.json_walk.specs.Members.{as_walk}
 use Rattle.instance_json.specs.Walk.{Walk, Test}
 
 -- a text that is a well-formed name

@@ -1,24 +1,17 @@
 -- Constraints.
-use Rattle.std.specs.Prelude.{ℕ, Bool, false, not, ◌==◌, List, [], ◌∷◌, ◌++◌, length, map, nat_le, Ok, codes}
-use Rattle.serde_json.specs.Data.{Data}
-use Rattle.json_walk.specs.Path.{key_path, item_path}
-use Rattle.json_walk.specs.Walk.{◌>>=◌, ◌>>◌, wants, list_of}
-use Rattle.json_walk.specs.Each.{each}
+use Rattle.base.specs.Prelude.{ℕ, Bool, false, not, ◌==◌, List, [], ◌∷◌, ◌++◌, length, map, nat_le, Ok, codes}
+use Rattle.json_walk.specs.Prelude.{as_walk, each, field_by, item_path, key_path, list_of, number_field, only_keys, optional_flag, wants, word_field, ◌>>=◌, ◌>>◌}
+use Rattle.catalogue.specs.Prelude.{constraint_words, Instance, Inventory, inventory_of, max_amount, max_constraints, max_scale}
 use Rattle.cluster.specs.declared.ids.VmId.{VmId}
 use Rattle.cluster.specs.declared.sets.NodeSet.{NodeSet}
-use Rattle.cluster.specs.Inventory.{Inventory}
-use Rattle.cluster.specs.Limits.{max_amount}
 use Rattle.catalogue.specs.declared.constraint.Constraint.{Constraint}
+use Rattle.serde_json.specs.Data.{Data}
 use Rattle.catalogue.specs.declared.constraint.Constraint.TheVariants as constraint
-use Rattle.catalogue.specs.Instance.{Instance, inventory_of}
-use Rattle.catalogue.specs.Limits.{max_constraints, max_scale}
-use Rattle.catalogue.specs.Words.{constraint_words}
 use Rattle.instance_json.specs.declared.constraint_kind.ConstraintKind.{ConstraintKind}
 use Rattle.instance_json.specs.declared.constraint_kind.ConstraintKind.TheVariants.{Spread, Ban, Fence, Gather, Lonely, Among, Split, Root, Precedence, Serialize, Preserve, ResourceCapacity, RunningCapacity, MaxOnline, Overbook, Online, Offline, Running, Sleeping, Ready, Killed}
 use Rattle.instance_json.specs.declared.constraint_kind.TheConstants.{CONSTRAINT_KINDS}
 use Rattle.instance_json.specs.declared.fault.InstanceFault.TheVariants.{Field, Twice, Limit}
 use Rattle.instance_json.specs.declared.keys.TheConstants.{MACHINES_KEYS, FLAGGED_MACHINES_KEYS, BOTH_KEYS, AMONG_KEYS, SPLIT_KEYS, PRECEDENCE_KEYS, PRESERVE_KEYS, RESOURCE_CAPACITY_KEYS, NODE_COUNT_KEYS, OVERBOOK_KEYS, NODES_KEYS}
-use Rattle.json_walk.specs.Members.{as_walk, only_keys, field_by, number_field, optional_flag, word_field}
 use Rattle.instance_json.specs.Walk.{Walk, Test}
 use Rattle.instance_json.specs.Names.{listed_machine, listed_resource}
 use Rattle.instance_json.specs.Lists.{machine_list, parts_from, node_set, groups_from}

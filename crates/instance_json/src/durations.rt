@@ -1,20 +1,9 @@
 //! Durations.
 
-ghost use Rattle.std.specs.Prelude.{◌≡◌, ◌≤◌, ◌&&◌, None, IfOk, codes, length, map, string_bytes, true, unwrap_or};
-ghost use Rattle.std.specs.List.{list_all};
-ghost use Rattle.std.specs.BTreeMap.{keys as map_keys};
+ghost use Rattle.base.specs.Prelude.{◌≡◌, ◌≤◌, ◌&&◌, None, IfOk, codes, length, map, string_bytes, true, unwrap_or, list_all, keys as map_keys};
+ghost use Rattle.instance_json.specs.Prelude.{base_durations, duration_by_kind, duration_fits, duration_from, durations_from, given_duration, Gives, has_kind, instance_fault_of, is_kind_key, key_path, kind_fits, kinds, map_walk, max_resources, one_instant, optional_by, own_durations, own_fits, owner_fits, path_of, resource_fits, unit_from};
 ghost use Rattle.serde_json.specs.Find.{get};
 ghost use Rattle.serde_json.specs.View.{view};
-ghost use Rattle.json_walk.specs.Path.{key_path};
-ghost use Rattle.json_walk.specs.PathRef.{path_of};
-ghost use Rattle.json_walk.specs.Walk.{Gives};
-ghost use Rattle.cluster.specs.Inventory.{resource_fits, duration_fits, own_fits};
-ghost use Rattle.cluster.specs.Kinds.{kinds};
-ghost use Rattle.cluster.specs.Limits.{max_resources};
-ghost use Rattle.json_walk.specs.Members.{optional_by, map_walk};
-ghost use Rattle.instance_json.specs.Walk.{instance_fault_of};
-ghost use Rattle.instance_json.specs.Fitting.{kind_fits, owner_fits};
-ghost use Rattle.instance_json.specs.Durations.{unit_from, duration_from, given_duration, has_kind, duration_by_kind, is_kind_key, durations_from, own_durations, one_instant, base_durations};
 
 use crate::fault::InstanceFault;
 use crate::keys::DURATION_KEYS;

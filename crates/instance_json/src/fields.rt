@@ -1,16 +1,8 @@
 //! The fields of constraints.
 
-ghost use Rattle.std.specs.Prelude.{◌≡◌, ◌<◌, IfOk, codes, length, nat_le, true};
+ghost use Rattle.base.specs.Prelude.{◌≡◌, ◌<◌, IfOk, codes, length, nat_le, true};
+ghost use Rattle.instance_json.specs.Prelude.{among_from, are_machines, are_nodes, both_fields, differ, Field, field_by, flagged_machines_fields, Gives, instance_fault_of, is_resource, is_rule, listed_machine, listed_resource, machines_fields, max_amount, node_count_fields, nodes_fields, overbook_from, path_of, precedence_from, preserve_from, resource_capacity_from, split_from};
 ghost use Rattle.serde_json.specs.View.{view};
-ghost use Rattle.json_walk.specs.PathRef.{path_of};
-ghost use Rattle.json_walk.specs.Walk.{Gives};
-ghost use Rattle.cluster.specs.Limits.{max_amount};
-ghost use Rattle.catalogue.specs.Faults.{are_machines, are_nodes, differ, is_resource, is_rule};
-ghost use Rattle.json_walk.specs.Members.{field_by};
-ghost use Rattle.instance_json.specs.declared.fault.InstanceFault.TheVariants.{Field};
-ghost use Rattle.instance_json.specs.Walk.{instance_fault_of};
-ghost use Rattle.instance_json.specs.Names.{listed_machine, listed_resource};
-ghost use Rattle.instance_json.specs.Rules.{machines_fields, flagged_machines_fields, both_fields, among_from, split_from, precedence_from, preserve_from, resource_capacity_from, node_count_fields, overbook_from, nodes_fields};
 
 use crate::fault::InstanceFault;
 use crate::keys::{

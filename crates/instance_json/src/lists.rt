@@ -1,18 +1,8 @@
 //! Lists of machines and of nodes, and lists of such lists.
 
-ghost use Rattle.std.specs.Prelude.{◌≡◌, ◌<◌, ◌+◌, [], IfOk, OnOk, codes, length, map, nat_lt, nat_le, true};
-ghost use Rattle.std.specs.List.{list_all};
+ghost use Rattle.base.specs.Prelude.{◌≡◌, ◌<◌, ◌+◌, [], IfOk, OnOk, codes, length, map, nat_lt, nat_le, true, list_all};
+ghost use Rattle.instance_json.specs.Prelude.{all_of, are_machines, are_nodes, differ, each, Field, field_by, Gives, group_step, groups_from, instance_fault_of, machine_item, machine_list, machines_after, max_groups, max_parts, no_nodes, node_item, node_set, part_step, parts_from, path_of};
 ghost use Rattle.serde_json.specs.View.{view};
-ghost use Rattle.json_walk.specs.PathRef.{path_of};
-ghost use Rattle.json_walk.specs.Walk.{Gives};
-ghost use Rattle.json_walk.specs.Each.{each};
-ghost use Rattle.catalogue.specs.Faults.{are_machines, are_nodes, differ, all_of};
-ghost use Rattle.json_walk.specs.Members.{field_by};
-ghost use Rattle.instance_json.specs.declared.fault.InstanceFault.TheVariants.{Field};
-ghost use Rattle.instance_json.specs.Walk.{instance_fault_of};
-ghost use Rattle.cluster.specs.Sets.{no_nodes};
-ghost use Rattle.catalogue.specs.Limits.{max_groups, max_parts};
-ghost use Rattle.instance_json.specs.Lists.{machine_item, machines_after, machine_list, part_step, parts_from, node_item, node_set, group_step, groups_from};
 
 use crate::fault::InstanceFault;
 use crate::listing::Listing;

@@ -1,17 +1,8 @@
 //! Machines.
 
-ghost use Rattle.std.specs.Prelude.{◌≡◌, ◌<◌, ◌≤◌, ◌+◌, ◌++◌, ◌∷◌, [], IfOk, OnOk, codes, length, map, true, false};
+ghost use Rattle.base.specs.Prelude.{◌≡◌, ◌<◌, ◌≤◌, ◌+◌, ◌++◌, ◌∷◌, [], IfOk, OnOk, codes, length, map, true, false};
+ghost use Rattle.instance_json.specs.Prelude.{each, Field, field_by, Gives, host_from, host_is_online, instance_fault_of, is_online, is_taken, machine_fits, machine_from, machine_keys, machine_step, machines_from, max_machines, only_keys, path_of, state_by, state_from, state_words, word_field};
 ghost use Rattle.serde_json.specs.View.{view};
-ghost use Rattle.json_walk.specs.PathRef.{path_of};
-ghost use Rattle.json_walk.specs.Walk.{Gives};
-ghost use Rattle.json_walk.specs.Each.{each};
-ghost use Rattle.cluster.specs.Inventory.{is_taken, is_online, host_is_online, machine_fits};
-ghost use Rattle.cluster.specs.Limits.{max_machines};
-ghost use Rattle.cluster.specs.States.{state_words};
-ghost use Rattle.json_walk.specs.Members.{only_keys, field_by, word_field};
-ghost use Rattle.instance_json.specs.declared.fault.InstanceFault.TheVariants.{Field};
-ghost use Rattle.instance_json.specs.Walk.{instance_fault_of};
-ghost use Rattle.instance_json.specs.Elements.{host_from, state_by, state_from, machine_keys, machine_from, machine_step, machines_from};
 
 use crate::amounts::amounts_at;
 use crate::durations::{Owner, own_durations};

@@ -1,17 +1,8 @@
 //! Nodes.
 
-ghost use Rattle.std.specs.Prelude.{◌≡◌, ◌<◌, ◌≤◌, ◌+◌, ◌++◌, ◌∷◌, [], IfOk, OnOk, codes, length, map, true, false};
+ghost use Rattle.base.specs.Prelude.{◌≡◌, ◌<◌, ◌≤◌, ◌+◌, ◌++◌, ◌∷◌, [], IfOk, OnOk, codes, length, map, true, false};
+ghost use Rattle.instance_json.specs.Prelude.{each, Field, field_by, Gives, instance_fault_of, is_taken, max_nodes, new_name_from, node_fits, node_from, node_step, nodes_from, path_of};
 ghost use Rattle.serde_json.specs.View.{view};
-ghost use Rattle.json_walk.specs.PathRef.{path_of};
-ghost use Rattle.json_walk.specs.Walk.{Gives};
-ghost use Rattle.json_walk.specs.Each.{each};
-ghost use Rattle.cluster.specs.Inventory.{is_taken, node_fits};
-ghost use Rattle.cluster.specs.Limits.{max_nodes};
-ghost use Rattle.json_walk.specs.Members.{field_by};
-ghost use Rattle.instance_json.specs.declared.fault.InstanceFault.TheVariants.{Field};
-ghost use Rattle.instance_json.specs.Walk.{instance_fault_of};
-ghost use Rattle.instance_json.specs.Names.{new_name_from};
-ghost use Rattle.instance_json.specs.Elements.{node_from, node_step, nodes_from};
 
 use crate::amounts::amounts_at;
 use crate::durations::{Owner, own_durations};

@@ -1,19 +1,8 @@
 //! The whole instance.
 
-ghost use Rattle.std.specs.Prelude.{◌≡◌, ◌≤◌, [], IfOk, codes, length, true};
-ghost use Rattle.std.specs.List.{list_all};
-ghost use Rattle.std.specs.Option.{ok_or};
+ghost use Rattle.base.specs.Prelude.{◌≡◌, ◌≤◌, [], IfOk, codes, length, true, list_all, ok_or};
+ghost use Rattle.instance_json.specs.Prelude.{are_distinct, base_from, constraints_from, duration_fits, Field, field_by, Gives, instance_fault_of, instance_of, inventory_from, json_of, max_resources, NotJson, path_of, problem_from, walk};
 ghost use Rattle.serde_json.specs.View.{view};
-ghost use Rattle.json_walk.specs.PathRef.{path_of};
-ghost use Rattle.json_walk.specs.Walk.{Gives};
-ghost use Rattle.json_walk.specs.Json.{json_of};
-ghost use Rattle.cluster.specs.Inventory.{are_distinct, duration_fits};
-ghost use Rattle.cluster.specs.Limits.{max_resources};
-ghost use Rattle.json_walk.specs.Members.{field_by};
-ghost use Rattle.instance_json.specs.Walk.{instance_fault_of};
-ghost use Rattle.instance_json.specs.Rules.{constraints_from};
-ghost use Rattle.instance_json.specs.Instance.{base_from, inventory_from, problem_from, walk, instance_of};
-ghost use Rattle.instance_json.specs.declared.fault.InstanceFault.TheVariants.{Field, NotJson};
 
 use crate::durations::base_durations;
 use crate::fault::InstanceFault;

@@ -1,18 +1,8 @@
 //! Constraints.
 
-ghost use Rattle.std.specs.Prelude.{◌≡◌, ◌<◌, ◌≤◌, ◌+◌, ◌++◌, ◌∷◌, [], IfOk, OnOk, Some, codes, length, map, slice_get, true};
+ghost use Rattle.base.specs.Prelude.{◌≡◌, ◌<◌, ◌≤◌, ◌+◌, ◌++◌, ◌∷◌, [], IfOk, OnOk, Some, codes, length, map, slice_get, true};
+ghost use Rattle.instance_json.specs.Prelude.{constraint_by, constraint_from, constraint_step, constraint_words, constraints_from, each, fault_of, Field, Gives, instance_fault_of, inventory_of, is_rule, max_constraints, path_of, word_field, word_field_of};
 ghost use Rattle.serde_json.specs.View.{view};
-ghost use Rattle.json_walk.specs.PathRef.{path_of};
-ghost use Rattle.json_walk.specs.Walk.{Gives, fault_of, word_field_of};
-ghost use Rattle.json_walk.specs.Each.{each};
-ghost use Rattle.catalogue.specs.Faults.{is_rule};
-ghost use Rattle.catalogue.specs.Instance.{inventory_of};
-ghost use Rattle.catalogue.specs.Limits.{max_constraints};
-ghost use Rattle.catalogue.specs.Words.{constraint_words};
-ghost use Rattle.json_walk.specs.Members.{word_field};
-ghost use Rattle.instance_json.specs.declared.fault.InstanceFault.TheVariants.{Field};
-ghost use Rattle.instance_json.specs.Walk.{instance_fault_of};
-ghost use Rattle.instance_json.specs.Rules.{constraint_by, constraint_from, constraint_step, constraints_from};
 
 use crate::constraint_kind::{CONSTRAINT_KINDS, ConstraintKind};
 use crate::fault::InstanceFault;

@@ -1,36 +1,11 @@
 -- Printed amounts and durations are read again.
-use Rattle.std.proofs.Common.{◌≡◌, ℕ, ◌+◌, ◌-◌, ◌<◌, ◌≤◌, ◌==◌, ◌&&◌, ◌||◌, Bool, true, false, not, List, [], ◌∷◌, length, map, take, drop, replicate, get_or, slice_index, slice_index_or, nat_le, Option, Some, None, is_some, is_none, option_map, unwrap_or, Ok, codes, if◌then◌else◌, refl, sym, ap, ◌∙◌, arith, ⊎_elim}
-use Rattle.std.proofs.lemmas.Grind.{common_steps}
-use Rattle.std.proofs.lemmas.Bool.{and_parts, cases_lt, ltb-false, leb-false}
-use Rattle.std.proofs.lemmas.List.{get_or_default, get_or-map, get_or-take, get_or-drop, length-take, length-drop, length-map, take-append-drop, take_all}
-use Rattle.std.proofs.lemmas.List.Folds.{list_any_at}
-use Rattle.std.proofs.lemmas.List.FromFn.{get_or-range_with_len, length-range_with_len}
-use Rattle.std.proofs.lemmas.Slice.Eq.{bytes_eq-Decides}
-use Rattle.std.specs.List.{list_all, list_any, range_with_len}
-use Rattle.std.specs.Str.{bytes_eq}
-use Rattle.base.proofs.Lists.{item_passes}
-use Rattle.base.proofs.Ranges.{all_pass}
+use Rattle.std.proofs.Common.{map, slice_index_or, option_map, codes, if◌then◌else◌}
+use Rattle.base.proofs.Public.{◌≡◌, ℕ, ◌+◌, ◌-◌, ◌<◌, ◌≤◌, ◌==◌, ◌&&◌, ◌||◌, Bool, true, false, not, List, [], ◌∷◌, length, take, drop, replicate, get_or, slice_index, nat_le, Option, Some, None, is_some, is_none, unwrap_or, Ok, refl, sym, ap, ◌∙◌, arith, ⊎_elim, common_steps, and_parts, cases_lt, ltb-false, leb-false, get_or_default, get_or-map, get_or-take, get_or-drop, length-take, length-drop, length-map, take-append-drop, take_all, list_any_at, get_or-range_with_len, length-range_with_len, bytes_eq-Decides, list_all, list_any, range_with_len, bytes_eq, item_passes, all_pass}
+use Rattle.instance_make.specs.Prelude.{Allocate, amounts_data, amounts_fit, amounts_from, are_distinct, base_durations, Boot, Duration, duration_by_kind, duration_data, duration_fits, duration_from, duration_of_kind, durations_data, durations_from, Field, field_of, Forge, given_duration, has_kind, Inventory, is_kind_key, is_name, IsInventory, key_path, keys_of, Kill, Kind, kind_count, kind_number, kind_word, kind_words, kinds, listed_resource, machine_kind_count, machine_own_fits, max_amount, max_duration, max_resources, members_by, Migrate, no_durations, node_own_fits, NodeBoot, NodeShutdown, number_field_of, number_of, object_of, one_instant, only_of, optional, optional_number, own_data, own_durations, own_fits, resource_amounts, Resume, Shutdown, Suspend, unit_from, Walk}
 use Rattle.serde_json.specs.Data.{Data, string, number, unsigned}
 use Rattle.serde_json.specs.Find.{get, get_member}
-use Rattle.json_walk.specs.Members.{optional_number}
-use Rattle.json_walk.specs.Path.{key_path}
-use Rattle.json_walk.specs.Walk.{object_of, optional, field_of, number_of, number_field_of, only_of, keys_of}
-use Rattle.cluster.specs.declared.durations.Duration.{Duration}
-use Rattle.cluster.specs.declared.kinds.Kind.{Kind}
-use Rattle.cluster.specs.declared.kinds.Kind.TheVariants.{Forge, Boot, Shutdown, Suspend, Resume, Migrate, Allocate, Kill, NodeBoot, NodeShutdown}
-use Rattle.cluster.specs.Inventory.{Inventory, IsInventory, amounts_fit, duration_fits, own_fits, machine_own_fits, node_own_fits, are_distinct}
-use Rattle.cluster.specs.Kinds.{kind_count, machine_kind_count, kind_number, kind_word, kind_words, kinds}
-use Rattle.cluster.specs.Limits.{max_amount, max_duration, max_resources}
-use Rattle.cluster.specs.Names.{is_name}
 use Rattle.cluster.proofs.Public.{IsDuration-fits, kind_number-lt, resource_named-listed}
-use Rattle.instance_json.specs.declared.fault.InstanceFault.TheVariants.{Field}
-use Rattle.instance_json.specs.Walk.{Walk}
-use Rattle.instance_json.specs.Names.{listed_resource}
-use Rattle.instance_json.specs.Durations.{unit_from, duration_from, given_duration, duration_by_kind, has_kind, is_kind_key, durations_from, own_durations, no_durations, one_instant, base_durations}
-use Rattle.instance_json.specs.Elements.{resource_amounts, amounts_from}
 use Rattle.instance_json.proofs.Public.{DurationOwner, of_machine, of_node, of_either, map_walk-items, name_from-name}
-use Rattle.instance_make.specs.Members.{members_by}
-use Rattle.instance_make.specs.Elements.{amounts_data, duration_data, duration_of_kind, durations_data, own_data}
 use Rattle.instance_make.proofs.Making.{list_all_of, all_none}
 use Rattle.instance_make.proofs.Putting.{found_by, keys_by, names_to, amounts_to}
 

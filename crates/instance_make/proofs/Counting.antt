@@ -1,14 +1,6 @@
 -- How many machines a generated problem has on a set of nodes, and how many of those that leave come there.
-use Rattle.std.proofs.Common.{◌≡◌, ◌≢◌, ℕ, zero, suc, ◌+◌, ◌*◌, ◌/◌, ◌%◌, ◌<◌, ◌≤◌, ◌==◌, Bool, true, false, cond, nat_le, refl, ap, ◌∙◌, arith, ⊎_elim}
-use Rattle.std.proofs.lemmas.Bool.{cases_eq, leb-true}
-use Rattle.std.proofs.lemmas.Bool.Decides.{Decides-eqb, nat_tests}
-use Rattle.std.specs.List.{list_all, range_with_len}
-use Rattle.base.specs.Sums.{sum_to}
-use Rattle.base.proofs.Ranges.{each_passes}
-use Rattle.base.proofs.Sums.{sum_to-same, sum_to-none, sum_to-add}
-use Rattle.slices.specs.Stages.{Nodes, one}
-use Rattle.instance_make.specs.Generated.{machine_total, host_of}
-use Rattle.instance_make.specs.Emptying.{goes_to}
+use Rattle.base.proofs.Public.{◌≡◌, ◌≢◌, ℕ, zero, suc, ◌+◌, ◌*◌, ◌/◌, ◌%◌, ◌<◌, ◌≤◌, ◌==◌, Bool, true, false, cond, nat_le, refl, ap, ◌∙◌, arith, ⊎_elim, cases_eq, leb-true, Decides-eqb, nat_tests, list_all, range_with_len, each_passes, sum_to-same, sum_to-none, sum_to-add}
+use Rattle.instance_make.specs.Prelude.{goes_to, host_of, machine_total, Nodes, one, sum_to}
 
 -- ---- sums by blocks
 

@@ -1,35 +1,14 @@
 -- Printed resources, nodes and machines are read again.
-use Rattle.std.proofs.Common.{◌≡◌, ℕ, ◌==◌, ◌||◌, Bool, true, false, not, List, [], ◌∷◌, ◌++◌, length, map, nat_le, Option, Some, None, is_some, Ok, codes, refl, sym, ap, ◌∙◌, append_assoc, arith}
-use Rattle.std.proofs.lemmas.Bool.{le-leb, and_parts, eqb-true}
-use Rattle.std.proofs.lemmas.List.{length-map, map-append}
-use Rattle.std.specs.List.{list_any, list_all, position}
-use Rattle.std.specs.Str.{bytes_eq}
+use Rattle.std.proofs.Common.{map, codes}
+use Rattle.base.proofs.Public.{◌≡◌, ℕ, ◌==◌, ◌||◌, Bool, true, false, not, List, [], ◌∷◌, ◌++◌, length, nat_le, Option, Some, None, is_some, Ok, refl, sym, ap, ◌∙◌, append_assoc, arith, le-leb, and_parts, eqb-true, length-map, map-append, list_any, list_all, position, bytes_eq}
+use Rattle.instance_make.specs.Prelude.{amounts_data, amounts_fit, amounts_in, are_distinct, element_of_places, Field, field_by, field_of, flag_of, has_places, host_data, host_from, host_is_online, Inventory, is_name, is_online, IsInventory, IsListed, item_path, key_path, keys_of, kind_count, list_data, list_of, listed_node, Machine, machine_data, machine_fits, machine_from, machine_keys, machine_step, machines_from, max_machines, max_nodes, max_resources, name_of, names_of_machines, names_of_nodes, new_name_from, Node as NodeElement, node_data, node_fits, node_from, node_name, node_step, NodeId, nodes_from, only_keys, only_of, optional, optional_flag, own_data, own_durations, put_if, resource_step, resources_from, State, state_by, state_from, state_word}
+use Rattle.cluster.specs.declared.nodes.Node.{Node}
 use Rattle.serde_json.specs.Data.{Data, boolean, string, object, Members, no_members, member}
 use Rattle.serde_json.specs.Find.{get_member}
-use Rattle.json_walk.specs.Members.{only_keys, field_by, optional_flag}
-use Rattle.json_walk.specs.Path.{key_path, item_path}
-use Rattle.json_walk.specs.Walk.{optional, field_of, flag_of, list_of, only_of, keys_of}
 use Rattle.json_walk.proofs.Public.{items_list-items_of}
-use Rattle.cluster.specs.declared.ids.Element.TheVariants.{Node as NodeElement}
-use Rattle.cluster.specs.declared.ids.NodeId.{NodeId}
-use Rattle.cluster.specs.declared.machines.Machine.{Machine}
-use Rattle.cluster.specs.declared.nodes.Node.{Node}
-use Rattle.cluster.specs.declared.states.State.{State}
 use Rattle.cluster.specs.declared.states.State.TheVariants as states
-use Rattle.cluster.specs.Inventory.{Inventory, IsInventory, IsListed, are_distinct, names_of_nodes, names_of_machines, name_of, element_of_places, host_is_online, is_online, has_places, node_fits, machine_fits, amounts_fit}
-use Rattle.cluster.specs.Kinds.{kind_count}
-use Rattle.cluster.specs.Limits.{max_resources, max_nodes, max_machines}
-use Rattle.cluster.specs.Names.{is_name}
-use Rattle.cluster.specs.States.{state_word}
 use Rattle.cluster.proofs.Public.{element_named-name_of, is_name-name_of, is_online-lt}
-use Rattle.instance_json.specs.declared.fault.InstanceFault.TheVariants.{Field}
-use Rattle.instance_json.specs.Names.{new_name_from, listed_node, resource_step, resources_from}
-use Rattle.instance_json.specs.Durations.{own_durations}
-use Rattle.instance_json.specs.Elements.{amounts_in, node_from, node_step, nodes_from, host_from, state_by, state_from, machine_keys, machine_from, machine_step, machines_from}
 use Rattle.instance_json.proofs.Public.{of_node, of_machine, word_of_state, word_field-state, name_from-name}
-use Rattle.instance_make.specs.Members.{put_if}
-use Rattle.instance_make.specs.Elements.{amounts_data, own_data, node_data, host_data, node_name, machine_data}
-use Rattle.instance_make.specs.Rules.{list_data}
 use Rattle.instance_make.proofs.Making.{each_made, All_at, apart_before, apart_after, later_part, earlier_part, position_none, none_at_position}
 use Rattle.instance_make.proofs.Putting.{put_if-other, put_if-here, keys-put_if}
 use Rattle.instance_make.proofs.AmountsAgain.{amounts_again, own_again, node_fits-owner, machine_fits-owner}

@@ -1,25 +1,6 @@
 -- The plan that empties the node of a generated problem is legal, and what the machines hold under it.
-use Rattle.std.proofs.Common.{◌≡◌, ◌≢◌, ℕ, zero, suc, ◌+◌, ◌*◌, ◌/◌, ◌<◌, ◌≤◌, ◌==◌, ◌&&◌, Bool, true, false, cond, not, List, [], ◌∷◌, length, max, nat_le, nat_lt, Some, None, refl, ap, ◌∙◌, arith, ⊎_elim}
-use Rattle.std.proofs.lemmas.Bool.{cases_eq, lt-ltb, le-leb, eqb-true}
-use Rattle.std.proofs.lemmas.Bool.Decides.{Decides-eqb, nat_tests}
-use Rattle.std.specs.List.{fold, range_with_len}
-use Rattle.cluster.specs.declared.choices.Place.TheVariants.{Nowhere, At}
-use Rattle.cluster.specs.declared.ids.Element.TheVariants.{Vm, Node as TheNode}
-use Rattle.cluster.specs.declared.kinds.Kind.TheVariants.{Migrate, NodeShutdown}
-use Rattle.slices.specs.declared.slice.Weight.{Weight}
-use Rattle.slices.specs.declared.slice.What.TheVariants.{Use, Demand}
-use Rattle.slices.specs.declared.slice.Span.TheVariants.{Always, FromStart, BeforeEnd}
-use Rattle.slices.specs.declared.stage.Stage.{Stage}
-use Rattle.catalogue.specs.declared.targets.Target.TheVariants.{Offline as ToOffline}
-use Rattle.catalogue.specs.declared.targets.Wish.TheVariants.{To}
-use Rattle.catalogue.specs.Values.{wanted_node}
-use Rattle.slices.specs.Actions.{kind_of, may_idle, duration_of, kind_duration, action_duration, end_of, is_legal}
-use Rattle.slices.specs.Elements.{vm, node}
-use Rattle.slices.specs.Plans.{IsPlan}
-use Rattle.slices.specs.Snapshots.{held_by}
-use Rattle.slices.specs.Stages.{Nodes, slices_by, slices_of, weight_of}
-use Rattle.instance_make.specs.Generated.{node_total, machine_total, emptied, mem_of, host_of, generated}
-use Rattle.instance_make.specs.Emptying.{goes_to, leaves, last_end, emptying}
+use Rattle.base.proofs.Public.{◌≡◌, ◌≢◌, ℕ, zero, suc, ◌+◌, ◌*◌, ◌/◌, ◌<◌, ◌≤◌, ◌==◌, ◌&&◌, Bool, true, false, cond, not, List, [], ◌∷◌, length, max, nat_le, nat_lt, Some, None, refl, ap, ◌∙◌, arith, ⊎_elim, cases_eq, lt-ltb, le-leb, eqb-true, Decides-eqb, nat_tests, fold, range_with_len}
+use Rattle.instance_make.specs.Prelude.{action_duration, Always, At, BeforeEnd, Demand, duration_of, emptied, emptying, end_of, FromStart, generated, goes_to, held_by, host_of, is_legal, IsPlan, kind_duration, kind_of, last_end, leaves, machine_total, may_idle, mem_of, Migrate, node, Node as TheNode, node_total, Nodes, NodeShutdown, Nowhere, Offline as ToOffline, slices_by, slices_of, Stage, To, Use, Vm, vm, wanted_node, Weight, weight_of}
 use Rattle.instance_make.proofs.Faultless.{mem_small}
 use Rattle.instance_make.proofs.Problem.{state_at, use_at, wanted_at, raised_at, node_count_at, machine_count_at, online_at, own_at, node_own_at, migration_at, shutdown_at, horizon_at, emptied_wish, other_wish}
 

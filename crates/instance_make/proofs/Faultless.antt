@@ -1,20 +1,8 @@
 -- A generated cluster is built up without a fault.
-use Rattle.std.proofs.Common.{◌≡◌, ℕ, zero, suc, ◌+◌, ◌<◌, ◌≤◌, ◌^◌, Bool, true, false, not, List, [], ◌∷◌, ◌++◌, length, map, nat_le, Option, Some, None, is_none, codes, refl, ap, ◌∙◌, arith, if◌then◌else◌}
-use Rattle.std.proofs.lemmas.Bool.{le-leb, lt-leb, false_from_ne_true}
-use Rattle.std.proofs.lemmas.Fmt.{decimal_injective}
-use Rattle.std.proofs.lemmas.List.{length-map}
-use Rattle.std.proofs.lemmas.List.FromFn.{length-range_with_len, map-range_with_len_more}
-use Rattle.std.proofs.lemmas.Slice.Eq.{bytes_eq-Decides}
-use Rattle.std.specs.List.{list_all, list_any, range_with_len}
-use Rattle.std.specs.Fmt.{decimal, digits}
-use Rattle.std.specs.Str.{bytes_eq}
-use Rattle.base.proofs.Ranges.{each_passes}
-use Rattle.cluster.specs.declared.inventory.AddFault.TheVariants.{TooMany, Twice, BadHost, TooGreat}
-use Rattle.cluster.specs.Inventory.{node_fault, machine_fault, is_taken, is_online, host_is_online, machine_fits, names_of_machines, names_of_nodes}
-use Rattle.cluster.specs.Limits.{max_amount}
-use Rattle.cluster.specs.Names.{is_name}
-use Rattle.instance_make.specs.Building.{nodes_to, machines_to}
-use Rattle.instance_make.specs.Generated.{node_total, machine_total, from, node_text, machine_text, host_of, generated_node, generated_machine, cpu_of, mem_of}
+use Rattle.std.proofs.Common.{◌^◌, map, codes, if◌then◌else◌}
+use Rattle.base.proofs.Public.{◌≡◌, ℕ, zero, suc, ◌+◌, ◌<◌, ◌≤◌, Bool, true, false, not, List, [], ◌∷◌, ◌++◌, length, nat_le, Option, Some, None, is_none, refl, ap, ◌∙◌, arith, le-leb, lt-leb, false_from_ne_true, decimal_injective, length-map, length-range_with_len, map-range_with_len_more, bytes_eq-Decides, list_all, list_any, range_with_len, decimal, digits, bytes_eq, each_passes}
+use Rattle.instance_make.specs.Prelude.{BadHost, cpu_of, from, generated_machine, generated_node, host_is_online, host_of, is_name, is_online, is_taken, machine_fault, machine_fits, machine_text, machine_total, machines_to, max_amount, mem_of, names_of_machines, names_of_nodes, node_fault, node_text, node_total, nodes_to}
+use Rattle.cluster.specs.declared.inventory.AddFault.TheVariants.{TooMany, Twice, TooGreat}
 use Rattle.instance_make.proofs.Making.{position_none}
 
 -- ---- names

@@ -1,14 +1,12 @@
 -- What is printed has no floats and nests no deeper than can be read.
-use Rattle.std.proofs.Common.{◌≡◌, ℕ, suc, ◌≤◌, Bool, false, ◌||◌, List, [], ◌∷◌, map, Option, Some, None, IfSome, refl, arith}
-use Rattle.std.proofs.Math.Nat.{max-le}
-use Rattle.std.specs.List.{fold}
+use Rattle.std.proofs.Common.{map, IfSome}
+use Rattle.base.proofs.Public.{◌≡◌, ℕ, suc, ◌≤◌, Bool, false, ◌||◌, List, [], ◌∷◌, Option, Some, None, refl, arith, max-le, fold}
+use Rattle.instance_make.specs.Prelude.{list_data, members_by, put_if}
 use Rattle.serde_json.specs.Data.{Data, boolean, string, number, unsigned, object, Members, no_members, member, depth, members_depth}
 use Rattle.serde_json.specs.View.{items_of}
 use Rattle.serde_json.specs.Written.{has_float, members_have_float, items_have_float}
 use Rattle.serde_json.specs.Data.{items_depth}
 use Rattle.json_text.proofs.Public.{members_have_float-put, members_depth-put}
-use Rattle.instance_make.specs.Members.{put_if, members_by}
-use Rattle.instance_make.specs.Rules.{list_data}
 
 -- a value, or members, without floats, that nest at most n deep
 pub record IsFlat (n : ℕ) (d : Data) : Type 0 where

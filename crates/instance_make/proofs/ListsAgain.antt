@@ -1,30 +1,11 @@
 -- Printed lists of machines and of nodes are read again.
-use Rattle.std.proofs.Common.{◌≡◌, ℕ, zero, suc, ◌+◌, ◌<◌, ◌≤◌, ◌==◌, ◌≢◌, ◌&&◌, ◌||◌, Bool, true, false, not, List, [], ◌∷◌, ◌++◌, length, map, nat_le, nat_lt, Ok, refl, sym, ap, ap₂, ◌∙◌, append_assoc, arith, ⊎_elim}
-use Rattle.std.proofs.lemmas.Grind.{common_steps}
-use Rattle.std.proofs.lemmas.Bool.{and_parts, le-leb, lt-leb, lt-ltb, le-ltb, ltb-true, cases_lt, cases_eq, not-true}
-use Rattle.std.proofs.Math.Bool.{or-false}
-use Rattle.std.proofs.lemmas.Bool.Decides.{Decides-eqb, nat_tests}
-use Rattle.std.proofs.lemmas.List.{length-map}
-use Rattle.std.proofs.lemmas.List.Folds.{list_any-append, list_all-append}
-use Rattle.std.proofs.lemmas.List.Sums.{AllPass-from_list_all}
-use Rattle.std.specs.List.{filter, fold, list_all, range_with_len}
-use Rattle.base.proofs.Tests.{same_either_way}
-use Rattle.json_walk.specs.Path.{item_path}
-use Rattle.json_walk.specs.Walk.{list_of}
-use Rattle.json_walk.specs.Each.{each}
+use Rattle.std.proofs.Common.{map}
+use Rattle.base.proofs.Public.{◌≡◌, ℕ, zero, suc, ◌+◌, ◌<◌, ◌≤◌, ◌==◌, ◌≢◌, ◌&&◌, ◌||◌, Bool, true, false, not, List, [], ◌∷◌, ◌++◌, length, nat_le, nat_lt, Ok, refl, sym, ap, ap₂, ◌∙◌, append_assoc, arith, ⊎_elim, common_steps, and_parts, le-leb, lt-leb, lt-ltb, le-ltb, ltb-true, cases_lt, cases_eq, not-true, or-false, Decides-eqb, nat_tests, length-map, list_any-append, list_all-append, AllPass-from_list_all, filter, fold, list_all, range_with_len, same_either_way}
+use Rattle.instance_make.specs.Prelude.{all_of, are_machines, are_nodes, differ, each, group_step, groups_from, groups_list, has_node, Inventory, is_member, IsInventory, item_path, list_of, machine_item, machine_name, machines_after, machines_list, max_groups, max_parts, no_nodes, node_item, node_name_at, node_set, nodes_in, nodes_list, NodeSet, part_step, parts_from, parts_list, VmId, with_node}
 use Rattle.json_walk.proofs.Public.{items_list-items_of}
-use Rattle.cluster.specs.declared.ids.VmId.{VmId}
-use Rattle.cluster.specs.declared.sets.NodeSet.{NodeSet}
-use Rattle.cluster.specs.Inventory.{Inventory, IsInventory}
-use Rattle.cluster.specs.Sets.{has_node, no_nodes, with_node}
 use Rattle.cluster.proofs.Public.{has_node-no_nodes, has_node-with_node, same_set}
-use Rattle.catalogue.specs.Faults.{is_member, differ, all_of, are_machines, are_nodes}
-use Rattle.catalogue.specs.Limits.{max_groups, max_parts}
 use Rattle.catalogue.proofs.Public.{IsWithin-are_nodes}
-use Rattle.instance_json.specs.Lists.{machine_item, machines_after, part_step, parts_from, node_item, node_set, group_step, groups_from}
 use Rattle.instance_json.proofs.Public.{listed_machine-name, listed_node-name}
-use Rattle.instance_make.specs.Elements.{machine_name}
-use Rattle.instance_make.specs.Rules.{machines_list, parts_list, nodes_in, node_name_at, nodes_list, groups_list}
 use Rattle.instance_make.proofs.Making.{each_made, All_at}
 
 -- what passes for all items of a list passes for each

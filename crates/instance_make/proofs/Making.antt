@@ -1,18 +1,8 @@
 -- A list that is spelled item by item is read again, whatever is made of it; and names that differ.
-use Rattle.std.proofs.Common.{◌≡◌, ℕ, suc, ◌≤◌, ◌||◌, Bool, true, false, not, List, [], ◌∷◌, ◌++◌, length, map, get_or, Option, Some, None, is_some, replicate, Result, Ok, true≢false, refl, sym, ap, ◌∙◌, append_assoc, arith, rules}
-use Rattle.std.proofs.lemmas.Grind.{common_steps}
-use Rattle.std.proofs.lemmas.Bool.{and_from, and_parts}
-use Rattle.std.proofs.lemmas.Cmp.{nat_list_eq_equiv}
-use Rattle.std.proofs.lemmas.List.{append-nil, length-append}
-use Rattle.std.proofs.Math.Seq.{get_or-append_seam}
-use Rattle.std.proofs.lemmas.List.Elements.{All-same}
-use Rattle.std.proofs.lemmas.List.Folds.{list_any-append, list_any_at, list_any_none}
-use Rattle.std.proofs.lemmas.List.Sums.{fails_before_first}
-use Rattle.std.proofs.lemmas.List.Quantifiers.{position-Some}
-use Rattle.std.specs.List.{All, list_all, list_any, position, position_or_len}
-use Rattle.std.specs.Str.{bytes_eq}
-use Rattle.json_walk.specs.Each.{each}
-use Rattle.cluster.specs.Inventory.{are_distinct}
+use Rattle.std.proofs.Common.{map, Result}
+use Rattle.std.proofs.lemmas.List.{append-nil}
+use Rattle.base.proofs.Public.{◌≡◌, ℕ, suc, ◌≤◌, ◌||◌, Bool, true, false, not, List, [], ◌∷◌, ◌++◌, length, get_or, Option, Some, None, is_some, replicate, Ok, true≢false, refl, sym, ap, ◌∙◌, append_assoc, arith, rules, common_steps, and_from, and_parts, nat_list_eq_equiv, length-append, get_or-append_seam, All-same, list_any-append, list_any_at, list_any_none, fails_before_first, position-Some, All, list_all, list_any, position, position_or_len, bytes_eq}
+use Rattle.instance_make.specs.Prelude.{are_distinct, each}
 
 -- ---- lists
 

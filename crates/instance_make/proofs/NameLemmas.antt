@@ -1,8 +1,7 @@
 -- The name of what stands at a place, and of what stands nowhere.
 use Rattle.std.proofs.Common.{◌≡◌, ℕ, zero, suc, List, [], ◌∷◌, map, slice_get, slice_index_or, Some, None, refl}
-use Rattle.cluster.specs.declared.machines.Machine.{Machine}
+use Rattle.instance_make.specs.Prelude.{Machine, names_of_machines, names_of_nodes}
 use Rattle.cluster.specs.declared.nodes.Node.{Node}
-use Rattle.cluster.specs.Inventory.{names_of_machines, names_of_nodes}
 
 at_place : {A : Type 0} (f : A → List ℕ) (xs : List A) (i : ℕ) (x : A) → slice_get xs i ≡ Some x → slice_index_or (map f xs) i [] ≡ f x
 at_place f [] i x is = absurd (cc)

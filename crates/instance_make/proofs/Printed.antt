@@ -1,26 +1,14 @@
 -- A printed problem has no floats, and nests no deeper than can be read.
-use Rattle.std.proofs.Common.{◌≡◌, ℕ, suc, ◌≤◌, Bool, true, false, List, [], length, Option, Some, None, is_some, IfSome, option_map, slice_index, slice_index_or, codes, arith, if◌then◌else◌}
-use Rattle.std.specs.List.{list_any, range_with_len}
+use Rattle.std.proofs.Common.{IfSome, option_map, slice_index_or, codes, if◌then◌else◌}
+use Rattle.base.proofs.Public.{◌≡◌, ℕ, suc, ◌≤◌, Bool, true, false, List, [], length, Option, Some, None, is_some, slice_index, arith, list_any, range_with_len}
+use Rattle.instance_make.specs.Prelude.{among_object, amounts_data, both_object, constraint_data, constraint_word, Duration, duration_data, duration_of_kind, durations_data, flagged_machines_object, groups_list, host_data, Instance, instance_data, Inventory, inventory_of, kind_number, kind_word, kinds, Machine, machine_data, machine_name, machines_list, machines_object, node_count_object, node_data, node_name_at, nodes_in, nodes_list, nodes_object, NodeSet, object_by, overbook_object, own_data, parts_list, precedence_object, preserve_object, resource_capacity_object, split_object, State, state_word, unit_members, VmId}
+use Rattle.cluster.specs.declared.nodes.Node.{Node}
+use Rattle.catalogue.specs.declared.constraint.Constraint.{Constraint}
+use Rattle.catalogue.specs.declared.constraint.Constraint.TheVariants.{Spread, Ban, Fence, Gather, Lonely, Among, Split, Root, Precedence, Serialize, Preserve, ResourceCapacity, RunningCapacity, MaxOnline, Overbook, Online, Offline, Running, Sleeping, Ready, Killed}
 use Rattle.serde_json.specs.Data.{number, unsigned, depth}
 use Rattle.serde_json.specs.Read.{max_depth}
 use Rattle.serde_json.specs.Written.{has_float}
-use Rattle.cluster.specs.declared.ids.VmId.{VmId}
-use Rattle.cluster.specs.declared.sets.NodeSet.{NodeSet}
-use Rattle.cluster.specs.declared.durations.Duration.{Duration}
-use Rattle.cluster.specs.declared.machines.Machine.{Machine}
-use Rattle.cluster.specs.declared.nodes.Node.{Node}
-use Rattle.cluster.specs.declared.states.State.{State}
 use Rattle.cluster.specs.declared.states.State.TheVariants as states
-use Rattle.cluster.specs.Inventory.{Inventory}
-use Rattle.cluster.specs.Kinds.{kind_number, kind_word, kinds}
-use Rattle.cluster.specs.States.{state_word}
-use Rattle.catalogue.specs.declared.constraint.Constraint.{Constraint}
-use Rattle.catalogue.specs.declared.constraint.Constraint.TheVariants.{Spread, Ban, Fence, Gather, Lonely, Among, Split, Root, Precedence, Serialize, Preserve, ResourceCapacity, RunningCapacity, MaxOnline, Overbook, Online, Offline, Running, Sleeping, Ready, Killed}
-use Rattle.catalogue.specs.Instance.{Instance, inventory_of}
-use Rattle.catalogue.specs.Words.{constraint_word}
-use Rattle.instance_make.specs.Elements.{amounts_data, duration_data, duration_of_kind, durations_data, own_data, node_data, host_data, machine_name, machine_data, unit_members}
-use Rattle.instance_make.specs.Rules.{machines_list, parts_list, nodes_in, node_name_at, nodes_list, groups_list, machines_object, flagged_machines_object, both_object, among_object, split_object, precedence_object, preserve_object, resource_capacity_object, node_count_object, overbook_object, nodes_object, object_by, constraint_data}
-use Rattle.instance_make.specs.Text.{instance_data}
 use Rattle.instance_make.proofs.Flat.{IsFlat, AreFlat, flat-string, flat-number, flat-boolean, flat-object, flat-end, flat-member, flat-put_if, flat-members_by, flat-list}
 
 -- ---- amounts and durations

@@ -1,24 +1,9 @@
 -- What a generated problem says of its machines and nodes.
-use Rattle.std.proofs.Common.{◌≡◌, ◌≢◌, ℕ, zero, suc, ◌+◌, ◌<◌, ◌≤◌, ◌==◌, ◌||◌, Bool, true, false, not, List, [], ◌∷◌, ◌++◌, length, map, max, slice_get, slice_index, nat_lt, Some, None, refl, ap, ap₂, ◌∙◌, arith, ⊎_elim, if◌then◌else◌}
-use Rattle.std.proofs.lemmas.Bool.{cases_eq, lt-ltb}
-use Rattle.std.proofs.lemmas.Bool.Decides.{Decides-eqb, nat_tests}
-use Rattle.std.specs.List.{filter, fold, list_any, range_with_len}
-use Rattle.cluster.specs.declared.ids.VmId.{VmId}
-use Rattle.cluster.specs.declared.kinds.Kind.TheVariants.{Migrate, NodeShutdown}
-use Rattle.cluster.specs.declared.sets.NodeSet.{NodeSet}
-use Rattle.cluster.specs.declared.states.State.TheVariants.{Running}
-use Rattle.cluster.specs.Inventory.{is_online}
-use Rattle.cluster.specs.Kinds.{kinds}
-use Rattle.cluster.specs.Sets.{has_node}
+use Rattle.std.proofs.Common.{map, slice_get, if◌then◌else◌}
+use Rattle.base.proofs.Public.{◌≡◌, ◌≢◌, ℕ, zero, suc, ◌+◌, ◌<◌, ◌≤◌, ◌==◌, ◌||◌, Bool, true, false, not, List, [], ◌∷◌, ◌++◌, length, max, slice_index, nat_lt, Some, None, refl, ap, ap₂, ◌∙◌, arith, ⊎_elim, cases_eq, lt-ltb, Decides-eqb, nat_tests, filter, fold, list_any, range_with_len}
+use Rattle.instance_make.specs.Prelude.{amounts, capacity_of, common_of, cpu_of, demand_of, differs_in, emptied, from, generated, generated_constraints, generated_machine, generated_node, has_node, host_of, is_online, is_raised, Keep, kinds, limit_of, limit_with, machine_own, machine_total, machine_wish_with, mem_of, Migrate, node_own, node_total, node_wish_with, NodeSet, NodeShutdown, Offline as ToOffline, Online as ToOnline, others, preserved_of, preserved_with, Running, set_of, spread_of, state_of, To, use_of, VmId, vms, wanted_machine, wanted_node, Wish, wish_where, written_of}
 use Rattle.catalogue.specs.declared.constraint.Constraint.{Constraint}
 use Rattle.catalogue.specs.declared.constraint.Constraint.TheVariants.{Ban, RunningCapacity, Online, Offline}
-use Rattle.catalogue.specs.declared.targets.Target.TheVariants.{Online as ToOnline, Offline as ToOffline}
-use Rattle.catalogue.specs.declared.targets.Wish.{Wish}
-use Rattle.catalogue.specs.declared.targets.Wish.TheVariants.{Keep, To}
-use Rattle.catalogue.specs.Values.{use_of, preserved_with, preserved_of, demand_of, limit_with, limit_of, written_of, capacity_of, machine_wish_with, node_wish_with, wish_where, wanted_machine, wanted_node}
-use Rattle.slices.specs.Actions.{differs_in, is_raised, machine_own, node_own, common_of}
-use Rattle.slices.specs.Elements.{state_of}
-use Rattle.instance_make.specs.Generated.{node_total, machine_total, emptied, from, amounts, cpu_of, mem_of, host_of, generated_node, generated_machine, set_of, vms, others, spread_of, generated_constraints, generated}
 use Rattle.instance_make.proofs.Ruling.{has_node-set_of, others_below}
 
 get_map : {A : Type 0} (f : ℕ → A) (n a i j : ℕ) → i < n → a + i ≡ j → slice_get (map f (range_with_len a n)) i ≡ Some (f j)

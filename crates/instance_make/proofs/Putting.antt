@@ -1,28 +1,10 @@
 -- Objects that are made member by member: what is found in them.
-use Rattle.std.proofs.Common.{◌≡◌, ℕ, zero, suc, ◌+◌, ◌<◌, ◌≤◌, ◌||◌, Bool, true, false, not, List, [], ◌∷◌, ◌++◌, length, map, take, drop, drop-cons, get_or, slice_index, slice_index_or, Option, Some, None, is_some, Ordering, Less, Equal, Greater, codes, true≢false, refl, sym, ap, ◌∙◌, arith}
-use Rattle.std.proofs.lemmas.Grind.{common_steps}
-use Rattle.std.proofs.lemmas.Bool.{and_from, and_parts, not-true}
-use Rattle.std.proofs.lemmas.List.{ext_get_or, get_or_default, get_or-take, length-map, map-append, length-take, take-append-drop, take_more}
-use Rattle.std.proofs.lemmas.List.Elements.{filter-append}
-use Rattle.std.proofs.lemmas.List.FromFn.{length-range_with_len, get_or-map-range_with_len}
-use Rattle.std.proofs.lemmas.List.Sums.{fold-append}
-use Rattle.std.proofs.lemmas.Cmp.{nat_list_eq_equiv}
-use Rattle.std.proofs.lemmas.Slice.Eq.{bytes_eq-Decides}
-use Rattle.std.specs.List.{fold, filter, list_any, list_all, range_with_len}
-use Rattle.std.specs.Ordering.{nat_cmp, match_ordering}
-use Rattle.std.specs.Cmp.Lexicographic.{slice_cmp}
-use Rattle.std.specs.Str.{bytes_eq}
-use Rattle.base.proofs.Ranges.{range_more, each_passes}
+use Rattle.std.proofs.Common.{map, slice_index_or, codes}
+use Rattle.base.proofs.Public.{◌≡◌, ℕ, zero, suc, ◌+◌, ◌<◌, ◌≤◌, ◌||◌, Bool, true, false, not, List, [], ◌∷◌, ◌++◌, length, take, drop, drop-cons, get_or, slice_index, Option, Some, None, is_some, Ordering, Less, Equal, Greater, true≢false, refl, sym, ap, ◌∙◌, arith, common_steps, and_from, and_parts, not-true, ext_get_or, get_or_default, get_or-take, length-map, map-append, length-take, take-append-drop, take_more, filter-append, length-range_with_len, get_or-map-range_with_len, fold-append, nat_list_eq_equiv, bytes_eq-Decides, fold, filter, list_any, list_all, range_with_len, nat_cmp, match_ordering, slice_cmp, bytes_eq, range_more, each_passes}
+use Rattle.instance_make.specs.Prelude.{are_distinct, Forge, keys_of, Kind, kind_count, kind_word, kind_words, KINDS, members_by, put_if}
 use Rattle.serde_json.specs.Data.{Data, number, unsigned, Members, no_members, member, put}
 use Rattle.serde_json.specs.Find.{get_member}
 use Rattle.serde_json.proofs.Views.{get_member-put, get_member-put_other}
-use Rattle.json_walk.specs.Walk.{keys_of}
-use Rattle.cluster.specs.Inventory.{are_distinct}
-use Rattle.cluster.specs.declared.kinds.Kind.{Kind}
-use Rattle.cluster.specs.declared.kinds.Kind.TheVariants.{Forge}
-use Rattle.cluster.specs.declared.kinds.TheConstants.{KINDS}
-use Rattle.cluster.specs.Kinds.{kind_count, kind_word, kind_words}
-use Rattle.instance_make.specs.Members.{put_if, members_by}
 use Rattle.instance_make.proofs.Making.{apart_before}
 
 any_map : {X : Type 0} (test : List ℕ → Bool) (f : X → List ℕ) (xs : List X) → list_any test (map f xs) ≡ list_any (λ x. test (f x)) xs

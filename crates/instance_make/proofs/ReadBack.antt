@@ -1,22 +1,11 @@
 -- A printed problem is read again.
-use Rattle.std.proofs.Common.{◌≡◌, ℕ, ◌≤◌, true, List, [], ◌∷◌, ◌++◌, length, map, nat_le, Some, Ok, codes, refl, ap, ◌∙◌, arith}
-use Rattle.std.proofs.lemmas.Bool.{le-leb}
-use Rattle.std.proofs.lemmas.List.{length-map}
+use Rattle.std.proofs.Common.{map, codes}
+use Rattle.base.proofs.Public.{◌≡◌, ℕ, ◌≤◌, true, List, [], ◌∷◌, ◌++◌, length, nat_le, Some, Ok, refl, ap, ◌∙◌, arith, le-leb, length-map}
+use Rattle.instance_make.specs.Prelude.{base_from, constraint_data, constraint_step, constraints_from, field_of, Instance, instance_data, instance_of, inventory_from, inventory_of, is_rule, IsInstance, item_path, json_of, key_path, list_data, list_of, max_constraints, max_horizon, MAX_TEXT_BYTES, number_field_of, number_of, only_of, problem_from, root, walk}
+use Rattle.catalogue.specs.declared.constraint.Constraint.{Constraint}
 use Rattle.serde_json.specs.Data.{Data, depth}
 use Rattle.serde_json.specs.Read.{max_depth}
-use Rattle.json_walk.specs.declared.reading.TheConstants.{MAX_TEXT_BYTES}
-use Rattle.json_walk.specs.Path.{root, key_path, item_path}
-use Rattle.json_walk.specs.Walk.{field_of, number_of, number_field_of, list_of, only_of}
-use Rattle.json_walk.specs.Json.{json_of}
 use Rattle.json_walk.proofs.Public.{items_list-items_of}
-use Rattle.catalogue.specs.declared.constraint.Constraint.{Constraint}
-use Rattle.catalogue.specs.Faults.{is_rule}
-use Rattle.catalogue.specs.Instance.{Instance, IsInstance, inventory_of}
-use Rattle.catalogue.specs.Limits.{max_constraints, max_horizon}
-use Rattle.instance_json.specs.Instance.{base_from, inventory_from, problem_from, walk, instance_of}
-use Rattle.instance_json.specs.Rules.{constraint_step, constraints_from}
-use Rattle.instance_make.specs.Rules.{list_data, constraint_data}
-use Rattle.instance_make.specs.Text.{instance_data}
 use Rattle.instance_make.proofs.Making.{each_made, All_at}
 use Rattle.instance_make.proofs.Printed.{small_instance}
 use Rattle.instance_make.proofs.AmountsAgain.{from_zero, base_again}

@@ -1,24 +1,11 @@
 -- Printed constraints are read again.
-use Rattle.std.proofs.Common.{◌≡◌, ℕ, ◌<◌, ◌==◌, ◌&&◌, ◌||◌, Bool, true, false, not, List, [], ◌∷◌, length, nat_le, nat_lt, Ok, codes, refl, ◌∙◌, arith}
-use Rattle.std.proofs.lemmas.Grind.{common_steps}
-use Rattle.std.proofs.lemmas.Bool.{and_parts, ltb-true, leb-true, not-true}
-use Rattle.std.specs.List.{list_all}
-use Rattle.base.proofs.Tests.{same_either_way}
-use Rattle.serde_json.specs.Data.{string}
-use Rattle.json_walk.specs.Path.{key_path}
-use Rattle.json_walk.specs.Walk.{optional, field_of, number_of, number_field_of, flag_of, only_of}
-use Rattle.cluster.specs.declared.ids.VmId.{VmId}
-use Rattle.cluster.specs.declared.sets.NodeSet.{NodeSet}
-use Rattle.cluster.specs.Inventory.{Inventory, IsInventory}
-use Rattle.cluster.specs.Limits.{max_amount}
+use Rattle.std.proofs.Common.{codes}
+use Rattle.base.proofs.Public.{◌≡◌, ℕ, ◌<◌, ◌==◌, ◌&&◌, ◌||◌, Bool, true, false, not, List, [], ◌∷◌, length, nat_le, nat_lt, Ok, refl, ◌∙◌, arith, common_steps, and_parts, ltb-true, leb-true, not-true, list_all, same_either_way}
+use Rattle.instance_make.specs.Prelude.{all_of, among_from, among_object, are_machines, are_named_machines, are_named_nodes, are_nodes, both_fields, both_object, constraint_by, constraint_data, constraint_from, constraint_word, differ, field_of, flag_of, flagged_machines_fields, flagged_machines_object, Inventory, is_fitting, is_member, is_named_resource, is_resource, is_rule, IsInventory, key_path, machines_fields, machines_in, machines_object, max_amount, max_groups, max_parts, max_scale, node_count_fields, node_count_object, nodes_fields, nodes_object, NodeSet, number_field_of, number_of, object_by, only_of, optional, overbook_from, overbook_object, precedence_from, precedence_object, preserve_from, preserve_object, resource_capacity_from, resource_capacity_object, split_from, split_object, VmId}
 use Rattle.catalogue.specs.declared.constraint.Constraint.{Constraint}
 use Rattle.catalogue.specs.declared.constraint.Constraint.TheVariants.{Spread, Ban, Fence, Gather, Lonely, Among, Split, Root, Precedence, Serialize, Preserve, ResourceCapacity, RunningCapacity, MaxOnline, Overbook, Online, Offline, Running, Sleeping, Ready, Killed}
-use Rattle.catalogue.specs.Faults.{is_member, differ, all_of, machines_in, are_machines, are_nodes, is_resource, are_named_machines, are_named_nodes, is_named_resource, is_fitting, is_rule}
-use Rattle.catalogue.specs.Limits.{max_groups, max_parts, max_scale}
-use Rattle.catalogue.specs.Words.{constraint_word}
-use Rattle.instance_json.specs.Rules.{machines_fields, flagged_machines_fields, both_fields, among_from, split_from, precedence_from, preserve_from, resource_capacity_from, node_count_fields, overbook_from, nodes_fields, constraint_by, constraint_from}
+use Rattle.serde_json.specs.Data.{string}
 use Rattle.instance_json.proofs.Public.{kind_of_constraint, word_field-constraint, listed_machine-name}
-use Rattle.instance_make.specs.Rules.{machines_object, flagged_machines_object, both_object, among_object, split_object, precedence_object, preserve_object, resource_capacity_object, node_count_object, overbook_object, nodes_object, object_by, constraint_data}
 use Rattle.instance_make.proofs.AmountsAgain.{from_zero, resource_again}
 use Rattle.instance_make.proofs.ListsAgain.{vms_again, parts_again, node_set_again, groups_again}
 

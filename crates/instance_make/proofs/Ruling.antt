@@ -1,28 +1,11 @@
 -- The constraints of a generated problem are added without a fault.
-use Rattle.std.proofs.Common.{◌≡◌, ℕ, zero, suc, ◌+◌, ◌*◌, ◌<◌, ◌≤◌, ◌==◌, ◌&&◌, ◌||◌, Bool, true, false, not, List, [], ◌∷◌, ◌++◌, length, map, nat_le, nat_lt, Some, None, refl, sym, ap, ◌∙◌, append_assoc, arith, if◌then◌else◌}
-use Rattle.std.proofs.lemmas.Grind.{common_steps}
-use Rattle.std.proofs.lemmas.Bool.{and_parts, lt-leb, lt-ltb, ltb-true}
-use Rattle.std.proofs.lemmas.Bool.Decides.{nat_tests}
-use Rattle.std.proofs.lemmas.List.{length-append, length-map}
-use Rattle.std.proofs.lemmas.List.Elements.{filter-append}
-use Rattle.std.proofs.lemmas.List.FromFn.{length-range_with_len, map-range_with_len_more}
-use Rattle.std.proofs.lemmas.List.Sums.{fold-append}
-use Rattle.std.specs.List.{filter, fold, list_all, list_any, range_with_len}
-use Rattle.base.proofs.Ranges.{each_passes, range_more}
-use Rattle.cluster.specs.declared.ids.VmId.{VmId}
-use Rattle.cluster.specs.declared.sets.NodeSet.{NodeSet}
-use Rattle.cluster.specs.Limits.{max_nodes}
-use Rattle.cluster.specs.Sets.{has_node, no_nodes, with_node, IsWithin}
-use Rattle.cluster.proofs.Public.{has_node-no_nodes, has_node-with_node}
+use Rattle.std.proofs.Common.{map, if◌then◌else◌}
+use Rattle.base.proofs.Public.{◌≡◌, ℕ, zero, suc, ◌+◌, ◌*◌, ◌<◌, ◌≤◌, ◌==◌, ◌&&◌, ◌||◌, Bool, true, false, not, List, [], ◌∷◌, ◌++◌, length, nat_le, nat_lt, Some, None, refl, sym, ap, ◌∙◌, append_assoc, arith, common_steps, and_parts, lt-leb, lt-ltb, ltb-true, nat_tests, length-append, length-map, filter-append, length-range_with_len, map-range_with_len_more, fold-append, filter, fold, list_all, list_any, range_with_len, each_passes, range_more}
+use Rattle.instance_make.specs.Prelude.{are_below, are_machines, are_named_machines, are_named_nodes, are_nodes, constraint_fault, differ, emptied, from, generated, generated_constraints, generated_machine, generated_node, has_node, HasRoom, Instance, inventory_of, is_fitting, is_named_resource, is_rule, IsWithin, machine_total, machines_in, machines_to, max_constraints, max_nodes, no_nodes, node_total, NodeSet, NoSuch, others, rule_fault, set_of, spread_of, TooGreat, TooMany, Twice, VmId, vms, with_more, with_node}
 use Rattle.catalogue.specs.declared.constraint.Constraint.{Constraint}
 use Rattle.catalogue.specs.declared.constraint.Constraint.TheVariants.{Ban, RunningCapacity, Online, Offline}
-use Rattle.catalogue.specs.declared.constraint.RuleFault.TheVariants.{TooMany, NoSuch, Twice, TooGreat}
-use Rattle.catalogue.specs.Faults.{are_below, differ, machines_in, are_machines, are_nodes, are_named_machines, are_named_nodes, is_named_resource, is_fitting, is_rule, constraint_fault}
-use Rattle.catalogue.specs.Instance.{Instance, inventory_of, rule_fault}
-use Rattle.catalogue.specs.Limits.{max_constraints}
+use Rattle.cluster.proofs.Public.{has_node-no_nodes, has_node-with_node}
 use Rattle.catalogue.proofs.Public.{are_nodes-within}
-use Rattle.instance_make.specs.Building.{HasRoom, machines_to, with_more}
-use Rattle.instance_make.specs.Generated.{node_total, machine_total, emptied, from, vms, set_of, others, spread_of, generated, generated_constraints, generated_node, generated_machine}
 
 -- ---- sets
 

@@ -1,32 +1,9 @@
 -- The plan that empties the node of a generated problem is valid.
-use Rattle.std.proofs.Common.{◌≡◌, ◌≢◌, ◌⊎◌, ℕ, zero, suc, ◌+◌, ◌*◌, ◌<◌, ◌≤◌, ◌==◌, ◌&&◌, ◌||◌, Bool, true, false, cond, not, List, [], ◌∷◌, ◌++◌, length, map, slice_get, nat_le, nat_lt, IsTrue, inl, inr, true≢false, refl, sym, ap, ◌∙◌, subst, arith, ⊎_elim}
-use Rattle.std.proofs.Math.Nat.{mul-add}
-use Rattle.std.proofs.lemmas.Bool.{cases_eq, le-leb, leb-true, eqb-true}
-use Rattle.std.proofs.lemmas.Bool.Decides.{nat_tests}
-use Rattle.std.specs.List.{list_any}
-use Rattle.std.specs.Option.{ForSome}
-use Rattle.base.specs.Sums.{sum_to}
-use Rattle.base.proofs.Sums.{sum_to-le, sum_to-same}
-use Rattle.cluster.specs.declared.choices.Place.TheVariants.{At}
-use Rattle.cluster.specs.Sets.{has_node}
+use Rattle.std.proofs.Common.{map, slice_get, IsTrue}
+use Rattle.base.proofs.Public.{◌≡◌, ◌≢◌, ◌⊎◌, ℕ, zero, suc, ◌+◌, ◌*◌, ◌<◌, ◌≤◌, ◌==◌, ◌&&◌, ◌||◌, Bool, true, false, cond, not, List, [], ◌∷◌, ◌++◌, length, nat_le, nat_lt, inl, inr, true≢false, refl, sym, ap, ◌∙◌, subst, arith, ⊎_elim, mul-add, cases_eq, le-leb, leb-true, eqb-true, nat_tests, list_any, ForSome, sum_to-le, sum_to-same}
+use Rattle.instance_make.specs.Prelude.{action_duration, Amount, At, capacity_of, Constraint as OfConstraint, Demand, emptied, emptying, EmptyingIsValid, end_of, from, generated, generated_constraints, goes_to, has_node, held_by, Holds, host_of, Image, InRange, is_member, IsFeasible, IsValid, KeepsAt, last_end, leaves, Load, load, machine_total, node_total, Nodes, one, Presence, Rule, set_of, snapshot, snapshot_at, spread_of, Stage, stage_at, stages_at, sum_to, Usable, Use, use_of, vm, vms, Weight, weight_of}
 use Rattle.catalogue.specs.declared.constraint.Constraint.{Constraint}
 use Rattle.catalogue.specs.declared.constraint.Constraint.TheVariants.{Ban, RunningCapacity}
-use Rattle.catalogue.specs.Faults.{is_member}
-use Rattle.catalogue.specs.Values.{use_of, capacity_of}
-use Rattle.slices.specs.declared.rule.Rule.{Rule}
-use Rattle.slices.specs.declared.rule.Rule.TheVariants.{Load, Usable, Constraint as OfConstraint}
-use Rattle.slices.specs.declared.slice.Weight.{Weight}
-use Rattle.slices.specs.declared.slice.Weight.TheVariants.{Amount, Presence, Image}
-use Rattle.slices.specs.declared.slice.What.TheVariants.{Use, Demand}
-use Rattle.slices.specs.declared.stage.Stage.{Stage}
-use Rattle.slices.specs.Actions.{action_duration, end_of}
-use Rattle.slices.specs.Elements.{vm}
-use Rattle.slices.specs.Holds.{Holds}
-use Rattle.slices.specs.Rules.{InRange, KeepsAt, IsValid}
-use Rattle.slices.specs.Snapshots.{snapshot, snapshot_at, stage_at, stages_at, held_by, load}
-use Rattle.slices.specs.Stages.{Nodes, one, weight_of}
-use Rattle.instance_make.specs.Generated.{node_total, machine_total, emptied, from, host_of, vms, set_of, spread_of, generated_constraints, generated}
-use Rattle.instance_make.specs.Emptying.{goes_to, leaves, last_end, emptying, EmptyingIsValid, IsFeasible}
 use Rattle.instance_make.proofs.Counting.{counted, touches, touches_stay, touches_leave, touches_one, touches_ten}
 use Rattle.instance_make.proofs.Emptied.{by_test, emptied_low, goes_away, by_last, legal, held_stay, held_leave}
 use Rattle.instance_make.proofs.Faultless.{cpu_small, mem_small}

@@ -1,10 +1,7 @@
 -- Helping only: a generated problem as it is built up.
-use Rattle.std.specs.Prelude.{◌≡◌, ℕ, ◌+◌, ◌≤◌, List, [], ◌∷◌, ◌++◌, length, map, codes}
-use Rattle.cluster.specs.Inventory.{Inventory}
-use Rattle.cluster.specs.Kinds.{kinds}
+use Rattle.base.specs.Prelude.{◌≡◌, ℕ, ◌+◌, ◌≤◌, List, [], ◌∷◌, ◌++◌, length, map, codes}
+use Rattle.instance_json.specs.Prelude.{Instance, Inventory, kinds, max_constraints}
 use Rattle.catalogue.specs.declared.constraint.Constraint.{Constraint}
-use Rattle.catalogue.specs.Instance.{Instance}
-use Rattle.catalogue.specs.Limits.{max_constraints}
 use Rattle.instance_make.specs.Generated.{node_total, machine_total, from, generated_duration, generated_node, generated_machine}
 
 abbrev pub generated_resources : List (List ℕ)

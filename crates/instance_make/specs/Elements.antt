@@ -1,7 +1,6 @@
 -- Nodes and machines as objects.
-use Rattle.std.specs.Prelude.{ℕ, List, [], length, Option, Some, None, is_some, option_map, slice_index, slice_index_or, codes, if◌then◌else◌}
-use Rattle.std.specs.List.{list_any, range_with_len}
-use Rattle.serde_json.specs.Data.{Data, boolean, string, number, unsigned, object, Members, no_members, member}
+use Rattle.base.specs.Prelude.{ℕ, List, [], length, Option, Some, None, is_some, option_map, slice_index, slice_index_or, codes, if◌then◌else◌, list_any, range_with_len}
+use Rattle.instance_json.specs.Prelude.{Inventory, kind_number, kind_word, kinds, name_of, state_word}
 use Rattle.cluster.specs.declared.ids.Element.TheVariants.{Vm, Node as NodeElement}
 use Rattle.cluster.specs.declared.ids.NodeId.{NodeId}
 use Rattle.cluster.specs.declared.ids.VmId.{VmId}
@@ -11,9 +10,7 @@ use Rattle.cluster.specs.declared.machines.Machine.{Machine}
 use Rattle.cluster.specs.declared.nodes.Node.{Node}
 use Rattle.cluster.specs.declared.states.State.{State}
 use Rattle.cluster.specs.declared.states.State.TheVariants.{Init, Ready, Running, Sleeping, Gone}
-use Rattle.cluster.specs.Inventory.{Inventory, name_of}
-use Rattle.cluster.specs.Kinds.{kind_number, kind_word, kinds}
-use Rattle.cluster.specs.States.{state_word}
+use Rattle.serde_json.specs.Data.{Data, boolean, string, number, unsigned, object, Members, no_members, member}
 use Rattle.instance_make.specs.Members.{members_by, put_if}
 
 -- ---- names

@@ -1,15 +1,10 @@
 -- The plan that empties the node of a generated problem, and what it proves.
-use Rattle.std.specs.Prelude.{ℕ, ◌+◌, ◌*◌, ◌/◌, ◌%◌, ◌==◌, max, if◌then◌else◌}
-use Rattle.std.specs.List.{fold}
+use Rattle.base.specs.Prelude.{ℕ, ◌+◌, ◌*◌, ◌/◌, ◌%◌, ◌==◌, max, if◌then◌else◌, fold}
+use Rattle.slices.specs.Prelude.{Choices, end_of, IsInfeasible, IsPlan, IsValid, vm}
 use Rattle.cluster.specs.declared.choices.Choice.{Choice}
 use Rattle.cluster.specs.declared.choices.Choice.TheVariants.{Idle, Act}
 use Rattle.cluster.specs.declared.choices.Place.TheVariants.{Nowhere, At}
 use Rattle.cluster.specs.declared.ids.Element.TheVariants.{Vm, Node as TheNode}
-use Rattle.slices.specs.Actions.{end_of}
-use Rattle.slices.specs.Costs.{IsInfeasible}
-use Rattle.slices.specs.Elements.{vm}
-use Rattle.slices.specs.Plans.{Choices, IsPlan}
-use Rattle.slices.specs.Rules.{IsValid}
 use Rattle.instance_make.specs.Generated.{node_total, emptied, from, host_of, generated}
 
 -- where the machine with that number, which is on the emptied node k, goes: its node's five machines go to five nodes

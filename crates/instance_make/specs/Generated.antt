@@ -1,7 +1,6 @@
 -- The problem that is generated from a seed: 40 nodes with five machines each, of which one node is to be emptied and shut down.
-use Rattle.std.specs.Prelude.{ℕ, ◌+◌, ◌*◌, ◌/◌, ◌%◌, ◌==◌, true, false, not, List, [], ◌∷◌, ◌++◌, map, replicate, Some, None, codes}
-use Rattle.std.specs.List.{filter, fold, range_with_len}
-use Rattle.std.specs.Fmt.{decimal}
+use Rattle.base.specs.Prelude.{ℕ, ◌+◌, ◌*◌, ◌/◌, ◌%◌, ◌==◌, true, false, not, List, [], ◌∷◌, ◌++◌, map, replicate, Some, None, codes, filter, fold, range_with_len, decimal}
+use Rattle.instance_json.specs.Prelude.{Instance, kinds, no_durations, no_nodes, one_instant, with_node}
 use Rattle.cluster.specs.declared.durations.Duration.{Duration}
 use Rattle.cluster.specs.declared.ids.VmId.{VmId}
 use Rattle.cluster.specs.declared.kinds.Kind.{Kind}
@@ -10,12 +9,8 @@ use Rattle.cluster.specs.declared.machines.Machine.{Machine}
 use Rattle.cluster.specs.declared.nodes.Node.{Node}
 use Rattle.cluster.specs.declared.sets.NodeSet.{NodeSet}
 use Rattle.cluster.specs.declared.states.State.TheVariants.{Running}
-use Rattle.cluster.specs.Kinds.{kinds}
-use Rattle.cluster.specs.Sets.{no_nodes, with_node}
 use Rattle.catalogue.specs.declared.constraint.Constraint.{Constraint}
 use Rattle.catalogue.specs.declared.constraint.Constraint.TheVariants.{Spread, Ban, RunningCapacity, Online, Offline}
-use Rattle.catalogue.specs.Instance.{Instance}
-use Rattle.instance_json.specs.Durations.{no_durations, one_instant}
 
 -- how many nodes and machines there are
 abbrev pub node_total : ℕ

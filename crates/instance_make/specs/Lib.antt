@@ -5,3 +5,4 @@ pub mod Text
 pub mod Generated
 pub mod Emptying
 pub mod Building
+pub mod Prelude

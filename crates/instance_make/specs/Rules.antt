@@ -1,15 +1,12 @@
 -- Constraints as objects.
-use Rattle.std.specs.Prelude.{ℕ, Bool, List, length, map, codes}
-use Rattle.std.specs.List.{filter, range_with_len}
-use Rattle.serde_json.specs.Data.{Data, boolean, string, number, unsigned, array, object, Members, no_members, member}
-use Rattle.serde_json.specs.View.{items_of}
+use Rattle.base.specs.Prelude.{ℕ, Bool, List, length, map, codes, filter, range_with_len}
+use Rattle.instance_json.specs.Prelude.{constraint_word, has_node, Inventory}
 use Rattle.cluster.specs.declared.ids.VmId.{VmId}
 use Rattle.cluster.specs.declared.sets.NodeSet.{NodeSet}
-use Rattle.cluster.specs.Inventory.{Inventory}
-use Rattle.cluster.specs.Sets.{has_node}
 use Rattle.catalogue.specs.declared.constraint.Constraint.{Constraint}
 use Rattle.catalogue.specs.declared.constraint.Constraint.TheVariants.{Spread, Ban, Fence, Gather, Lonely, Among, Split, Root, Precedence, Serialize, Preserve, ResourceCapacity, RunningCapacity, MaxOnline, Overbook, Online, Offline, Running, Sleeping, Ready, Killed}
-use Rattle.catalogue.specs.Words.{constraint_word}
+use Rattle.serde_json.specs.Data.{Data, boolean, string, number, unsigned, array, object, Members, no_members, member}
+use Rattle.serde_json.specs.View.{items_of}
 use Rattle.instance_make.specs.Elements.{machine_name, node_name, resource_name}
 
 -- ---- lists

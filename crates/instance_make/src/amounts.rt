@@ -1,14 +1,9 @@
 //! Amounts and durations as objects.
 
-ghost use Rattle.std.specs.Prelude.{◌≡◌, Some, None, IfOk, OnOk, codes, map, is_some, option_map};
-ghost use Rattle.std.specs.List.{list_any};
+ghost use Rattle.base.specs.Prelude.{◌≡◌, Some, None, IfOk, OnOk, codes, map, is_some, option_map, list_any};
+ghost use Rattle.instance_make.specs.Prelude.{amounts_data, duration_data, duration_of_kind, durations_data, kind_word, members, own_data, put_if};
 ghost use Rattle.serde_json.specs.View.{view};
 ghost use Rattle.serde_json.specs.Find.{get_member};
-ghost use Rattle.json_text.specs.Out.{members};
-ghost use Rattle.cluster.specs.Kinds.{kind_word};
-ghost use Rattle.instance_make.specs.Members.{put_if};
-ghost use Rattle.instance_make.specs.Elements.{amounts_data, duration_data, duration_of_kind};
-ghost use Rattle.instance_make.specs.Elements.{durations_data, own_data};
 
 use crate::names::resource_name;
 use base::Memory;

@@ -1,11 +1,9 @@
 //! Nodes and machines as objects.
 
-ghost use Rattle.std.specs.Prelude.{◌≡◌, None, IfOk, OnOk, codes};
+ghost use Rattle.base.specs.Prelude.{◌≡◌, None, IfOk, OnOk, codes};
+ghost use Rattle.instance_make.specs.Prelude.{host_data, machine_data, members, node_data, put_if};
 ghost use Rattle.serde_json.specs.View.{view};
 ghost use Rattle.serde_json.specs.Find.{get_member};
-ghost use Rattle.json_text.specs.Out.{members};
-ghost use Rattle.instance_make.specs.Members.{put_if};
-ghost use Rattle.instance_make.specs.Elements.{node_data, host_data, machine_data};
 
 use crate::amounts::{amounts_value, put_own};
 use crate::names::node_name;

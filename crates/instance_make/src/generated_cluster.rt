@@ -1,14 +1,7 @@
 //! The cluster of a generated problem: 40 nodes with five machines each.
 
-ghost use Rattle.std.specs.Prelude.{◌≡◌, ◌+◌, ◌∷◌, ◌++◌, ◌<◌, [], None, IfOk, OnOk, map, true};
-ghost use Rattle.std.specs.Fmt.{decimal};
-ghost use Rattle.cluster.specs.Inventory.{node_fault, machine_fault};
-ghost use Rattle.cluster.specs.Kinds.{kinds};
-ghost use Rattle.cluster.specs.Names.{is_name};
-ghost use Rattle.instance_make.specs.Building.{generated_resources, nodes_to, machines_to};
-ghost use Rattle.instance_make.specs.Generated.{node_total, machine_total, amounts};
-ghost use Rattle.instance_make.specs.Generated.{generated_duration, generated_node, generated_machine};
-ghost use Rattle.instance_make.specs.Generated.{cpu_of, mem_of};
+ghost use Rattle.base.specs.Prelude.{◌≡◌, ◌+◌, ◌∷◌, ◌++◌, ◌<◌, [], None, IfOk, OnOk, map, true, decimal};
+ghost use Rattle.instance_make.specs.Prelude.{amounts, cpu_of, generated_duration, generated_machine, generated_node, generated_resources, is_name, kinds, machine_fault, machine_total, machines_to, mem_of, node_fault, node_total, nodes_to};
 
 use base::memory::Memory;
 use cluster::inventory::AddFault;

@@ -1,13 +1,8 @@
 //! Lists of names, and lists of such lists.
 
-ghost use Rattle.std.specs.Prelude.{◌≡◌, ◌<◌, ◌++◌, ◌∷◌, [], IfOk, OnOk, map};
-ghost use Rattle.std.specs.List.{filter};
+ghost use Rattle.base.specs.Prelude.{◌≡◌, ◌<◌, ◌++◌, ◌∷◌, [], IfOk, OnOk, map, filter};
+ghost use Rattle.instance_make.specs.Prelude.{groups_list, has_node, items, machines_list, max_nodes, node_name_at, nodes_list, parts_list};
 ghost use Rattle.serde_json.specs.View.{view};
-ghost use Rattle.json_text.specs.Out.{items};
-ghost use Rattle.cluster.specs.Limits.{max_nodes};
-ghost use Rattle.cluster.specs.Sets.{has_node};
-ghost use Rattle.instance_make.specs.Rules.{machines_list, parts_list, nodes_list, groups_list};
-ghost use Rattle.instance_make.specs.Rules.{node_name_at};
 
 use crate::names::{machine_name, node_name};
 use base::Memory;

@@ -1,10 +1,8 @@
 //! Names of machines, nodes and resources. The name of one that is not listed is empty.
 
-ghost use Rattle.std.specs.Prelude.{◌≡◌, [], IfOk, slice_index_or};
+ghost use Rattle.base.specs.Prelude.{◌≡◌, [], IfOk, slice_index_or};
+ghost use Rattle.instance_make.specs.Prelude.{machine_name, name_of, Node as NodeElement, node_name, resource_name, Vm};
 ghost use Rattle.serde_json.specs.View.{view};
-ghost use Rattle.cluster.specs.declared.ids.Element.TheVariants.{Vm, Node as NodeElement};
-ghost use Rattle.cluster.specs.Inventory.{name_of};
-ghost use Rattle.instance_make.specs.Elements.{machine_name, node_name, resource_name};
 
 use base::memory::Memory;
 use cluster::{Cluster, Name, NodeId, VmId};

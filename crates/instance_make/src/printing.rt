@@ -1,13 +1,9 @@
 //! From a problem to its text.
 
-ghost use Rattle.std.specs.Prelude.{◌≡◌, ◌≤◌, Ok, IfOk, length, map};
+ghost use Rattle.base.specs.Prelude.{◌≡◌, ◌≤◌, Ok, IfOk, length, map};
+ghost use Rattle.instance_make.specs.Prelude.{constraint_data, instance_data, instance_of, instance_text, list_data, machine_data, MAX_TEXT_BYTES, node_data};
 ghost use Rattle.serde_json.specs.Data.{string};
 ghost use Rattle.serde_json.specs.View.{view};
-ghost use Rattle.json_walk.specs.declared.reading.TheConstants.{MAX_TEXT_BYTES};
-ghost use Rattle.instance_json.specs.Instance.{instance_of};
-ghost use Rattle.instance_make.specs.Elements.{node_data, machine_data};
-ghost use Rattle.instance_make.specs.Rules.{list_data, constraint_data};
-ghost use Rattle.instance_make.specs.Text.{instance_data, instance_text};
 
 use crate::amounts::base_durations_value;
 use crate::elements::{machine_value, node_value};

@@ -1,9 +1,6 @@
 -- The lemmas that crates above may cite: that a value that was built has no floats, and how deep it nests.
-use Rattle.std.proofs.Common.{◌≡◌, ℕ, ◌≤◌, List, [], ◌∷◌, Bool, true, false, ◌||◌, All, Ordering, Less, Equal, Greater, refl, arith}
-use Rattle.std.proofs.Math.Nat.{max-le, le-max_left, le-max_right}
-use Rattle.std.proofs.lemmas.List.Elements.{All-head, All-tail}
-use Rattle.std.specs.Ordering.{nat_cmp, match_ordering}
-use Rattle.std.specs.Cmp.Lexicographic.{slice_cmp}
+use Rattle.std.proofs.Common.{All}
+use Rattle.base.proofs.Public.{◌≡◌, ℕ, ◌≤◌, List, [], ◌∷◌, Bool, true, false, ◌||◌, Ordering, Less, Equal, Greater, refl, arith, max-le, le-max_left, le-max_right, All-head, All-tail, nat_cmp, match_ordering, slice_cmp}
 use Rattle.serde_json.specs.Data.{Data, Members, no_members, member, put, depth, items_depth, members_depth}
 use Rattle.serde_json.specs.View.{items_of}
 use Rattle.serde_json.specs.Written.{has_float, items_have_float, members_have_float}

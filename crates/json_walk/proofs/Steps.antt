@@ -1,14 +1,9 @@
 -- What the steps of a walk gave, where the walk came to its end.
-use Rattle.std.proofs.Common.{◌≡◌, ℕ, suc, ◌+◌, ◌<◌, ◌&&◌, ◌||◌, Bool, true, false, List, [], ◌∷◌, length, Option, Some, None, Result, Ok, Err, nat_le, is_some, refl, sym, ap, subst, ◌∙◌, arith}
-use Rattle.std.proofs.lemmas.Bool.{and_parts}
-use Rattle.std.specs.Option.{ok_or}
+use Rattle.std.proofs.Common.{Result, Err}
+use Rattle.base.proofs.Public.{◌≡◌, ℕ, suc, ◌+◌, ◌<◌, ◌&&◌, ◌||◌, Bool, true, false, List, [], ◌∷◌, length, Option, Some, None, Ok, nat_le, is_some, refl, sym, ap, subst, ◌∙◌, arith, and_parts, ok_or}
+use Rattle.json_walk.specs.Prelude.{each, Fault, fault_at, field_of, key_path, number_field_of, number_of, optional, OutOfRange, wants, WrongKind, ◌>>=◌, ◌>>◌}
 use Rattle.serde_json.specs.Data.{Data, Num}
 use Rattle.serde_json.specs.Find.{as_number, as_u64, as_i64}
-use Rattle.json_walk.specs.declared.fault.Fault.{Fault}
-use Rattle.json_walk.specs.declared.fault.FaultKind.TheVariants.{WrongKind, OutOfRange}
-use Rattle.json_walk.specs.Path.{key_path}
-use Rattle.json_walk.specs.Walk.{◌>>=◌, ◌>>◌, wants, fault_at, optional, field_of, number_of, number_field_of}
-use Rattle.json_walk.specs.Each.{each}
 
 -- the value of a step, and the rest with it
 pub record Step {A B E : Type 0} (m : Result A E) (f : A → Result B E) (y : B) : Type 0 where

@@ -1,10 +1,8 @@
 -- Which bytes have a value.
-use Rattle.std.proofs.Common.{◌≡◌, ℕ, List, Bool, true, false, Some, None, refl}
-use Rattle.std.specs.Str.{IsUtf8, is_utf8}
-use Rattle.std.proofs.lemmas.Str.{IsUtf8-from_is_utf8, is_utf8-from_IsUtf8}
+use Rattle.base.proofs.Public.{◌≡◌, ℕ, List, Bool, true, false, Some, None, refl, IsUtf8, is_utf8, IsUtf8-from_is_utf8, is_utf8-from_IsUtf8}
+use Rattle.json_walk.specs.Json.{json_of}
 use Rattle.serde_json.specs.Data.{Data}
 use Rattle.serde_json.specs.Read.{read}
-use Rattle.json_walk.specs.Json.{json_of}
 
 pub json_of-text : (bytes : List ℕ) (d : Data) → IsUtf8 bytes × (read bytes ≡ Some d) → json_of bytes ≡ Some d
 json_of-text bytes d h = rw (is_utf8-from_IsUtf8 bytes h.0) h.1

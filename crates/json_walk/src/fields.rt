@@ -1,12 +1,9 @@
 //! Members of one kind, and members that may be absent.
 
-ghost use Rattle.std.specs.Prelude.{◌≡◌, ◌≤◌, IfOk, map};
+ghost use Rattle.base.specs.Prelude.{◌≡◌, ◌≤◌, IfOk, map};
+ghost use Rattle.json_walk.specs.Prelude.{fault_of, flag_of, Gives, key_path, list_field_of, number_field_of, number_of, optional, path_of, text_field_of};
 ghost use Rattle.serde_json.specs.Find.{get};
 ghost use Rattle.serde_json.specs.View.{view};
-ghost use Rattle.json_walk.specs.Path.{key_path};
-ghost use Rattle.json_walk.specs.PathRef.{path_of};
-ghost use Rattle.json_walk.specs.Walk.{Gives, fault_of, number_of, flag_of, optional};
-ghost use Rattle.json_walk.specs.Walk.{number_field_of, text_field_of, list_field_of};
 
 use crate::at;
 use crate::fault::WalkFault;

@@ -21,8 +21,7 @@ pub enum PathRef<'a> {
 }
 
 impl<'a> PathRef<'a> {
-    ghost use Rattle.json_walk.specs.Path.{key_path, item_path};
-    ghost use Rattle.json_walk.specs.PathRef.{path_of};
+    ghost use Rattle.json_walk.specs.Prelude.{item_path, key_path, path_of};
 
     /// The path of a member.
     pub fn key(&'a self, key: &'a str) -> PathRef<'a>

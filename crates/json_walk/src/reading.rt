@@ -1,10 +1,8 @@
 //! From bytes to a value.
 
 ghost use Rattle.std.specs.Option.{ok_or};
+ghost use Rattle.json_walk.specs.Prelude.{Gives, json_fault_of, json_of, NotJson};
 ghost use Rattle.serde_json.specs.View.{view};
-ghost use Rattle.json_walk.specs.Walk.{Gives};
-ghost use Rattle.json_walk.specs.Json.{json_of, json_fault_of};
-ghost use Rattle.json_walk.specs.declared.fault.JsonFault.TheVariants.{NotJson};
 
 use crate::fault::JsonFault;
 use serde_json::Value;

@@ -1,17 +1,7 @@
 -- Lesser suspects, and what has been tried before them.
-use Rattle.std.proofs.Common.{◌≡◌, inl, inr, ℕ, ◌+◌, ◌<◌, ◌≤◌, ◌==◌, false, List, length, IsTrue, slice_get, subst, sym, arith}
-use Rattle.std.proofs.lemmas.Bool.{both_ways, cases_eq, eqb-true, or_cases}
-use Rattle.catalogue.specs.Instance.{Instance}
-use Rattle.catalogue.specs.Values.{continuous_at}
-use Rattle.catalogue.specs.Cells.{cell}
-use Rattle.slices.specs.declared.rule.Rule.{Rule}
-use Rattle.slices.specs.declared.rule.Rule.TheVariants.{Load, Usable, Constraint as OfConstraint}
-use Rattle.slices.specs.Plans.{Choices}
-use Rattle.slices.specs.Rules.{InRange, IsFirstRule, KeepsAllAt, KeepsAt, Precedes, applies}
-use Rattle.slices.specs.Snapshots.{Snapshot}
-use Rattle.placement_rules.specs.HoldsAt.{HoldsAt}
-use Rattle.judge.specs.Standing.{LoadsFit, loads_of}
-use Rattle.judge.specs.Verdict.{ConstraintsHold, IsFirstUnmet, IsLower, IsMetAt, IsMetBefore, IsSuspect, StandsAt, StandsBefore}
+use Rattle.std.proofs.Common.{IsTrue, slice_get}
+use Rattle.base.proofs.Public.{◌≡◌, inl, inr, ℕ, ◌+◌, ◌<◌, ◌≤◌, ◌==◌, false, List, length, subst, sym, arith, both_ways, cases_eq, eqb-true, or_cases}
+use Rattle.judge.specs.Prelude.{applies, cell, Choices, Constraint as OfConstraint, ConstraintsHold, continuous_at, HoldsAt, InRange, Instance, IsFirstRule, IsFirstUnmet, IsLower, IsMetAt, IsMetBefore, IsSuspect, KeepsAllAt, KeepsAt, Load, loads_of, LoadsFit, Precedes, Rule, Snapshot, StandsAt, StandsBefore, Usable}
 
 -- ---- suspects
 

@@ -1,17 +1,9 @@
 -- From one start to the next, what was kept stays kept.
-use Rattle.std.proofs.Common.{◌≡◌, inl, inr, ℕ, ◌<◌, ◌≤◌, false, Some, slice_get, arith}
-use Rattle.std.proofs.lemmas.Bool.{cases_lt}
-use Rattle.cluster.specs.declared.ids.Element.{Element}
+use Rattle.std.proofs.Common.{slice_get}
+use Rattle.base.proofs.Public.{◌≡◌, inl, inr, ℕ, ◌<◌, ◌≤◌, false, Some, arith, cases_lt}
+use Rattle.judge.specs.Prelude.{Choices, choices_of, Element, form_of, HoldsAt, Instance, IsElement, IsNext, IsPlanOf, IsQuiet, Load, Matters, PlanChoices, StandsAt, Usable}
 use Rattle.catalogue.specs.declared.constraint.Constraint.{Constraint}
-use Rattle.catalogue.specs.Instance.{Instance, IsElement}
-use Rattle.slices.specs.declared.rule.Rule.TheVariants.{Load, Usable}
-use Rattle.slices.specs.Forms.{form_of}
-use Rattle.slices.specs.Plans.{Choices, IsPlanOf, PlanChoices, choices_of}
-use Rattle.slices.specs.Starts.{IsQuiet}
 use Rattle.slices.proofs.Public.{keeps_quiet, matters_quiet}
-use Rattle.placement_rules.specs.HoldsAt.{HoldsAt}
-use Rattle.judge.specs.Starts.{IsNext, Matters}
-use Rattle.judge.specs.Verdict.{StandsAt}
 
 -- what is kept at an instant where no start comes that can break it is kept up to the next such start
 pub until : (P : ℕ → Type 0) (plan : Choices) (those : Element → Type 0) (t b next : ℕ) → ((u : ℕ) → t ≤ u → ((e : Element) → those e → IsQuiet (plan e) t u) → P u) → ((u : ℕ) → u < t → P u) → IsNext plan those t b next → (u : ℕ) → u < next → P u

@@ -1,16 +1,8 @@
 -- Where machines stand.
-use Rattle.std.proofs.Common.{◌≡◌, ◌↔◌, inl, inr, ℕ, ◌+◌, ◌<◌, Bool, false, ◌&&◌, ◌||◌, nat_lt, cond, List, Option, Some, None, slice_index_or, IsTrue, refl, sym, ◌∙◌, arith}
-use Rattle.std.proofs.lemmas.Bool.{both_ways, and_from, and_parts, cases_Bool, cases_eq, eqb-true, or_cases, true_from_ne_false}
-use Rattle.cluster.specs.declared.ids.NodeId.{NodeId}
-use Rattle.catalogue.specs.Instance.{Instance}
-use Rattle.slices.specs.declared.holding.Holding.{Holding}
-use Rattle.slices.specs.Elements.{node_count}
-use Rattle.slices.specs.Holdings.{image_in, is_in, IsHoldingOf, IsNodeWithin}
-use Rattle.slices.specs.Snapshots.{Snapshot, stands_on}
-use Rattle.slices.specs.Stages.{one}
+use Rattle.std.proofs.Common.{◌↔◌, slice_index_or, IsTrue}
+use Rattle.base.proofs.Public.{◌≡◌, inl, inr, ℕ, ◌+◌, ◌<◌, Bool, false, ◌&&◌, ◌||◌, nat_lt, cond, List, Option, Some, None, refl, sym, ◌∙◌, arith, both_ways, and_from, and_parts, cases_Bool, cases_eq, eqb-true, or_cases, true_from_ne_false}
+use Rattle.judge.specs.Prelude.{AreUsable, AreUsableNodes, Holding, image_in, Instance, is_in, is_where, IsFirstOff, IsHoldingOf, IsNodeWithin, node_count, NodeId, one, Snapshot, stands_on, StandsBelow, StandsUsably}
 use Rattle.placement_rules.proofs.Public.{in_within}
-use Rattle.judge.specs.Standing.{AreUsable, AreUsableNodes, IsFirstOff, StandsBelow, StandsUsably}
-use Rattle.judge.specs.Where.{is_where}
 
 -- a machine stands where what it holds is
 pub stands_on-is_where : (p : Instance) (s : Snapshot) (v n : ℕ) (h : Holding) → IsHoldingOf p s v h → stands_on s v n ≡ is_where h n

@@ -1,22 +1,8 @@
 -- The next start, gathered one element or one set after the other.
-use Rattle.std.proofs.Common.{◌≡◌, ◌⊎◌, inl, inr, ℕ, zero, suc, ◌+◌, ◌<◌, ◌==◌, Bool, true, false, List, [], ◌∷◌, length, take, get_or, Some, IsTrue, slice_index_or, nat_lt, refl, ap, sym, ◌∙◌, arith}
-use Rattle.std.specs.List.{list_all}
-use Rattle.std.proofs.lemmas.Bool.{both_ways, cases_eq, or_cases, or_left, or_right}
-use Rattle.std.proofs.lemmas.List.Folds.{list_any-append}
-use Rattle.cluster.specs.declared.ids.Element.{Element}
-use Rattle.cluster.specs.declared.ids.Element.TheVariants.{Vm, Node as TheNode}
-use Rattle.cluster.specs.declared.ids.NodeId.{NodeId}
-use Rattle.cluster.specs.declared.ids.VmId.{VmId}
-use Rattle.catalogue.specs.Faults.{all_of, is_member}
-use Rattle.cluster.specs.Elements.{element_number}
-use Rattle.catalogue.specs.Instance.{Instance, IsElement, inventory_of}
-use Rattle.slices.specs.Elements.{machine_count, vm}
-use Rattle.slices.specs.Forms.{Apart, Between, Form}
-use Rattle.slices.specs.Holds.{IsInPart, IsMember}
-use Rattle.slices.specs.Plans.{Choices}
-use Rattle.slices.specs.Starts.{form_matters}
+use Rattle.std.proofs.Common.{IsTrue, slice_index_or}
+use Rattle.base.proofs.Public.{◌≡◌, ◌⊎◌, inl, inr, ℕ, zero, suc, ◌+◌, ◌<◌, ◌==◌, Bool, true, false, List, [], ◌∷◌, length, take, get_or, Some, nat_lt, refl, ap, sym, ◌∙◌, arith, list_all, both_ways, cases_eq, or_cases, or_left, or_right, list_any-append}
+use Rattle.judge.specs.Prelude.{all_of, Apart, AreMachines, Between, Choices, Element, element_number, Form, form_matters, Instance, inventory_of, is_member, IsElement, IsInPart, IsInSome, IsMember, IsNext, machine_count, Matters, Node as TheNode, NodeId, Vm, vm, VmId}
 use Rattle.placement_rules.proofs.Public.{member_here, member_kept, member_split, member_within}
-use Rattle.judge.specs.Starts.{AreMachines, IsInSome, IsNext, Matters}
 
 -- ---- sets of elements
 

@@ -1,10 +1,6 @@
 -- Tables of nodes.
-use Rattle.std.proofs.Common.{◌≡◌, inl, inr, ℕ, ◌+◌, add-one, List, [], replicate, slice_index, ◌∙◌, ap, arith}
-use Rattle.std.proofs.lemmas.Bool.{cases_lt}
-use Rattle.std.proofs.lemmas.List.{get_or-replicate, get_or_past, length-replicate}
-use Rattle.catalogue.specs.Cells.{cell}
-use Rattle.base.specs.Sums.{sum_to}
-use Rattle.base.proofs.Lists.{copies_at}
+use Rattle.base.proofs.Public.{◌≡◌, inl, inr, ℕ, ◌+◌, add-one, List, [], replicate, slice_index, ◌∙◌, ap, arith, cases_lt, get_or-replicate, get_or_past, length-replicate, copies_at}
+use Rattle.judge.specs.Prelude.{cell, sum_to}
 
 -- a table that repeats a row of zeros
 pub cell_none : (k m n r : ℕ) → cell (replicate k (replicate m 0)) n r ≡ 0

@@ -2,3 +2,4 @@ pub mod Standing
 pub mod Where
 pub mod Verdict
 pub mod Starts
+pub mod Prelude

@@ -1,10 +1,6 @@
 -- Loads that fit, and machines on usable nodes.
-use Rattle.std.specs.Prelude.{◌≡◌, ℕ, ◌<◌, ◌≤◌, Bool, false, List, length, slice_index_or, IsTrue}
-use Rattle.catalogue.specs.Instance.{Instance}
-use Rattle.catalogue.specs.Values.{capacity_of}
-use Rattle.slices.specs.Elements.{machine_count, node_count}
-use Rattle.slices.specs.Snapshots.{Snapshot, load, stands_on}
-use Rattle.slices.specs.Stages.{one}
+use Rattle.base.specs.Prelude.{◌≡◌, ℕ, ◌<◌, ◌≤◌, Bool, false, List, length, slice_index_or, IsTrue}
+use Rattle.placement_rules.specs.Prelude.{capacity_of, Instance, load, machine_count, node_count, one, Snapshot, stands_on}
 
 -- ---- loads
 

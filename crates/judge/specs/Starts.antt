@@ -1,15 +1,10 @@
 -- The next start after an instant.
-use Rattle.std.specs.Prelude.{◌≡◌, ◌⊎◌, ℕ, ◌<◌, ◌≤◌, List, Some, IsTrue}
-use Rattle.std.specs.Option.{ForSome}
+use Rattle.base.specs.Prelude.{◌≡◌, ◌⊎◌, ℕ, ◌<◌, ◌≤◌, List, Some, IsTrue, ForSome}
+use Rattle.placement_rules.specs.Prelude.{Choices, Form, form_matters, Instance, IsElement, IsInPart, start_of}
 use Rattle.cluster.specs.declared.choices.Choice.{Choice}
 use Rattle.cluster.specs.declared.ids.Element.{Element}
 use Rattle.cluster.specs.declared.ids.Element.TheVariants.{Vm, Node as TheNode}
 use Rattle.cluster.specs.declared.ids.VmId.{VmId}
-use Rattle.catalogue.specs.Instance.{Instance, IsElement}
-use Rattle.slices.specs.Forms.{Form}
-use Rattle.slices.specs.Holds.{IsInPart}
-use Rattle.slices.specs.Plans.{Choices}
-use Rattle.slices.specs.Starts.{form_matters, start_of}
 
 -- ---- sets of elements
 

@@ -1,11 +1,6 @@
 -- The search for the least broken instant.
-use Rattle.std.specs.Prelude.{ℕ, ◌+◌, ◌<◌, ◌≤◌, ◌==◌, length, slice_get, IsTrue}
-use Rattle.catalogue.specs.Instance.{Instance}
-use Rattle.catalogue.specs.Values.{continuous_at}
-use Rattle.slices.specs.Plans.{Choices}
-use Rattle.slices.specs.Rules.{KeepsAllAt, applies}
-use Rattle.slices.specs.Snapshots.{snapshot_at}
-use Rattle.placement_rules.specs.HoldsAt.{HoldsAt}
+use Rattle.base.specs.Prelude.{ℕ, ◌+◌, ◌<◌, ◌≤◌, ◌==◌, length, slice_get, IsTrue}
+use Rattle.placement_rules.specs.Prelude.{applies, Choices, continuous_at, HoldsAt, Instance, KeepsAllAt, snapshot_at}
 use Rattle.judge.specs.Standing.{Stands}
 
 -- an instant at which a rule is broken, or one past the horizon

@@ -1,8 +1,7 @@
 -- Where a machine stands that holds something.
-use Rattle.std.specs.Prelude.{ℕ, Bool, ◌||◌, nat_lt}
+use Rattle.base.specs.Prelude.{ℕ, Bool, ◌||◌, nat_lt}
+use Rattle.placement_rules.specs.Prelude.{image_in, is_in, one}
 use Rattle.slices.specs.declared.holding.Holding.{Holding}
-use Rattle.slices.specs.Holdings.{image_in, is_in}
-use Rattle.slices.specs.Stages.{one}
 
 -- whether what is held is a presence, or the image, on a node
 abbrev pub is_where : Holding → ℕ → Bool

@@ -1,16 +1,6 @@
 //! The first broken rule at an instant, by a plain search in the order of the rules.
-ghost use Rattle.std.specs.Prelude.{◌≡◌, ◌↔◌, ◌==◌, ◌<◌, false, length, nat_lt, slice_index_or, IsTrue, MatchOption};
-ghost use Rattle.cluster.specs.Limits.{max_nodes};
-ghost use Rattle.slices.specs.Elements.{machine_count};
-ghost use Rattle.slices.specs.Holdings.{image_in, is_in};
-ghost use Rattle.slices.specs.Stages.{one};
-ghost use Rattle.slices.specs.Plans.{IsPlanOf, choices_of};
-ghost use Rattle.slices.specs.Rules.{IsFirstRule, KeepsAllAt, applies};
-ghost use Rattle.slices.specs.Snapshots.{snapshot_at};
-ghost use Rattle.placement_rules.specs.HoldsAt.{HoldsAt};
-ghost use Rattle.judge.specs.Standing.{AreUsable, AreUsableNodes, IsFirstAway, IsFirstOff, StandsUsably};
-ghost use Rattle.judge.specs.Verdict.{ConstraintsHold, IsFirstUnmet, IsMetAt};
-ghost use Rattle.judge.specs.Where.{is_where};
+ghost use Rattle.base.specs.Prelude.{◌≡◌, ◌↔◌, ◌==◌, ◌<◌, false, length, nat_lt, slice_index_or, IsTrue, MatchOption};
+ghost use Rattle.judge.specs.Prelude.{applies, AreUsable, AreUsableNodes, choices_of, ConstraintsHold, HoldsAt, image_in, is_in, is_where, IsFirstAway, IsFirstOff, IsFirstRule, IsFirstUnmet, IsMetAt, IsPlanOf, KeepsAllAt, machine_count, max_nodes, one, snapshot_at, StandsUsably};
 
 use crate::standing::{first_over, loads_at, machines_of, nodes_of, usable_nodes};
 use catalogue::Problem;

@@ -1,11 +1,6 @@
 //! A table of the loads of all nodes.
-ghost use Rattle.std.specs.Prelude.{◌≡◌, ℕ, ◌+◌, ◌*◌, ◌<◌, ◌≤◌, length, slice_index, slice_index_or};
-ghost use Rattle.cluster.specs.Limits.{max_amount, max_nodes};
-ghost use Rattle.catalogue.specs.Cells.{cell};
-ghost use Rattle.catalogue.specs.Instance.{IsElement};
-ghost use Rattle.slices.specs.Holdings.{amount_in, IsHeldWithin};
-ghost use Rattle.slices.specs.Stages.{one, weight_of};
-ghost use Rattle.slices.specs.declared.slice.Weight.TheVariants.{Amount};
+ghost use Rattle.base.specs.Prelude.{◌≡◌, ℕ, ◌+◌, ◌*◌, ◌<◌, ◌≤◌, length, slice_index, slice_index_or};
+ghost use Rattle.judge.specs.Prelude.{Amount, amount_in, cell, IsElement, IsHeldWithin, max_amount, max_nodes, one, weight_of};
 
 use catalogue::problem::Problem;
 use cluster::limits::{MAX_NODES, MAX_RESOURCES};

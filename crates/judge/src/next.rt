@@ -1,13 +1,6 @@
 //! The next start after an instant: of all elements, or of those alone that matter to a form.
-ghost use Rattle.std.specs.Prelude.{◌≡◌, ◌+◌, ◌<◌, ◌≤◌, true, length, nat_lt, IsTrue};
-ghost use Rattle.std.specs.List.{list_all};
-ghost use Rattle.cluster.specs.Sets.{has_node};
-ghost use Rattle.catalogue.specs.Instance.{IsElement};
-ghost use Rattle.slices.specs.Elements.{machine_count, node, node_count};
-ghost use Rattle.slices.specs.Forms.{Apart, IsSound, form_seen, separated, separation_seen};
-ghost use Rattle.slices.specs.Holds.{IsMember};
-ghost use Rattle.slices.specs.Plans.{IsPlanOf, choices_of};
-ghost use Rattle.judge.specs.Starts.{AreMachines, AreNodes, IsInSome, IsNext, Matters};
+ghost use Rattle.base.specs.Prelude.{◌≡◌, ◌+◌, ◌<◌, ◌≤◌, true, length, nat_lt, IsTrue, list_all};
+ghost use Rattle.judge.specs.Prelude.{Apart, AreMachines, AreNodes, choices_of, form_seen, has_node, IsElement, IsInSome, IsMember, IsNext, IsPlanOf, IsSound, machine_count, Matters, node, node_count, separated, separation_seen};
 
 use crate::standing::{machines_of, nodes_of};
 use catalogue::{Problem, Vms};

@@ -1,14 +1,6 @@
 //! Whether all loads fit and all machines stand on usable nodes, at one instant.
-ghost use Rattle.std.specs.Prelude.{◌≡◌, ◌↔◌, ◌<◌, ℕ, false, slice_index_or, nat_lt, IsTrue, MatchOption, length};
-ghost use Rattle.cluster.specs.Limits.{max_nodes};
-ghost use Rattle.catalogue.specs.Cells.{cell};
-ghost use Rattle.slices.specs.Elements.{machine_count, node_count};
-ghost use Rattle.slices.specs.Holdings.{image_in, is_in, IsHeldWithin, IsNodeWithin};
-ghost use Rattle.slices.specs.Plans.{IsPlanOf, choices_of};
-ghost use Rattle.slices.specs.Snapshots.{snapshot_at, load};
-ghost use Rattle.slices.specs.Stages.{one};
-ghost use Rattle.judge.specs.Standing.{AreUsable, AreUsableNodes, IsFirstIn, IsFirstOver, LoadsFit, NodeFits, Stands, loads_of};
-ghost use Rattle.judge.specs.Where.{is_where};
+ghost use Rattle.base.specs.Prelude.{◌≡◌, ◌↔◌, ◌<◌, ℕ, false, slice_index_or, nat_lt, IsTrue, MatchOption, length};
+ghost use Rattle.judge.specs.Prelude.{AreUsable, AreUsableNodes, cell, choices_of, image_in, is_in, is_where, IsFirstIn, IsFirstOver, IsHeldWithin, IsNodeWithin, IsPlanOf, load, loads_of, LoadsFit, machine_count, max_nodes, node_count, NodeFits, one, snapshot_at, Stands};
 
 use crate::loads::{Loads, add_both, no_loads};
 use catalogue::Problem;

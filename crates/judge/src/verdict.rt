@@ -1,7 +1,6 @@
 //! The verdict on a plan.
-ghost use Rattle.std.specs.Prelude.{◌↔◌, IsNone, IfSome};
-ghost use Rattle.slices.specs.Plans.{IsPlanOf, choices_of};
-ghost use Rattle.slices.specs.Rules.{IsFirstBroken, IsValid};
+ghost use Rattle.base.specs.Prelude.{◌↔◌, IsNone, IfSome};
+ghost use Rattle.judge.specs.Prelude.{choices_of, IsFirstBroken, IsPlanOf, IsValid};
 
 use crate::first::first_broken_rule;
 use crate::least::least_broken;

@@ -1,12 +1,7 @@
 -- The machines of a list, and those of a prefix of it.
-use Rattle.std.proofs.Common.{◌≡◌, ◌⊎◌, inl, inr, ℕ, zero, suc, ◌+◌, ◌<◌, Bool, true, false, ◌||◌, ◌==◌, List, [], ◌∷◌, length, take, IsTrue, refl, sym, ◌∙◌, arith, get_or, nat_lt, slice_index_or}
-use Rattle.std.specs.List.{list_all}
-use Rattle.std.proofs.lemmas.Bool.{both_ways, or_cases, or_left, or_right, and_parts, eqb-true, eq-eqb, ltb-true, cases_lt}
-use Rattle.std.proofs.lemmas.List.{get_or_past}
-use Rattle.std.proofs.lemmas.List.Folds.{list_any_more}
-use Rattle.std.proofs.lemmas.Bool.Decides.{nat_tests}
-use Rattle.cluster.specs.declared.ids.VmId.{VmId}
-use Rattle.catalogue.specs.Faults.{is_member}
+use Rattle.std.proofs.Common.{IsTrue, slice_index_or}
+use Rattle.base.proofs.Public.{◌≡◌, ◌⊎◌, inl, inr, ℕ, zero, suc, ◌+◌, ◌<◌, Bool, true, false, ◌||◌, ◌==◌, List, [], ◌∷◌, length, take, refl, sym, ◌∙◌, arith, get_or, nat_lt, list_all, both_ways, or_cases, or_left, or_right, and_parts, eqb-true, eq-eqb, ltb-true, cases_lt, get_or_past, list_any_more, nat_tests}
+use Rattle.placement_rules.specs.Prelude.{is_member, VmId}
 
 -- a machine of a prefix with one more is of the prefix, or is that one
 pub member_split : (vs : List VmId) (i : ℕ) (d : VmId) (w : ℕ) → i < length vs → IsTrue (is_member (take (i + 1) vs) w) → IsTrue (is_member (take i vs) w) ⊎ (w ≡ (get_or vs i d).0)

@@ -1,14 +1,7 @@
 -- Labels that are noted on nodes.
-use Rattle.std.proofs.Common.{◌≡◌, ◌≢◌, ◌⊎◌, inl, inr, ℕ, ◌<◌, true, false, List, Option, Some, None, IsTrue, refl, sym, ◌∙◌, arith}
-use Rattle.std.proofs.lemmas.Bool.{both_ways, cases_Bool, or_cases, eqb-true, false_from_ne_true}
-use Rattle.catalogue.specs.Instance.{Instance}
-use Rattle.slices.specs.Elements.{node_count}
-use Rattle.slices.specs.Snapshots.{Snapshot}
-use Rattle.slices.specs.Stages.{one}
-use Rattle.placement_rules.specs.Labels.{Labels, IsClaim, AreNoted, is_on, label_on}
-use Rattle.slices.specs.Holdings.{IsHoldingOf, IsHeldWithin, is_in}
-use Rattle.slices.specs.declared.holding.Held.{Held}
-use Rattle.slices.specs.declared.holding.Holding.{Holding}
+use Rattle.std.proofs.Common.{IsTrue}
+use Rattle.base.proofs.Public.{◌≡◌, ◌≢◌, ◌⊎◌, inl, inr, ℕ, ◌<◌, true, false, List, Option, Some, None, refl, sym, ◌∙◌, arith, both_ways, cases_Bool, or_cases, eqb-true, false_from_ne_true}
+use Rattle.placement_rules.specs.Prelude.{AreNoted, Held, Holding, Instance, is_in, is_on, IsClaim, IsHeldWithin, IsHoldingOf, label_on, Labels, node_count, one, Snapshot}
 
 -- the labels of machines with one more
 pub record IsOneMore (old new : Labels) (v l : ℕ) : Type 0 where

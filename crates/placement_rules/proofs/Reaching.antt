@@ -1,19 +1,7 @@
 -- The nodes that the machines of a list reach, and groups of nodes.
-use Rattle.std.proofs.Common.{◌≡◌, ◌↔◌, inl, inr, ℕ, ◌+◌, ◌<◌, true, false, List, length, get_or, map, Any, IsTrue, nat_lt, sym, ap, subst, ◌∙◌, arith}
-use Rattle.std.specs.List.{list_all, range_with_len}
-use Rattle.std.proofs.lemmas.Bool.{both_ways, cases_eq, eqb-true, false_from_ne_true}
-use Rattle.std.proofs.lemmas.List.{get_or-map, get_or_read, length-map}
-use Rattle.std.proofs.lemmas.Option.{slice_get_cases}
-use Rattle.std.proofs.lemmas.List.FromFn.{get_or-range_with_len, length-range_with_len}
-use Rattle.cluster.specs.declared.ids.VmId.{VmId}
-use Rattle.cluster.specs.declared.sets.NodeSet.{NodeSet}
-use Rattle.cluster.specs.Sets.{has_node}
-use Rattle.catalogue.specs.Instance.{Instance}
-use Rattle.slices.specs.Elements.{machine_count, node_count}
-use Rattle.slices.specs.Holds.{AreAbsent, AreGrouped, AreWithin}
-use Rattle.slices.specs.Snapshots.{Snapshot}
-use Rattle.slices.specs.Stages.{Nodes, one}
-use Rattle.placement_rules.specs.Places.{AreReached}
+use Rattle.std.proofs.Common.{◌↔◌, map, Any, IsTrue}
+use Rattle.base.proofs.Public.{◌≡◌, inl, inr, ℕ, ◌+◌, ◌<◌, true, false, List, length, get_or, nat_lt, sym, ap, subst, ◌∙◌, arith, list_all, range_with_len, both_ways, cases_eq, eqb-true, false_from_ne_true, get_or-map, get_or_read, length-map, slice_get_cases, get_or-range_with_len, length-range_with_len}
+use Rattle.placement_rules.specs.Prelude.{AreAbsent, AreGrouped, AreReached, AreWithin, has_node, Instance, machine_count, node_count, Nodes, NodeSet, one, Snapshot, VmId}
 use Rattle.placement_rules.proofs.Members.{member_within}
 
 -- ---- one of what a function gives

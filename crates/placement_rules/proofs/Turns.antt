@@ -1,13 +1,7 @@
 -- Which machines act, one at a time.
-use Rattle.std.proofs.Common.{◌≡◌, inl, inr, ℕ, ◌+◌, ◌<◌, true, false, List, [], length, take, get_or, Option, Some, None, IfSome, IsTrue, nat_lt, refl, sym, ap}
-use Rattle.std.specs.List.{list_all}
-use Rattle.std.proofs.lemmas.Bool.{both_ways, false_from_ne_true}
-use Rattle.cluster.specs.declared.ids.VmId.{VmId}
-use Rattle.catalogue.specs.Instance.{Instance}
-use Rattle.slices.specs.declared.stage.Progress.TheVariants.{Acting}
-use Rattle.slices.specs.Elements.{machine_count}
-use Rattle.slices.specs.Holds.{IsMember, TakeTurns}
-use Rattle.slices.specs.Snapshots.{Snapshot}
+use Rattle.std.proofs.Common.{IfSome, IsTrue}
+use Rattle.base.proofs.Public.{◌≡◌, inl, inr, ℕ, ◌+◌, ◌<◌, true, false, List, [], length, take, get_or, Option, Some, None, nat_lt, refl, sym, ap, list_all, both_ways, false_from_ne_true}
+use Rattle.placement_rules.specs.Prelude.{Acting, Instance, IsMember, machine_count, Snapshot, TakeTurns, VmId}
 use Rattle.placement_rules.proofs.Members.{prefix_member, member_here, member_kept, member_split, member_within}
 
 -- what is noted is the one member that acts

@@ -1,10 +1,6 @@
 -- When a constraint holds of a plan at an instant.
-use Rattle.std.specs.Prelude.{ℕ, slice_get}
-use Rattle.std.specs.Option.{ForSome}
-use Rattle.catalogue.specs.Instance.{Instance}
-use Rattle.slices.specs.Holds.{Holds}
-use Rattle.slices.specs.Plans.{Choices}
-use Rattle.slices.specs.Snapshots.{snapshot_at}
+use Rattle.base.specs.Prelude.{ℕ, slice_get, ForSome}
+use Rattle.slices.specs.Prelude.{Choices, Holds, Instance, snapshot_at}
 
 -- the constraint of a number holds of what is where at an instant
 abbrev pub HoldsAt : Instance → Choices → ℕ → ℕ → Type 0

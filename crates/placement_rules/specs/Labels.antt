@@ -1,11 +1,7 @@
 -- Labels of machines, noted on the nodes on which they are present.
-use Rattle.std.specs.Prelude.{◌≡◌, ◌⊎◌, ◌≢◌, ℕ, ◌<◌, Bool, false, ◌||◌, ◌&&◌, nat_lt, List, [], Option, Some, None, slice_index_or, IsTrue}
+use Rattle.base.specs.Prelude.{◌≡◌, ◌⊎◌, ◌≢◌, ℕ, ◌<◌, Bool, false, ◌||◌, ◌&&◌, nat_lt, List, [], Option, Some, None, slice_index_or, IsTrue}
+use Rattle.slices.specs.Prelude.{is_in, is_member, max_nodes, one, Snapshot}
 use Rattle.cluster.specs.declared.ids.VmId.{VmId}
-use Rattle.cluster.specs.Limits.{max_nodes}
-use Rattle.catalogue.specs.Faults.{is_member}
-use Rattle.slices.specs.Snapshots.{Snapshot}
-use Rattle.slices.specs.Stages.{one}
-use Rattle.slices.specs.Holdings.{is_in}
 use Rattle.slices.specs.declared.holding.Holding.{Holding}
 
 -- which labels machines have, one or several each

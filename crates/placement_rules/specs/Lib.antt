@@ -1,3 +1,4 @@
 pub mod HoldsAt
 pub mod Labels
 pub mod Places
+pub mod Prelude

@@ -1,14 +1,8 @@
 -- Where single machines are allowed, and where machines are present.
-use Rattle.std.specs.Prelude.{◌≡◌, ℕ, ◌<◌, false, List, IsTrue}
+use Rattle.base.specs.Prelude.{◌≡◌, ℕ, ◌<◌, false, List, IsTrue}
+use Rattle.slices.specs.Prelude.{has_node, Instance, IsMember, IsOffLimits, node_count, one, Places, Snapshot}
 use Rattle.cluster.specs.declared.ids.VmId.{VmId}
 use Rattle.cluster.specs.declared.sets.NodeSet.{NodeSet}
-use Rattle.cluster.specs.Sets.{has_node}
-use Rattle.catalogue.specs.Instance.{Instance}
-use Rattle.slices.specs.Elements.{node_count}
-use Rattle.slices.specs.Forms.{Places}
-use Rattle.slices.specs.Holds.{IsMember, IsOffLimits}
-use Rattle.slices.specs.Snapshots.{Snapshot}
-use Rattle.slices.specs.Stages.{one}
 
 -- the machine is present on no node that is off limits for it
 abbrev pub IsAllowed : Instance → Snapshot → Places → ℕ → Type 0

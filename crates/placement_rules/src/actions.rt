@@ -1,11 +1,6 @@
 //! Which actions may overlap.
-ghost use Rattle.std.specs.Prelude.{◌≡◌, ◌↔◌, ◌<◌, false, true, nat_lt, IfSome, IsTrue};
-ghost use Rattle.std.specs.List.{list_all};
-ghost use Rattle.slices.specs.declared.stage.Progress.TheVariants.{Started, Unended, Acting};
-ghost use Rattle.slices.specs.Elements.{machine_count};
-ghost use Rattle.slices.specs.Holds.{TakeTurns};
-ghost use Rattle.slices.specs.Plans.{IsPlanOf, choices_of};
-ghost use Rattle.slices.specs.Snapshots.{snapshot_at};
+ghost use Rattle.base.specs.Prelude.{◌≡◌, ◌↔◌, ◌<◌, false, true, nat_lt, IfSome, IsTrue, list_all};
+ghost use Rattle.placement_rules.specs.Prelude.{Acting, choices_of, IsPlanOf, machine_count, snapshot_at, Started, TakeTurns, Unended};
 
 use catalogue::problem::Problem;
 use cluster::{Instant, VmId};

@@ -1,17 +1,6 @@
 //! Which machines share a node.
-ghost use Rattle.std.specs.Prelude.{◌≡◌, ◌↔◌, ◌⊎◌, ◌≢◌, ℕ, ◌+◌, ◌<◌, ◌≤◌, false, true, Some, None, nat_lt, length, if◌then◌else◌, IsTrue, slice_index_or};
-ghost use Rattle.std.specs.List.{list_all};
-ghost use Rattle.catalogue.specs.Faults.{is_member};
-ghost use Rattle.cluster.specs.Limits.{max_nodes};
-ghost use Rattle.cluster.specs.Sets.{has_machine};
-ghost use Rattle.slices.specs.Elements.{machine_count};
-ghost use Rattle.slices.specs.Forms.{Between, Each, FromOthers, separated, separation_seen};
-ghost use Rattle.slices.specs.Holdings.{IsHeldWithin, is_in};
-ghost use Rattle.slices.specs.Holds.{AreApart};
-ghost use Rattle.slices.specs.Plans.{IsPlanOf, choices_of};
-ghost use Rattle.slices.specs.Snapshots.{snapshot_at};
-ghost use Rattle.slices.specs.Stages.{one};
-ghost use Rattle.placement_rules.specs.Labels.{IsClaim, AreNoted, label_on, split_labels};
+ghost use Rattle.base.specs.Prelude.{◌≡◌, ◌↔◌, ◌⊎◌, ◌≢◌, ℕ, ◌+◌, ◌<◌, ◌≤◌, false, true, Some, None, nat_lt, length, if◌then◌else◌, IsTrue, slice_index_or, list_all};
+ghost use Rattle.placement_rules.specs.Prelude.{AreApart, AreNoted, Between, choices_of, Each, FromOthers, has_machine, is_in, is_member, IsClaim, IsHeldWithin, IsPlanOf, label_on, machine_count, max_nodes, one, separated, separation_seen, snapshot_at, split_labels};
 
 use crate::counts::machines_of;
 use catalogue::{Problem, Vms};

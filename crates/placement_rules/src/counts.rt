@@ -1,13 +1,6 @@
 //! Sums over machines and nodes.
-ghost use Rattle.std.specs.Prelude.{◌≡◌, ◌≤◌, ◌<◌, length};
-ghost use Rattle.cluster.specs.Limits.{max_amount};
-ghost use Rattle.cluster.specs.Sets.{has_node};
-ghost use Rattle.slices.specs.Elements.{machine_count, node_count};
-ghost use Rattle.slices.specs.Forms.{IsWeightFit};
-ghost use Rattle.slices.specs.Limits.{max_held};
-ghost use Rattle.slices.specs.Plans.{IsPlanOf, choices_of};
-ghost use Rattle.slices.specs.Snapshots.{snapshot_at, total, powered_nodes};
-ghost use Rattle.slices.specs.Holdings.{amount_in, count_in, image_in as the_image_in};
+ghost use Rattle.base.specs.Prelude.{◌≡◌, ◌≤◌, ◌<◌, length};
+ghost use Rattle.placement_rules.specs.Prelude.{amount_in, choices_of, count_in, has_node, image_in as the_image_in, IsPlanOf, IsWeightFit, machine_count, max_amount, max_held, node_count, powered_nodes, snapshot_at, total};
 
 use catalogue::problem::Problem;
 use cluster::{Instant, NodeId, NodeSet, VmId};

@@ -1,10 +1,6 @@
 //! Whether a constraint holds of a plan at an instant, by its form.
-ghost use Rattle.std.specs.Prelude.{◌↔◌, ◌<◌, length, IsTrue};
-ghost use Rattle.slices.specs.Forms.{IsSound, form_seen};
-ghost use Rattle.slices.specs.Holds.{IsKept};
-ghost use Rattle.slices.specs.Plans.{IsPlanOf, choices_of};
-ghost use Rattle.slices.specs.Snapshots.{snapshot_at};
-ghost use Rattle.placement_rules.specs.HoldsAt.{HoldsAt};
+ghost use Rattle.base.specs.Prelude.{◌↔◌, ◌<◌, length, IsTrue};
+ghost use Rattle.placement_rules.specs.Prelude.{choices_of, form_seen, HoldsAt, IsKept, IsPlanOf, IsSound, snapshot_at};
 
 use crate::actions::{is_in_order, take_turns};
 use crate::apart::are_apart;

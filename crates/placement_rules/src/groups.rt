@@ -1,16 +1,6 @@
 //! Where the machines of a list are all together.
-ghost use Rattle.std.specs.Prelude.{◌≡◌, ◌↔◌, ◌<◌, ◌≤◌, ◌||◌, ℕ, false, true, nat_lt, Any, IsTrue, MatchOption};
-ghost use Rattle.std.specs.List.{list_all};
-ghost use Rattle.cluster.specs.Limits.{max_nodes};
-ghost use Rattle.cluster.specs.Sets.{has_node};
-ghost use Rattle.slices.specs.Elements.{machine_count};
-ghost use Rattle.slices.specs.Forms.{groups_seen};
-ghost use Rattle.slices.specs.Holdings.{IsHeldWithin, is_in};
-ghost use Rattle.slices.specs.Holds.{AreGrouped, group_sets};
-ghost use Rattle.slices.specs.Plans.{IsPlanOf, choices_of};
-ghost use Rattle.slices.specs.Snapshots.{snapshot_at};
-ghost use Rattle.slices.specs.Stages.{one};
-ghost use Rattle.placement_rules.specs.Places.{AreReached};
+ghost use Rattle.base.specs.Prelude.{◌≡◌, ◌↔◌, ◌<◌, ◌≤◌, ◌||◌, ℕ, false, true, nat_lt, Any, IsTrue, MatchOption, list_all};
+ghost use Rattle.placement_rules.specs.Prelude.{AreGrouped, AreReached, choices_of, group_sets, groups_seen, has_node, is_in, IsHeldWithin, IsPlanOf, machine_count, max_nodes, one, snapshot_at};
 
 use crate::counts::nodes_of;
 use catalogue::Problem;

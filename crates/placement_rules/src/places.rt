@@ -1,14 +1,6 @@
 //! Where single machines are allowed.
-ghost use Rattle.std.specs.Prelude.{◌≡◌, ◌↔◌, ◌<◌, ℕ, false, true, nat_lt, IsTrue};
-ghost use Rattle.std.specs.List.{list_all};
-ghost use Rattle.slices.specs.Elements.{machine_count, node_count};
-ghost use Rattle.slices.specs.Forms.{places_seen};
-ghost use Rattle.slices.specs.Holdings.{IsHeldWithin, is_in};
-ghost use Rattle.slices.specs.Holds.{AreAllowed, IsOffLimits};
-ghost use Rattle.slices.specs.Plans.{IsPlanOf, choices_of};
-ghost use Rattle.slices.specs.Snapshots.{snapshot_at};
-ghost use Rattle.slices.specs.Stages.{one};
-ghost use Rattle.placement_rules.specs.Places.{IsAllowed};
+ghost use Rattle.base.specs.Prelude.{◌≡◌, ◌↔◌, ◌<◌, ℕ, false, true, nat_lt, IsTrue, list_all};
+ghost use Rattle.placement_rules.specs.Prelude.{AreAllowed, choices_of, is_in, IsAllowed, IsHeldWithin, IsOffLimits, IsPlanOf, machine_count, node_count, one, places_seen, snapshot_at};
 
 use catalogue::problem::Problem;
 use cluster::{Instant, VmId};

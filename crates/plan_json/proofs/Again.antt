@@ -1,32 +1,8 @@
 -- One printed action is read again.
-use Rattle.std.proofs.Common.{◌≡◌, ℕ, ◌+◌, ◌<◌, ◌≤◌, ◌&&◌, Bool, true, false, List, [], ◌∷◌, ◌++◌, nat_lt, nat_le, Option, Some, None, is_some, IsTrue, unwrap_or, Ok, if◌then◌else◌, refl, arith}
-use Rattle.std.proofs.lemmas.Grind.{common_steps}
-use Rattle.std.proofs.lemmas.Bool.{and_parts, eq-eqb, ltb-true}
-use Rattle.json_walk.specs.Path.{item_path}
-use Rattle.json_walk.specs.Walk.{optional, text_of, number_of as whole_of, number_field_of, field_of, only_of}
-use Rattle.cluster.specs.declared.choices.Choice.TheVariants.{Act}
-use Rattle.cluster.specs.declared.ids.Element.{Element}
-use Rattle.cluster.specs.declared.ids.Element.TheVariants.{Vm, Node as TheNode}
-use Rattle.cluster.specs.declared.kinds.Kind.{Kind}
-use Rattle.cluster.specs.declared.kinds.Kind.TheVariants.{Forge}
-use Rattle.cluster.specs.declared.ids.NodeId.{NodeId}
-use Rattle.cluster.specs.declared.choices.Place.{Place}
-use Rattle.cluster.specs.declared.choices.Place.TheVariants.{Nowhere, At}
-use Rattle.cluster.specs.Inventory.{is_online}
-use Rattle.cluster.specs.Kinds.{kind_number}
+use Rattle.std.proofs.Common.{IsTrue, if◌then◌else◌}
+use Rattle.base.proofs.Public.{◌≡◌, ℕ, ◌+◌, ◌<◌, ◌≤◌, ◌&&◌, Bool, true, false, List, [], ◌∷◌, ◌++◌, nat_lt, nat_le, Option, Some, None, is_some, unwrap_or, Ok, refl, arith, common_steps, and_parts, eq-eqb, ltb-true}
+use Rattle.plan_json.specs.Prelude.{Act, Action, action_data, action_duration, action_for, action_from, action_step, At, Clash, Element, end_of, field_of, Forge, Instance, inventory_of, is_legal, is_online, is_raised, IsElement, IsInstance, item_path, Keep, Killed as ToKilled, Kind, kind_from, kind_number, kind_of, listed_element, listed_place, machine_kind, Node as TheNode, node_count, node_kind, NodeId, Nowhere, number_field_of, number_of as whole_of, Offline as ToOffline, Online as ToOnline, only_of, optional, Place, Ready as ToReady, Running as ToRunning, Sleeping as ToSleeping, state_of, Target, text_of, To, Vm, wanted_of, wanted_state, Wish}
 use Rattle.cluster.proofs.Public.{element_named-name_of, is_name-name_of, kind_of_word-kind_word}
-use Rattle.catalogue.specs.declared.targets.Target.{Target}
-use Rattle.catalogue.specs.declared.targets.Target.TheVariants.{Online as ToOnline, Offline as ToOffline, Running as ToRunning, Sleeping as ToSleeping, Ready as ToReady, Killed as ToKilled}
-use Rattle.catalogue.specs.declared.targets.Wish.{Wish}
-use Rattle.catalogue.specs.declared.targets.Wish.TheVariants.{Keep, To, Clash}
-use Rattle.catalogue.specs.Instance.{Instance, IsInstance, IsElement, inventory_of}
-use Rattle.catalogue.specs.Values.{wanted_of}
-use Rattle.slices.specs.Elements.{node_count, state_of}
-use Rattle.slices.specs.Actions.{kind_of, node_kind, machine_kind, wanted_state, is_raised, is_legal, end_of, action_duration}
-use Rattle.plan_json.specs.Actions.{listed_element, listed_place, kind_from, action_from}
-use Rattle.plan_json.specs.Plans.{action_for, action_step}
-use Rattle.plan_json.specs.declared.fields.Action.{Action}
-use Rattle.plan_json.specs.Print.{action_data}
 
 -- ---- what a legal choice says
 

@@ -1,23 +1,9 @@
 -- The choices that actions name, one action more at a time; and they are a plan where no element has to act that none is of.
-use Rattle.std.proofs.Common.{◌≡◌, ℕ, zero, suc, ◌+◌, ◌<◌, ◌&&◌, ◌==◌, Bool, true, false, not, List, [], ◌∷◌, ◌++◌, length, map, take, replicate, slice_set, get_or, Option, Some, None, option_map, IsTrue, refl, sym, ap, subst, ◌∙◌, arith, ⊎_elim, zero-add}
-use Rattle.std.proofs.lemmas.Grind.{common_steps}
-use Rattle.std.proofs.lemmas.Bool.{cases_eq}
-use Rattle.std.proofs.lemmas.List.{ext_get_or, length-set, get_or-set_same, get_or-set_other, take_more, get_or_default}
-use Rattle.std.proofs.lemmas.List.FromFn.{length-map-range_with_len, get_or-map-range_with_len, get_or-range_with_len, length-range_with_len}
-use Rattle.std.specs.List.{range_with_len}
-use Rattle.std.specs.Option.{option_map_or, option_or}
-use Rattle.cluster.specs.declared.choices.Choice.{Choice}
-use Rattle.cluster.specs.declared.choices.Choice.TheVariants.{Idle}
-use Rattle.cluster.specs.declared.ids.Element.{Element}
-use Rattle.cluster.specs.Elements.{element_at, element_count, element_number}
+use Rattle.std.proofs.Common.{map, slice_set, option_map, IsTrue}
+use Rattle.base.proofs.Public.{◌≡◌, ℕ, zero, suc, ◌+◌, ◌<◌, ◌&&◌, ◌==◌, Bool, true, false, not, List, [], ◌∷◌, ◌++◌, length, take, replicate, get_or, Option, Some, None, refl, sym, ap, subst, ◌∙◌, arith, ⊎_elim, zero-add, common_steps, cases_eq, ext_get_or, length-set, get_or-set_same, get_or-set_other, take_more, get_or_default, length-map-range_with_len, get_or-map-range_with_len, get_or-range_with_len, length-range_with_len, range_with_len, option_map_or, option_or}
+use Rattle.plan_json.specs.Prelude.{Action, action_for, AreActions, as_choice, Choice, choice_for, choices_for, Element, element_at, element_count, element_number, first_to_act, Idle, Instance, inventory_of, is_idle, is_legal, is_same, IsElement, IsPlanOf, must_act, parted}
 use Rattle.cluster.proofs.Public.{element_number-lt, element_at-element_number, IsListed-element_at, element_number-element_at}
-use Rattle.catalogue.specs.Instance.{Instance, IsElement, inventory_of}
-use Rattle.slices.specs.Actions.{is_legal}
-use Rattle.slices.specs.Plans.{parted, IsPlanOf}
 use Rattle.slices.proofs.Public.{legal_is_plan}
-use Rattle.plan_json.specs.declared.fields.Action.{Action}
-use Rattle.plan_json.specs.Plans.{is_same, action_for, as_choice, choice_for, choices_for, is_idle, must_act, first_to_act}
-use Rattle.plan_json.specs.Marks.{AreActions}
 use Rattle.plan_json.proofs.MarkLemmas.{apart_at}
 use Rattle.plan_json.proofs.Finding.{is_same-self, is_same-equal, is_same-number, action_for-more, none_passes, found}
 

@@ -1,17 +1,7 @@
 -- Equal elements, and the action that is found for one.
-use Rattle.std.proofs.Common.{◌≡◌, ℕ, zero, suc, ◌+◌, ◌<◌, ◌||◌, ◌==◌, Bool, true, false, List, [], ◌∷◌, ◌++◌, length, get_or, Option, Some, None, is_some, ◌⊎◌, inl, inr, refl, sym, ap, ◌∙◌, arith, if◌then◌else◌}
-use Rattle.std.proofs.lemmas.Grind.{common_steps}
-use Rattle.std.proofs.lemmas.Bool.{eqb-true, eq-eqb}
-use Rattle.std.proofs.lemmas.List.Folds.{find-append}
-use Rattle.std.specs.List.{find}
-use Rattle.std.specs.Option.{option_or}
-use Rattle.base.proofs.Tests.{same_either_way}
-use Rattle.cluster.specs.declared.ids.Element.{Element}
-use Rattle.cluster.specs.declared.ids.Element.TheVariants.{Vm, Node}
-use Rattle.cluster.specs.Elements.{element_number}
-use Rattle.cluster.specs.Inventory.{Inventory, IsListed}
-use Rattle.plan_json.specs.declared.fields.Action.{Action}
-use Rattle.plan_json.specs.Plans.{is_same, action_for}
+use Rattle.std.proofs.Common.{if◌then◌else◌}
+use Rattle.base.proofs.Public.{◌≡◌, ℕ, zero, suc, ◌+◌, ◌<◌, ◌||◌, ◌==◌, Bool, true, false, List, [], ◌∷◌, ◌++◌, length, get_or, Option, Some, None, is_some, ◌⊎◌, inl, inr, refl, sym, ap, ◌∙◌, arith, common_steps, eqb-true, eq-eqb, find-append, find, option_or, same_either_way}
+use Rattle.plan_json.specs.Prelude.{Action, action_for, Element, element_number, Inventory, is_same, IsListed, Node, Vm}
 
 -- ---- elements
 

@@ -1,19 +1,7 @@
 -- Actions of elements that differ, one more at a time.
-use Rattle.std.proofs.Common.{◌≡◌, ℕ, zero, suc, ◌+◌, ◌<◌, ◌||◌, Bool, true, false, List, [], ◌∷◌, ◌++◌, length, take, get_or, Option, Some, None, is_none, is_some, IsTrue, refl, sym, ap, ◌∙◌, arith, if◌then◌else◌}
-use Rattle.std.proofs.lemmas.Bool.{and_from, and_parts}
-use Rattle.std.proofs.lemmas.List.Elements.{All-append}
-use Rattle.std.specs.List.{All}
-use Rattle.cluster.specs.declared.ids.Element.{Element}
-use Rattle.cluster.specs.declared.ids.Element.TheVariants.{Vm, Node}
-use Rattle.cluster.specs.declared.sets.MachineSet.{MachineSet}
-use Rattle.cluster.specs.declared.sets.NodeSet.{NodeSet}
-use Rattle.cluster.specs.Inventory.{Inventory, IsInventory, IsListed}
-use Rattle.cluster.specs.Sets.{has_machine, has_node}
-use Rattle.catalogue.specs.Instance.{Instance, IsElement}
-use Rattle.slices.specs.Actions.{kind_of, is_legal}
-use Rattle.plan_json.specs.declared.fields.Action.{Action}
-use Rattle.plan_json.specs.Plans.{is_same, action_for, as_choice, is_kind, is_legal_action}
-use Rattle.plan_json.specs.Marks.{AreMarked, AreActions, IsWithinLimits, are_apart}
+use Rattle.std.proofs.Common.{IsTrue, if◌then◌else◌}
+use Rattle.base.proofs.Public.{◌≡◌, ℕ, zero, suc, ◌+◌, ◌<◌, ◌||◌, Bool, true, false, List, [], ◌∷◌, ◌++◌, length, take, get_or, Option, Some, None, is_none, is_some, refl, sym, ap, ◌∙◌, arith, and_from, and_parts, All-append, All}
+use Rattle.plan_json.specs.Prelude.{Action, action_for, are_apart, AreActions, AreMarked, as_choice, Element, has_machine, has_node, Instance, Inventory, is_kind, is_legal, is_legal_action, is_same, IsElement, IsInventory, IsListed, IsWithinLimits, kind_of, MachineSet, Node, NodeSet, Vm}
 use Rattle.plan_json.proofs.Finding.{is_same-turned, has-more, none_of, none_passes}
 
 -- ---- marks

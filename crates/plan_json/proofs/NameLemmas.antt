@@ -1,10 +1,6 @@
 -- An element that is not listed has no name.
-use Rattle.std.proofs.Common.{◌≡◌, ◌<◌, ◌≤◌, [], length, arith, ⊎_elim}
-use Rattle.std.proofs.lemmas.Bool.{cases_lt}
-use Rattle.std.proofs.lemmas.List.{get_or_past, length-map}
-use Rattle.cluster.specs.declared.ids.Element.{Element}
-use Rattle.cluster.specs.declared.ids.Element.TheVariants.{Vm, Node}
-use Rattle.cluster.specs.Inventory.{Inventory, IsListed, name_of, names_of_machines, names_of_nodes}
+use Rattle.base.proofs.Public.{◌≡◌, ◌<◌, ◌≤◌, [], length, arith, ⊎_elim, cases_lt, get_or_past, length-map}
+use Rattle.plan_json.specs.Prelude.{Element, Inventory, IsListed, name_of, names_of_machines, names_of_nodes, Node, Vm}
 
 pub name_of-past : (k : Inventory) (e : Element) → (IsListed k e → ⊥) → name_of k e ≡ []
 name_of-past k (Vm v) past = ⊎_elim

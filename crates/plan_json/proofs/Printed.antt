@@ -1,17 +1,9 @@
 -- What a printed plan is made of.
-use Rattle.std.proofs.Common.{◌≡◌, ℕ, zero, suc, ◌+◌, List, ◌++◌, false, Option, Some, None, refl}
-use Rattle.std.specs.List.{flat_map, range_with_len}
+use Rattle.base.proofs.Public.{◌≡◌, ℕ, zero, suc, ◌+◌, List, ◌++◌, false, Option, Some, None, refl, flat_map, range_with_len}
+use Rattle.plan_json.specs.Prelude.{Act, action_data, actions_data, At, Choice, choice_data, choices_of, Element, element_at, element_count, element_data, Idle, Instance, inventory_of, Nowhere, plan_data, PlanChoices}
 use Rattle.serde_json.specs.Data.{Data}
 use Rattle.serde_json.specs.View.{items_of}
 use Rattle.serde_json.specs.Written.{has_float, items_have_float}
-use Rattle.cluster.specs.declared.choices.Choice.{Choice}
-use Rattle.cluster.specs.declared.choices.Choice.TheVariants.{Idle, Act}
-use Rattle.cluster.specs.declared.ids.Element.{Element}
-use Rattle.cluster.specs.declared.choices.Place.TheVariants.{Nowhere, At}
-use Rattle.catalogue.specs.Instance.{Instance, inventory_of}
-use Rattle.cluster.specs.Elements.{element_count, element_at}
-use Rattle.slices.specs.Plans.{PlanChoices, choices_of}
-use Rattle.plan_json.specs.Print.{action_data, choice_data, element_data, actions_data, plan_data}
 
 -- ---- no floats
 

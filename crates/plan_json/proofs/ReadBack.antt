@@ -1,36 +1,13 @@
 -- A printed plan is read again.
-use Rattle.std.proofs.Common.{◌≡◌, ℕ, zero, suc, ◌+◌, ◌<◌, ◌≤◌, ◌&&◌, ◌==◌, Bool, true, false, not, List, [], ◌∷◌, ◌++◌, length, take, drop, get_or, nat_le, Option, Some, None, option_map, IfSome, IsTrue, Ok, codes, refl, sym, ap, ap₂, ◌∙◌, arith, ⊎_elim, append_assoc, max, Bor}
-use Rattle.std.proofs.Math.Nat.{max-le}
-use Rattle.std.proofs.lemmas.Grind.{common_steps}
-use Rattle.std.proofs.lemmas.Bool.{cases_eq, le-leb}
-use Rattle.std.proofs.lemmas.List.{append-nil, length-take, length-drop, get_or-take, get_or-drop, ext_get_or}
-use Rattle.std.proofs.lemmas.List.Folds.{find-append}
-use Rattle.std.specs.List.{find, range_with_len, flat_map}
-use Rattle.std.specs.Option.{option_copied, option_map_or, option_or}
+use Rattle.std.proofs.Common.{option_map, IfSome, IsTrue, codes, Bor}
+use Rattle.std.proofs.lemmas.List.{append-nil}
+use Rattle.base.proofs.Public.{◌≡◌, ℕ, zero, suc, ◌+◌, ◌<◌, ◌≤◌, ◌&&◌, ◌==◌, Bool, true, false, not, List, [], ◌∷◌, ◌++◌, length, take, drop, get_or, nat_le, Option, Some, None, Ok, refl, sym, ap, ap₂, ◌∙◌, arith, ⊎_elim, append_assoc, max, max-le, common_steps, cases_eq, le-leb, length-take, length-drop, get_or-take, get_or-drop, ext_get_or, find-append, find, range_with_len, flat_map, option_copied, option_map_or, option_or}
+use Rattle.plan_json.specs.Prelude.{Act, Action, action_data, action_for, action_step, actions_data, actions_from, as_choice, At, Choice, choice_data, choice_for, choices_for, choices_of, each, Element, element_at, element_count, element_data, element_number, field_of, first_to_act, Idle, Instance, inventory_of, is_idle, is_legal, is_same, IsElement, IsInstance, IsPlanOf, json_of, key_path, list_of, machine_count, max_machines, max_nodes, MAX_TEXT_BYTES, must_act, node, Node as TheNode, node_count, Nowhere, only_of, parted, plan_data, plan_of, plan_or_none, plan_with, PlanChoices, root, Vm, vm, walk}
 use Rattle.serde_json.specs.Data.{Data, depth, items_depth}
 use Rattle.serde_json.specs.Read.{max_depth}
 use Rattle.serde_json.specs.View.{items_of}
-use Rattle.json_walk.specs.declared.reading.TheConstants.{MAX_TEXT_BYTES}
-use Rattle.json_walk.specs.Path.{root, key_path}
-use Rattle.json_walk.specs.Walk.{field_of, list_of, only_of}
-use Rattle.json_walk.specs.Json.{json_of}
-use Rattle.json_walk.specs.Each.{each}
 use Rattle.json_walk.proofs.Public.{items_list-items_of}
-use Rattle.cluster.specs.declared.choices.Choice.{Choice}
-use Rattle.cluster.specs.declared.choices.Choice.TheVariants.{Idle, Act}
-use Rattle.cluster.specs.declared.ids.Element.{Element}
-use Rattle.cluster.specs.declared.ids.Element.TheVariants.{Vm, Node as TheNode}
-use Rattle.cluster.specs.declared.choices.Place.TheVariants.{Nowhere, At}
-use Rattle.cluster.specs.Elements.{element_at, element_count, element_number}
-use Rattle.cluster.specs.Limits.{max_machines, max_nodes}
 use Rattle.cluster.proofs.Public.{element_number-lt, element_at-element_number, IsListed-element_at, element_number-element_at}
-use Rattle.catalogue.specs.Instance.{Instance, IsInstance, IsElement, inventory_of}
-use Rattle.slices.specs.Elements.{machine_count, node_count, vm, node}
-use Rattle.slices.specs.Actions.{is_legal}
-use Rattle.slices.specs.Plans.{PlanChoices, parted, choices_of, IsPlanOf}
-use Rattle.plan_json.specs.declared.fields.Action.{Action}
-use Rattle.plan_json.specs.Plans.{is_same, action_for, as_choice, choice_for, choices_for, is_idle, must_act, first_to_act, action_step, actions_from, plan_with, walk, plan_or_none, plan_of}
-use Rattle.plan_json.specs.Print.{action_data, choice_data, element_data, actions_data, plan_data}
 use Rattle.plan_json.proofs.Again.{written_action, step_again}
 use Rattle.plan_json.proofs.Finding.{is_same-number, is_same-self}
 use Rattle.plan_json.proofs.ChoiceLemmas.{length-choices_for, choices_for-at}

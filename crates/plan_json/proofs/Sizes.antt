@@ -1,28 +1,12 @@
 -- A printed plan is small enough to be read again.
-use Rattle.std.proofs.Common.{ℕ, zero, suc, ◌+◌, ◌*◌, ◌≤◌, Bool, true, false, cond, List, [], ◌∷◌, ◌++◌, length, nat_lt, Option, Some, None, IfSome, IsTrue, codes, arith, length-append}
-use Rattle.std.proofs.lemmas.Fmt.{length-decimal-le}
-use Rattle.std.specs.List.{flat_map, range_with_len}
-use Rattle.std.specs.Option.{option_map_or}
+use Rattle.std.proofs.Common.{IfSome, IsTrue, codes, length-append}
+use Rattle.base.proofs.Public.{ℕ, zero, suc, ◌+◌, ◌*◌, ◌≤◌, Bool, true, false, cond, List, [], ◌∷◌, ◌++◌, length, nat_lt, Option, Some, None, arith, length-decimal-le, flat_map, range_with_len, option_map_or}
+use Rattle.plan_json.specs.Prelude.{Act, action_data, actions_data, Allocate, At, Boot, Choice, choice_data, choices_of, Element, element_at, element_count, element_data, Forge, Idle, Instance, inventory_of, is_legal, IsInstance, IsPlanOf, Kill, Kind, kind_of, kind_word, kind_words, Migrate, name_data, name_of, Node as TheNode, NodeBoot, NodeShutdown, Nowhere, Place, plan_data, plan_text, PlanChoices, Resume, Shutdown, Suspend, word_at}
 use Rattle.json.specs.Print.{escape, escape_letter, escape_byte, quoted}
 use Rattle.serde_json.specs.Data.{Data, string, number, unsigned, array, Members, member, no_members}
 use Rattle.serde_json.specs.View.{items_of}
 use Rattle.serde_json.specs.Written.{compact_text, items_text, members_text, comma_if}
-use Rattle.cluster.specs.declared.choices.Choice.{Choice}
-use Rattle.cluster.specs.declared.choices.Choice.TheVariants.{Idle, Act}
-use Rattle.cluster.specs.declared.ids.Element.{Element}
-use Rattle.cluster.specs.declared.ids.Element.TheVariants.{Node as TheNode}
-use Rattle.cluster.specs.declared.kinds.Kind.{Kind}
-use Rattle.cluster.specs.declared.kinds.Kind.TheVariants.{Forge, Boot, Shutdown, Suspend, Resume, Migrate, Allocate, Kill, NodeBoot, NodeShutdown}
-use Rattle.cluster.specs.declared.choices.Place.{Place}
-use Rattle.cluster.specs.declared.choices.Place.TheVariants.{Nowhere, At}
-use Rattle.cluster.specs.Inventory.{name_of}
-use Rattle.catalogue.specs.Instance.{Instance, IsInstance, inventory_of}
-use Rattle.cluster.specs.Elements.{element_count, element_at}
 use Rattle.cluster.proofs.Public.{IsListed-element_at, length-name_of}
-use Rattle.slices.specs.Actions.{kind_of, is_legal}
-use Rattle.slices.specs.Plans.{PlanChoices, choices_of, IsPlanOf}
-use Rattle.cluster.specs.Kinds.{kind_word, kind_words}
-use Rattle.plan_json.specs.Print.{name_data, word_at, action_data, choice_data, element_data, actions_data, plan_data, plan_text}
 use Rattle.plan_json.proofs.Again.{acts}
 
 -- ---- texts

@@ -1,21 +1,16 @@
 -- One action of a plan.
-use Rattle.std.specs.Prelude.{map, Option, Some, None, Ok, codes}
-use Rattle.std.specs.Option.{ok_or}
+use Rattle.base.specs.Prelude.{map, Option, Some, None, Ok, codes, ok_or}
+use Rattle.json_text.specs.Prelude.{as_walk, fault_at, field_by, number_field, only_keys, optional_by, text_of, wants, ◌>>=◌, ◌>>◌}
+use Rattle.slices.specs.Prelude.{element_named, Inventory, is_name, kind_of_word, max_horizon}
 use Rattle.json_walk.specs.declared.fault.FaultKind.TheVariants.{OutOfRange, Unknown}
-use Rattle.json_walk.specs.Walk.{◌>>=◌, ◌>>◌, wants, text_of, fault_at}
 use Rattle.cluster.specs.declared.ids.Element.{Element}
 use Rattle.cluster.specs.declared.ids.Element.TheVariants.{Vm, Node}
 use Rattle.cluster.specs.declared.kinds.Kind.{Kind}
 use Rattle.cluster.specs.declared.choices.Place.{Place}
 use Rattle.cluster.specs.declared.choices.Place.TheVariants.{Nowhere, At}
-use Rattle.cluster.specs.Kinds.{kind_of_word}
-use Rattle.cluster.specs.Names.{is_name}
-use Rattle.cluster.specs.Inventory.{Inventory, element_named}
-use Rattle.catalogue.specs.Limits.{max_horizon}
 use Rattle.plan_json.specs.declared.fault.PlanFault.TheVariants.{Field, NoSuch}
 use Rattle.plan_json.specs.declared.fields.Action.{Action}
 use Rattle.plan_json.specs.declared.fields.TheConstants.{ACTION_KEYS}
-use Rattle.json_walk.specs.Members.{as_walk, only_keys, field_by, optional_by, number_field}
 use Rattle.plan_json.specs.Walk.{Test}
 
 -- the listed element that has the name

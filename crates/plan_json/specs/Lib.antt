@@ -4,3 +4,4 @@ pub mod Plans
 pub mod Texts
 pub mod Print
 pub mod Marks
+pub mod Prelude

@@ -1,14 +1,10 @@
 -- Helping only: which elements the actions that were read are of.
-use Rattle.std.specs.Prelude.{◌≡◌, ◌<◌, ℕ, true, Bool, List, [], ◌∷◌, is_none, is_some, ◌&&◌, IsTrue}
-use Rattle.std.specs.List.{All}
+use Rattle.base.specs.Prelude.{◌≡◌, ◌<◌, ℕ, true, Bool, List, [], ◌∷◌, is_none, is_some, ◌&&◌, IsTrue, All}
+use Rattle.slices.specs.Prelude.{has_machine, has_node, Instance, is_legal, IsElement, max_machines, max_nodes}
 use Rattle.cluster.specs.declared.ids.Element.{Element}
 use Rattle.cluster.specs.declared.ids.Element.TheVariants.{Vm, Node}
 use Rattle.cluster.specs.declared.sets.MachineSet.{MachineSet}
 use Rattle.cluster.specs.declared.sets.NodeSet.{NodeSet}
-use Rattle.cluster.specs.Limits.{max_machines, max_nodes}
-use Rattle.cluster.specs.Sets.{has_machine, has_node}
-use Rattle.catalogue.specs.Instance.{Instance, IsElement}
-use Rattle.slices.specs.Actions.{is_legal}
 use Rattle.plan_json.specs.declared.fields.Action.{Action}
 use Rattle.plan_json.specs.Plans.{action_for, as_choice}
 

@@ -1,30 +1,19 @@
 -- The plan that bytes have for a problem, or their first fault.
-use Rattle.std.specs.Prelude.{ℕ, ◌+◌, List, [], ◌∷◌, ◌++◌, length, map, nat_le, ◌==◌, ◌&&◌, Bool, true, false, not, Option, Some, None, is_some, is_none, option_map, slice_index_or, Ok, Err, codes, if◌then◌else◌}
-use Rattle.std.specs.List.{find, range_with_len}
-use Rattle.std.specs.Option.{ok_or, option_map_or}
-use Rattle.serde_json.specs.Data.{Data}
-use Rattle.serde_json.specs.Find.{as_null}
+use Rattle.base.specs.Prelude.{ℕ, ◌+◌, List, [], ◌∷◌, ◌++◌, length, map, nat_le, ◌==◌, ◌&&◌, Bool, true, false, not, Option, Some, None, is_some, is_none, option_map, slice_index_or, Ok, Err, codes, if◌then◌else◌, find, range_with_len, ok_or, option_map_or}
+use Rattle.json_text.specs.Prelude.{as_walk, each, fault_at, field_by, item_path, json_of, key_path, list_of, only_keys, root, wants, ◌>>=◌, ◌>>◌}
+use Rattle.slices.specs.Prelude.{element_at, element_count, Instance, inventory_of, is_legal, kind_number, kind_of, max_machines, max_nodes, parted, PlanChoices}
 use Rattle.json_walk.specs.declared.fault.FaultKind.TheVariants.{OutOfRange}
 use Rattle.json_walk.specs.declared.reading.TheConstants.{MAX_TEXT_BYTES}
-use Rattle.json_walk.specs.Path.{root, key_path, item_path}
-use Rattle.json_walk.specs.Walk.{◌>>=◌, ◌>>◌, wants, list_of, fault_at}
-use Rattle.json_walk.specs.Json.{json_of}
-use Rattle.json_walk.specs.Each.{each}
 use Rattle.cluster.specs.declared.choices.Choice.{Choice}
 use Rattle.cluster.specs.declared.choices.Choice.TheVariants.{Idle, Act}
 use Rattle.cluster.specs.declared.ids.Element.{Element}
 use Rattle.cluster.specs.declared.ids.Element.TheVariants.{Vm, Node}
 use Rattle.cluster.specs.declared.kinds.Kind.{Kind}
-use Rattle.cluster.specs.Elements.{element_at, element_count}
-use Rattle.cluster.specs.Kinds.{kind_number}
-use Rattle.cluster.specs.Limits.{max_machines, max_nodes}
-use Rattle.catalogue.specs.Instance.{Instance, inventory_of}
-use Rattle.slices.specs.Actions.{kind_of, is_legal}
-use Rattle.slices.specs.Plans.{PlanChoices, parted}
+use Rattle.serde_json.specs.Data.{Data}
+use Rattle.serde_json.specs.Find.{as_null}
 use Rattle.plan_json.specs.declared.fault.PlanFault.TheVariants.{Field, TooLong, NotJson, Twice, NotLegal, MustAct}
 use Rattle.plan_json.specs.declared.fields.Action.{Action}
 use Rattle.plan_json.specs.declared.reading.TheConstants.{PLAN_KEYS}
-use Rattle.json_walk.specs.Members.{as_walk, only_keys, field_by}
 use Rattle.plan_json.specs.Walk.{Walk, Test}
 use Rattle.plan_json.specs.Actions.{action_from}
 

@@ -1,22 +1,15 @@
 -- The text of a plan.
-use Rattle.std.specs.Prelude.{ℕ, List, [], ◌∷◌, ◌++◌, Option, Some, None, codes}
-use Rattle.std.specs.List.{flat_map, range_with_len}
-use Rattle.std.specs.Option.{option_map_or}
-use Rattle.serde_json.specs.Data.{Data, null, string, number, unsigned, array, object, Members, no_members, member}
-use Rattle.serde_json.specs.View.{items_of}
-use Rattle.serde_json.specs.Written.{compact_text}
+use Rattle.base.specs.Prelude.{ℕ, List, [], ◌∷◌, ◌++◌, Option, Some, None, codes, flat_map, range_with_len, option_map_or}
+use Rattle.slices.specs.Prelude.{choices_of, element_at, element_count, Instance, inventory_of, kind_of, kind_word, name_of, PlanChoices}
 use Rattle.cluster.specs.declared.choices.Choice.{Choice}
 use Rattle.cluster.specs.declared.choices.Choice.TheVariants.{Idle, Act}
 use Rattle.cluster.specs.declared.ids.Element.{Element}
 use Rattle.cluster.specs.declared.ids.Element.TheVariants.{Node}
 use Rattle.cluster.specs.declared.choices.Place.{Place}
 use Rattle.cluster.specs.declared.choices.Place.TheVariants.{Nowhere, At}
-use Rattle.cluster.specs.Inventory.{name_of}
-use Rattle.catalogue.specs.Instance.{Instance, inventory_of}
-use Rattle.cluster.specs.Elements.{element_count, element_at}
-use Rattle.slices.specs.Actions.{kind_of}
-use Rattle.slices.specs.Plans.{PlanChoices, choices_of}
-use Rattle.cluster.specs.Kinds.{kind_word}
+use Rattle.serde_json.specs.Data.{Data, null, string, number, unsigned, array, object, Members, no_members, member}
+use Rattle.serde_json.specs.View.{items_of}
+use Rattle.serde_json.specs.Written.{compact_text}
 
 abbrev pub name_data : Instance → Element → Data
 name_data p e = string (name_of (inventory_of p) e)

@@ -1,14 +1,8 @@
 //! The actions of a plan, one after the other.
 
-ghost use Rattle.std.specs.Prelude.{◌≡◌, [], IfOk, OnOk, map};
+ghost use Rattle.base.specs.Prelude.{◌≡◌, [], IfOk, OnOk, map};
+ghost use Rattle.plan_json.specs.Prelude.{action_step, actions_from, AreActions, as_choice, each, Gives, is_kind, is_legal_action, IsElement, path_of, plan_fault_of};
 ghost use Rattle.serde_json.specs.View.{view};
-ghost use Rattle.json_walk.specs.PathRef.{path_of};
-ghost use Rattle.json_walk.specs.Walk.{Gives};
-ghost use Rattle.json_walk.specs.Each.{each};
-ghost use Rattle.catalogue.specs.Instance.{IsElement};
-ghost use Rattle.plan_json.specs.Walk.{plan_fault_of};
-ghost use Rattle.plan_json.specs.Marks.{AreActions};
-ghost use Rattle.plan_json.specs.Plans.{as_choice, is_kind, is_legal_action, action_step, actions_from};
 
 use crate::fault::PlanFault;
 use crate::fields::{Action, one_action};

@@ -1,10 +1,7 @@
 //! From actions to a choice for each element.
 
-ghost use Rattle.std.specs.Prelude.{◌≡◌, IfOk, length, replicate, slice_set};
-ghost use Rattle.cluster.specs.Elements.{element_count, element_number};
-ghost use Rattle.catalogue.specs.Instance.{IsElement, inventory_of};
-ghost use Rattle.plan_json.specs.Marks.{AreActions};
-ghost use Rattle.plan_json.specs.Plans.{as_choice, choices_for, is_idle, first_to_act};
+ghost use Rattle.base.specs.Prelude.{◌≡◌, IfOk, length, replicate, slice_set};
+ghost use Rattle.plan_json.specs.Prelude.{AreActions, as_choice, choices_for, element_count, element_number, first_to_act, inventory_of, is_idle, IsElement};
 
 use crate::actions::as_choice;
 use crate::fields::Action;

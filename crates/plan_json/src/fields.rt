@@ -1,15 +1,8 @@
 //! The fields of one action.
 
-ghost use Rattle.std.specs.Prelude.{IfOk, codes};
+ghost use Rattle.base.specs.Prelude.{IfOk, codes};
+ghost use Rattle.plan_json.specs.Prelude.{action_from, Field, field_by, Gives, IsListed, kind_from, listed_element, listed_place, Nowhere, optional_by, path_of, plan_fault_of};
 ghost use Rattle.serde_json.specs.View.{view};
-ghost use Rattle.json_walk.specs.PathRef.{path_of};
-ghost use Rattle.json_walk.specs.Walk.{Gives};
-ghost use Rattle.cluster.specs.declared.choices.Place.TheVariants.{Nowhere};
-ghost use Rattle.cluster.specs.Inventory.{IsListed};
-ghost use Rattle.json_walk.specs.Members.{field_by, optional_by};
-ghost use Rattle.plan_json.specs.declared.fault.PlanFault.TheVariants.{Field};
-ghost use Rattle.plan_json.specs.Walk.{plan_fault_of};
-ghost use Rattle.plan_json.specs.Actions.{listed_element, listed_place, kind_from, action_from};
 
 use crate::fault::PlanFault;
 use catalogue::limits::MAX_HORIZON;

@@ -1,13 +1,8 @@
 //! From a plan to its text.
 
-ghost use Rattle.std.specs.Prelude.{◌≡◌, ◌++◌, IfOk, IfSome, OnOk};
-ghost use Rattle.std.specs.Option.{option_copied};
+ghost use Rattle.base.specs.Prelude.{◌≡◌, ◌++◌, IfOk, IfSome, OnOk, option_copied};
+ghost use Rattle.plan_json.specs.Prelude.{action_data, actions_data, choice_data, IsElement, IsPlanOf, items, name_data, plan_data, plan_of, plan_text, word_at};
 ghost use Rattle.serde_json.specs.View.{view};
-ghost use Rattle.json_text.specs.Out.{items};
-ghost use Rattle.catalogue.specs.Instance.{IsElement};
-ghost use Rattle.slices.specs.Plans.{IsPlanOf};
-ghost use Rattle.plan_json.specs.Plans.{plan_of};
-ghost use Rattle.plan_json.specs.Print.{name_data, word_at, action_data, choice_data, actions_data, plan_data, plan_text};
 
 use crate::names::name;
 use base::Memory;

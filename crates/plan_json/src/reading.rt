@@ -1,17 +1,8 @@
 //! From bytes to a plan.
 
-ghost use Rattle.std.specs.Prelude.{IfOk, IfSome, codes};
-ghost use Rattle.std.specs.Option.{ok_or};
+ghost use Rattle.base.specs.Prelude.{IfOk, IfSome, codes, ok_or};
+ghost use Rattle.plan_json.specs.Prelude.{actions_from, AreActions, Field, field_by, Gives, IsPlanOf, json_of, NotJson, plan_fault_of, plan_of, plan_or_none, plan_with, root, walk};
 ghost use Rattle.serde_json.specs.View.{view};
-ghost use Rattle.json_walk.specs.Path.{root};
-ghost use Rattle.json_walk.specs.Walk.{Gives};
-ghost use Rattle.json_walk.specs.Json.{json_of};
-ghost use Rattle.slices.specs.Plans.{IsPlanOf};
-ghost use Rattle.json_walk.specs.Members.{field_by};
-ghost use Rattle.plan_json.specs.Walk.{plan_fault_of};
-ghost use Rattle.plan_json.specs.Marks.{AreActions};
-ghost use Rattle.plan_json.specs.declared.fault.PlanFault.TheVariants.{Field, NotJson};
-ghost use Rattle.plan_json.specs.Plans.{actions_from, plan_with, walk, plan_or_none, plan_of};
 
 use crate::actions::actions;
 use crate::choosing::{choices, first_to_act};

@@ -1,14 +1,7 @@
 -- The loop that asks one propagator after the other, and counts.
-use Rattle.std.proofs.Common.{◌≡◌, ℕ, suc, ◌+◌, ◌<◌, ◌≤◌, List, [], ◌∷◌, length, get_or, refl, arith, inl, inr}
 use Rattle.std.proofs.Math.ListN.{set, length-set}
-use Rattle.std.proofs.lemmas.List.{get_or-set_other, get_or-set_same}
-use Rattle.std.proofs.lemmas.List.Elements.{at_read}
-use Rattle.std.proofs.lemmas.List.Sums.{sum_by-cons, sum_by-set}
-use Rattle.std.proofs.lemmas.Bool.{cases_eq, cases_lt}
-use Rattle.catalogue.specs.Instance.{Instance}
-use Rattle.domains.specs.Sets.{Sets}
-use Rattle.prop_core.specs.Propagators.{AllQuiet, IsAsked, Meaning, most}
-use Rattle.prop_core.specs.Lists.{given_sum, Rise}
+use Rattle.base.proofs.Public.{◌≡◌, ℕ, suc, ◌+◌, ◌<◌, ◌≤◌, List, [], ◌∷◌, length, get_or, refl, arith, inl, inr, get_or-set_other, get_or-set_same, at_read, sum_by-cons, sum_by-set, cases_eq, cases_lt}
+use Rattle.prop_core.specs.Prelude.{AllQuiet, given_sum, Instance, IsAsked, Meaning, most, Rise, Sets}
 use Rattle.prop_core.proofs.TurnLemmas.{Turned}
 
 pub record AskedQuiet (p : Instance) (s : Sets) (m n : Meaning) : Type 0 where

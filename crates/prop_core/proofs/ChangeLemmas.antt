@@ -1,26 +1,9 @@
 -- From what a trail says of a change to what those who are told of it require.
 use mathlib.Core.Path.{fun_ext}
-use Rattle.std.proofs.Common.{◌≡◌, Bool, true, false, cond, List, length, refl, sym, ◌∙◌, ap, subst}
-use Rattle.std.proofs.lemmas.Bool.{eq-eqb}
-use Rattle.std.specs.List.{Contains, filter}
-use Rattle.cluster.specs.declared.choices.Choice.{Choice}
-use Rattle.cluster.specs.declared.ids.Element.{Element}
-use Rattle.cluster.specs.declared.ids.Element.TheVariants.{Vm, Node}
-use Rattle.catalogue.specs.Instance.{Instance, IsElement}
-use Rattle.domains.specs.declared.parts.Change.{Change}
-use Rattle.domains.specs.declared.undo.Before.{Before}
-use Rattle.domains.specs.Choices.{DomainView, choices}
-use Rattle.domains.specs.Parts.{on_side}
-use Rattle.domains.specs.Sets.{RegionView, Sets, domain_at, keeping, same_element, sets}
-use Rattle.domains.specs.Laws.{AreFewer}
-use Rattle.domains.specs.Undo.{domain_before}
+use Rattle.base.proofs.Public.{◌≡◌, Bool, true, false, cond, List, length, refl, sym, ◌∙◌, ap, subst, eq-eqb, Contains, filter}
+use Rattle.prop_core.specs.Prelude.{AllFollow, AreFewer, AreLegal, Before, Change, Choice, choices, domain_at, domain_before, DomainView, Element, Instance, IsElement, IsNarrowed, IsRegionOf, keeping, Marked, Meaning, Node, on_side, RegionView, same_element, Sets, sets, sets_before, TopsAgree, Vm}
 use Rattle.domains.proofs.Public.{filter_is_fewer, same_is}
-use Rattle.relax.specs.Areas.{AreLegal}
 use Rattle.relax.proofs.Public.{legal_stays}
-use Rattle.trail.specs.Logs.{Marked}
-use Rattle.prop_core.specs.Propagators.{IsNarrowed, IsRegionOf, Meaning, sets_before}
-use Rattle.prop_core.specs.Lists.{TopsAgree}
-use Rattle.prop_core.specs.Levels.{AllFollow}
 use Rattle.prop_core.proofs.LevelLemmas.{tops}
 
 self : (x : Element) → same_element x x ≡ true

@@ -1,11 +1,7 @@
 -- What a list covers, kind by kind, and after calls that leave the kinds.
 use Rattle.std.proofs.Common.{◌≡◌, ◌∙◌, ◌↔◌, ◌&&◌, Bool, IsTrue, refl, true, false, List, [], ◌∷◌, length, suc, arith}
-use Rattle.catalogue.specs.Instance.{Instance}
-use Rattle.domains.specs.Sets.{Sets}
-use Rattle.reasons.specs.declared.reason.ReasonKind.{ReasonKind}
+use Rattle.prop_core.specs.Prelude.{Covered, Instance, is_covered, IsAsked, IsStandard, Meaning, Pairs, ReasonKind, SameCover, SameRule, Sets}
 use Rattle.reasons.specs.declared.reason.ReasonKind.TheVariants as kind
-use Rattle.prop_core.specs.Propagators.{IsAsked, IsStandard, Meaning, SameRule}
-use Rattle.prop_core.specs.Lists.{Covered, Pairs, SameCover, is_covered}
 
 and_true : (a b : Bool) → (a && b) ≡ true → (a ≡ true) × (b ≡ true)
 and_true true b e = (refl, e)

@@ -1,11 +1,6 @@
 -- Levels that follow the marks of a trail.
 use Rattle.std.proofs.Common.{◌≡◌, ℕ, suc, ◌+◌, ◌<◌, ◌≤◌, List, [], ◌∷◌, length, get_or, sym, ◌∙◌, ap, subst, arith, All}
-use Rattle.catalogue.specs.Instance.{Instance}
-use Rattle.domains.specs.Sets.{RegionView, sets}
-use Rattle.trail.specs.Logs.{Marked}
-use Rattle.prop_core.specs.Propagators.{IsAsked, KeepsBelow, Meaning, TopAgrees, most}
-use Rattle.prop_core.specs.Lists.{BackSame, MarkedSame, Pairs, PostedSame, ToldSame, TopsAgree}
-use Rattle.prop_core.specs.Levels.{AllFollow, AtMarks, Follows}
+use Rattle.prop_core.specs.Prelude.{AllFollow, AtMarks, BackSame, Follows, Instance, IsAsked, KeepsBelow, Marked, MarkedSame, Meaning, most, Pairs, PostedSame, RegionView, sets, ToldSame, TopAgrees, TopsAgree}
 use Rattle.prop_core.proofs.PairLemmas.{All-after}
 
 -- a level below n that is kept is one of at most n marks

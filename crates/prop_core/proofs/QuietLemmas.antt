@@ -1,15 +1,9 @@
 -- Where all are quiet, and each standard kind is covered, the sets are closed.
-use Rattle.std.proofs.Common.{◌≡◌, true, List, All, subst}
-use Rattle.std.proofs.lemmas.List.Folds.{Any-from_list_any}
-use Rattle.catalogue.specs.Instance.{Instance}
-use Rattle.domains.specs.Sets.{Sets}
-use Rattle.reasons.specs.declared.reason.ReasonKind.{ReasonKind}
+use Rattle.std.proofs.Common.{All}
+use Rattle.base.proofs.Public.{◌≡◌, true, List, subst, Any-from_list_any}
+use Rattle.prop_core.specs.Prelude.{AllQuiet, AllRight, Covered, HaveChoices, Instance, is_covered, IsClosed, IsQuietKind, IsStandard, Meaning, Quiet, ReasonKind, Sets}
 use Rattle.reasons.specs.declared.reason.ReasonKind.TheVariants as kind
-use Rattle.reasons.specs.Closed.{HaveChoices, IsClosed, IsQuietKind}
 use Rattle.reasons.proofs.Public.{closed_by_kinds}
-use Rattle.prop_core.specs.declared.propagator.Answer.TheVariants.{Quiet}
-use Rattle.prop_core.specs.Propagators.{AllQuiet, IsStandard, Meaning}
-use Rattle.prop_core.specs.Lists.{AllRight, Covered, is_covered}
 
 -- a kind that some propagator covers is quiet where all are
 covered-quiet : {B : Type 0} (m : B → Meaning) (p : Instance) (s : Sets) (xs : List B) (k : ReasonKind) → is_covered m xs k ≡ true → All (λ b. AllQuiet p s (m b)) xs → IsQuietKind p s k

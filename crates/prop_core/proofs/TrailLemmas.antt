@@ -1,20 +1,8 @@
 -- What a trail's regions stay, call after call, and that a cut takes a choice away.
-use Rattle.std.proofs.Common.{◌≡◌, ◌<◌, Bool, not, List, [], ◌∷◌, length, sym, ap, subst, arith, All}
-use Rattle.std.proofs.lemmas.List.Elements.{All-cons, All-head, All-tail}
-use Rattle.cluster.specs.declared.choices.Choice.{Choice}
-use Rattle.cluster.specs.declared.ids.Element.{Element}
-use Rattle.cluster.specs.declared.ids.Element.TheVariants.{Vm, Node}
-use Rattle.catalogue.specs.Instance.{Instance, IsElement}
-use Rattle.slices.specs.Elements.{machine_count, node_count}
-use Rattle.domains.specs.declared.parts.Part.{Part}
-use Rattle.domains.specs.Parts.{out_of_part}
-use Rattle.domains.specs.Sets.{RegionView, Sets, keeping, sets}
-use Rattle.domains.specs.Sizes.{IsOneOf, choice_count}
+use Rattle.std.proofs.Common.{All}
+use Rattle.base.proofs.Public.{◌≡◌, ◌<◌, Bool, not, List, [], ◌∷◌, length, sym, ap, subst, arith, All-cons, All-head, All-tail}
+use Rattle.prop_core.specs.Prelude.{Choice, choice_count, CutHolds, Element, Instance, IsElement, IsOneOf, IsRegionOf, IsTrailOf, keeping, machine_count, Marked, Node, node_count, out_of_part, Part, Reason, RegionView, Sets, sets, Vm}
 use Rattle.domains.proofs.Public.{count_falls_below}
-use Rattle.reasons.specs.declared.reason.Reason.{Reason}
-use Rattle.trail.specs.Logs.{Marked}
-use Rattle.prop_core.specs.Propagators.{CutHolds, IsRegionOf}
-use Rattle.prop_core.specs.Levels.{IsTrailOf}
 use Rattle.prop_core.proofs.ChangeLemmas.{region_stays}
 
 pub trail_started : (p : Instance) (t : Marked) → IsRegionOf p t.region → t.marks ≡ [] → IsTrailOf p t

@@ -3,3 +3,4 @@ pub mod Propagators
 pub mod Lists
 pub mod Levels
 pub mod Tests
+pub mod Prelude

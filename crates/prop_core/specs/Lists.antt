@@ -1,9 +1,8 @@
 -- Lists of propagators; `m` gives what each means.
-use Rattle.std.specs.Prelude.{◌≡◌, ℕ, ◌+◌, ◌<◌, ◌≤◌, Bool, List, length, slice_index_or, All, Result, Ok, Err, IsTrue, sum_by}
-use Rattle.std.specs.List.{list_any}
+use Rattle.std.specs.Prelude.{All, sum_by}
+use Rattle.base.specs.Prelude.{◌≡◌, ℕ, ◌+◌, ◌<◌, ◌≤◌, Bool, List, length, slice_index_or, Result, Ok, Err, IsTrue, list_any}
+use Rattle.relax.specs.Prelude.{Instance, Sets}
 use Rattle.base.specs.declared.memory.Memory.{Memory}
-use Rattle.catalogue.specs.Instance.{Instance}
-use Rattle.domains.specs.Sets.{Sets}
 use Rattle.reasons.specs.declared.reason.ReasonKind.{ReasonKind}
 use Rattle.prop_core.specs.declared.propagator.Answer.{Answer}
 use Rattle.prop_core.specs.declared.propagator.Answer.TheVariants.{Quiet, Cut, Fail}

@@ -1,8 +1,7 @@
 //! Calls on all propagators of a list, one after the other.
-ghost use Rattle.std.specs.Prelude.{◌<◌, OnOk, All};
-ghost use Rattle.domains.specs.Sets.{sets};
-ghost use Rattle.prop_core.specs.Lists.{BackSame, MarkedSame, Pairs, PostedSame, ToldSame, TopsAgree};
-ghost use Rattle.prop_core.specs.Propagators.{IsNarrowed, IsRegionOf, SameRule, most, sets_before};
+ghost use Rattle.std.specs.Prelude.{All};
+ghost use Rattle.base.specs.Prelude.{◌<◌, OnOk};
+ghost use Rattle.prop_core.specs.Prelude.{BackSame, IsNarrowed, IsRegionOf, MarkedSame, most, Pairs, PostedSame, SameRule, sets, sets_before, ToldSame, TopsAgree};
 
 use crate::propagator::Propagator;
 use base::Memory;

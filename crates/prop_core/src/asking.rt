@@ -1,9 +1,6 @@
 //! Asking the propagators of a list, one after the other.
-ghost use Rattle.std.specs.Prelude.{◌≡◌, IfOk, MatchResult};
-ghost use Rattle.domains.specs.Sets.{sets};
-ghost use Rattle.reasons.specs.Closed.{HaveChoices, IsClosed};
-ghost use Rattle.prop_core.specs.Lists.{AllRight, Covered, Pairs, Rise, TopsAgree, steps_shown};
-ghost use Rattle.prop_core.specs.Propagators.{IsAsked, IsRegionOf, IsRight, TopAgrees, counted};
+ghost use Rattle.base.specs.Prelude.{◌≡◌, IfOk, MatchResult};
+ghost use Rattle.prop_core.specs.Prelude.{AllRight, counted, Covered, HaveChoices, IsAsked, IsClosed, IsRegionOf, IsRight, Pairs, Rise, sets, steps_shown, TopAgrees, TopsAgree};
 
 use crate::propagator::{Answer, Propagator};
 use base::Memory;

@@ -1,25 +1,10 @@
 -- Sets that are one plan are closed exactly where the plan is valid.
 use mathlib.Core.Path.{fun_ext}
-use Rattle.std.proofs.Common.{◌≡◌, ◌⊎◌, inl, inr, ℕ, Bool, true, false, ◌&&◌, ◌==◌, cond, List, [], ◌∷◌, refl, sym, ap, subst, ◌∙◌, arith}
-use Rattle.std.specs.List.{Contains}
-use Rattle.std.proofs.lemmas.Bool.{cases_lt}
-use Rattle.std.proofs.Math.Bool.{or-false}
-use Rattle.cluster.specs.declared.ids.Element.{Element}
-use Rattle.cluster.specs.declared.choices.Choice.{Choice}
-use Rattle.cluster.specs.declared.choices.Choice.TheVariants.{Idle, Act}
-use Rattle.catalogue.specs.Instance.{Instance, IsElement, IsInstance}
-use Rattle.slices.specs.Elements.{machine_count, node_count, node, vm}
-use Rattle.slices.specs.Ends.{snapshot_of}
-use Rattle.slices.specs.Plans.{Choices}
-use Rattle.slices.specs.Rules.{IsValid, Keeps}
-use Rattle.slices.specs.Snapshots.{action_at, held_at, powered_at, present_at, snapshot_at, usable_at}
+use Rattle.base.proofs.Public.{◌≡◌, ◌⊎◌, inl, inr, ℕ, Bool, true, false, ◌&&◌, ◌==◌, cond, List, [], ◌∷◌, refl, sym, ap, subst, ◌∙◌, arith, Contains, cases_lt, or-false}
+use Rattle.reasons.specs.Prelude.{Act, action_at, Choice, Choices, Element, held_at, Instance, IsClosed, IsElement, IsEnd, IsFree, IsIn, IsInstance, IsOnly, IsUnrefuted, IsValid, Keeps, machine_count, node, node_count, OnlyClosed, powered_at, present_at, ReasonKind, same_element, Sets, setting, snapshot_at, snapshot_of, sure, usable_at, vm}
+use Rattle.cluster.specs.declared.choices.Choice.TheVariants.{Idle}
 use Rattle.slices.proofs.Public.{is_pointwise}
-use Rattle.domains.specs.Sets.{Sets, IsIn, IsOnly, same_element, setting}
 use Rattle.domains.proofs.Public.{contains_one, same_is}
-use Rattle.reasons.specs.declared.reason.ReasonKind.{ReasonKind}
-use Rattle.reasons.specs.Closed.{IsClosed, IsEnd, IsFree, IsUnrefuted}
-use Rattle.reasons.specs.Laws.{OnlyClosed}
-use Rattle.reasons.specs.Sure.{sure}
 use Rattle.reasons.proofs.FreeLemmas.{free-keeps, free_stays, keeps-none, valid-free}
 use Rattle.reasons.proofs.PartLemmas.{parts_are_in}
 use Rattle.reasons.proofs.SureLemmas.{sure-part}

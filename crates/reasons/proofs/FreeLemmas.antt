@@ -1,24 +1,9 @@
 -- When a snapshot is free of standard reasons: a part of one that is, and a plan's where each rule is kept; and what is free of all keeps each rule.
-use Rattle.std.proofs.Common.{◌≡◌, inl, ℕ, ◌≤◌, Bool, ◌||◌, ◌==◌, cond, IsTrue, sym, ◌∙◌, arith}
-use Rattle.std.proofs.lemmas.Bool.{and_parts, ltb-true, true_from_ne_false, true≢false}
-use Rattle.base.proofs.Sums.{sum_to-none}
-use Rattle.cluster.specs.Sets.{has_node}
-use Rattle.catalogue.specs.Instance.{Instance, IsInstance}
-use Rattle.catalogue.specs.Kinds.{is_continuous}
-use Rattle.slices.specs.declared.rule.Rule.{Rule}
-use Rattle.slices.specs.declared.rule.Rule.TheVariants.{Load as OfLoad, Usable as OfUsable, Constraint as OfConstraint}
-use Rattle.slices.specs.Elements.{machine_count, node_count}
-use Rattle.slices.specs.Ends.{snapshot_of}
-use Rattle.slices.specs.Forms.{Form, Apart, Allowed, Together, Ordered, InTurn, Bounded, Powered, Settled, IsSound, Separation, form_of}
-use Rattle.slices.specs.Holds.{AreApart, IsKept}
-use Rattle.slices.specs.Plans.{Choices}
-use Rattle.slices.specs.Rules.{InRange, IsValid, Keeps}
-use Rattle.slices.specs.Snapshots.{Snapshot}
-use Rattle.slices.specs.Stages.{one}
-use Rattle.reasons.specs.declared.reason.ReasonKind.{ReasonKind}
-use Rattle.reasons.specs.declared.reason.ReasonKind.TheVariants.{Empty, Bound, Load, Pair, Place, Group, SetLoad, Power, Usable, Hall}
-use Rattle.reasons.specs.Closed.{IsFree, all_nodes}
-use Rattle.reasons.specs.Laws.{FreeStays}
+use Rattle.std.proofs.Common.{IsTrue}
+use Rattle.std.proofs.lemmas.Bool.{true≢false}
+use Rattle.base.proofs.Public.{◌≡◌, inl, ℕ, ◌≤◌, Bool, ◌||◌, ◌==◌, cond, sym, ◌∙◌, arith, and_parts, ltb-true, true_from_ne_false, sum_to-none}
+use Rattle.reasons.specs.Prelude.{all_nodes, Allowed, Apart, AreApart, Bound, Bounded, Choices, Constraint as OfConstraint, Empty, Form, form_of, FreeStays, Group, Hall, has_node, InRange, Instance, InTurn, is_continuous, IsFree, IsInstance, IsKept, IsSound, IsValid, Keeps, Load, machine_count, node_count, one, Ordered, Pair, Place, Power, Powered, ReasonKind, Rule, Separation, SetLoad, Settled, Snapshot, snapshot_of, Together, Usable}
+use Rattle.slices.specs.declared.rule.Rule.TheVariants.{Load as OfLoad, Usable as OfUsable}
 use Rattle.reasons.proofs.LoadLemmas.{no_overload, not_overload-le}
 use Rattle.reasons.proofs.PartLemmas.{group-part, overload-part, pair-part, place-part, power-part, set_load-part, unusable-part}
 use Rattle.reasons.proofs.PlanLemmas.{holds-no_group, holds-no_pair, holds-no_place, holds-no_power, holds-no_set_load, unbroken-holds}

@@ -1,24 +1,11 @@
 -- Where no node has two members of a spread, no more of them are on the nodes of a set than it has nodes: each is on a node of the set,
 -- and each of these counts once.
-use Rattle.std.proofs.Common.{◌≡◌, ◌≢◌, ◌⊎◌, inl, inr, ℕ, zero, suc, ◌<◌, ◌≤◌, Bool, true, false, ◌==◌, not, cond, List, [], ◌∷◌, length, IsTrue, refl, sym, subst, ◌∙◌, arith}
-use Rattle.std.specs.List.{filter}
-use Rattle.std.proofs.lemmas.Bool.{and_parts, eq-eqb, not-true, or_left, or_right, true≢false}
-use Rattle.base.specs.Sums.{sum_to}
-use Rattle.base.proofs.Sums.{sum_to-le}
-use Rattle.base.proofs.Tests.{cond-le}
-use Rattle.cluster.specs.declared.ids.VmId.{VmId}
+use Rattle.std.proofs.Common.{IsTrue}
+use Rattle.std.proofs.lemmas.Bool.{true≢false}
+use Rattle.base.proofs.Public.{◌≡◌, ◌≢◌, ◌⊎◌, inl, inr, ℕ, zero, suc, ◌<◌, ◌≤◌, Bool, true, false, ◌==◌, not, cond, List, [], ◌∷◌, length, refl, sym, subst, ◌∙◌, arith, filter, and_parts, eq-eqb, not-true, or_left, or_right, sum_to-le, cond-le}
+use Rattle.reasons.specs.Prelude.{Allowed, Apart, are_below, AreApart, Between, Bounded, Choices, differ, Each, ExceedsNodes, ExceedsSeparated, Form, form_of, FromOthers, Holds, Instance, InTurn, is_member, IsHall, IsInstance, IsKept, IsMember, IsSound, machine_count, node_count, Nodes, nodes_in, one, Ordered, Powered, present_at, Separation, Settled, snapshot_of, sum_to, Together, vm, VmId}
 use Rattle.catalogue.specs.declared.constraint.Constraint.{Constraint}
-use Rattle.catalogue.specs.Faults.{are_below, differ, is_member}
-use Rattle.catalogue.specs.Instance.{Instance, IsInstance}
-use Rattle.slices.specs.Elements.{machine_count, node_count, vm}
-use Rattle.slices.specs.Ends.{snapshot_of}
-use Rattle.slices.specs.Forms.{Form, Apart, Allowed, Together, Ordered, InTurn, Bounded, Powered, Settled, IsSound, Separation, Each, Between, FromOthers, form_of}
-use Rattle.slices.specs.Holds.{AreApart, Holds, IsKept, IsMember}
-use Rattle.slices.specs.Plans.{Choices}
-use Rattle.slices.specs.Snapshots.{present_at}
-use Rattle.slices.specs.Stages.{Nodes, one}
 use Rattle.slices.proofs.Public.{present_somewhere}
-use Rattle.reasons.specs.Reasons.{ExceedsNodes, ExceedsSeparated, IsHall, nodes_in}
 use Rattle.reasons.proofs.RuleLemmas.{member_below}
 
 -- terms that are no less, and one that is more

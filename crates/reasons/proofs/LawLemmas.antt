@@ -1,22 +1,10 @@
 -- The laws of refuted sets.
-use Rattle.std.proofs.Common.{◌≡◌, ◌≢◌, ◌⊎◌, inl, inr, ℕ, ◌||◌, ◌==◌, List, [], ◌∷◌, length, slice_get, refl, sym, ap, subst, ◌∙◌, arith}
-use Rattle.std.specs.Prelude.{Option}
-use Rattle.std.specs.List.{Contains}
+use Rattle.std.proofs.Common.{slice_get}
 use Rattle.std.proofs.lemmas.Bool.{true≢false}
-use Rattle.cluster.specs.declared.choices.Choice.{Choice}
-use Rattle.cluster.specs.Sets.{has_node}
-use Rattle.catalogue.specs.Instance.{Instance, IsInstance}
-use Rattle.catalogue.specs.Kinds.{is_continuous}
+use Rattle.base.proofs.Public.{◌≡◌, ◌≢◌, ◌⊎◌, inl, inr, ℕ, ◌||◌, ◌==◌, List, [], ◌∷◌, length, refl, sym, ap, subst, ◌∙◌, arith, Option, Contains}
+use Rattle.reasons.specs.Prelude.{Choice, Choices, EmptyStays, has_node, Instance, is_continuous, IsGroup, IsHall, IsIn, IsInstance, IsNamed, IsPair, IsPlace, IsPower, IsSetLoad, IsValid, Reason, RefutedExcludes, RefutedExcludesAll, Says, Sets, snapshot_of, StaysRefuted, sure}
 use Rattle.slices.specs.declared.rule.Rule.TheVariants.{Usable as OfUsable}
-use Rattle.slices.specs.Ends.{snapshot_of}
-use Rattle.slices.specs.Plans.{Choices}
-use Rattle.slices.specs.Rules.{IsValid}
-use Rattle.domains.specs.Sets.{Sets, IsIn}
-use Rattle.reasons.specs.declared.reason.Reason.{Reason}
 use Rattle.reasons.specs.declared.reason.Reason.TheVariants.{Empty, Bound, Load, Pair, Place, Group, SetLoad, Power, Usable, Hall}
-use Rattle.reasons.specs.Laws.{EmptyStays, RefutedExcludes, RefutedExcludesAll, StaysRefuted}
-use Rattle.reasons.specs.Reasons.{IsGroup, IsHall, IsNamed, IsPair, IsPlace, IsPower, IsSetLoad, Says}
-use Rattle.reasons.specs.Sure.{sure}
 use Rattle.reasons.proofs.HallLemmas.{holds-no_hall}
 use Rattle.reasons.proofs.LoadLemmas.{no_overload}
 use Rattle.reasons.proofs.PartLemmas.{applies-weaker, group-part, hall-part, overload-part, pair-part, parts_are_in, place-part, power-part, set_load-part, unusable-part}

@@ -1,22 +1,9 @@
 -- Where each node's load is kept and nothing stands on an unusable node, no set of nodes is overloaded.
-use Rattle.std.proofs.Common.{◌≡◌, inl, inr, ℕ, ◌<◌, ◌≤◌, Bool, true, false, ◌||◌, ◌==◌, cond, length, IsTrue, refl, sym, ◌∙◌, arith}
-use Rattle.std.proofs.lemmas.Bool.{cases_lt, false≢true}
-use Rattle.std.proofs.lemmas.Bool.Decides.{Decides-eqb, nat_tests}
-use Rattle.base.specs.Sums.{sum_to}
-use Rattle.base.proofs.Sums.{sum_to-change, sum_to-le, sum_to-none, sum_to-same, sum_to-swap, sum_to-zero}
-use Rattle.catalogue.specs.Instance.{Instance, IsInstance}
-use Rattle.catalogue.specs.Values.{capacity_of}
-use Rattle.slices.specs.declared.rule.Rule.{Rule}
+use Rattle.std.proofs.Common.{IsTrue}
+use Rattle.base.proofs.Public.{◌≡◌, inl, inr, ℕ, ◌<◌, ◌≤◌, Bool, true, false, ◌||◌, ◌==◌, cond, length, refl, sym, ◌∙◌, arith, cases_lt, false≢true, Decides-eqb, nat_tests, sum_to-change, sum_to-le, sum_to-none, sum_to-same, sum_to-swap, sum_to-zero}
+use Rattle.reasons.specs.Prelude.{Amount, capacity_of, Choices, held_at, InRange, Instance, IsInstance, IsOverload, Keeps, load, machine_count, node, node_count, Nodes, one, present_at, room, Rule, Snapshot, snapshot_of, sum_to, usable_at, vm}
 use Rattle.slices.specs.declared.rule.Rule.TheVariants.{Load, Usable}
-use Rattle.slices.specs.declared.slice.Weight.TheVariants.{Amount}
-use Rattle.slices.specs.Elements.{machine_count, node_count, node, vm}
-use Rattle.slices.specs.Ends.{snapshot_of}
-use Rattle.slices.specs.Plans.{Choices}
-use Rattle.slices.specs.Rules.{InRange, Keeps}
-use Rattle.slices.specs.Snapshots.{Snapshot, held_at, load, present_at, room, usable_at}
-use Rattle.slices.specs.Stages.{Nodes, one}
 use Rattle.slices.proofs.Public.{absent_uses_nothing, held_by_node}
-use Rattle.reasons.specs.Reasons.{IsOverload}
 
 -- what is on no node or on a usable one is not on one that is not usable
 never : (x y u : Bool) → (IsTrue (x || y) → IsTrue u) → u ≡ false → x ≡ false

@@ -1,27 +1,10 @@
 -- Measures that fall until a start and are least at the ends of a row: where no end starts, what is sure does not grow.
-use Rattle.std.proofs.Common.{◌≡◌, ◌⊎◌, inl, inr, ℕ, suc, ◌<◌, ◌≤◌, Bool, true, false, cond, List, [], ◌∷◌, IsTrue, refl, ap, arith}
-use Rattle.std.specs.List.{Contains}
-use Rattle.std.proofs.lemmas.Bool.{and_from, cases_lt, false≢true, or_cases}
-use Rattle.base.specs.Least.{least, lower, lowest}
-use Rattle.base.proofs.Tests.{positive_above}
-use Rattle.cluster.specs.declared.choices.Choice.{Choice}
-use Rattle.cluster.specs.declared.choices.Choice.TheVariants.{Act}
+use Rattle.std.proofs.Common.{IsTrue}
+use Rattle.base.proofs.Public.{◌≡◌, ◌⊎◌, inl, inr, ℕ, suc, ◌<◌, ◌≤◌, Bool, true, false, cond, List, [], ◌∷◌, refl, ap, arith, Contains, and_from, cases_lt, false≢true, or_cases, positive_above}
+use Rattle.reasons.specs.Prelude.{Act, action_at, action_count, Choice, Element, held_at, Instance, IsLeastAtEnds, IsPartOf, IsQuiet, least, lower, lowest, may, node, Nodes, powered_at, powered_count, Presence, present_at, Progress, Sets, sure, surely, unusable_count, usable_at, vm, Weight}
 use Rattle.cluster.specs.declared.choices.Place.{Place}
-use Rattle.cluster.specs.declared.ids.Element.{Element}
-use Rattle.catalogue.specs.Instance.{Instance}
-use Rattle.slices.specs.declared.slice.Weight.{Weight}
-use Rattle.slices.specs.declared.slice.Weight.TheVariants.{Presence}
-use Rattle.slices.specs.declared.stage.Progress.{Progress}
-use Rattle.slices.specs.Elements.{node, vm}
-use Rattle.slices.specs.Ends.{IsLeastAtEnds, action_count, powered_count, unusable_count}
-use Rattle.slices.specs.Parts.{IsPartOf}
-use Rattle.slices.specs.Snapshots.{action_at, held_at, powered_at, present_at, usable_at}
-use Rattle.slices.specs.Stages.{Nodes}
-use Rattle.slices.specs.Starts.{IsQuiet}
 use Rattle.slices.proofs.Public.{action_at_ends, action_quiet, held_at_ends, held_quiet, powered_at_ends, powered_quiet, unusable_at_ends, usable_quiet}
-use Rattle.domains.specs.Sets.{Sets, may, surely}
 use Rattle.domains.proofs.Public.{least_of_each, may_each, surely_each}
-use Rattle.reasons.specs.Sure.{sure}
 use Rattle.reasons.proofs.MemberLemmas.{first-in, later-in}
 
 -- ---- measures

@@ -1,9 +1,6 @@
 -- Members of lists, step by step.
-use Rattle.std.proofs.Common.{◌≡◌, ◌⊎◌, inl, inr, ℕ, zero, suc, ◌<◌, Bool, true, false, cond, List, [], ◌∷◌, map, refl, subst, sym, ◌∙◌, arith}
-use Rattle.std.specs.List.{Contains, filter, flat_map, range_with_len}
-use Rattle.std.proofs.lemmas.Bool.{false≢true}
-use Rattle.std.proofs.lemmas.List.Elements.{Contains-append_left, Contains-append_right}
-use Rattle.std.proofs.lemmas.List.FromFn.{get_or-range_with_len, length-range_with_len}
+use Rattle.std.proofs.Common.{map}
+use Rattle.base.proofs.Public.{◌≡◌, ◌⊎◌, inl, inr, ℕ, zero, suc, ◌<◌, Bool, true, false, cond, List, [], ◌∷◌, refl, subst, sym, ◌∙◌, arith, Contains, filter, flat_map, range_with_len, false≢true, Contains-append_left, Contains-append_right, get_or-range_with_len, length-range_with_len}
 
 pub first-in : {X : Type 0} (x : X) (xs : List X) → Contains (x ∷ xs) x
 first-in x xs = (0, omega arith, refl)

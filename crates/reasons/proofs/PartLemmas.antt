@@ -1,28 +1,9 @@
 -- What is broken in a snapshot is broken in each one with more.
-use Rattle.std.proofs.Common.{ℕ, ◌<◌, ◌≤◌, Bool, true, false, not, ◌==◌, cond, List, [], ◌∷◌, length, IsTrue, Option, Some, None, refl, arith}
-use Rattle.std.specs.List.{filter}
-use Rattle.std.specs.Prelude.{IsSomeAnd}
-use Rattle.std.proofs.lemmas.Bool.{eq-eqb, false≢true, or_left, or_right}
-use Rattle.std.proofs.lemmas.List.Elements.{All-weaker}
-use Rattle.base.proofs.Sums.{sum_to-le}
-use Rattle.base.proofs.Tests.{cond-implied, cond-le, fails_below, positive_above}
-use Rattle.cluster.specs.declared.ids.VmId.{VmId}
-use Rattle.cluster.specs.Sets.{has_node}
+use Rattle.std.proofs.Common.{IsTrue}
+use Rattle.base.proofs.Public.{ℕ, ◌<◌, ◌≤◌, Bool, true, false, not, ◌==◌, cond, List, [], ◌∷◌, length, Option, Some, None, refl, arith, filter, IsSomeAnd, eq-eqb, false≢true, or_left, or_right, All-weaker, sum_to-le, cond-implied, cond-le, fails_below, positive_above}
+use Rattle.reasons.specs.Prelude.{Acting, Allowed, Amount, Apart, AreBothActing, AreScattered, Between, Bounded, BreaksGroup, capacity_of, Each, ExceedsAmount, ExceedsNodes, ExceedsPower, ExceedsSeparated, Form, form_of, FromOthers, has_node, HasOutside, Image, Instance, InTurn, IsGroup, IsHall, IsMember, IsOverload, IsPair, IsPartIn, IsPlace, IsPower, IsSetLoad, IsUnusable, machine_count, members, node_count, Nodes, one, Ordered, PartsAreIn, PartsBreak, Powered, Progress, room, Separation, Settled, Snapshot, Started, Together, total, Unended, VmId, Weight}
 use Rattle.catalogue.specs.declared.constraint.Constraint.{Constraint}
-use Rattle.catalogue.specs.Instance.{Instance}
-use Rattle.catalogue.specs.Values.{capacity_of}
-use Rattle.slices.specs.declared.stage.Progress.{Progress}
-use Rattle.slices.specs.declared.stage.Progress.TheVariants.{Started, Unended, Acting}
-use Rattle.slices.specs.declared.slice.Weight.{Weight}
-use Rattle.slices.specs.declared.slice.Weight.TheVariants.{Amount, Image}
-use Rattle.slices.specs.Elements.{machine_count, node_count}
-use Rattle.slices.specs.Forms.{Form, Apart, Allowed, Together, Ordered, InTurn, Bounded, Powered, Settled, Separation, Each, Between, FromOthers, form_of, members}
-use Rattle.slices.specs.Holds.{IsMember}
-use Rattle.slices.specs.Snapshots.{Snapshot, room, total}
-use Rattle.slices.specs.Stages.{Nodes, one}
 use Rattle.slices.proofs.Public.{or_implied}
-use Rattle.reasons.specs.Laws.{IsPartIn, PartsAreIn, PartsBreak}
-use Rattle.reasons.specs.Reasons.{AreBothActing, AreScattered, BreaksGroup, ExceedsAmount, ExceedsNodes, ExceedsPower, ExceedsSeparated, HasOutside, IsGroup, IsHall, IsOverload, IsPair, IsPlace, IsPower, IsSetLoad, IsUnusable}
 
 pub parts_are_in : PartsAreIn
 parts_are_in p s big part = record {

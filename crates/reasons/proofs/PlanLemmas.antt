@@ -1,24 +1,10 @@
 -- Where each constraint holds of a plan's snapshot, none is broken there; and the other way round.
-use Rattle.std.proofs.Common.{◌≡◌, ◌≢◌, ◌⊎◌, inl, inr, ℕ, zero, suc, ◌<◌, ◌≤◌, Bool, true, false, not, List, [], ◌∷◌, length, IsTrue, refl, sym, ap, subst, ◌∙◌, arith}
-use Rattle.std.specs.List.{All, Any}
-use Rattle.std.proofs.lemmas.Bool.{cases_Bool, cases_eq, cases_lt, false_from_ne_true, false≢true, ltb-true, not_from_false, not-true, true≢false}
-use Rattle.std.proofs.lemmas.List.Elements.{All-cons, All-head, All-nil, All-get_or}
-use Rattle.std.proofs.lemmas.List.FromFn.{length-map-range_with_len}
-use Rattle.std.proofs.lemmas.List.{length-map}
-use Rattle.cluster.specs.declared.ids.VmId.{VmId}
-use Rattle.cluster.specs.Sets.{has_node}
+use Rattle.std.proofs.Common.{IsTrue}
+use Rattle.std.proofs.lemmas.Bool.{true≢false}
+use Rattle.base.proofs.Public.{◌≡◌, ◌≢◌, ◌⊎◌, inl, inr, ℕ, zero, suc, ◌<◌, ◌≤◌, Bool, true, false, not, List, [], ◌∷◌, length, refl, sym, ap, subst, ◌∙◌, arith, All, Any, cases_Bool, cases_eq, cases_lt, false_from_ne_true, false≢true, ltb-true, not_from_false, not-true, All-cons, All-head, All-nil, All-get_or, length-map-range_with_len, length-map}
+use Rattle.reasons.specs.Prelude.{Allowed, AnyNode, AnyOf, Apart, are_below, AreBothActing, AreGrouped, AreScattered, AreWithin, Between, Bounded, BreaksGroup, Choices, Each, ExceedsAmount, ExceedsPower, Form, form_of, FormForbidsPair, FormForbidsPlace, FromOthers, group_sets, Groups, has_node, HasOutside, Holds, Instance, InTurn, is_member, IsGroup, IsGroupsFit, IsInstance, IsKept, IsMember, IsPair, IsPlace, IsPower, IsSetLoad, IsSound, machine_count, node_count, Nodes, one, Ordered, Powered, present_at, Separates, Separation, Settled, Snapshot, snapshot_of, TakeTurns, Together, vm, VmId}
 use Rattle.catalogue.specs.declared.constraint.Constraint.{Constraint}
-use Rattle.catalogue.specs.Faults.{are_below, is_member}
-use Rattle.catalogue.specs.Instance.{Instance, IsInstance}
-use Rattle.slices.specs.Elements.{machine_count, node_count, vm}
-use Rattle.slices.specs.Ends.{snapshot_of}
-use Rattle.slices.specs.Forms.{Form, Apart, Allowed, Together, Ordered, InTurn, Bounded, Powered, Settled, Groups, AnyNode, AnyOf, IsGroupsFit, IsSound, Separation, Each, Between, FromOthers, form_of}
-use Rattle.slices.specs.Holds.{AreGrouped, AreWithin, FormForbidsPair, FormForbidsPlace, Holds, IsKept, IsMember, Separates, TakeTurns, group_sets}
-use Rattle.slices.specs.Plans.{Choices}
-use Rattle.slices.specs.Snapshots.{Snapshot, present_at}
-use Rattle.slices.specs.Stages.{Nodes, one}
 use Rattle.slices.proofs.Public.{present_on_set, present_somewhere}
-use Rattle.reasons.specs.Reasons.{AreBothActing, AreScattered, BreaksGroup, ExceedsAmount, ExceedsPower, HasOutside, IsGroup, IsPair, IsPlace, IsPower, IsSetLoad}
 use Rattle.reasons.proofs.RuleLemmas.{member_below, parts_differ}
 
 -- a constraint is broken in no way

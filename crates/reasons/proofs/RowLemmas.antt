@@ -1,22 +1,9 @@
 -- The choices of a domain by its rows, and so their ends.
-use Rattle.std.proofs.Common.{◌≡◌, ◌⊎◌, inl, inr, ℕ, zero, suc, ◌+◌, ◌-◌, ◌<◌, ◌≤◌, Bool, true, false, cond, List, [], ◌∷◌, length, slice_index_or, Some, refl, sym, ap, ◌∙◌, arith}
-use Rattle.std.specs.List.{Contains, flat_map}
-use Rattle.std.proofs.lemmas.Bool.{cases_lt}
-use Rattle.std.proofs.lemmas.List.{get_or_past}
-use Rattle.std.proofs.lemmas.List.Elements.{Contains-append_cases, Contains-append_left, Contains-append_right}
-use Rattle.cluster.specs.declared.choices.Choice.{Choice}
-use Rattle.cluster.specs.declared.choices.Choice.TheVariants.{Idle, Act}
+use Rattle.std.proofs.Common.{slice_index_or}
+use Rattle.base.proofs.Public.{◌≡◌, ◌⊎◌, inl, inr, ℕ, zero, suc, ◌+◌, ◌-◌, ◌<◌, ◌≤◌, Bool, true, false, cond, List, [], ◌∷◌, length, Some, refl, sym, ap, ◌∙◌, arith, Contains, flat_map, cases_lt, get_or_past, Contains-append_cases, Contains-append_left, Contains-append_right}
+use Rattle.reasons.specs.Prelude.{Act, Choice, choices, Climbs, domain_at, DomainView, Element, EndsOfRows, HasElement, Instance, IsElement, IsEnd, IsRegionOf, IsRowEnd, IsRowTurn, machine_count, no_row, Node as TheNode, node_count, place_index, RegionIsOf, RegionView, Row, row_at, row_choices, sets, start_of, starts_from, staying, TurnsOfRows, Vm}
+use Rattle.cluster.specs.declared.choices.Choice.TheVariants.{Idle}
 use Rattle.cluster.specs.declared.choices.Place.{Place}
-use Rattle.cluster.specs.declared.ids.Element.{Element}
-use Rattle.cluster.specs.declared.ids.Element.TheVariants.{Vm, Node as TheNode}
-use Rattle.catalogue.specs.Instance.{Instance, IsElement}
-use Rattle.slices.specs.Elements.{machine_count, node_count}
-use Rattle.slices.specs.Starts.{start_of}
-use Rattle.domains.specs.declared.parts.Row.{Row}
-use Rattle.domains.specs.Choices.{Climbs, DomainView, choices, place_index, row_choices, starts_from, staying, no_row}
-use Rattle.domains.specs.Sets.{RegionView, HasElement, domain_at, sets}
-use Rattle.reasons.specs.Closed.{IsEnd}
-use Rattle.reasons.specs.Regions.{EndsOfRows, IsRegionOf, IsRowEnd, IsRowTurn, RegionIsOf, TurnsOfRows, row_at}
 use Rattle.reasons.proofs.ClosedLemmas.{end-contained}
 use Rattle.reasons.proofs.MemberLemmas.{cases-in, first-in, later-in, none-in}
 

@@ -1,15 +1,9 @@
 -- What a sound form says of the machines that it names.
-use Rattle.std.proofs.Common.{◌≡◌, ◌≢◌, inl, inr, ℕ, zero, suc, ◌<◌, true, ◌==◌, nat_lt, not, List, [], ◌∷◌, ◌++◌, slice_get, Some, refl, sym, ap, ◌∙◌, arith}
-use Rattle.std.proofs.lemmas.Bool.{and_parts, eqb-true, false≢true, ltb-true, not-true, or_cases, or_left, or_right, true≢false}
-use Rattle.std.proofs.lemmas.List.Elements.{All-get_or}
-use Rattle.std.proofs.lemmas.List.Folds.{list_any-append}
-use Rattle.std.proofs.lemmas.Option.{get_or_from_slice_get, slice_get_within}
-use Rattle.cluster.specs.declared.ids.VmId.{VmId}
+use Rattle.std.proofs.Common.{slice_get}
+use Rattle.std.proofs.lemmas.Bool.{true≢false}
+use Rattle.base.proofs.Public.{◌≡◌, ◌≢◌, inl, inr, ℕ, zero, suc, ◌<◌, true, ◌==◌, nat_lt, not, List, [], ◌∷◌, ◌++◌, Some, refl, sym, ap, ◌∙◌, arith, and_parts, eqb-true, false≢true, ltb-true, not-true, or_cases, or_left, or_right, All-get_or, list_any-append, get_or_from_slice_get, slice_get_within}
+use Rattle.reasons.specs.Prelude.{all_of, are_below, differ, form_of, Instance, inventory_of, is_member, is_rule, IsInPart, IsInstance, IsMember, IsSound, VmId}
 use Rattle.catalogue.specs.declared.constraint.Constraint.{Constraint}
-use Rattle.catalogue.specs.Faults.{all_of, are_below, differ, is_member, is_rule}
-use Rattle.catalogue.specs.Instance.{Instance, IsInstance, inventory_of}
-use Rattle.slices.specs.Forms.{IsSound, form_of}
-use Rattle.slices.specs.Holds.{IsInPart, IsMember}
 use Rattle.slices.proofs.Public.{sound_form}
 
 -- the form of each constraint of an instance is sound

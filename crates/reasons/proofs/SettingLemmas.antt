@@ -1,23 +1,9 @@
 -- What setting one element changes in what is sure.
-use Rattle.std.proofs.Common.{◌≡◌, ◌==◌, ◌≢◌, inl, ℕ, ◌≤◌, Bool, true, false, cond, [], ◌∷◌, IsTrue, refl, sym, ap, subst, ◌∙◌, arith}
-use Rattle.std.specs.List.{Contains}
-use Rattle.std.proofs.lemmas.Bool.{eq-eqb, false_from_ne_true}
-use Rattle.std.proofs.Math.Bool.{or-false}
-use Rattle.base.specs.Least.{least}
-use Rattle.base.proofs.Sums.{sum_to-change, sum_to-same}
-use Rattle.cluster.specs.declared.choices.Choice.{Choice}
-use Rattle.cluster.specs.declared.choices.Choice.TheVariants.{Idle, Act}
-use Rattle.cluster.specs.declared.ids.Element.{Element}
-use Rattle.cluster.specs.declared.ids.Element.TheVariants.{Vm, Node as TheNode}
-use Rattle.catalogue.specs.Instance.{Instance}
-use Rattle.catalogue.specs.Values.{capacity_of}
-use Rattle.slices.specs.Elements.{machine_count, node_count, node, vm}
-use Rattle.slices.specs.Snapshots.{action_at, held_at, powered_at, present_at, usable_at}
-use Rattle.domains.specs.Sets.{Sets, may, same_element, setting, surely}
+use Rattle.std.proofs.Common.{IsTrue}
+use Rattle.base.proofs.Public.{◌≡◌, ◌==◌, ◌≢◌, inl, ℕ, ◌≤◌, Bool, true, false, cond, [], ◌∷◌, refl, sym, ap, subst, ◌∙◌, arith, Contains, eq-eqb, false_from_ne_true, or-false, sum_to-change, sum_to-same}
+use Rattle.reasons.specs.Prelude.{Act, action_at, capacity_of, Choice, Element, EndIsChoice, held_at, Instance, IsMachineUnder, IsNodeUnder, IsSameMachine, IsSameNode, least, machine_count, MachineChange, may, node, Node as TheNode, node_count, NodeChange, powered_at, powered_in, present_at, QuietIsFree, room_at, same_element, SameSets, Sets, setting, SettingAgrees, SettingGrows, SettingPowered, SettingRoom, SettingSets, SettingTotal, SomeEnd, sure, surely, usable_at, Vm, vm}
+use Rattle.cluster.specs.declared.choices.Choice.TheVariants.{Idle}
 use Rattle.domains.proofs.Public.{least_of_each, may_each, same_is, surely_each}
-use Rattle.reasons.specs.Quiet.{QuietIsFree}
-use Rattle.reasons.specs.Settings.{EndIsChoice, IsMachineUnder, IsNodeUnder, IsSameMachine, IsSameNode, MachineChange, NodeChange, SameSets, SettingAgrees, SettingGrows, SettingPowered, SettingRoom, SettingSets, SettingTotal, SomeEnd, powered_in, room_at}
-use Rattle.reasons.specs.Sure.{sure}
 use Rattle.reasons.proofs.ClosedLemmas.{and-true, end-contained}
 use Rattle.reasons.proofs.FreeLemmas.{free_stays}
 use Rattle.reasons.proofs.PartLemmas.{parts_are_in}

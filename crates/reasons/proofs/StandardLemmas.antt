@@ -1,29 +1,12 @@
 -- Sets are unrefuted where no standard reason refutes them: each reason that is there is one of the snapshot, and the other way round.
 use mathlib.Core.Path.{fun_ext}
-use Rattle.std.proofs.Common.{◌≡◌, inl, inr, ℕ, zero, suc, ◌<◌, ◌≤◌, false, ◌||◌, ◌==◌, nat_lt, IsTrue, slice_get, Option, Some, None, refl, sym, subst, ◌∙◌, arith}
-use Rattle.std.specs.Prelude.{IsSomeAnd}
-use Rattle.std.proofs.lemmas.Bool.{cases_lt, eq-eqb, lt-ltb, true≢false}
-use Rattle.std.proofs.lemmas.Bool.Decides.{nat_tests}
-use Rattle.std.proofs.lemmas.Option.{slice_get_within}
-use Rattle.std.proofs.Math.Bool.{or-false}
-use Rattle.cluster.specs.declared.sets.NodeSet.{NodeSet}
-use Rattle.cluster.specs.Limits.{max_nodes}
-use Rattle.cluster.specs.Sets.{has_node, no_nodes, with_node}
-use Rattle.cluster.proofs.Public.{has_node-no_nodes, has_node-with_node}
+use Rattle.std.proofs.Common.{IsTrue, slice_get}
+use Rattle.std.proofs.lemmas.Bool.{true≢false}
+use Rattle.base.proofs.Public.{◌≡◌, inl, inr, ℕ, zero, suc, ◌<◌, ◌≤◌, false, ◌||◌, ◌==◌, nat_lt, Option, Some, None, refl, sym, subst, ◌∙◌, arith, IsSomeAnd, cases_lt, eq-eqb, lt-ltb, nat_tests, slice_get_within, or-false}
+use Rattle.reasons.specs.Prelude.{all_nodes, Applies, AreListed, Bound as BoundKind, Empty as EmptyKind, Group as GroupKind, Hall as HallKind, has_node, Instance, is_continuous, IsFree, IsGroup, IsInstance, IsOverload, IsPair, IsPlace, IsPower, IsSetLoad, IsSetOf, IsStandard, IsUnrefuted, Load as LoadKind, max_nodes, no_nodes, node_count, Nodes, NodeSet, NoneBroken, one, Pair as PairKind, Place as PlaceKind, Power as PowerKind, Reason, ReasonKind, Refutes, SetLoad as SetLoadKind, Sets, sure, UnrefutedByReasons, Usable as UsableKind, with_node}
 use Rattle.catalogue.specs.declared.constraint.Constraint.{Constraint}
-use Rattle.catalogue.specs.Instance.{Instance, IsInstance}
-use Rattle.catalogue.specs.Kinds.{is_continuous}
-use Rattle.slices.specs.Elements.{node_count}
-use Rattle.slices.specs.Stages.{Nodes, one}
-use Rattle.domains.specs.Sets.{Sets}
-use Rattle.reasons.specs.declared.reason.Reason.{Reason}
 use Rattle.reasons.specs.declared.reason.Reason.TheVariants.{Empty, Bound, Load, Pair, Place, Group, SetLoad, Power, Usable, Hall}
-use Rattle.reasons.specs.declared.reason.ReasonKind.{ReasonKind}
-use Rattle.reasons.specs.declared.reason.ReasonKind.TheVariants.{Empty as EmptyKind, Bound as BoundKind, Load as LoadKind, Pair as PairKind, Place as PlaceKind, Group as GroupKind, SetLoad as SetLoadKind, Power as PowerKind, Usable as UsableKind, Hall as HallKind}
-use Rattle.reasons.specs.Closed.{IsFree, IsUnrefuted, NoneBroken, all_nodes}
-use Rattle.reasons.specs.Laws.{IsSetOf, IsStandard, UnrefutedByReasons}
-use Rattle.reasons.specs.Reasons.{Applies, AreListed, IsGroup, IsOverload, IsPair, IsPlace, IsPower, IsSetLoad, Refutes}
-use Rattle.reasons.specs.Sure.{sure}
+use Rattle.cluster.proofs.Public.{has_node-no_nodes, has_node-with_node}
 
 -- ---- sets of one node, and of the first so many
 

@@ -1,26 +1,9 @@
 -- The start region has exactly the legal choices.
-use Rattle.std.proofs.Common.{◌≡◌, inl, inr, ◌+◌, ◌<◌, Bool, true, false, cond, nat_le, nat_lt, [], None, is_some, IsTrue, refl, arith, ap, ◌∷◌}
-use Rattle.std.specs.List.{Contains, range_with_len, filter}
-use Rattle.std.proofs.lemmas.Bool.{and_parts, cases_lt, false≢true, le-ltb, leb-true, lt-ltb, ltb-true}
-use Rattle.base.proofs.Sums.{sum_to-same}
-use Rattle.cluster.specs.declared.choices.Choice.{Choice}
-use Rattle.cluster.specs.declared.choices.Choice.TheVariants.{Idle, Act}
+use Rattle.std.proofs.Common.{IsTrue}
+use Rattle.base.proofs.Public.{◌≡◌, inl, inr, ◌+◌, ◌<◌, Bool, true, false, cond, nat_le, nat_lt, [], None, is_some, refl, arith, ap, ◌∷◌, Contains, range_with_len, filter, and_parts, cases_lt, false≢true, le-ltb, leb-true, lt-ltb, ltb-true, sum_to-same}
+use Rattle.reasons.specs.Prelude.{Act, action_duration, At, Choice, Choices, Clash, CostWithin, Element, end_of, every_choice, Instance, is_element, is_legal, is_online, is_raised, IsElement, Keep, kind_of, machine_count, machine_kind, node, Node as TheNode, node_count, node_kind, NodeId, Nowhere, places, start_sets, StartHas, StartIsLegal, StartIsOf, StartIsPlan, starts_from, state_of, To, Vm, vm, wanted_of, wanted_state, Wish, within}
+use Rattle.cluster.specs.declared.choices.Choice.TheVariants.{Idle}
 use Rattle.cluster.specs.declared.choices.Place.{Place}
-use Rattle.cluster.specs.declared.choices.Place.TheVariants.{Nowhere, At}
-use Rattle.cluster.specs.declared.ids.Element.{Element}
-use Rattle.cluster.specs.declared.ids.Element.TheVariants.{Vm, Node as TheNode}
-use Rattle.cluster.specs.declared.ids.NodeId.{NodeId}
-use Rattle.cluster.specs.Inventory.{is_online}
-use Rattle.catalogue.specs.declared.targets.Wish.{Wish}
-use Rattle.catalogue.specs.declared.targets.Wish.TheVariants.{Keep, To, Clash}
-use Rattle.catalogue.specs.Instance.{Instance, IsElement}
-use Rattle.catalogue.specs.Values.{wanted_of}
-use Rattle.slices.specs.Actions.{action_duration, end_of, is_legal, is_raised, kind_of, machine_kind, node_kind, wanted_state}
-use Rattle.slices.specs.Elements.{machine_count, node, node_count, state_of, vm}
-use Rattle.slices.specs.Plans.{Choices}
-use Rattle.domains.specs.Choices.{starts_from}
-use Rattle.reasons.specs.Regions.{CostWithin, StartHas, StartIsLegal, StartIsOf, StartIsPlan}
-use Rattle.reasons.specs.Start.{every_choice, is_element, places, start_sets, within}
 use Rattle.reasons.proofs.MemberLemmas.{filter-in, first-in, flat_map-in, in-filter, later-in, map-in, range-in}
 use Rattle.reasons.proofs.RowLemmas.{starts-in}
 

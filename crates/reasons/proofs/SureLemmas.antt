@@ -1,19 +1,7 @@
 -- What is sure is a part of what each plan has, and grows in narrower sets.
-use Rattle.std.proofs.Common.{◌≤◌, ℕ, ap, refl, arith}
-use Rattle.std.specs.Prelude.{Option, Some, None, IsSomeAnd}
-use Rattle.base.specs.Least.{least}
-use Rattle.base.proofs.Sums.{sum_to-le, sum_to-same}
-use Rattle.catalogue.specs.Instance.{Instance}
-use Rattle.slices.specs.Actions.{end_of}
-use Rattle.slices.specs.Elements.{machine_count, node_count, node, vm}
-use Rattle.slices.specs.Ends.{snapshot_of}
-use Rattle.slices.specs.Parts.{IsPartOf}
-use Rattle.slices.specs.Plans.{Choices}
-use Rattle.slices.specs.Snapshots.{action_at, held_at, powered_at, present_at, usable_at}
-use Rattle.domains.specs.Sets.{Sets, IsIn}
+use Rattle.base.proofs.Public.{◌≤◌, ℕ, ap, refl, arith, Option, Some, None, IsSomeAnd, sum_to-le, sum_to-same}
+use Rattle.reasons.specs.Prelude.{action_at, Choices, CostsAtLeast, end_of, held_at, Instance, IsIn, IsPartOf, least, least_cost, LeastCostGrows, machine_count, node, node_count, OnlyCosts, powered_at, present_at, Sets, snapshot_of, sure, SureGrows, usable_at, vm}
 use Rattle.domains.proofs.Public.{least_grows, least_of_each, may_each, may_stays, surely_each, surely_stays}
-use Rattle.reasons.specs.Laws.{CostsAtLeast, LeastCostGrows, OnlyCosts, SureGrows}
-use Rattle.reasons.specs.Sure.{least_cost, sure}
 
 -- each plan of the sets has at least what is sure
 pub sure-part : (p : Instance) (s : Sets) (plan : Choices) (t : ℕ) → IsIn s plan → IsPartOf (sure p s t) (snapshot_of p plan t)

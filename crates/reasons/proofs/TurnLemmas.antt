@@ -1,23 +1,9 @@
 -- Few instants decide: what is sure grows at turns only.
-use Rattle.std.proofs.Common.{◌≡◌, ◌⊎◌, inl, inr, ℕ, zero, suc, ◌<◌, ◌≤◌, Bool, true, false, ◌==◌, cond, List, [], ◌∷◌, Some, refl, sym, ap, subst, ◌∙◌, arith}
-use Rattle.std.specs.List.{Contains}
-use Rattle.std.proofs.lemmas.Bool.{cases_eq, cases_lt, ne_eqb}
-use Rattle.cluster.specs.declared.choices.Choice.{Choice}
-use Rattle.cluster.specs.declared.choices.Choice.TheVariants.{Idle, Act}
+use Rattle.base.proofs.Public.{◌≡◌, ◌⊎◌, inl, inr, ℕ, zero, suc, ◌<◌, ◌≤◌, Bool, true, false, ◌==◌, cond, List, [], ◌∷◌, Some, refl, sym, ap, subst, ◌∙◌, arith, Contains, cases_eq, cases_lt, ne_eqb}
+use Rattle.reasons.specs.Prelude.{Act, AreOf, At, Choice, ClosedAtTurns, ClosedByKinds, Element, Instance, IsElement, IsEnd, IsEndStart, IsFree, IsPartOf, IsTurn, IsUnrefuted, machine_count, node, Node as TheNode, node_count, Nowhere, QuietAtTurns, same_element, Sets, setting, Snapshot, start_of, sure, TurnsDecide, UnrefutedAtTurns, Vm, vm}
+use Rattle.cluster.specs.declared.choices.Choice.TheVariants.{Idle}
 use Rattle.cluster.specs.declared.choices.Place.{Place}
-use Rattle.cluster.specs.declared.choices.Place.TheVariants.{Nowhere, At}
-use Rattle.cluster.specs.declared.ids.Element.{Element}
-use Rattle.cluster.specs.declared.ids.Element.TheVariants.{Vm, Node as TheNode}
-use Rattle.catalogue.specs.Instance.{Instance, IsElement}
-use Rattle.slices.specs.Elements.{machine_count, node_count, node, vm}
-use Rattle.slices.specs.Parts.{IsPartOf}
-use Rattle.slices.specs.Snapshots.{Snapshot}
-use Rattle.slices.specs.Starts.{start_of}
-use Rattle.domains.specs.Sets.{Sets, same_element, setting}
 use Rattle.domains.proofs.Public.{contains_one, same_is}
-use Rattle.reasons.specs.Closed.{IsEnd, IsFree, IsUnrefuted}
-use Rattle.reasons.specs.Quiet.{AreOf, ClosedAtTurns, ClosedByKinds, IsEndStart, IsTurn, QuietAtTurns, TurnsDecide, UnrefutedAtTurns}
-use Rattle.reasons.specs.Sure.{sure}
 use Rattle.reasons.proofs.FreeLemmas.{free_stays}
 use Rattle.reasons.proofs.ClosedLemmas.{end-contained}
 use Rattle.reasons.proofs.MeasureLemmas.{IsFine, sure-next}

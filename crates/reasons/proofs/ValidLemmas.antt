@@ -1,19 +1,9 @@
 -- What a valid plan keeps at an instant.
-use Rattle.std.proofs.Common.{◌≡◌, ℕ, ◌≤◌, ◌||◌, ◌==◌, IsTrue, slice_get, refl, subst}
-use Rattle.std.specs.Prelude.{Option, Some, None, IsSomeAnd}
-use Rattle.std.proofs.lemmas.Option.{slice_get_within}
+use Rattle.std.proofs.Common.{IsTrue, slice_get}
+use Rattle.base.proofs.Public.{◌≡◌, ℕ, ◌≤◌, ◌||◌, ◌==◌, refl, subst, Option, Some, None, IsSomeAnd, slice_get_within}
+use Rattle.reasons.specs.Prelude.{Applies, applies, Choices, Constraint as OfConstraint, form_of, Holds, InRange, Instance, is_continuous, IsInstance, IsSound, IsValid, Keeps, Rule, snapshot_of}
 use Rattle.catalogue.specs.declared.constraint.Constraint.{Constraint}
-use Rattle.catalogue.specs.Instance.{Instance, IsInstance}
-use Rattle.catalogue.specs.Kinds.{is_continuous}
-use Rattle.slices.specs.declared.rule.Rule.{Rule}
-use Rattle.slices.specs.declared.rule.Rule.TheVariants.{Constraint as OfConstraint}
-use Rattle.slices.specs.Ends.{snapshot_of}
-use Rattle.slices.specs.Forms.{IsSound, form_of}
-use Rattle.slices.specs.Holds.{Holds}
-use Rattle.slices.specs.Plans.{Choices}
-use Rattle.slices.specs.Rules.{InRange, IsValid, Keeps, applies}
 use Rattle.slices.proofs.Public.{is_pointwise}
-use Rattle.reasons.specs.Reasons.{Applies}
 use Rattle.reasons.proofs.RuleLemmas.{sound_rule}
 
 module _ (p : Instance) (sound : IsInstance p) (plan : Choices) (valid : IsValid p plan) (t : ℕ) (within : t ≤ p.horizon) where

@@ -1,26 +1,10 @@
 -- A valid plan is valid with all that the instance has not idle: no rule speaks of that.
-use Rattle.std.proofs.Common.{◌≡◌, ℕ, ◌<◌, ◌≤◌, Bool, true, false, ◌||◌, ◌==◌, cond, nat_lt, IsTrue, sym, ap, subst, ◌∙◌, arith}
-use Rattle.std.proofs.lemmas.Bool.{false≢true}
-use Rattle.base.proofs.Sums.{sum_to-same}
+use Rattle.std.proofs.Common.{IsTrue}
+use Rattle.base.proofs.Public.{◌≡◌, ℕ, ◌<◌, ◌≤◌, Bool, true, false, ◌||◌, ◌==◌, cond, nat_lt, sym, ap, subst, ◌∙◌, arith, false≢true, sum_to-same}
+use Rattle.reasons.specs.Prelude.{Acting, action_at, Allowed, Amount, Apart, Between, Bounded, Choices, Constraint as OfConstraint, Each, Form, form_of, FromOthers, held_at, Image, InRange, Instance, InTurn, is_element, IsLessForForm, IsLessSeparated, IsValid, Keeps, machine_count, node, node_count, Nodes, one, Ordered, Powered, powered_at, present_at, Progress, Rule, Separation, Settled, snapshot_of, Started, Together, Unended, usable_at, vm, Weight, within, WithinValid}
 use Rattle.cluster.specs.declared.choices.Choice.TheVariants.{Idle}
-use Rattle.catalogue.specs.Instance.{Instance}
-use Rattle.slices.specs.declared.rule.Rule.{Rule}
-use Rattle.slices.specs.declared.rule.Rule.TheVariants.{Load, Usable, Constraint as OfConstraint}
-use Rattle.slices.specs.declared.slice.Weight.{Weight}
-use Rattle.slices.specs.declared.slice.Weight.TheVariants.{Amount, Image}
-use Rattle.slices.specs.declared.stage.Progress.{Progress}
-use Rattle.slices.specs.declared.stage.Progress.TheVariants.{Started, Unended, Acting}
-use Rattle.slices.specs.Elements.{machine_count, node, node_count, vm}
-use Rattle.slices.specs.Ends.{snapshot_of}
-use Rattle.slices.specs.Fewer.{IsLessForForm, IsLessSeparated}
-use Rattle.slices.specs.Forms.{Form, Apart, Allowed, Together, Ordered, InTurn, Bounded, Powered, Settled, Separation, Each, Between, FromOthers, form_of}
-use Rattle.slices.specs.Plans.{Choices}
-use Rattle.slices.specs.Rules.{InRange, IsValid, Keeps}
-use Rattle.slices.specs.Snapshots.{action_at, held_at, powered_at, present_at, usable_at}
-use Rattle.slices.specs.Stages.{Nodes, one}
+use Rattle.slices.specs.declared.rule.Rule.TheVariants.{Load, Usable}
 use Rattle.slices.proofs.Public.{is_pointwise, less_holds}
-use Rattle.reasons.specs.Regions.{WithinValid}
-use Rattle.reasons.specs.Start.{is_element, within}
 use Rattle.reasons.proofs.StartLemmas.{within-same}
 
 module _ (p : Instance) (plan : Choices) (t : ℕ) where

@@ -1,21 +1,13 @@
 -- Helping only: what refutations and closing say of plans.
-use Rattle.std.specs.Prelude.{◌≡◌, ◌≢◌, ◌⊎◌, ◌↔◌, ℕ, ◌<◌, ◌≤◌, Bool, Option, IsSomeAnd, IsTrue}
+use Rattle.std.specs.Prelude.{IsSomeAnd}
+use Rattle.base.specs.Prelude.{◌≡◌, ◌≢◌, ◌⊎◌, ◌↔◌, ℕ, ◌<◌, ◌≤◌, Bool, Option, IsTrue}
+use Rattle.domains.specs.Prelude.{AreFewer, IsIn, IsOnly, Sets}
+use Rattle.slices.specs.Prelude.{Choices, cost_of, has_node, Instance, IsInstance, IsPartOf, IsValid, machine_count, Nodes, one, Snapshot}
 use Rattle.cluster.specs.declared.ids.Element.{Element}
 use Rattle.cluster.specs.declared.sets.NodeSet.{NodeSet}
-use Rattle.cluster.specs.Sets.{has_node}
 use Rattle.catalogue.specs.declared.constraint.Constraint.{Constraint}
-use Rattle.catalogue.specs.Instance.{Instance, IsInstance}
 use Rattle.slices.specs.declared.slice.Weight.{Weight}
 use Rattle.slices.specs.declared.stage.Progress.{Progress}
-use Rattle.slices.specs.Costs.{cost_of}
-use Rattle.slices.specs.Elements.{machine_count}
-use Rattle.slices.specs.Parts.{IsPartOf}
-use Rattle.slices.specs.Plans.{Choices}
-use Rattle.slices.specs.Rules.{IsValid}
-use Rattle.slices.specs.Snapshots.{Snapshot}
-use Rattle.slices.specs.Stages.{Nodes, one}
-use Rattle.domains.specs.Laws.{AreFewer}
-use Rattle.domains.specs.Sets.{Sets, IsIn, IsOnly}
 use Rattle.reasons.specs.declared.reason.Reason.{Reason}
 use Rattle.reasons.specs.declared.reason.Reason.TheVariants.{Empty, Bound, Load, Pair, Place, Group, SetLoad, Power, Usable, Hall}
 use Rattle.reasons.specs.declared.reason.ReasonKind.{ReasonKind}

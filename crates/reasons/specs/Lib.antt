@@ -8,3 +8,4 @@ pub mod Laws
 pub mod Quiet
 pub mod Settings
 pub mod Regions
+pub mod Prelude

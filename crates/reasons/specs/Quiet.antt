@@ -1,10 +1,9 @@
 -- Helping only: at which instants what is sure in a region can grow.
-use Rattle.std.specs.Prelude.{◌≡◌, ◌⊎◌, ◌↔◌, ℕ, ◌≤◌, ◌==◌, [], ◌∷◌, Some}
+use Rattle.base.specs.Prelude.{◌≡◌, ◌⊎◌, ◌↔◌, ℕ, ◌≤◌, ◌==◌, [], ◌∷◌, Some}
+use Rattle.slices.specs.Prelude.{Instance, IsElement, start_of}
 use Rattle.cluster.specs.declared.choices.Choice.{Choice}
 use Rattle.cluster.specs.declared.choices.Choice.TheVariants.{Idle}
 use Rattle.cluster.specs.declared.ids.Element.{Element}
-use Rattle.catalogue.specs.Instance.{Instance, IsElement}
-use Rattle.slices.specs.Starts.{start_of}
 use Rattle.domains.specs.Sets.{Sets, setting}
 use Rattle.reasons.specs.declared.reason.ReasonKind.{ReasonKind}
 use Rattle.reasons.specs.Closed.{HaveChoices, IsClosed, IsEnd, IsFree, IsQuietKind, IsUnrefuted}

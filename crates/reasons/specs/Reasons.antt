@@ -1,18 +1,11 @@
 -- The ten reasons that refute a region, as conditions on what is sure in it.
-use Rattle.std.specs.Prelude.{◌≡◌, ◌≢◌, ℕ, ◌<◌, ◌≤◌, ◌||◌, ◌==◌, false, not, List, [], length, filter, All, IsTrue, Option, slice_get, IsSomeAnd, if◌then◌else◌}
-use Rattle.cluster.specs.Sets.{has_node, IsWithin}
+use Rattle.std.specs.Prelude.{filter, All, IsSomeAnd}
+use Rattle.base.specs.Prelude.{◌≡◌, ◌≢◌, ℕ, ◌<◌, ◌≤◌, ◌||◌, ◌==◌, false, not, List, [], length, IsTrue, Option, slice_get, if◌then◌else◌}
+use Rattle.slices.specs.Prelude.{Allowed, Apart, Between, Bounded, Each, ForbidsPair, ForbidsPlace, Form, form_of, FromOthers, group_sets, has_node, Instance, InTurn, is_continuous, IsElement, IsMember, IsWithin, load, machine_count, node_count, Nodes, one, Ordered, Powered, powered_nodes, room, Separation, Settled, Snapshot, stands_on, sum_to, Together, total}
 use Rattle.cluster.specs.declared.ids.VmId.{VmId}
 use Rattle.cluster.specs.declared.sets.NodeSet.{NodeSet}
 use Rattle.catalogue.specs.declared.constraint.Constraint.{Constraint}
-use Rattle.catalogue.specs.Instance.{Instance, IsElement}
-use Rattle.catalogue.specs.Kinds.{is_continuous}
-use Rattle.base.specs.Sums.{sum_to}
 use Rattle.slices.specs.declared.stage.Progress.TheVariants.{Started, Unended, Acting}
-use Rattle.slices.specs.Elements.{machine_count, node_count}
-use Rattle.slices.specs.Forms.{Form, Apart, Allowed, Together, Ordered, InTurn, Bounded, Powered, Settled, Separation, Each, Between, FromOthers, form_of}
-use Rattle.slices.specs.Holds.{ForbidsPair, ForbidsPlace, IsMember, group_sets}
-use Rattle.slices.specs.Snapshots.{Snapshot, load, powered_nodes, room, stands_on, total}
-use Rattle.slices.specs.Stages.{Nodes, one}
 use Rattle.domains.specs.Sets.{Sets}
 use Rattle.reasons.specs.declared.reason.Reason.{Reason}
 use Rattle.reasons.specs.declared.reason.Reason.TheVariants.{Empty, Bound, Load, Pair, Place, Group, SetLoad, Power, Usable, Hall}

@@ -1,18 +1,11 @@
 -- Helping only: the start region, and the ends and turns of a region by its rows.
-use Rattle.std.specs.Prelude.{◌≡◌, ◌⊎◌, ◌↔◌, ℕ, ◌<◌, true, length, slice_index_or, IsTrue}
-use Rattle.std.specs.List.{Contains}
+use Rattle.base.specs.Prelude.{◌≡◌, ◌⊎◌, ◌↔◌, ℕ, ◌<◌, true, length, slice_index_or, IsTrue, Contains}
+use Rattle.domains.specs.Prelude.{choices, Climbs, domain_at, DomainView, HasElement, IsIn, no_row, RegionView, sets}
+use Rattle.slices.specs.Prelude.{Choices, cost_of, Instance, is_legal, IsElement, IsPlan, IsValid, machine_count, node_count}
 use Rattle.cluster.specs.declared.choices.Choice.{Choice}
 use Rattle.cluster.specs.declared.choices.Choice.TheVariants.{Idle, Act}
 use Rattle.cluster.specs.declared.ids.Element.{Element}
-use Rattle.catalogue.specs.Instance.{Instance, IsElement}
-use Rattle.slices.specs.Actions.{is_legal}
-use Rattle.slices.specs.Costs.{cost_of}
-use Rattle.slices.specs.Elements.{machine_count, node_count}
-use Rattle.slices.specs.Plans.{Choices, IsPlan}
-use Rattle.slices.specs.Rules.{IsValid}
-use Rattle.domains.specs.Choices.{DomainView, Climbs, choices, no_row}
 use Rattle.domains.specs.declared.parts.Row.{Row}
-use Rattle.domains.specs.Sets.{RegionView, HasElement, IsIn, domain_at, sets}
 use Rattle.reasons.specs.Closed.{IsEnd}
 use Rattle.reasons.specs.Quiet.{AreOf, IsTurn}
 use Rattle.reasons.specs.Start.{start_sets, within}

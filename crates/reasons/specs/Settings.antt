@@ -1,16 +1,10 @@
 -- Helping only: what changes in what is sure where one element has another set of choices, or is set to one choice.
-use Rattle.std.specs.Prelude.{◌≡◌, ◌≢◌, ℕ, ◌+◌, ◌<◌, List, [], if◌then◌else◌}
-use Rattle.std.specs.List.{Contains}
+use Rattle.base.specs.Prelude.{◌≡◌, ◌≢◌, ℕ, ◌+◌, ◌<◌, List, [], if◌then◌else◌, Contains}
+use Rattle.slices.specs.Prelude.{action_at, capacity_of, held_at, Instance, IsPartOf, machine_count, node, node_count, Nodes, powered_at, powered_nodes, present_at, room, Snapshot, total, usable_at, vm}
 use Rattle.cluster.specs.declared.choices.Choice.{Choice}
 use Rattle.cluster.specs.declared.ids.Element.{Element}
-use Rattle.catalogue.specs.Instance.{Instance}
-use Rattle.catalogue.specs.Values.{capacity_of}
 use Rattle.slices.specs.declared.slice.Weight.{Weight}
 use Rattle.slices.specs.declared.stage.Progress.{Progress}
-use Rattle.slices.specs.Elements.{machine_count, node_count, node, vm}
-use Rattle.slices.specs.Parts.{IsPartOf}
-use Rattle.slices.specs.Snapshots.{Snapshot, action_at, held_at, powered_at, powered_nodes, present_at, room, total, usable_at}
-use Rattle.slices.specs.Stages.{Nodes}
 use Rattle.domains.specs.Sets.{Sets, setting}
 use Rattle.reasons.specs.Closed.{IsEnd}
 use Rattle.reasons.specs.Sure.{sure}

@@ -1,18 +1,14 @@
 -- The start region: all legal choices of each element.
-use Rattle.std.specs.Prelude.{◌+◌, Bool, nat_lt, List, [], ◌∷◌, filter, map, if◌then◌else◌}
-use Rattle.std.specs.List.{flat_map, range_with_len}
+use Rattle.std.specs.Prelude.{filter}
+use Rattle.base.specs.Prelude.{◌+◌, Bool, nat_lt, List, [], ◌∷◌, map, if◌then◌else◌, flat_map, range_with_len}
+use Rattle.domains.specs.Prelude.{Sets, starts_from}
+use Rattle.slices.specs.Prelude.{Choices, Instance, is_legal, machine_count, node_count}
 use Rattle.cluster.specs.declared.choices.Choice.{Choice}
 use Rattle.cluster.specs.declared.choices.Choice.TheVariants.{Idle}
 use Rattle.cluster.specs.declared.choices.Place.{Place}
 use Rattle.cluster.specs.declared.choices.Place.TheVariants.{Nowhere, At}
 use Rattle.cluster.specs.declared.ids.Element.{Element}
 use Rattle.cluster.specs.declared.ids.Element.TheVariants.{Vm, Node as TheNode}
-use Rattle.catalogue.specs.Instance.{Instance}
-use Rattle.slices.specs.Actions.{is_legal}
-use Rattle.slices.specs.Elements.{machine_count, node_count}
-use Rattle.slices.specs.Plans.{Choices}
-use Rattle.domains.specs.Choices.{starts_from}
-use Rattle.domains.specs.Sets.{Sets}
 
 -- nowhere, and each node
 abbrev pub places : Instance → List Place

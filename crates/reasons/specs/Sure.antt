@@ -1,11 +1,6 @@
 -- What is sure in a region at an instant.
-use Rattle.std.specs.Prelude.{ℕ, ◌+◌}
-use Rattle.catalogue.specs.Instance.{Instance}
-use Rattle.base.specs.Least.{least}
-use Rattle.base.specs.Sums.{sum_to}
-use Rattle.slices.specs.Actions.{end_of}
-use Rattle.slices.specs.Elements.{machine_count, node_count, vm, node}
-use Rattle.slices.specs.Snapshots.{Snapshot, held_at, present_at, usable_at, powered_at, action_at}
+use Rattle.base.specs.Prelude.{ℕ, ◌+◌}
+use Rattle.slices.specs.Prelude.{action_at, end_of, held_at, Instance, least, machine_count, node, node_count, powered_at, present_at, Snapshot, sum_to, usable_at, vm}
 use Rattle.domains.specs.Sets.{Sets, surely, may}
 
 -- what a region surely has: the least of what each machine holds, where it is under each of its choices, the nodes that may be usable,

@@ -1,9 +1,6 @@
 //! Laws of the definitions: each is the contract of a function that does nothing, and a lemma of the
 //! same name in proofs/Public proves it.
-ghost use Rattle.reasons.specs.Laws.{CostsAtLeast, EmptyStays, FreeStays, LeastCostGrows, OnlyClosed, OnlyCosts, PartsAreIn, PartsBreak, RefutedExcludes, RefutedExcludesAll, StaysRefuted, SureGrows, UnrefutedByReasons};
-ghost use Rattle.reasons.specs.Quiet.{ClosedAtTurns, ClosedByKinds, QuietAtTurns, QuietIsFree, TurnsDecide, UnrefutedAtTurns};
-ghost use Rattle.reasons.specs.Settings.{EndIsChoice, MachineChange, NodeChange, SameSets, SettingAgrees, SettingGrows, SettingPowered, SettingRoom, SettingSets, SettingTotal, SomeEnd};
-ghost use Rattle.reasons.specs.Regions.{CostWithin, EndsOfRows, RegionIsOf, StartHas, StartIsLegal, StartIsOf, StartIsPlan, TurnsOfRows, WithinValid};
+ghost use Rattle.reasons.specs.Prelude.{ClosedAtTurns, ClosedByKinds, CostsAtLeast, CostWithin, EmptyStays, EndIsChoice, EndsOfRows, FreeStays, LeastCostGrows, MachineChange, NodeChange, OnlyClosed, OnlyCosts, PartsAreIn, PartsBreak, QuietAtTurns, QuietIsFree, RefutedExcludes, RefutedExcludesAll, RegionIsOf, SameSets, SettingAgrees, SettingGrows, SettingPowered, SettingRoom, SettingSets, SettingTotal, SomeEnd, StartHas, StartIsLegal, StartIsOf, StartIsPlan, StaysRefuted, SureGrows, TurnsDecide, TurnsOfRows, UnrefutedAtTurns, UnrefutedByReasons, WithinValid};
 
 /// What is refuted holds no valid plan that costs less than the one handed in, and none at all
 /// where no plan is handed in.

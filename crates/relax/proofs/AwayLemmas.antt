@@ -1,29 +1,10 @@
 -- A machine holds nothing on nodes of which none is its host and none is where it goes.
-use Rattle.std.proofs.Common.{◌≡◌, ℕ, zero, suc, ◌+◌, ◌-◌, ◌<◌, true, false, cond, Option, Some, None, List, [], ◌∷◌, length, get_or, refl, arith}
-use Rattle.std.specs.List.{Contains, flat_map}
-use Rattle.std.proofs.lemmas.List.Elements.{Contains-append_right}
-use Rattle.base.specs.Least.{least}
-use Rattle.cluster.specs.declared.choices.Choice.{Choice}
-use Rattle.cluster.specs.declared.choices.Choice.TheVariants.{Idle, Act}
+use Rattle.base.proofs.Public.{◌≡◌, ℕ, zero, suc, ◌+◌, ◌-◌, ◌<◌, true, false, cond, Option, Some, None, List, [], ◌∷◌, length, get_or, refl, arith, Contains, flat_map, Contains-append_right}
+use Rattle.relax.specs.Prelude.{Act, acting_slices, Allocate, At, Boot, Choice, choices, Climbs, DomainView, goes_in, Gone, held_at, held_by, hosted_in, idle_slices, Init, Instance, Kill, Kind, kind_of, least, Migrate, Nodes, Nowhere, place_index, Resume, Row, row_choices, Shutdown, Slice, Slices, slices_by, slices_of, Stage, stage_at, State, state_of, Suspend, vm, weigh, Weight}
+use Rattle.cluster.specs.declared.choices.Choice.TheVariants.{Idle}
 use Rattle.cluster.specs.declared.choices.Place.{Place}
-use Rattle.cluster.specs.declared.choices.Place.TheVariants.{Nowhere, At}
-use Rattle.cluster.specs.declared.kinds.Kind.{Kind}
-use Rattle.cluster.specs.declared.kinds.Kind.TheVariants.{Boot, Shutdown, Suspend, Resume, Migrate, Allocate, Kill}
-use Rattle.cluster.specs.declared.states.State.{State}
-use Rattle.cluster.specs.declared.states.State.TheVariants.{Init, Ready, Running, Sleeping, Gone}
-use Rattle.catalogue.specs.Instance.{Instance}
-use Rattle.slices.specs.declared.slice.Slice.{Slice}
-use Rattle.slices.specs.declared.slice.Slices.{Slices}
-use Rattle.slices.specs.declared.stage.Stage.{Stage}
-use Rattle.slices.specs.declared.slice.Weight.{Weight}
-use Rattle.slices.specs.Actions.{kind_of}
-use Rattle.slices.specs.Elements.{state_of, vm}
-use Rattle.slices.specs.Snapshots.{held_at, held_by, stage_at}
-use Rattle.slices.specs.Stages.{Nodes, acting_slices, idle_slices, slices_by, slices_of, weigh}
-use Rattle.domains.specs.Choices.{Climbs, DomainView, choices, place_index, row_choices}
-use Rattle.domains.specs.declared.parts.Row.{Row}
+use Rattle.cluster.specs.declared.states.State.TheVariants.{Ready, Running, Sleeping}
 use Rattle.domains.proofs.Public.{least_of_each}
-use Rattle.relax.specs.Areas.{goes_in, hosted_in}
 
 -- the slice, if there is one, is on no node of the set
 abbrev IsOutside : Nodes → Option Slice → Type 0

@@ -1,10 +1,7 @@
 -- When actions end.
 use Rattle.std.proofs.Common.{ℕ, ◌≤◌, arith}
-use Rattle.cluster.specs.declared.choices.Choice.TheVariants.{Act}
+use Rattle.relax.specs.Prelude.{Act, Element, end_of, Instance}
 use Rattle.cluster.specs.declared.choices.Place.{Place}
-use Rattle.cluster.specs.declared.ids.Element.{Element}
-use Rattle.catalogue.specs.Instance.{Instance}
-use Rattle.slices.specs.Actions.{end_of}
 use Rattle.slices.proofs.Public.{ends_by_duration}
 
 -- what starts later at a place ends no sooner

@@ -1,36 +1,11 @@
 -- The least that a machine holds on all nodes, where it runs and is to run: what it uses at present.
-use Rattle.std.proofs.Common.{◌≡◌, ◌≢◌, ◌⊎◌, inl, inr, ℕ, zero, suc, ◌+◌, ◌-◌, ◌<◌, ◌≤◌, ◌==◌, max, Bool, true, false, not, nat_lt, nat_le, cond, Option, Some, None, is_some, List, [], ◌∷◌, length, get_or, subst, refl, sym, ap, ◌∙◌, arith}
-use Rattle.std.specs.List.{All, Contains, flat_map}
-use Rattle.std.proofs.lemmas.Bool.{cases_eq, false≢true, lt-ltb, ltb-true}
-use Rattle.std.proofs.lemmas.Bool.Decides.{nat_tests}
-use Rattle.std.proofs.lemmas.List.Elements.{All-append, All-contains, All-nil}
-use Rattle.std.proofs.lemmas.List.{get_or_default}
-use Rattle.std.proofs.lemmas.Option.{slice_get_cases}
-use Rattle.cluster.specs.declared.choices.Choice.{Choice}
-use Rattle.cluster.specs.declared.choices.Choice.TheVariants.{Idle, Act}
+use Rattle.base.proofs.Public.{◌≡◌, ◌≢◌, ◌⊎◌, inl, inr, ℕ, zero, suc, ◌+◌, ◌-◌, ◌<◌, ◌≤◌, ◌==◌, max, Bool, true, false, not, nat_lt, nat_le, cond, Option, Some, None, is_some, List, [], ◌∷◌, length, get_or, subst, refl, sym, ap, ◌∙◌, arith, All, Contains, flat_map, cases_eq, false≢true, lt-ltb, ltb-true, nat_tests, All-append, All-contains, All-nil, get_or_default, slice_get_cases}
+use Rattle.relax.specs.Prelude.{Act, action_duration, all_nodes, Allocate, Amount, At, Choice, choices, Climbs, Demand, DomainView, Gone, held_at, held_by, host_is_online, Image, Instance, is_raised, IsInstance, Kind, kind_of, lowest, Migrate, no_row, node_count, NodeId, Nowhere, place_index, Presence, Row, row_choices, Running as ToRunning, slices_by, slices_of, stage_at, starts_from, state_in, state_of, To, Use, vm, wanted_state, Weight, weight_of}
+use Rattle.cluster.specs.declared.choices.Choice.TheVariants.{Idle}
 use Rattle.cluster.specs.declared.choices.Place.{Place}
-use Rattle.cluster.specs.declared.choices.Place.TheVariants.{Nowhere, At}
-use Rattle.cluster.specs.declared.ids.NodeId.{NodeId}
-use Rattle.cluster.specs.declared.kinds.Kind.{Kind}
-use Rattle.cluster.specs.declared.kinds.Kind.TheVariants.{Migrate, Allocate}
-use Rattle.cluster.specs.declared.states.State.TheVariants.{Gone, Running}
-use Rattle.cluster.specs.Inventory.{host_is_online}
+use Rattle.cluster.specs.declared.states.State.TheVariants.{Running}
 use Rattle.cluster.proofs.Public.{is_online-lt}
-use Rattle.catalogue.specs.Instance.{Instance, IsInstance}
 use Rattle.catalogue.proofs.Public.{use_of_le}
-use Rattle.catalogue.specs.declared.targets.Target.TheVariants.{Running as ToRunning}
-use Rattle.catalogue.specs.declared.targets.Wish.TheVariants.{To}
-use Rattle.domains.specs.Choices.{Climbs, DomainView, choices, no_row, place_index, row_choices, starts_from}
-use Rattle.domains.specs.declared.parts.Row.{Row}
-use Rattle.base.specs.Least.{lowest}
-use Rattle.slices.specs.declared.slice.Weight.{Weight}
-use Rattle.slices.specs.declared.slice.Weight.TheVariants.{Amount, Presence, Image}
-use Rattle.slices.specs.declared.slice.What.TheVariants.{Use, Demand}
-use Rattle.slices.specs.Actions.{action_duration, is_raised, kind_of, wanted_state}
-use Rattle.slices.specs.Elements.{node_count, state_in, state_of, vm}
-use Rattle.slices.specs.Snapshots.{held_at, held_by, stage_at}
-use Rattle.slices.specs.Stages.{slices_by, slices_of, weight_of}
-use Rattle.reasons.specs.Closed.{all_nodes}
 
 -- ---- one choice
 

@@ -1,21 +1,9 @@
 -- Surely so, where a number is above 0; how great a least value is; none at all.
-use Rattle.std.proofs.Common.{◌≡◌, ◌≢◌, ℕ, ◌≤◌, ◌&&◌, nat_lt, Bool, true, false, Option, Some, None, List, [], ◌∷◌, IsTrue, refl, arith}
-use Rattle.std.specs.List.{Contains}
-use Rattle.std.proofs.lemmas.Bool.Decides.{nat_tests}
-use Rattle.base.specs.Least.{lower, lowest, least}
-use Rattle.cluster.specs.declared.choices.Choice.{Choice}
-use Rattle.cluster.specs.declared.choices.Choice.TheVariants.{Idle, Act}
-use Rattle.cluster.specs.declared.ids.Element.{Element}
-use Rattle.catalogue.specs.Instance.{Instance, IsInstance}
-use Rattle.slices.specs.declared.slice.Weight.{Weight}
-use Rattle.slices.specs.declared.slice.Weight.TheVariants.{Amount, Presence, Image}
-use Rattle.slices.specs.Actions.{end_of, is_legal}
-use Rattle.slices.specs.Limits.{max_held}
-use Rattle.slices.specs.Snapshots.{held_at}
-use Rattle.slices.specs.Stages.{Nodes}
+use Rattle.std.proofs.Common.{IsTrue}
+use Rattle.base.proofs.Public.{◌≡◌, ◌≢◌, ℕ, ◌≤◌, ◌&&◌, nat_lt, Bool, true, false, Option, Some, None, List, [], ◌∷◌, refl, arith, Contains, nat_tests}
+use Rattle.relax.specs.Prelude.{Act, Amount, Choice, Element, end_of, held_at, Image, Instance, is_above_none, is_legal, IsInstance, least, lower, lowest, max_held, Nodes, Presence, surely, Weight}
+use Rattle.cluster.specs.declared.choices.Choice.TheVariants.{Idle}
 use Rattle.slices.proofs.Public.{held_is_small, legal_acts_last}
-use Rattle.domains.specs.Laws.{is_above_none}
-use Rattle.domains.specs.Sets.{surely}
 
 and_true : (b : Bool) → (b && true) ≡ b
 and_true true = refl

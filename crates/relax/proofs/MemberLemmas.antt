@@ -1,20 +1,7 @@
 -- The machines of a list, by their places in it; of those that act, one at a time.
-use Rattle.std.proofs.Common.{◌≡◌, inl, inr, ℕ, zero, suc, ◌+◌, ◌<◌, ◌≤◌, false, not, ◌==◌, List, [], ◌∷◌, length, get_or, Option, Some, None, IfSome, IsTrue, slice_index_or, map, refl, sym, ap, subst, ◌∙◌, arith}
-use Rattle.std.specs.List.{All, range_with_len}
-use Rattle.std.proofs.lemmas.Bool.{both_ways, or_cases, eqb-true, eq-eqb, cases_eq, cases_lt}
-use Rattle.std.proofs.lemmas.List.{get_or-map, get_or_default, get_or_past, length-map}
-use Rattle.std.proofs.lemmas.List.FromFn.{get_or-map-range_with_len, length-map-range_with_len}
-use Rattle.std.proofs.lemmas.List.Folds.{list_any_at}
-use Rattle.cluster.specs.declared.ids.VmId.{VmId}
-use Rattle.cluster.specs.declared.sets.NodeSet.{NodeSet}
-use Rattle.cluster.specs.Sets.{has_node}
-use Rattle.catalogue.specs.Faults.{is_member}
-use Rattle.slices.specs.declared.stage.Progress.TheVariants.{Acting}
-use Rattle.slices.specs.Holds.{IsInPart, IsMember}
-use Rattle.slices.specs.Snapshots.{Snapshot}
-use Rattle.slices.specs.Stages.{Nodes, one}
-use Rattle.reasons.specs.Reasons.{AreBothActing, AreScattered, HasOutside}
-use Rattle.relax.specs.Members.{AreAllOut}
+use Rattle.std.proofs.Common.{IfSome, IsTrue, slice_index_or, map}
+use Rattle.base.proofs.Public.{◌≡◌, inl, inr, ℕ, zero, suc, ◌+◌, ◌<◌, ◌≤◌, false, not, ◌==◌, List, [], ◌∷◌, length, get_or, Option, Some, None, refl, sym, ap, subst, ◌∙◌, arith, All, range_with_len, both_ways, or_cases, eqb-true, eq-eqb, cases_eq, cases_lt, get_or-map, get_or_default, get_or_past, length-map, get_or-map-range_with_len, length-map-range_with_len, list_any_at}
+use Rattle.relax.specs.Prelude.{Acting, AreAllOut, AreBothActing, AreScattered, has_node, HasOutside, is_member, IsInPart, IsMember, Nodes, NodeSet, one, Snapshot, VmId}
 
 -- a part with a member is listed
 pub part_listed : (parts : List (List VmId)) (i v : ℕ) → IsInPart parts i v → i < length parts

@@ -1,29 +1,10 @@
 -- A machine that runs on a node of a set and is to run: when it has moved out, and until when it keeps what it uses.
-use Rattle.std.proofs.Common.{◌≡◌, ◌⊎◌, inl, inr, ℕ, ◌+◌, ◌<◌, ◌≤◌, ◌==◌, Bool, true, false, not, nat_lt, nat_le, cond, Option, Some, None, is_some, List, length, get_or, refl, sym, ap, ◌∙◌, arith}
-use Rattle.std.specs.List.{Contains}
-use Rattle.std.proofs.lemmas.Bool.{cases_lt, false≢true}
-use Rattle.std.proofs.lemmas.Bool.Decides.{Decides-eqb, nat_tests}
-use Rattle.cluster.specs.declared.choices.Choice.{Choice}
-use Rattle.cluster.specs.declared.choices.Choice.TheVariants.{Idle, Act}
+use Rattle.base.proofs.Public.{◌≡◌, ◌⊎◌, inl, inr, ℕ, ◌+◌, ◌<◌, ◌≤◌, ◌==◌, Bool, true, false, not, nat_lt, nat_le, cond, Option, Some, None, is_some, List, length, get_or, refl, sym, ap, ◌∙◌, arith, Contains, cases_lt, false≢true, Decides-eqb, nat_tests}
+use Rattle.relax.specs.Prelude.{Act, action_duration, Allocate, At, Choice, choices, Demand, DomainView, duration_of, goes_in, held_at, held_by, Instance, is_raised, Kind, kind_duration, kind_of, least, Migrate, no_row, node_count, NodeId, Nodes, Nowhere, Running as ToRunning, slices_by, slices_of, stage_at, state_of, To, Use, vm, wanted_state, Weight, weight_of}
+use Rattle.cluster.specs.declared.choices.Choice.TheVariants.{Idle}
 use Rattle.cluster.specs.declared.choices.Place.{Place}
-use Rattle.cluster.specs.declared.choices.Place.TheVariants.{Nowhere, At}
-use Rattle.cluster.specs.declared.ids.NodeId.{NodeId}
-use Rattle.cluster.specs.declared.kinds.Kind.{Kind}
-use Rattle.cluster.specs.declared.kinds.Kind.TheVariants.{Allocate, Migrate}
 use Rattle.cluster.specs.declared.states.State.TheVariants.{Running}
-use Rattle.catalogue.specs.Instance.{Instance}
-use Rattle.catalogue.specs.declared.targets.Target.TheVariants.{Running as ToRunning}
-use Rattle.catalogue.specs.declared.targets.Wish.TheVariants.{To}
-use Rattle.base.specs.Least.{least}
-use Rattle.slices.specs.declared.slice.Weight.{Weight}
-use Rattle.slices.specs.declared.slice.What.TheVariants.{Use, Demand}
-use Rattle.slices.specs.Actions.{action_duration, duration_of, is_raised, kind_duration, kind_of, wanted_state}
-use Rattle.slices.specs.Elements.{node_count, state_of, vm}
-use Rattle.slices.specs.Snapshots.{held_at, held_by, stage_at}
-use Rattle.slices.specs.Stages.{Nodes, slices_by, slices_of, weight_of}
-use Rattle.domains.specs.Choices.{DomainView, choices, no_row}
 use Rattle.domains.proofs.Public.{least_of_each}
-use Rattle.relax.specs.Areas.{goes_in}
 use Rattle.relax.proofs.FloorLemmas.{at-row, moved, run-kind, use-le}
 
 -- ---- it has moved out

@@ -1,23 +1,7 @@
 -- Sets of one node, what a machine has there, and the room there.
-use Rattle.std.proofs.Common.{◌≡◌, ◌≢◌, inl, inr, ℕ, zero, suc, ◌+◌, ◌<◌, ◌≤◌, ◌==◌, Bool, true, false, not, cond, List, length, IsTrue, refl, sym, subst, arith}
-use Rattle.std.specs.Prelude.{slice_index_or}
-use Rattle.std.specs.List.{Contains}
-use Rattle.std.proofs.lemmas.Bool.{cases_eq, cases_lt, false≢true, ne_eqb}
-use Rattle.std.proofs.lemmas.Bool.Decides.{Decides-eqb}
-use Rattle.base.specs.Sums.{sum_to}
-use Rattle.base.proofs.Sums.{sum_to-change, sum_to-none, sum_to-zero}
-use Rattle.cluster.specs.Sets.{has_node, IsFirstFrom, IsWithin}
-use Rattle.cluster.specs.declared.choices.Choice.{Choice}
-use Rattle.cluster.specs.declared.choices.Choice.TheVariants.{Act}
-use Rattle.cluster.specs.declared.sets.NodeSet.{NodeSet}
-use Rattle.catalogue.specs.Instance.{Instance}
-use Rattle.catalogue.specs.Values.{capacity_of}
-use Rattle.slices.specs.Elements.{node_count}
-use Rattle.slices.specs.Snapshots.{Snapshot, room}
-use Rattle.slices.specs.Stages.{one}
-use Rattle.domains.specs.Choices.{Climbs, DomainView, choices}
-use Rattle.domains.specs.declared.parts.Row.{Row}
-use Rattle.relax.specs.Areas.{goes_in}
+use Rattle.std.proofs.Common.{IsTrue}
+use Rattle.base.proofs.Public.{◌≡◌, ◌≢◌, inl, inr, ℕ, zero, suc, ◌+◌, ◌<◌, ◌≤◌, ◌==◌, Bool, true, false, not, cond, List, length, refl, sym, subst, arith, slice_index_or, Contains, cases_eq, cases_lt, false≢true, ne_eqb, Decides-eqb, sum_to-change, sum_to-none, sum_to-zero}
+use Rattle.relax.specs.Prelude.{Act, capacity_of, Choice, choices, Climbs, DomainView, goes_in, has_node, Instance, IsFirstFrom, IsWithin, node_count, NodeSet, one, room, Row, Snapshot, sum_to}
 use Rattle.relax.proofs.AwayLemmas.{start_in}
 
 -- a set with no node before its first one, and none after it, has that alone

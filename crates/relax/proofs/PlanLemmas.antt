@@ -1,21 +1,10 @@
 -- The one choice of a domain, and the plan of a region that is fixed.
-use Rattle.std.proofs.Common.{◌≡◌, inl, inr, ℕ, suc, ◌+◌, ◌-◌, ◌<◌, ◌≤◌, Bool, true, false, cond, List, [], ◌∷◌, ◌++◌, length, get_or, take, drop, slice_index_or, refl, ap, arith}
-use Rattle.std.specs.List.{Contains, flat_map}
-use Rattle.std.proofs.lemmas.Bool.{cases_lt, le-ltb, lt-ltb}
-use Rattle.std.proofs.lemmas.List.{get_or-drop, get_or-take, get_or_past, length-drop, length-take-le}
-use Rattle.cluster.specs.declared.choices.Choice.{Choice}
-use Rattle.cluster.specs.declared.choices.Choice.TheVariants.{Idle, Act}
-use Rattle.cluster.specs.declared.ids.Element.TheVariants.{Vm, Node as TheNode}
-use Rattle.cluster.specs.Elements.{element_at, element_count}
+use Rattle.std.proofs.Common.{slice_index_or}
+use Rattle.base.proofs.Public.{◌≡◌, inl, inr, ℕ, suc, ◌+◌, ◌-◌, ◌<◌, ◌≤◌, Bool, true, false, cond, List, [], ◌∷◌, ◌++◌, length, get_or, take, drop, refl, ap, arith, Contains, flat_map, cases_lt, le-ltb, lt-ltb, get_or-drop, get_or-take, get_or_past, length-drop, length-take-le}
+use Rattle.relax.specs.Prelude.{Act, AreLegal, Choice, choices, choices_of, Climbs, DomainView, element_at, element_count, Instance, inventory_of, IsOnly, IsPlanOf, IsSized, machine_count, Node as TheNode, node_count, parted, RegionView, Row, row_choices, sets, starts_from, Vm}
+use Rattle.cluster.specs.declared.choices.Choice.TheVariants.{Idle}
 use Rattle.cluster.proofs.Public.{IsListed-element_at}
-use Rattle.catalogue.specs.Instance.{Instance, inventory_of}
-use Rattle.slices.specs.Elements.{machine_count, node_count}
-use Rattle.slices.specs.Plans.{IsPlanOf, choices_of, parted}
 use Rattle.slices.proofs.Public.{legal_is_plan}
-use Rattle.domains.specs.Choices.{Climbs, DomainView, choices, row_choices, starts_from}
-use Rattle.domains.specs.declared.parts.Row.{Row}
-use Rattle.domains.specs.Sets.{IsOnly, RegionView, sets}
-use Rattle.relax.specs.Areas.{AreLegal, IsSized}
 
 -- ---- one choice
 

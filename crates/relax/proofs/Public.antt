@@ -1,10 +1,8 @@
 -- What crates above may cite.
-use Rattle.std.proofs.Common.{Bool, true, false, cond, IsTrue}
-use Rattle.std.specs.List.{Contains, filter}
-use Rattle.slices.specs.Actions.{is_legal}
-use Rattle.domains.specs.Sets.{same_element}
+use Rattle.std.proofs.Common.{IsTrue}
+use Rattle.base.proofs.Public.{Bool, true, false, cond, Contains, filter}
+use Rattle.relax.specs.Prelude.{is_legal, LegalStays, same_element}
 use Rattle.domains.proofs.Public.{filter_is_fewer}
-use Rattle.relax.specs.Laws.{LegalStays}
 pub use Rattle.relax.proofs.AwayLemmas.{away, away_least, idle_in, start_in}
 
 pub legal_stays : LegalStays

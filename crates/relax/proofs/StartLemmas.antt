@@ -1,30 +1,10 @@
 -- The legal choices of an element, place by place, and a region of them.
-use Rattle.std.proofs.Common.{◌≡◌, inl, inr, ℕ, zero, suc, ◌+◌, ◌-◌, ◌<◌, Bool, true, false, cond, nat_le, Option, Some, None, IfSome, List, [], ◌∷◌, ◌++◌, length, map, slice_index_or, append-nil, refl, sym, ap, ◌∙◌, arith}
-use Rattle.std.specs.List.{All, filter, flat_map, range_with_len}
-use Rattle.std.proofs.lemmas.Bool.{cases_lt, lt-ltb, le-ltb}
-use Rattle.std.proofs.lemmas.Bool.Decides.{nat_tests}
-use Rattle.std.proofs.lemmas.List.{get_or_past}
-use Rattle.std.proofs.lemmas.List.Concat.{flat_map-append}
-use Rattle.std.proofs.lemmas.List.Elements.{All-nil, All-push, All-weaker, filter-append}
-use Rattle.std.proofs.lemmas.List.FromFn.{map-range_with_len_more}
-use Rattle.cluster.specs.declared.choices.Choice.{Choice}
-use Rattle.cluster.specs.declared.choices.Choice.TheVariants.{Idle, Act}
+use Rattle.std.proofs.Common.{IfSome, map, slice_index_or}
+use Rattle.base.proofs.Public.{◌≡◌, inl, inr, ℕ, zero, suc, ◌+◌, ◌-◌, ◌<◌, Bool, true, false, cond, nat_le, Option, Some, None, List, [], ◌∷◌, ◌++◌, length, append-nil, refl, sym, ap, ◌∙◌, arith, All, filter, flat_map, range_with_len, cases_lt, lt-ltb, le-ltb, nat_tests, get_or_past, flat_map-append, All-nil, All-push, All-weaker, filter-append, map-range_with_len_more}
+use Rattle.relax.specs.Prelude.{Act, action_duration, AreLegal, At, Choice, choices, ComesAfter, DomainView, duration_of, Element, end_of, Instance, is_element, is_legal, IsElement, IsRowAt, Kind, kind_duration, kind_of, machine_count, node, Node as TheNode, node_count, Nowhere, option_choices, place_index, RegionView, Row, row_choices, rows_of, Sets, sets, start_sets, starts_from, staying, Vm, vm}
+use Rattle.cluster.specs.declared.choices.Choice.TheVariants.{Idle}
 use Rattle.cluster.specs.declared.choices.Place.{Place}
-use Rattle.cluster.specs.declared.choices.Place.TheVariants.{Nowhere, At}
-use Rattle.cluster.specs.declared.ids.Element.{Element}
-use Rattle.cluster.specs.declared.ids.Element.TheVariants.{Vm, Node as TheNode}
-use Rattle.cluster.specs.declared.kinds.Kind.{Kind}
-use Rattle.catalogue.specs.Instance.{Instance, IsElement}
-use Rattle.slices.specs.Actions.{action_duration, duration_of, end_of, is_legal, kind_duration, kind_of}
-use Rattle.slices.specs.Elements.{machine_count, node, node_count, vm}
-use Rattle.domains.specs.Choices.{ComesAfter, DomainView, choices, place_index, row_choices, starts_from, staying}
-use Rattle.domains.specs.Rows.{IsRowAt, option_choices}
-use Rattle.domains.specs.Sets.{RegionView, Sets, sets}
-use Rattle.domains.specs.declared.parts.Row.{Row}
 use Rattle.reasons.proofs.Public.{start_is_legal}
-use Rattle.reasons.specs.Start.{is_element, start_sets}
-use Rattle.relax.specs.Areas.{AreLegal}
-use Rattle.relax.specs.Rows.{rows_of}
 
 -- ---- the legal starts at a place
 

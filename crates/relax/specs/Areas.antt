@@ -1,21 +1,13 @@
 -- Sets of nodes as they are asked for, and what may be asked.
-use Rattle.std.specs.Prelude.{◌≡◌, Bool, false, not, length, IsTrue, Option, Some, None}
-use Rattle.std.specs.List.{Contains}
+use Rattle.base.specs.Prelude.{◌≡◌, Bool, false, not, length, IsTrue, Option, Some, None, Contains}
+use Rattle.reasons.specs.Prelude.{all_nodes, has_node, host_of, Instance, is_legal, IsElement, machine_count, node_count, Nodes, one, RegionView, Sets}
 use Rattle.cluster.specs.declared.choices.Choice.{Choice}
 use Rattle.cluster.specs.declared.choices.Choice.TheVariants.{Idle, Act}
 use Rattle.cluster.specs.declared.choices.Place.TheVariants.{Nowhere, At}
 use Rattle.cluster.specs.declared.ids.Element.{Element}
 use Rattle.cluster.specs.declared.ids.NodeId.{NodeId}
 use Rattle.cluster.specs.declared.states.State.{State}
-use Rattle.cluster.specs.States.{host_of}
-use Rattle.cluster.specs.Sets.{has_node}
-use Rattle.catalogue.specs.Instance.{Instance, IsElement}
-use Rattle.slices.specs.Actions.{is_legal}
-use Rattle.slices.specs.Elements.{machine_count, node_count}
 pub use Rattle.slices.specs.Snapshots.{IsWeight}
-use Rattle.slices.specs.Stages.{Nodes, one}
-use Rattle.domains.specs.Sets.{RegionView, Sets}
-use Rattle.reasons.specs.Closed.{all_nodes}
 use Rattle.relax.specs.declared.area.Area.{Area}
 use Rattle.relax.specs.declared.area.Area.TheVariants.{One, All, In, OutsideOne, Outside}
 

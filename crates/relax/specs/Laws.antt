@@ -1,9 +1,8 @@
 -- Helping only: regions whose choices are all legal.
-use Rattle.std.specs.Prelude.{Bool}
+use Rattle.base.specs.Prelude.{Bool}
+use Rattle.reasons.specs.Prelude.{Instance, keeping, Sets}
 use Rattle.cluster.specs.declared.choices.Choice.{Choice}
 use Rattle.cluster.specs.declared.ids.Element.{Element}
-use Rattle.catalogue.specs.Instance.{Instance}
-use Rattle.domains.specs.Sets.{Sets, keeping}
 use Rattle.relax.specs.Areas.{AreLegal}
 
 -- where an element keeps some of its choices, legal ones stay legal

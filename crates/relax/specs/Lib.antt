@@ -2,3 +2,4 @@ pub mod Areas
 pub mod Laws
 pub mod Members
 pub mod Rows
+pub mod Prelude

@@ -1,9 +1,7 @@
 -- Members of a list that are somewhere.
-use Rattle.std.specs.Prelude.{◌≡◌, ℕ, false, List, IsTrue}
+use Rattle.base.specs.Prelude.{◌≡◌, ℕ, false, List, IsTrue}
+use Rattle.reasons.specs.Prelude.{IsMember, Nodes, Snapshot}
 use Rattle.cluster.specs.declared.ids.VmId.{VmId}
-use Rattle.slices.specs.Holds.{IsMember}
-use Rattle.slices.specs.Snapshots.{Snapshot}
-use Rattle.slices.specs.Stages.{Nodes}
 
 -- a machine of the list is present on nodes of a set
 abbrev pub IsOneIn : Snapshot → List VmId → Nodes → Type 0

@@ -1,16 +1,7 @@
 //! Reasons of sums: more of something than there may be.
-ghost use Rattle.std.specs.Prelude.{◌≡◌, ◌↔◌, ℕ, ◌<◌, ◌≤◌, true, length, filter, nat_lt, IsTrue, IfSome, IsSomeAnd};
-ghost use Rattle.std.specs.List.{list_all};
-ghost use Rattle.cluster.specs.Limits.{max_nodes};
-ghost use Rattle.cluster.specs.Sets.{has_node};
-ghost use Rattle.catalogue.specs.Faults.{is_rule};
-ghost use Rattle.catalogue.specs.Instance.{inventory_of};
-ghost use Rattle.slices.specs.Elements.{machine_count};
-ghost use Rattle.slices.specs.Forms.{separated, separation_seen};
-ghost use Rattle.domains.specs.Views.{seen};
-ghost use Rattle.reasons.specs.Reasons.{ExceedsSeparated, IsHall, IsOverload, IsPower, IsSetLoad, nodes_in as the_nodes_in};
-ghost use Rattle.reasons.specs.Sure.{least_cost as the_least_cost, sure};
-ghost use Rattle.relax.specs.Areas.{IsSized, nodes_of};
+ghost use Rattle.std.specs.Prelude.{filter, IsSomeAnd};
+ghost use Rattle.base.specs.Prelude.{◌≡◌, ◌↔◌, ℕ, ◌<◌, ◌≤◌, true, length, nat_lt, IsTrue, IfSome, list_all};
+ghost use Rattle.relax.specs.Prelude.{ExceedsSeparated, has_node, inventory_of, is_rule, IsHall, IsOverload, IsPower, IsSetLoad, IsSized, least_cost as the_least_cost, machine_count, max_nodes, nodes_in as the_nodes_in, nodes_of, seen, separated, separation_seen, sure};
 
 use crate::area::{Area, area_of};
 use crate::sure::surely_in;

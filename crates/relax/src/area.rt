@@ -1,11 +1,6 @@
 //! Sets of nodes as looks ask for them.
-ghost use Rattle.std.specs.Prelude.{◌≡◌, ◌↔◌, ℕ, ◌<◌, ◌≤◌, IfSome, IsTrue};
-ghost use Rattle.cluster.specs.Limits.{max_nodes};
-ghost use Rattle.cluster.specs.Sets.{has_node};
-ghost use Rattle.catalogue.specs.Instance.{IsElement};
-ghost use Rattle.slices.specs.Elements.{node_count};
-ghost use Rattle.slices.specs.Stages.{one};
-ghost use Rattle.relax.specs.Areas.{nodes_of};
+ghost use Rattle.base.specs.Prelude.{◌≡◌, ◌↔◌, ℕ, ◌<◌, ◌≤◌, IfSome, IsTrue};
+ghost use Rattle.relax.specs.Prelude.{has_node, IsElement, max_nodes, node_count, nodes_of, one};
 
 use catalogue::problem::Problem;
 use cluster::{Element, NodeId, NodeSet};

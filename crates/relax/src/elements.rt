@@ -1,11 +1,6 @@
 //! Reasons of one or two elements: a machine where it must not be, two that must not be together.
-ghost use Rattle.std.specs.Prelude.{◌≡◌, ◌<◌, false, IsTrue};
-ghost use Rattle.catalogue.specs.Instance.{IsElement};
-ghost use Rattle.slices.specs.Elements.{machine_count};
-ghost use Rattle.domains.specs.Views.{seen};
-ghost use Rattle.reasons.specs.Reasons.{IsPair, IsPlace, IsUnusable};
-ghost use Rattle.reasons.specs.Sure.{sure};
-ghost use Rattle.relax.specs.Areas.{IsSized};
+ghost use Rattle.base.specs.Prelude.{◌≡◌, ◌<◌, false, IsTrue};
+ghost use Rattle.relax.specs.Prelude.{IsElement, IsPair, IsPlace, IsSized, IsUnusable, machine_count, seen, sure};
 
 use crate::area::Area;
 use crate::forbidden::{forbids_pair, forbids_place};

@@ -1,23 +1,7 @@
 //! How little a machine may hold in an area, as far as its state, its wish and its rows tell.
-ghost use Rattle.std.specs.Prelude.{◌≡◌, ◌≢◌, ℕ, ◌+◌, ◌-◌, ◌<◌, ◌≤◌, true, List, length, slice_index_or, is_some, IsTrue};
-ghost use Rattle.std.specs.List.{Contains};
-ghost use Rattle.cluster.specs.declared.choices.Choice.{Choice as AnyChoice};
-ghost use Rattle.cluster.specs.declared.choices.Choice.TheVariants.{Act};
+ghost use Rattle.base.specs.Prelude.{◌≡◌, ◌≢◌, ℕ, ◌+◌, ◌-◌, ◌<◌, ◌≤◌, true, List, length, slice_index_or, is_some, IsTrue, Contains};
+ghost use Rattle.relax.specs.Prelude.{Act, all_nodes, Choice as AnyChoice, choices, Climbs, held_at, IsElement, IsSized, IsWeight, kind_of as the_kind_of, max_nodes, no_row, node_count, NodeId as AnyNode, nodes_of, place_index, Row as AnyRow, seen, sight_of, state_of, Use, vm, wanted_state, Weight as AnyWeight, weight_of};
 ghost use Rattle.cluster.specs.declared.choices.Place.{Place as AnyPlace};
-ghost use Rattle.cluster.specs.declared.ids.NodeId.{NodeId as AnyNode};
-ghost use Rattle.cluster.specs.Limits.{max_nodes};
-ghost use Rattle.catalogue.specs.Instance.{IsElement};
-ghost use Rattle.domains.specs.Choices.{Climbs, choices, no_row, place_index};
-ghost use Rattle.domains.specs.declared.parts.Row.{Row as AnyRow};
-ghost use Rattle.domains.specs.Views.{seen, sight_of};
-ghost use Rattle.slices.specs.Actions.{kind_of as the_kind_of, wanted_state};
-ghost use Rattle.slices.specs.Elements.{node_count, state_of, vm};
-ghost use Rattle.slices.specs.Snapshots.{held_at};
-ghost use Rattle.slices.specs.Stages.{weight_of};
-ghost use Rattle.slices.specs.declared.slice.Weight.{Weight as AnyWeight};
-ghost use Rattle.slices.specs.declared.slice.What.TheVariants.{Use};
-ghost use Rattle.reasons.specs.Closed.{all_nodes};
-ghost use Rattle.relax.specs.Areas.{IsSized, IsWeight, nodes_of};
 
 use crate::area::{Area, has, node_total};
 use crate::moves::{is_out_by, is_to_run, move_time};

@@ -1,8 +1,6 @@
 //! Which pairs of machines and which places a constraint forbids.
-ghost use Rattle.std.specs.Prelude.{◌≡◌, ◌≢◌, ◌↔◌, ℕ, ◌<◌, false, IsTrue};
-ghost use Rattle.slices.specs.Elements.{machine_count};
-ghost use Rattle.slices.specs.Forms.{separation_seen};
-ghost use Rattle.slices.specs.Holds.{ForbidsPair, ForbidsPlace, IsInPart, Separates};
+ghost use Rattle.base.specs.Prelude.{◌≡◌, ◌≢◌, ◌↔◌, ℕ, ◌<◌, false, IsTrue};
+ghost use Rattle.relax.specs.Prelude.{ForbidsPair, ForbidsPlace, IsInPart, machine_count, Separates, separation_seen};
 
 use catalogue::constraint::Constraint;
 use catalogue::{Problem, Vms};

@@ -1,18 +1,7 @@
 //! Reasons of whole constraints: members that no group has all of, and actions that may not overlap.
-ghost use Rattle.std.specs.Prelude.{◌≡◌, ◌≢◌, ◌↔◌, ℕ, ◌<◌, false, true, [], map, nat_lt, All, IfSome, IfNone, IsTrue, slice_index_or, length};
-ghost use Rattle.std.specs.List.{list_all, range_with_len};
-ghost use Rattle.cluster.specs.Sets.{has_node};
-ghost use Rattle.catalogue.specs.Faults.{is_rule};
-ghost use Rattle.catalogue.specs.Instance.{IsElement, inventory_of};
-ghost use Rattle.slices.specs.Elements.{machine_count, node_count};
-ghost use Rattle.slices.specs.Holds.{IsMember};
-ghost use Rattle.slices.specs.Stages.{one};
-ghost use Rattle.slices.specs.declared.stage.Progress.TheVariants.{Acting, Started, Unended};
-ghost use Rattle.domains.specs.Views.{seen};
-ghost use Rattle.reasons.specs.Reasons.{AreBothActing, AreScattered, HasOutside, IsGroup};
-ghost use Rattle.reasons.specs.Sure.{sure};
-ghost use Rattle.relax.specs.Areas.{IsSized, nodes_of};
-ghost use Rattle.relax.specs.Members.{AreAllOut, IsOneIn};
+ghost use Rattle.std.specs.Prelude.{All};
+ghost use Rattle.base.specs.Prelude.{◌≡◌, ◌≢◌, ◌↔◌, ℕ, ◌<◌, false, true, [], map, nat_lt, IfSome, IfNone, IsTrue, slice_index_or, length, list_all, range_with_len};
+ghost use Rattle.relax.specs.Prelude.{Acting, AreAllOut, AreBothActing, AreScattered, has_node, HasOutside, inventory_of, is_rule, IsElement, IsGroup, IsMember, IsOneIn, IsSized, machine_count, node_count, nodes_of, one, seen, Started, sure, Unended};
 
 use crate::area::{Area, node_total};
 use crate::sure::{surely_in, surely_so_far};

@@ -1,13 +1,6 @@
 //! What can be asked of one choice, as measures: over the starts at one place each is least at the first or the last.
-ghost use Rattle.std.specs.Prelude.{◌≡◌, ◌≤◌, ◌+◌, ◌^◌, ℕ, max, false};
-ghost use Rattle.cluster.specs.Limits.{max_amount};
-ghost use Rattle.catalogue.specs.Instance.{IsElement};
-ghost use Rattle.slices.specs.Actions.{end_of};
-ghost use Rattle.slices.specs.Elements.{node, state_of, vm};
-ghost use Rattle.slices.specs.Ends.{action_count, powered_count, unusable_count};
-ghost use Rattle.slices.specs.Holdings.{amount_in, count_in, image_in};
-ghost use Rattle.slices.specs.Limits.{max_action};
-ghost use Rattle.slices.specs.Snapshots.{held_at};
+ghost use Rattle.base.specs.Prelude.{◌≡◌, ◌≤◌, ◌+◌, ◌^◌, ℕ, max, false};
+ghost use Rattle.reasons.specs.Prelude.{action_count, amount_in, count_in, end_of, held_at, image_in, IsElement, max_action, max_amount, node, powered_count, state_of, unusable_count, vm};
 ghost use Rattle.slices.specs.declared.slice.Weight.{Weight as AnyWeight};
 ghost use Rattle.slices.specs.declared.slice.Weight.TheVariants.{Amount as AmountOf};
 ghost use Rattle.relax.specs.Areas.{IsWeight, goes_in as the_goes_in, hosted_in, nodes_of};

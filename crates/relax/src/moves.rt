@@ -1,19 +1,7 @@
 //! Whether a machine that runs in an area, and is to run, may have moved out of it by an instant.
-ghost use Rattle.std.specs.Prelude.{◌≡◌, ℕ, ◌+◌, ◌<◌, ◌≤◌, false, length, slice_index_or, IsTrue};
-ghost use Rattle.std.specs.List.{Contains};
-ghost use Rattle.cluster.specs.declared.choices.Choice.TheVariants.{Act};
+ghost use Rattle.base.specs.Prelude.{◌≡◌, ℕ, ◌+◌, ◌<◌, ◌≤◌, false, length, slice_index_or, IsTrue, Contains};
+ghost use Rattle.relax.specs.Prelude.{Act, duration_of, goes_in as the_goes_in, held_at, IsElement, IsSized, least, max_action, no_row, NodeId as AnyNode, nodes_of, seen, state_of, vm, wanted_state, Weight as AnyWeight};
 ghost use Rattle.cluster.specs.declared.choices.Place.{Place as AnyPlace};
-ghost use Rattle.cluster.specs.declared.ids.NodeId.{NodeId as AnyNode};
-ghost use Rattle.base.specs.Least.{least};
-ghost use Rattle.catalogue.specs.Instance.{IsElement};
-ghost use Rattle.domains.specs.Choices.{no_row};
-ghost use Rattle.domains.specs.Views.{seen};
-ghost use Rattle.slices.specs.Actions.{duration_of, wanted_state};
-ghost use Rattle.slices.specs.Elements.{state_of, vm};
-ghost use Rattle.slices.specs.Limits.{max_action};
-ghost use Rattle.slices.specs.Snapshots.{held_at};
-ghost use Rattle.slices.specs.declared.slice.Weight.{Weight as AnyWeight};
-ghost use Rattle.relax.specs.Areas.{IsSized, goes_in as the_goes_in, nodes_of};
 
 use crate::area::{Area, has};
 use crate::measures::goes_in;

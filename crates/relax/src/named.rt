@@ -1,10 +1,6 @@
 //! Whether all that a reason names is there.
-ghost use Rattle.std.specs.Prelude.{◌≡◌, ◌↔◌, ℕ, ◌<◌, ◌≤◌, false, length, IsTrue};
-ghost use Rattle.cluster.specs.Limits.{max_nodes};
-ghost use Rattle.cluster.specs.Sets.{has_node};
-ghost use Rattle.catalogue.specs.Instance.{IsElement};
-ghost use Rattle.slices.specs.Elements.{machine_count, node_count};
-ghost use Rattle.reasons.specs.Reasons.{AreListed, IsNamed};
+ghost use Rattle.base.specs.Prelude.{◌≡◌, ◌↔◌, ℕ, ◌<◌, ◌≤◌, false, length, IsTrue};
+ghost use Rattle.relax.specs.Prelude.{AreListed, has_node, IsElement, IsNamed, machine_count, max_nodes, node_count};
 
 use crate::area::is_node;
 use catalogue::Problem;

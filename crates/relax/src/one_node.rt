@@ -1,19 +1,6 @@
 //! The load and the room of one node. Of most machines it is told at once that they surely have nothing there.
-ghost use Rattle.std.specs.Prelude.{◌≡◌, ◌≢◌, ℕ, ◌<◌, ◌≤◌, false, length, IfSome, IsTrue};
-ghost use Rattle.std.specs.List.{Contains};
-ghost use Rattle.cluster.specs.Sets.{has_node};
-ghost use Rattle.cluster.specs.declared.choices.Choice.{Choice as AnyChoice};
-ghost use Rattle.base.specs.Least.{least};
-ghost use Rattle.catalogue.specs.Instance.{IsElement};
-ghost use Rattle.slices.specs.Elements.{machine_count, node_count, vm};
-ghost use Rattle.slices.specs.Snapshots.{held_at, load as load_of, room as room_of};
-ghost use Rattle.slices.specs.Stages.{one};
-ghost use Rattle.slices.specs.declared.slice.Weight.{Weight as AnyWeight};
-ghost use Rattle.domains.specs.Choices.{Climbs, choices};
-ghost use Rattle.domains.specs.Sets.{RegionView, sets};
-ghost use Rattle.domains.specs.Views.{seen};
-ghost use Rattle.reasons.specs.Sure.{sure};
-ghost use Rattle.relax.specs.Areas.{IsSized, goes_in, hosted_in};
+ghost use Rattle.base.specs.Prelude.{◌≡◌, ◌≢◌, ℕ, ◌<◌, ◌≤◌, false, length, IfSome, IsTrue, Contains};
+ghost use Rattle.relax.specs.Prelude.{Choice as AnyChoice, choices, Climbs, goes_in, has_node, held_at, hosted_in, IsElement, IsSized, least, load as load_of, machine_count, node_count, one, RegionView, room as room_of, seen, sets, sure, vm, Weight as AnyWeight};
 
 use crate::area::{Area, is_node};
 use crate::sure::{least_held, may_be_usable};

@@ -1,10 +1,6 @@
 //! The plan of a region that is fixed.
-ghost use Rattle.std.specs.Prelude.{◌≡◌, ℕ, ◌<◌, ◌∷◌, [], length, slice_index_or, IfOk};
-ghost use Rattle.cluster.specs.Elements.{element_at, element_count};
-ghost use Rattle.catalogue.specs.Instance.{inventory_of};
-ghost use Rattle.slices.specs.Plans.{IsPlanOf, choices_of};
-ghost use Rattle.domains.specs.Sets.{HasElement, IsFixed, IsOnly, sets};
-ghost use Rattle.relax.specs.Areas.{AreLegal, IsSized};
+ghost use Rattle.base.specs.Prelude.{◌≡◌, ℕ, ◌<◌, ◌∷◌, [], length, slice_index_or, IfOk};
+ghost use Rattle.relax.specs.Prelude.{AreLegal, choices_of, element_at, element_count, HasElement, inventory_of, IsFixed, IsOnly, IsPlanOf, IsSized, sets};
 
 use base::memory::Memory;
 use catalogue::Problem;

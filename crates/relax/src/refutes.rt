@@ -1,13 +1,6 @@
 //! Whether a reason refutes a region.
-ghost use Rattle.std.specs.Prelude.{◌≡◌, ◌<◌, false, length, IfSome, IsTrue};
-ghost use Rattle.catalogue.specs.Instance.{IsElement};
-ghost use Rattle.domains.specs.Parts.{in_part};
-ghost use Rattle.domains.specs.Sets.{keeping, sets};
-ghost use Rattle.domains.specs.Views.{seen};
-ghost use Rattle.reasons.specs.Reasons.{Applies, IsGroup, IsHall, IsNamed, IsPair, IsPlace, IsPower, IsSetLoad, Refutes, Says};
-ghost use Rattle.reasons.specs.Sure.{least_cost, sure};
-ghost use Rattle.cluster.specs.Sets.{has_node};
-ghost use Rattle.relax.specs.Areas.{IsSized};
+ghost use Rattle.base.specs.Prelude.{◌≡◌, ◌<◌, false, length, IfSome, IsTrue};
+ghost use Rattle.relax.specs.Prelude.{Applies, has_node, in_part, IsElement, IsGroup, IsHall, IsNamed, IsPair, IsPlace, IsPower, IsSetLoad, IsSized, keeping, least_cost, Refutes, Says, seen, sets, sure};
 
 use crate::amounts::{is_bounded, is_hall, is_overload, is_power, is_set_load};
 use crate::elements::{is_pair, is_place, is_unusable};

@@ -1,15 +1,7 @@
 //! The region of all legal choices.
-ghost use Rattle.std.specs.Prelude.{◌≡◌, ℕ, ◌+◌, ◌-◌, ◌++◌, ◌<◌, ◌≤◌, length, filter, slice_index_or, IfOk, IfSome, OnOk};
-ghost use Rattle.cluster.specs.declared.ids.Element.{Element as AnyElement};
-ghost use Rattle.catalogue.specs.Instance.{IsElement};
-ghost use Rattle.slices.specs.Actions.{is_legal as the_is_legal};
-ghost use Rattle.slices.specs.Elements.{machine_count, node, node_count, vm};
-ghost use Rattle.domains.specs.Choices.{ComesAfter, choices, starts_from, staying};
-ghost use Rattle.domains.specs.Rows.{IsRowAt, option_choices};
-ghost use Rattle.domains.specs.Sets.{sets};
-ghost use Rattle.reasons.specs.Start.{start_sets};
-ghost use Rattle.relax.specs.Areas.{AreLegal, IsSized};
-ghost use Rattle.relax.specs.Rows.{rows_of};
+ghost use Rattle.std.specs.Prelude.{filter};
+ghost use Rattle.base.specs.Prelude.{◌≡◌, ℕ, ◌+◌, ◌-◌, ◌++◌, ◌<◌, ◌≤◌, length, slice_index_or, IfOk, IfSome, OnOk};
+ghost use Rattle.relax.specs.Prelude.{AreLegal, choices, ComesAfter, Element as AnyElement, is_legal as the_is_legal, IsElement, IsRowAt, IsSized, machine_count, node, node_count, option_choices, rows_of, sets, start_sets, starts_from, staying, vm};
 
 use crate::area::node_total;
 use base::Memory;

@@ -1,21 +1,6 @@
 //! What is sure in what is seen of a region.
-ghost use Rattle.std.specs.Prelude.{◌≡◌, ℕ, ◌≤◌, ◌↔◌, ◌<◌, false, [], nat_lt, length, slice_index_or, IsTrue, Option as AnyOption};
-ghost use Rattle.std.specs.List.{Contains};
-ghost use Rattle.cluster.specs.declared.choices.Choice.{Choice as AnyChoice};
-ghost use Rattle.base.specs.Least.{lowest as lowest_of, least};
-ghost use Rattle.catalogue.specs.Instance.{IsElement};
-ghost use Rattle.slices.specs.Actions.{end_of};
-ghost use Rattle.slices.specs.Elements.{vm};
-ghost use Rattle.slices.specs.Limits.{max_held};
-ghost use Rattle.slices.specs.Snapshots.{held_at};
-ghost use Rattle.slices.specs.declared.slice.Weight.{Weight as AnyWeight};
-ghost use Rattle.slices.specs.declared.slice.Weight.TheVariants.{Image as ImageOf};
-ghost use Rattle.domains.specs.Choices.{Climbs, choices, no_row};
-ghost use Rattle.domains.specs.Laws.{is_above_none, is_nought};
-ghost use Rattle.domains.specs.Sets.{HasElement};
-ghost use Rattle.domains.specs.Views.{seen};
-ghost use Rattle.reasons.specs.Sure.{sure};
-ghost use Rattle.relax.specs.Areas.{IsSized, IsWeight, goes_in as the_goes_in, nodes_of};
+ghost use Rattle.base.specs.Prelude.{◌≡◌, ℕ, ◌≤◌, ◌↔◌, ◌<◌, false, [], nat_lt, length, slice_index_or, IsTrue, Option as AnyOption, Contains};
+ghost use Rattle.relax.specs.Prelude.{Choice as AnyChoice, choices, Climbs, end_of, goes_in as the_goes_in, HasElement, held_at, Image as ImageOf, is_above_none, is_nought, IsElement, IsSized, IsWeight, least, lowest as lowest_of, max_held, no_row, nodes_of, seen, sure, vm, Weight as AnyWeight};
 
 use crate::area::Area;
 use crate::floors::floor;

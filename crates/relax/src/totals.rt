@@ -1,17 +1,6 @@
 //! Sums over what is sure in what is seen of a region.
-ghost use Rattle.std.specs.Prelude.{◌≡◌, ◌≤◌, ◌<◌, ◌*◌, ◌^◌, length, if◌then◌else◌};
-ghost use Rattle.cluster.specs.Limits.{max_machines, max_nodes};
-ghost use Rattle.base.specs.Least.{least};
-ghost use Rattle.base.specs.Sums.{sum_to};
-ghost use Rattle.catalogue.specs.Instance.{IsElement};
-ghost use Rattle.catalogue.specs.Limits.{max_capacity};
-ghost use Rattle.catalogue.specs.Values.{capacity_of};
-ghost use Rattle.slices.specs.Actions.{end_of};
-ghost use Rattle.slices.specs.Elements.{machine_count, node, node_count, vm};
-ghost use Rattle.slices.specs.Snapshots.{load as load_of, powered_nodes as powered_nodes_of, presences as presences_of, room as room_of, total as total_of};
-ghost use Rattle.domains.specs.Views.{seen};
-ghost use Rattle.reasons.specs.Sure.{least_cost as least_cost_of, sure};
-ghost use Rattle.relax.specs.Areas.{IsSized, IsWeight, nodes_of};
+ghost use Rattle.base.specs.Prelude.{◌≡◌, ◌≤◌, ◌<◌, ◌*◌, ◌^◌, length, if◌then◌else◌};
+ghost use Rattle.relax.specs.Prelude.{capacity_of, end_of, IsElement, IsSized, IsWeight, least, least_cost as least_cost_of, load as load_of, machine_count, max_capacity, max_machines, max_nodes, node, node_count, nodes_of, powered_nodes as powered_nodes_of, presences as presences_of, room as room_of, seen, sum_to, sure, total as total_of, vm};
 
 use crate::area::{Area, has};
 use crate::one_node;

@@ -1,14 +1,6 @@
 //! What is sure in a region as it is.
-ghost use Rattle.std.specs.Prelude.{◌≡◌, ◌<◌, length};
-ghost use Rattle.cluster.specs.Sets.{has_node};
-ghost use Rattle.base.specs.Least.{lowest as lowest_of};
-ghost use Rattle.catalogue.specs.Instance.{IsElement};
-ghost use Rattle.slices.specs.Actions.{end_of};
-ghost use Rattle.slices.specs.Stages.{one};
-ghost use Rattle.slices.specs.declared.slice.Weight.TheVariants.{Amount};
-ghost use Rattle.domains.specs.Sets.{sets};
-ghost use Rattle.reasons.specs.Sure.{sure};
-ghost use Rattle.relax.specs.Areas.{AreLegal, IsSized};
+ghost use Rattle.base.specs.Prelude.{◌≡◌, ◌<◌, length};
+ghost use Rattle.relax.specs.Prelude.{Amount, AreLegal, end_of, has_node, IsElement, IsSized, lowest as lowest_of, one, sets, sure};
 
 use crate::area::Area;
 use crate::sure;

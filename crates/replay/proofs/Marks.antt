@@ -1,18 +1,7 @@
 -- Marks at instants.
-use Rattle.std.proofs.Common.{◌≡◌, inl, inr, ℕ, ◌+◌, ◌<◌, replicate, ◌||◌, ◌==◌, Bool, true, false, List, length, slice_index_or, slice_set, take, ◌++◌, refl, sym, ◌∙◌, ap, arith}
-use Rattle.std.proofs.lemmas.Bool.{cases_eq}
-use Rattle.std.proofs.lemmas.Bool.Decides.{nat_tests}
-use Rattle.std.proofs.lemmas.List.{get_or-set_same, get_or-set_other, length-replicate, length-set}
-use Rattle.std.proofs.Math.Bool.{or_assoc}
-use Rattle.std.proofs.Math.Seq.{take-append_seam}
-use Rattle.cluster.specs.declared.choices.Choice.{Choice}
-use Rattle.cluster.specs.declared.choices.Choice.TheVariants.{Act}
-use Rattle.cluster.specs.declared.ids.Element.{Element}
-use Rattle.cluster.specs.declared.choices.Place.{Place}
-use Rattle.catalogue.specs.Instance.{Instance}
-use Rattle.slices.specs.Actions.{end_of}
-use Rattle.base.proofs.Lists.{copies_at}
-use Rattle.replay.specs.Events.{turns}
+use Rattle.std.proofs.Common.{slice_index_or, slice_set}
+use Rattle.base.proofs.Public.{◌≡◌, inl, inr, ℕ, ◌+◌, ◌<◌, replicate, ◌||◌, ◌==◌, Bool, true, false, List, length, take, ◌++◌, refl, sym, ◌∙◌, ap, arith, cases_eq, nat_tests, get_or-set_same, get_or-set_other, length-replicate, length-set, or_assoc, take-append_seam, copies_at}
+use Rattle.replay.specs.Prelude.{Act, Choice, Element, end_of, Instance, Place, turns}
 
 -- one mark more
 pub marked : (marks : List Bool) (i t : ℕ) → i < length marks → slice_index_or (slice_set marks i true) t false ≡ (slice_index_or marks t false || (t == i))

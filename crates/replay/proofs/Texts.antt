@@ -1,18 +1,7 @@
 -- The same loads have the same text.
-use Rattle.std.proofs.Common.{◌≡◌, ℕ, zero, suc, ◌+◌, ◌<◌, List, ◌∷◌, Option, ◌++◌, drop, get_or, length, refl, sym, ap, ◌∙◌, append_assoc, arith}
 use Rattle.std.proofs.Math.Seq.{drop-cons}
-use Rattle.std.specs.Io.{StartsWith}
-use Rattle.std.specs.Fmt.{decimal}
-use Rattle.std.specs.List.{flat_map, range_with_len}
-use Rattle.base.proofs.Prefixes.{longer_text}
-use Rattle.catalogue.specs.Instance.{Instance}
-use Rattle.slices.specs.declared.rule.Broken.{Broken}
-use Rattle.slices.specs.Elements.{node, node_count}
-use Rattle.slices.specs.Plans.{Choices}
-use Rattle.judge.specs.Standing.{Loads}
-use Rattle.replay.specs.Events.{events}
-use Rattle.replay.specs.Lines.{at_line, element_name, loads_text, node_text, nodes_text, spaced, verdict_line}
-use Rattle.replay.specs.Report.{IsPrefixOfReport, IsVerdict, report_text}
+use Rattle.base.proofs.Public.{◌≡◌, ℕ, zero, suc, ◌+◌, ◌<◌, List, ◌∷◌, Option, ◌++◌, drop, get_or, length, refl, sym, ap, ◌∙◌, append_assoc, arith, StartsWith, decimal, flat_map, range_with_len, longer_text}
+use Rattle.replay.specs.Prelude.{at_line, Broken, Choices, element_name, events, Instance, IsPrefixOfReport, IsVerdict, Loads, loads_text, node, node_count, node_text, nodes_text, report_text, spaced, verdict_line}
 
 same_over : {A : Type 0} (f g : ℕ → List A) (a n : ℕ) → ((k : ℕ) → k < a + n → f k ≡ g k) → flat_map f (range_with_len a n) ≡ flat_map g (range_with_len a n)
 same_over f g a zero h = refl

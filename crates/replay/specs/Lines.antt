@@ -1,18 +1,10 @@
 -- The lines of a report.
-use Rattle.std.specs.Prelude.{ℕ, List, [], ◌++◌, length, slice_index_or, Option, Some, None, codes}
-use Rattle.std.specs.Fmt.{decimal}
-use Rattle.std.specs.List.{flat_map, range_with_len}
+use Rattle.base.specs.Prelude.{ℕ, List, [], ◌++◌, length, slice_index_or, Option, Some, None, codes, decimal, flat_map, range_with_len}
+use Rattle.judge.specs.Prelude.{Choices, cost_of, Instance, inventory_of, Loads, loads_of, name_of, node, node_count, snapshot_at, vm}
 use Rattle.cluster.specs.declared.ids.Element.{Element}
-use Rattle.cluster.specs.Inventory.{name_of}
-use Rattle.catalogue.specs.Instance.{Instance, inventory_of}
 use Rattle.slices.specs.declared.rule.Broken.{Broken}
 use Rattle.slices.specs.declared.rule.Rule.{Rule}
 use Rattle.slices.specs.declared.rule.Rule.TheVariants.{Load, Usable, Constraint}
-use Rattle.slices.specs.Costs.{cost_of}
-use Rattle.slices.specs.Elements.{node, node_count, vm}
-use Rattle.slices.specs.Plans.{Choices}
-use Rattle.slices.specs.Snapshots.{snapshot_at}
-use Rattle.judge.specs.Standing.{Loads, loads_of}
 
 -- a word after a blank
 abbrev pub spaced : List ℕ → List ℕ

@@ -1,11 +1,7 @@
 -- The report on a plan.
-use Rattle.std.specs.Prelude.{◌↔◌, ℕ, List, ◌++◌, Option, IsNone, IfSome}
-use Rattle.std.specs.Io.{StartsWith}
-use Rattle.std.specs.List.{flat_map}
-use Rattle.catalogue.specs.Instance.{Instance}
+use Rattle.base.specs.Prelude.{◌↔◌, ℕ, List, ◌++◌, Option, IsNone, IfSome, StartsWith, flat_map}
+use Rattle.judge.specs.Prelude.{Choices, Instance, IsFirstBroken, IsValid}
 use Rattle.slices.specs.declared.rule.Broken.{Broken}
-use Rattle.slices.specs.Plans.{Choices}
-use Rattle.slices.specs.Rules.{IsFirstBroken, IsValid}
 use Rattle.replay.specs.Events.{events}
 use Rattle.replay.specs.Lines.{at_line, verdict_line}
 

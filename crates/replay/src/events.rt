@@ -1,9 +1,6 @@
 //! The instants at which something happens: 0, each start and each end of an action, and the horizon.
-ghost use Rattle.std.specs.Prelude.{◌≡◌, ◌+◌, ◌||◌, ℕ, false, length, slice_index_or, IfOk};
-ghost use Rattle.cluster.specs.Elements.{element_count};
-ghost use Rattle.catalogue.specs.Instance.{IsElement, inventory_of};
-ghost use Rattle.slices.specs.Plans.{IsPlanOf, choices_of};
-ghost use Rattle.replay.specs.Events.{events, is_event, turns, turns_below};
+ghost use Rattle.base.specs.Prelude.{◌≡◌, ◌+◌, ◌||◌, ℕ, false, length, slice_index_or, IfOk};
+ghost use Rattle.replay.specs.Prelude.{choices_of, element_count, events, inventory_of, is_event, IsElement, IsPlanOf, turns, turns_below};
 
 use base::memory::Memory;
 use catalogue::Problem;

@@ -1,10 +1,6 @@
 //! The lines of a report.
-ghost use Rattle.std.specs.Prelude.{◌≡◌, ◌++◌, ◌<◌, length, IfOk, IfSome, OnOk, string_bytes};
-ghost use Rattle.catalogue.specs.Cells.{cell};
-ghost use Rattle.slices.specs.Elements.{node_count};
-ghost use Rattle.slices.specs.Plans.{IsPlanOf, choices_of};
-ghost use Rattle.slices.specs.Rules.{InRange};
-ghost use Rattle.replay.specs.Lines.{at_line, broken_line, loads_text, node_text, nodes_text, resource_name, rule_text, verdict_line};
+ghost use Rattle.base.specs.Prelude.{◌≡◌, ◌++◌, ◌<◌, length, IfOk, IfSome, OnOk, string_bytes};
+ghost use Rattle.replay.specs.Prelude.{at_line, broken_line, cell, choices_of, InRange, IsPlanOf, loads_text, node_count, node_text, nodes_text, resource_name, rule_text, verdict_line};
 
 use base::memory::Memory;
 use catalogue::Problem;

@@ -1,11 +1,6 @@
 //! The report on a plan.
-ghost use Rattle.std.specs.Prelude.{◌≡◌, ◌++◌, IsTrue, IfOk, OnOk};
-ghost use Rattle.std.specs.Io.{StartsWith};
-ghost use Rattle.std.specs.List.{flat_map};
-ghost use Rattle.plan_io.specs.Causes.{CountsWrites};
-ghost use Rattle.slices.specs.Plans.{IsPlanOf, choices_of};
-ghost use Rattle.replay.specs.Lines.{at_line};
-ghost use Rattle.replay.specs.Report.{IsPrefixOfReport, IsVerdict, report_text};
+ghost use Rattle.base.specs.Prelude.{◌≡◌, ◌++◌, IsTrue, IfOk, OnOk, StartsWith, flat_map};
+ghost use Rattle.replay.specs.Prelude.{at_line, choices_of, CountsWrites, IsPlanOf, IsPrefixOfReport, IsVerdict, report_text};
 
 use crate::events::events;
 use crate::lines::{at_line, verdict_line};

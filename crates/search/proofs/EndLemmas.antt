@@ -1,30 +1,8 @@
 -- From the steps of a search that is done to its tree, and from the tree to what is so of all plans.
-use Rattle.std.proofs.Common.{◌≡◌, inl, inr, ℕ, ◌≤◌, Bool, true, false, List, [], refl, sym, ap, subst, ◌∙◌, arith, Option, Some, None, is_some}
-use Rattle.std.specs.Prelude.{All, IfSome}
-use Rattle.std.specs.Option.{IsSomeAnd}
-use Rattle.base.specs.Least.{lowest}
-use Rattle.catalogue.specs.Instance.{Instance, IsInstance}
-use Rattle.slices.specs.Costs.{cost_of}
-use Rattle.slices.specs.Plans.{IsPlanOf, PlanChoices, choices_of}
-use Rattle.slices.specs.Rules.{IsValid}
-use Rattle.reasons.specs.Start.{start_sets}
-use Rattle.reasons.specs.Sure.{least_cost}
+use Rattle.base.proofs.Public.{◌≡◌, inl, inr, ℕ, ◌≤◌, Bool, true, false, List, [], refl, sym, ap, subst, ◌∙◌, arith, Option, Some, None, is_some, All, IfSome, IsSomeAnd}
+use Rattle.search.specs.Prelude.{Best, bound_of, choices_in, choices_of, cost_kept, cost_of, Counts, decisions, Found, found_of, FoundAt, goal_in, goal_of, has_left, HasStep, Infeasible, Instance, IsHandedIn, IsInstance, IsLow, IsPlanFound, IsPlanOf, IsPlanOfCost, IsTreeOf, IsTrueOf, IsValid, IsValidPlan, least_cost, least_in, least_of, least_shown, leaves_along, left_along, left_set, left_sets, lower_of, lowest, Optimal, plan_costs, plan_in, plan_kept, plan_set, plan_sets, PlanChoices, Proves, shown, start_sets, Step, steps_of, Tree, Undecided, Underway, WasSearched}
 use Rattle.trees.specs.declared.steps.Goal.TheVariants as goal
-use Rattle.trees.specs.declared.steps.Step.{Step}
-use Rattle.trees.specs.Trees.{Tree, steps_of}
-use Rattle.trees.specs.Finding.{FoundAt, IsLow}
-use Rattle.trees.specs.Goals.{decisions, goal_of, has_left, least_shown, left_set, left_sets, lower_of, shown}
-use Rattle.trees.specs.Proving.{Proves}
-use Rattle.trees.specs.Searching.{IsPlanFound, WasSearched, plan_costs, plan_set, plan_sets}
-use Rattle.trees.specs.Certificates.{IsHandedIn, bound_of, least_of}
 use Rattle.trees.proofs.Public.{IsOneTree, certificates_hold, cheapest_is_low, found_is_lean, found_is_searched, found_proves, gathered_whole, lean_trees_fit, least_is_shown, plans_found_hold, tree_of}
-use Rattle.cert_text.specs.Spelling.{HasStep}
-use Rattle.search.specs.declared.counts.Best.{Best}
-use Rattle.search.specs.declared.counts.Counts.{Counts}
-use Rattle.search.specs.declared.found.Found.{Found}
-use Rattle.search.specs.declared.found.Found.TheVariants.{Optimal, Infeasible, Undecided}
-use Rattle.search.specs.Answers.{IsTreeOf, IsTrueOf, IsValidPlan, choices_in, goal_in, least_in, plan_in}
-use Rattle.search.specs.Underway.{IsPlanOfCost, Underway, cost_kept, found_of, leaves_along, left_along, plan_kept}
 
 -- ---- the answer, by what is kept
 

@@ -1,31 +1,10 @@
 -- What is written at a closed region.
-use Rattle.std.proofs.Common.{◌≡◌, ℕ, ◌+◌, ◌<◌, ◌≤◌, Bool, List, [], ◌∷◌, ◌++◌, refl, sym, ap, subst, ◌∙◌, arith, Option, Some, None, IsTrue}
-use Rattle.std.specs.Prelude.{IfSome}
-use Rattle.base.specs.Least.{lower}
-use Rattle.cluster.specs.declared.ids.Element.{Element}
-use Rattle.catalogue.specs.Instance.{Instance, IsInstance}
-use Rattle.slices.specs.Plans.{IsPlanOf, PlanChoices, choices_of}
-use Rattle.domains.specs.declared.parts.Part.{Part}
-use Rattle.domains.specs.Sets.{IsFixed, IsOnly, RegionView, Sets, sets}
-use Rattle.reasons.specs.Sure.{least_cost}
+use Rattle.std.proofs.Common.{IsTrue}
+use Rattle.base.proofs.Public.{◌≡◌, ℕ, ◌+◌, ◌<◌, ◌≤◌, Bool, List, [], ◌∷◌, ◌++◌, refl, sym, ap, subst, ◌∙◌, arith, Option, Some, None, IfSome}
+use Rattle.search.specs.Prelude.{Best, choices_of, cost_kept, Counts, Decide, Element, HasStep, inside, Instance, IsClear, IsFixed, IsInstance, IsLeaf, IsNumber, IsOnly, IsPlanOf, IsSized, IsSplit, IsUndecided, least_cost, Left, lines, lower, Meaning, outside, Pairs, Part, Plan, plan_costs, PlanChoices, RegionView, SameRule, Sets, sets, Step, Underway, Works}
 use Rattle.reasons.proofs.Public.{only_closed, only_costs}
-use Rattle.relax.specs.Areas.{IsSized}
-use Rattle.trees.specs.declared.steps.Step.{Step}
-use Rattle.trees.specs.declared.steps.Step.TheVariants.{Decide, Left, Plan}
-use Rattle.trees.specs.Trees.{inside, outside}
-use Rattle.trees.specs.Proving.{IsSplit}
-use Rattle.trees.specs.Searching.{IsUndecided, plan_costs}
 use Rattle.trees.proofs.Public.{IsAbove, above_cheapest}
-use Rattle.cert_text.specs.Spelling.{HasStep}
-use Rattle.cert_text.specs.Texts.{IsNumber}
-use Rattle.prop_core.specs.Lists.{Pairs}
-use Rattle.prop_core.specs.Propagators.{Meaning, SameRule}
 use Rattle.prop_core.proofs.Public.{Rise-trans}
-use Rattle.search.specs.declared.counts.Best.{Best}
-use Rattle.search.specs.declared.counts.Counts.{Counts}
-use Rattle.search.specs.Underway.{Underway, cost_kept}
-use Rattle.search.specs.Works.{IsClear, IsLeaf, Works}
-use Rattle.search.specs.Written.{lines}
 use Rattle.search.proofs.RegionLemmas.{sets_fixed}
 use Rattle.search.proofs.StepLemmas.{step_decide, step_left, step_plan}
 use Rattle.search.proofs.WorkLemmas.{rise_less, rise_rule}

@@ -1,31 +1,11 @@
 -- What one look at a region comes to: one lemma for each way that it ends.
-use Rattle.std.proofs.Common.{◌≡◌, ◌≢◌, ℕ, ◌+◌, ◌<◌, ◌≤◌, Bool, true, false, List, [], ◌∷◌, ◌++◌, All, refl, sym, ap, subst, ◌∙◌, append_assoc, arith, Option, None, IsTrue}
-use Rattle.std.specs.Prelude.{IfSome}
-use Rattle.std.specs.Option.{IsSomeAnd}
-use Rattle.cluster.specs.declared.ids.Element.{Element}
-use Rattle.catalogue.specs.Instance.{Instance, IsInstance}
-use Rattle.base.specs.Least.{lowest}
-use Rattle.domains.specs.declared.parts.Part.{Part}
-use Rattle.domains.specs.Sets.{Sets}
-use Rattle.reasons.specs.declared.reason.Reason.{Reason}
+use Rattle.std.proofs.Common.{All, IsTrue}
+use Rattle.base.proofs.Public.{◌≡◌, ◌≢◌, ℕ, ◌+◌, ◌<◌, ◌≤◌, Bool, true, false, List, [], ◌∷◌, ◌++◌, refl, sym, ap, subst, ◌∙◌, append_assoc, arith, Option, None, IfSome, IsSomeAnd}
+use Rattle.search.specs.Prelude.{AllQuiet, Best, by_rule, cost_kept, Counts, Covered, Cut, cut_steps, CutHolds, Element, Fail, FailHolds, HasStep, HaveChoices, Instance, IsAsked, IsClear, IsInstance, least_cost, lines, lowest, Meaning, outside, Pairs, Part, plan_costs, Reason, Refutes, Rise, SameRule, Sets, SomeUpto, Underway, Works}
 use Rattle.reasons.specs.declared.reason.Reason.TheVariants.{Empty, Bound}
-use Rattle.reasons.specs.Closed.{HaveChoices}
-use Rattle.reasons.specs.Reasons.{Refutes}
-use Rattle.reasons.specs.Sure.{least_cost}
-use Rattle.trees.specs.declared.steps.Step.TheVariants.{Cut, Fail}
-use Rattle.trees.specs.Trees.{outside}
-use Rattle.trees.specs.Searching.{SomeUpto, plan_costs}
 use Rattle.trees.proofs.Public.{upto_cheapest}
-use Rattle.cert_text.specs.Spelling.{HasStep}
 use Rattle.cert_text.proofs.Public.{named_reason}
-use Rattle.prop_core.specs.Lists.{Covered, Pairs, Rise}
-use Rattle.prop_core.specs.Propagators.{AllQuiet, CutHolds, FailHolds, IsAsked, Meaning, SameRule}
 use Rattle.prop_core.proofs.Public.{closed_when_quiet, covered_after, Rise-trans}
-use Rattle.search.specs.declared.counts.Best.{Best}
-use Rattle.search.specs.declared.counts.Counts.{Counts}
-use Rattle.search.specs.Underway.{Underway, cost_kept}
-use Rattle.search.specs.Works.{IsClear, Works}
-use Rattle.search.specs.Written.{by_rule, cut_steps, lines}
 use Rattle.search.proofs.StepLemmas.{step_cut, step_fail}
 use Rattle.search.proofs.WorkLemmas.{by_rule_once, cover_asked, rise_less, rise_rule}
 

@@ -1,35 +1,10 @@
 -- The steps of a search can be written.
-use Rattle.std.proofs.Common.{◌≡◌, ◌≢◌, ℕ, ◌+◌, Bool, true, false, ◌&&◌, nat_lt, nat_le, List, [], ◌∷◌, Option, None, is_some, refl, subst, arith, if◌then◌else◌}
-use Rattle.std.specs.List.{Contains, filter}
-use Rattle.std.proofs.lemmas.Bool.Decides.{nat_tests, Decides-eqb}
-use Rattle.cluster.specs.declared.choices.Choice.{Choice}
-use Rattle.cluster.specs.declared.choices.Choice.TheVariants.{Idle, Act}
-use Rattle.cluster.specs.declared.choices.Place.{Place}
-use Rattle.cluster.specs.declared.choices.Place.TheVariants.{Nowhere, At}
-use Rattle.cluster.specs.declared.ids.Element.{Element}
-use Rattle.cluster.specs.declared.ids.Element.TheVariants.{Vm, Node as TheNode}
-use Rattle.cluster.specs.declared.ids.NodeId.{NodeId}
-use Rattle.cluster.specs.declared.kinds.Kind.{Kind}
-use Rattle.cluster.specs.Inventory.{is_online}
-use Rattle.catalogue.specs.declared.targets.Wish.{Wish}
-use Rattle.catalogue.specs.declared.targets.Wish.TheVariants.{Keep, To, Clash}
-use Rattle.catalogue.specs.Instance.{Instance, IsInstance}
-use Rattle.catalogue.specs.Values.{wanted_of}
-use Rattle.slices.specs.Actions.{is_legal, is_raised, kind_of, machine_kind, node_kind, wanted_state}
-use Rattle.slices.specs.Elements.{node_count, state_of}
-use Rattle.domains.specs.declared.parts.Part.{Part}
+use Rattle.std.proofs.Common.{if◌then◌else◌}
+use Rattle.base.proofs.Public.{◌≡◌, ◌≢◌, ℕ, ◌+◌, Bool, true, false, ◌&&◌, nat_lt, nat_le, List, [], ◌∷◌, Option, None, is_some, refl, subst, arith, Contains, filter, nat_tests, Decides-eqb}
+use Rattle.search.specs.Prelude.{Act, AreLegal, At, Choice, Clash, Cut, CutHolds, Decide, Element, HasPart, HasPlace, HasStep, Idle, in_part, Instance, is_legal, is_online, is_raised, IsInstance, IsSplit, IsStart, Keep, Kind, kind_of, machine_kind, Node as TheNode, node_count, node_kind, NodeId, Nowhere, Part, Place, Reason, same_place, Sets, state_of, To, Vm, wanted_of, wanted_state, Wish}
 use Rattle.domains.specs.declared.parts.Part.TheVariants as part
-use Rattle.domains.specs.Choices.{same_place}
-use Rattle.domains.specs.Parts.{in_part}
-use Rattle.domains.specs.Sets.{Sets}
 use Rattle.domains.proofs.Public.{contains_here, filter_contains}
-use Rattle.reasons.specs.declared.reason.Reason.{Reason}
-use Rattle.relax.specs.Areas.{AreLegal}
-use Rattle.trees.specs.declared.steps.Step.TheVariants.{Cut, Decide}
-use Rattle.trees.specs.Proving.{IsSplit}
-use Rattle.cert_text.specs.Spelling.{HasPart, HasPlace, HasStep, IsStart}
 use Rattle.cert_text.proofs.Public.{named_reason}
-use Rattle.prop_core.specs.Propagators.{CutHolds}
 
 -- ---- the place of a legal choice
 

@@ -1,33 +1,9 @@
 -- Regions of an instance, what one change makes of them, and the sums of their least ends.
-use Rattle.std.proofs.Common.{◌≡◌, ◌≢◌, ℕ, ◌<◌, Bool, true, false, List, [], ◌∷◌, length, map, refl, sym, ap, subst, ◌∙◌}
-use Rattle.std.specs.List.{filter}
-use Rattle.std.proofs.lemmas.Bool.{eq-eqb, false_from_ne_true}
-use Rattle.cluster.specs.declared.choices.Choice.{Choice}
-use Rattle.cluster.specs.declared.ids.Element.{Element}
-use Rattle.cluster.specs.declared.ids.Element.TheVariants.{Vm, Node}
-use Rattle.catalogue.specs.Instance.{Instance, IsElement}
-use Rattle.slices.specs.Elements.{machine_count, node_count}
-use Rattle.domains.specs.declared.parts.Change.{Change}
-use Rattle.domains.specs.declared.parts.Part.{Part}
-use Rattle.domains.specs.declared.undo.Before.{Before}
-use Rattle.domains.specs.Choices.{DomainView, choices}
-use Rattle.domains.specs.Laws.{AreFewer}
-use Rattle.domains.specs.Parts.{in_part, on_side, out_of_part}
-use Rattle.domains.specs.Sets.{HasElement, IsFixed, RegionView, Sets, domain_at, keeping, same_element, sets, with_domain}
-use Rattle.domains.specs.Sizes.{choice_count}
-use Rattle.domains.specs.Undo.{domain_before}
+use Rattle.std.proofs.Common.{map}
+use Rattle.base.proofs.Public.{◌≡◌, ◌≢◌, ℕ, ◌<◌, Bool, true, false, List, [], ◌∷◌, length, refl, sym, ap, subst, ◌∙◌, filter, eq-eqb, false_from_ne_true}
+use Rattle.search.specs.Prelude.{AreFewer, AreFixed, Before, Change, Choice, choice_count, choices, CutHolds, domain_at, domain_before, DomainView, Element, HasElement, HaveChoices, in_part, inside, Instance, IsElement, IsFixed, IsNarrowed, IsRegionOf, IsSized, IsSplit, IsTrailOf, keeping, least_cost, machine_count, Marked, Node, node_count, on_side, out_of_part, outside, Part, Reason, RegionView, same_element, Sets, sets, Vm, with_domain}
 use Rattle.domains.proofs.Public.{same_is}
-use Rattle.reasons.specs.declared.reason.Reason.{Reason}
-use Rattle.reasons.specs.Closed.{HaveChoices}
-use Rattle.reasons.specs.Sure.{least_cost}
-use Rattle.relax.specs.Areas.{IsSized}
-use Rattle.trail.specs.Logs.{Marked}
-use Rattle.trees.specs.Searching.{AreFixed}
-use Rattle.trees.specs.Trees.{inside, outside}
-use Rattle.trees.specs.Proving.{IsSplit}
 use Rattle.bound.proofs.Public.{cost_put_back}
-use Rattle.prop_core.specs.Levels.{IsTrailOf}
-use Rattle.prop_core.specs.Propagators.{CutHolds, IsNarrowed, IsRegionOf}
 use Rattle.prop_core.proofs.Public.{cut_falls, narrowed_by, narrowed_is_fewer, region_stays, trail_changed}
 
 -- ---- elements

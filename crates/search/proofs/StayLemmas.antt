@@ -1,38 +1,10 @@
 -- The plan in which nothing is done.
 use mathlib.Core.Path.{fun_ext}
-use Rattle.std.proofs.Common.{◌≡◌, ℕ, ◌+◌, ◌-◌, Bool, List, [], ◌∷◌, ◌++◌, take, drop, length, refl, sym, ap, subst, ◌∙◌, arith, inr, Option, Some}
-use Rattle.std.specs.Prelude.{replicate}
-use Rattle.std.proofs.lemmas.List.Elements.{All-cons, All-nil}
-use Rattle.std.proofs.lemmas.List.{drop-replicate, length-replicate, take-replicate}
-use Rattle.base.specs.Sums.{sum_to}
-use Rattle.base.proofs.Lists.{copies_at}
-use Rattle.base.proofs.Sums.{sum_to-none}
-use Rattle.cluster.specs.Elements.{element_count}
-use Rattle.cluster.specs.declared.choices.Choice.{Choice}
-use Rattle.cluster.specs.declared.choices.Choice.TheVariants.{Idle}
-use Rattle.cluster.specs.declared.ids.Element.{Element}
-use Rattle.cluster.specs.declared.ids.Element.TheVariants.{Vm, Node}
-use Rattle.catalogue.specs.Instance.{Instance, IsInstance, inventory_of}
-use Rattle.slices.specs.Actions.{end_of}
-use Rattle.slices.specs.Costs.{cost_of}
-use Rattle.slices.specs.Elements.{machine_count, node, node_count, vm}
-use Rattle.slices.specs.Plans.{IsPlan, IsPlanOf, PlanChoices, choices_of, parted}
-use Rattle.slices.specs.Rules.{IsValid}
+use Rattle.base.proofs.Public.{◌≡◌, ℕ, ◌+◌, ◌-◌, Bool, List, [], ◌∷◌, ◌++◌, take, drop, length, refl, sym, ap, subst, ◌∙◌, arith, inr, Option, Some, replicate, All-cons, All-nil, drop-replicate, length-replicate, take-replicate, copies_at, sum_to-none}
+use Rattle.search.specs.Prelude.{all_idle, Choice, choices_of, cost_of, Element, element_count, end_line, end_of, Fail, fail_leaf, Found, HasStep, Idle, Instance, inventory_of, IsInstance, IsPlan, IsPlanOf, IsShown, IsStayed, IsStayingPlan, IsTreeOf, IsTrueOf, IsValid, lines, machine_count, MayStay, Meaning, Node, node, node_count, Optimal, parted, PlanChoices, Proves, start_sets, step_line, sum_to, Vm, vm}
 use Rattle.reasons.specs.declared.reason.Reason.TheVariants.{Bound}
-use Rattle.reasons.specs.Start.{start_sets}
 use Rattle.trees.specs.declared.steps.Goal.TheVariants as goal
-use Rattle.trees.specs.declared.steps.Step.TheVariants.{Fail}
-use Rattle.trees.specs.Trees.{fail_leaf}
-use Rattle.trees.specs.Proving.{Proves}
 use Rattle.trees.proofs.Public.{staying_proves}
-use Rattle.cert_text.specs.Spelling.{HasStep, end_line, step_line}
-use Rattle.prop_core.specs.Propagators.{Meaning}
-use Rattle.search.specs.declared.found.Found.{Found}
-use Rattle.search.specs.declared.found.Found.TheVariants.{Optimal}
-use Rattle.search.specs.Answers.{IsTreeOf, IsTrueOf}
-use Rattle.search.specs.Staying.{IsStayed, IsStayingPlan, MayStay, all_idle}
-use Rattle.search.specs.Works.{IsShown}
-use Rattle.search.specs.Written.{lines}
 use Rattle.search.proofs.EndLemmas.{tree_is_true}
 use Rattle.search.proofs.TextLemmas.{one_line}
 

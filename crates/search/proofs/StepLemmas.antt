@@ -1,29 +1,7 @@
 -- One more step of a search.
-use Rattle.std.proofs.Common.{◌≡◌, ℕ, ◌+◌, ◌<◌, ◌≤◌, Bool, true, false, ◌||◌, List, [], ◌∷◌, ◌++◌, refl, sym, ap, subst, ◌∙◌, append-nil, arith, Option, Some, None}
-use Rattle.std.specs.Prelude.{IfSome}
-use Rattle.std.proofs.lemmas.List.Elements.{All-push}
-use Rattle.base.specs.Least.{lower, lowest}
-use Rattle.catalogue.specs.Instance.{Instance}
-use Rattle.slices.specs.Plans.{choices_of}
-use Rattle.cluster.specs.declared.ids.Element.{Element}
-use Rattle.domains.specs.declared.parts.Part.{Part}
-use Rattle.domains.specs.Sets.{IsOnly, Sets}
-use Rattle.reasons.specs.declared.reason.Reason.{Reason}
-use Rattle.reasons.specs.Start.{start_sets}
-use Rattle.reasons.specs.Sure.{least_cost}
-use Rattle.trees.specs.declared.steps.Step.{Step}
-use Rattle.trees.specs.declared.steps.Step.TheVariants.{Decide, Cut, Fail, Plan, Left}
-use Rattle.trees.specs.Trees.{children, inside, outside}
-use Rattle.trees.specs.Finding.{FoundAt, IsFailed}
-use Rattle.trees.specs.Goals.{decisions, has_left, left_set}
-use Rattle.trees.specs.Proving.{IsCut, IsOnePlan, IsSplit}
-use Rattle.trees.specs.Searching.{IsUndecided, plan_costs, plan_set}
+use Rattle.base.proofs.Public.{◌≡◌, ℕ, ◌+◌, ◌<◌, ◌≤◌, Bool, true, false, ◌||◌, List, [], ◌∷◌, ◌++◌, refl, sym, ap, subst, ◌∙◌, append-nil, arith, Option, Some, None, IfSome, All-push}
+use Rattle.search.specs.Prelude.{Best, children, choices_of, cost_kept, Counts, Cut, Decide, decisions, Element, Fail, FoundAt, has_left, HasReason, HasStep, inside, Instance, IsCheapest, IsCut, IsFailed, IsNumber, IsOnePlan, IsOnly, IsPlanOfCost, IsSplit, IsUndecided, least_cost, leaves_along, Left, left_along, left_set, lower, lowest, outside, Part, Plan, plan_costs, plan_set, Reason, Sets, start_sets, Step, Underway}
 use Rattle.trees.proofs.Public.{decisions_append, gathered_push, has_left_append, leads_push, lowest_push, plan_at_last, plan_costs_append}
-use Rattle.cert_text.specs.Spelling.{HasReason, HasStep}
-use Rattle.cert_text.specs.Texts.{IsNumber}
-use Rattle.search.specs.declared.counts.Best.{Best}
-use Rattle.search.specs.declared.counts.Counts.{Counts}
-use Rattle.search.specs.Underway.{IsCheapest, IsPlanOfCost, Underway, cost_kept, leaves_along, left_along}
 
 -- ---- any step
 

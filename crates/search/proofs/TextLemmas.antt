@@ -1,13 +1,9 @@
 -- Lines after lines, and fronts of them.
-use Rattle.std.proofs.Common.{◌≡◌, ℕ, List, [], ◌∷◌, ◌++◌, sym, ap, subst, ◌∙◌, append_assoc, append-nil, arith, Bool, IsTrue}
-use Rattle.std.specs.Io.{StartsWith}
-use Rattle.std.proofs.lemmas.Grind.{common_steps, flat_map-append}
-use Rattle.catalogue.specs.Instance.{Instance}
-use Rattle.trees.specs.declared.steps.Goal.{Goal}
+use Rattle.std.proofs.Common.{IsTrue}
+use Rattle.std.proofs.lemmas.Grind.{flat_map-append}
+use Rattle.base.proofs.Public.{◌≡◌, ℕ, List, [], ◌∷◌, ◌++◌, sym, ap, subst, ◌∙◌, append_assoc, append-nil, arith, Bool, StartsWith, common_steps}
+use Rattle.search.specs.Prelude.{end_line, Goal, Instance, LeavesLines, LeavesText, lines, Step, step_line}
 use Rattle.trees.specs.declared.steps.Goal.TheVariants as goal
-use Rattle.trees.specs.declared.steps.Step.{Step}
-use Rattle.cert_text.specs.Spelling.{end_line, step_line}
-use Rattle.search.specs.Written.{LeavesLines, LeavesText, lines}
 
 -- ---- fronts
 

@@ -1,19 +1,9 @@
 -- From region to region.
-use Rattle.std.proofs.Common.{◌≡◌, ℕ, ◌+◌, ◌<◌, Bool, List, [], ◌∷◌, ◌++◌, length, reverse, refl, sym, ap, subst, ◌∙◌, arith}
-use Rattle.std.proofs.lemmas.List.{reverse-append}
-use Rattle.cluster.specs.declared.ids.Element.{Element}
-use Rattle.catalogue.specs.Instance.{Instance}
-use Rattle.domains.specs.declared.parts.Part.{Part}
-use Rattle.domains.specs.Sets.{RegionView, Sets, sets}
-use Rattle.trail.specs.Logs.{Marked}
-use Rattle.trees.specs.Trees.{inside, outside}
+use Rattle.std.proofs.Common.{reverse}
+use Rattle.base.proofs.Public.{◌≡◌, ℕ, ◌+◌, ◌<◌, Bool, List, [], ◌∷◌, ◌++◌, length, refl, sym, ap, subst, ◌∙◌, arith, reverse-append}
+use Rattle.search.specs.Prelude.{ArePaired, Counts, Element, Ends, Enters, Goes, GoesOn, inside, Instance, IsDue, IsLeaf, IsParted, lines, Marked, Meaning, open_sets, outer_sides, outside, Pairs, Part, RegionView, Rise, SameRule, Sets, sets, Splits, Works}
 use Rattle.trees.proofs.Public.{same_sets}
-use Rattle.prop_core.specs.Lists.{Pairs, Rise}
-use Rattle.prop_core.specs.Propagators.{Meaning, SameRule}
 use Rattle.prop_core.proofs.Public.{Rise-trans}
-use Rattle.search.specs.declared.counts.Counts.{Counts}
-use Rattle.search.specs.Works.{ArePaired, Ends, Enters, Goes, GoesOn, IsDue, IsLeaf, IsParted, Splits, Works, open_sets, outer_sides}
-use Rattle.search.specs.Written.{lines}
 use Rattle.search.proofs.RegionLemmas.{some_inside, some_outside}
 use Rattle.search.proofs.WorkLemmas.{goes_none, rise_less, rise_none, rise_rule, works_goes, works_same, works_then}
 

@@ -1,27 +1,9 @@
 -- The whole search: what it shows.
-use Rattle.std.proofs.Common.{◌≡◌, ℕ, ◌+◌, ◌≤◌, Bool, List, [], ◌∷◌, ◌++◌, length, refl, sym, ap, subst, ◌∙◌, arith, Option, Some, IsTrue}
-use Rattle.std.specs.Prelude.{IfSome}
-use Rattle.std.proofs.lemmas.List.Elements.{All-nil}
-use Rattle.std.specs.Io.{StartsWith}
-use Rattle.cluster.specs.declared.ids.Element.{Element}
-use Rattle.catalogue.specs.Instance.{Instance, IsElement, IsInstance}
-use Rattle.slices.specs.Plans.{IsPlanOf}
-use Rattle.domains.specs.Sets.{Sets}
+use Rattle.std.proofs.Common.{IsTrue}
+use Rattle.base.proofs.Public.{◌≡◌, ℕ, ◌+◌, ◌≤◌, Bool, List, [], ◌∷◌, ◌++◌, length, refl, sym, ap, subst, ◌∙◌, arith, Option, Some, IfSome, All-nil, StartsWith}
+use Rattle.search.specs.Prelude.{answered, Counts, Element, end_line, Fail, Found, found_of, given_sum, Goal, goal_in, Goes, HasStep, Instance, IsElement, IsInstance, IsPlanOf, IsShown, IsTreeOf, IsTrueOf, LeavesText, lines, Meaning, none_yet, Pairs, plan_in, SameRule, Sets, start_sets, Step, Underway}
 use Rattle.reasons.specs.declared.reason.Reason.TheVariants.{Empty}
-use Rattle.reasons.specs.Start.{start_sets}
-use Rattle.trees.specs.declared.steps.Goal.{Goal}
-use Rattle.trees.specs.declared.steps.Step.{Step}
-use Rattle.trees.specs.declared.steps.Step.TheVariants.{Fail}
-use Rattle.cert_text.specs.Spelling.{HasStep, end_line}
-use Rattle.prop_core.specs.Lists.{Pairs, given_sum}
-use Rattle.prop_core.specs.Propagators.{Meaning, SameRule}
 use Rattle.prop_core.proofs.Public.{Rise-trans}
-use Rattle.search.specs.declared.counts.Counts.{Counts}
-use Rattle.search.specs.declared.found.Found.{Found}
-use Rattle.search.specs.Answers.{IsTreeOf, IsTrueOf, goal_in, plan_in}
-use Rattle.search.specs.Underway.{Underway, found_of, none_yet}
-use Rattle.search.specs.Works.{Goes, IsShown}
-use Rattle.search.specs.Written.{LeavesText, answered, lines}
 use Rattle.search.proofs.EndLemmas.{plan_whole, tree_found, tree_is_true}
 use Rattle.search.proofs.StepLemmas.{step_fail}
 use Rattle.search.proofs.TextLemmas.{text_end}

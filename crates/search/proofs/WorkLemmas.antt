@@ -1,18 +1,8 @@
 -- How what was done composes.
 use Rattle.std.proofs.Common.{◌≡◌, ℕ, ◌+◌, ◌≤◌, Bool, List, [], ◌∷◌, ◌++◌, length, refl, sym, subst, ◌∙◌, append_assoc, append-nil, arith}
-use Rattle.catalogue.specs.Instance.{Instance}
-use Rattle.domains.specs.Sets.{Sets}
-use Rattle.reasons.specs.declared.reason.Reason.{Reason}
+use Rattle.search.specs.Prelude.{answered, by_rule, Counts, Cut, Decide, Fail, Goes, Instance, IsAsked, LeavesLines, Left, Meaning, Pairs, Plan, Reason, Rise, SameCover, SameRule, Sets, Step, Underway, Works}
 use Rattle.reasons.specs.declared.reason.Reason.TheVariants.{Empty, Bound, Load, Pair, Place, Group, SetLoad, Power, Usable, Hall}
-use Rattle.trees.specs.declared.steps.Step.{Step}
-use Rattle.trees.specs.declared.steps.Step.TheVariants.{Decide, Cut, Fail, Plan, Left}
-use Rattle.prop_core.specs.Lists.{Pairs, Rise, SameCover}
-use Rattle.prop_core.specs.Propagators.{IsAsked, Meaning, SameRule}
 use Rattle.prop_core.proofs.Public.{Pairs-same, Pairs-trans, Pairs-weaker, Rise-from_same, Rise-trans}
-use Rattle.search.specs.declared.counts.Counts.{Counts}
-use Rattle.search.specs.Underway.{Underway}
-use Rattle.search.specs.Works.{Goes, Works}
-use Rattle.search.specs.Written.{LeavesLines, answered, by_rule}
 use Rattle.search.proofs.TextLemmas.{leaves_then, lines_then}
 
 -- ---- how many steps propagators answered

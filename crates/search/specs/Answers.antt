@@ -1,19 +1,9 @@
 -- What a search answers, and the tree that shows it.
-use Rattle.std.specs.Prelude.{◌≡◌, ℕ, ◌+◌, ◌<◌, ◌≤◌, Option, Some, None, IfSome, All}
-use Rattle.catalogue.specs.Instance.{Instance}
-use Rattle.slices.specs.Costs.{cost_of, IsInfeasible, IsOptimal}
-use Rattle.slices.specs.Elements.{machine_count, node_count}
-use Rattle.slices.specs.Plans.{Choices, IsPlanOf, PlanChoices, choices_of}
-use Rattle.slices.specs.Rules.{IsValid}
-use Rattle.domains.specs.Sizes.{size}
-use Rattle.reasons.specs.Start.{start_sets}
+use Rattle.std.specs.Prelude.{All}
+use Rattle.base.specs.Prelude.{◌≡◌, ℕ, ◌+◌, ◌<◌, ◌≤◌, Option, Some, None, IfSome}
+use Rattle.cert_write.specs.Prelude.{Choices, choices_of, cost_of, decisions, HasStep, Instance, IsCertificate, IsInfeasible, IsLean, IsOptimal, IsPlanOf, IsValid, least_of, machine_count, node_count, NoneUndercuts, PlanChoices, size, start_sets, steps_of, Tree, WasSearched}
 use Rattle.trees.specs.declared.steps.Goal.{Goal}
 use Rattle.trees.specs.declared.steps.Goal.TheVariants as goal
-use Rattle.trees.specs.Trees.{Tree, steps_of}
-use Rattle.trees.specs.Goals.{decisions}
-use Rattle.trees.specs.Searching.{IsLean, WasSearched}
-use Rattle.trees.specs.Certificates.{IsCertificate, NoneUndercuts, least_of}
-use Rattle.cert_text.specs.Spelling.{HasStep}
 use Rattle.search.specs.declared.found.Found.{Found}
 use Rattle.search.specs.declared.found.Found.TheVariants.{Optimal, Infeasible, Undecided}
 

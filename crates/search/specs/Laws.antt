@@ -1,8 +1,6 @@
 -- What follows of the tree that a search shows.
-use Rattle.std.specs.Prelude.{ℕ, IfSome}
-use Rattle.catalogue.specs.Instance.{Instance, IsInstance}
-use Rattle.slices.specs.Plans.{IsPlanOf}
-use Rattle.trees.specs.Trees.{Tree}
+use Rattle.base.specs.Prelude.{ℕ, IfSome}
+use Rattle.cert_write.specs.Prelude.{Instance, IsInstance, IsPlanOf, Tree}
 use Rattle.search.specs.declared.found.Found.{Found}
 use Rattle.search.specs.Answers.{IsTreeOf, IsTrueOf, plan_in}
 

@@ -10,3 +10,4 @@ pub mod Laws
 pub mod Underway
 -- and of the parts of the search
 pub mod Works
+pub mod Prelude

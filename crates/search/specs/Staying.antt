@@ -1,14 +1,11 @@
 -- Staying: the plan in which nothing is done, where it is one and valid.
-use Rattle.std.specs.Prelude.{◌≡◌, ℕ, List, [], ◌∷◌, ◌++◌, Option, Some, Bool, IsTrue}
+use Rattle.base.specs.Prelude.{◌≡◌, ℕ, List, [], ◌∷◌, ◌++◌, Option, Some, Bool, IsTrue}
+use Rattle.cert_write.specs.Prelude.{Choices, choices_of, end_line, Instance, IsPlan, IsValid, PlanChoices}
 use Rattle.cluster.specs.declared.choices.Choice.TheVariants.{Idle}
 use Rattle.cluster.specs.declared.ids.Element.{Element}
-use Rattle.catalogue.specs.Instance.{Instance}
-use Rattle.slices.specs.Plans.{Choices, IsPlan, PlanChoices, choices_of}
-use Rattle.slices.specs.Rules.{IsValid}
 use Rattle.reasons.specs.declared.reason.Reason.TheVariants.{Bound}
-use Rattle.trees.specs.declared.steps.Goal.TheVariants as goal
 use Rattle.trees.specs.declared.steps.Step.TheVariants.{Fail}
-use Rattle.cert_text.specs.Spelling.{end_line}
+use Rattle.trees.specs.declared.steps.Goal.TheVariants as goal
 use Rattle.search.specs.declared.found.Found.{Found}
 use Rattle.search.specs.declared.found.Found.TheVariants.{Optimal}
 use Rattle.search.specs.Answers.{IsValidPlan}

@@ -1,18 +1,8 @@
 -- A search that is under way: the steps so far, what is open, and what is kept beside them.
-use Rattle.std.specs.Prelude.{◌≡◌, ℕ, ◌≤◌, true, List, [], ◌∷◌, Option, Some, None, IfSome, All}
-use Rattle.catalogue.specs.Instance.{Instance}
-use Rattle.base.specs.Least.{lower, lowest}
-use Rattle.slices.specs.Costs.{cost_of}
-use Rattle.slices.specs.Plans.{IsPlanOf, PlanChoices, choices_of}
-use Rattle.domains.specs.Sets.{Sets}
-use Rattle.reasons.specs.Start.{start_sets}
-use Rattle.reasons.specs.Sure.{least_cost}
+use Rattle.std.specs.Prelude.{All}
+use Rattle.base.specs.Prelude.{◌≡◌, ℕ, ◌≤◌, true, List, [], ◌∷◌, Option, Some, None, IfSome}
+use Rattle.cert_write.specs.Prelude.{choices_of, cost_of, decisions, FoundAt, gathered_along, has_left, HasStep, Instance, IsPlanFound, IsPlanOf, Leads, least_cost, left_set, lower, lowest, plan_costs, plan_set, PlanChoices, Sets, start_sets}
 use Rattle.trees.specs.declared.steps.Step.{Step}
-use Rattle.trees.specs.Trees.{Leads, gathered_along}
-use Rattle.trees.specs.Finding.{FoundAt}
-use Rattle.trees.specs.Goals.{decisions, has_left, left_set}
-use Rattle.trees.specs.Searching.{IsPlanFound, plan_costs, plan_set}
-use Rattle.cert_text.specs.Spelling.{HasStep}
 use Rattle.search.specs.declared.counts.Best.{Best}
 use Rattle.search.specs.declared.counts.Counts.{Counts}
 use Rattle.search.specs.declared.found.Found.{Found}

@@ -1,19 +1,11 @@
 -- What the parts of a search do to its steps, to the file and to the propagators.
-use Rattle.std.specs.Prelude.{◌≡◌, ℕ, ◌+◌, ◌<◌, ◌≤◌, List, [], ◌∷◌, ◌++◌, map, reverse, Option, Some, None, Bool, true, false, IfSome, IsTrue, All}
+use Rattle.std.specs.Prelude.{All}
+use Rattle.base.specs.Prelude.{◌≡◌, ℕ, ◌+◌, ◌<◌, ◌≤◌, List, [], ◌∷◌, ◌++◌, map, reverse, Option, Some, None, Bool, true, false, IfSome, IsTrue}
+use Rattle.prop_core.specs.Prelude.{given_sum, IsTrailOf, Marked, Meaning, most, Rise}
+use Rattle.cert_write.specs.Prelude.{end_line, HaveChoices, inside, Instance, IsClosed, IsFixed, IsSplit, least_cost, outside, RegionView, Sets, sets, steps_of, Tree}
 use Rattle.cluster.specs.declared.ids.Element.{Element}
-use Rattle.catalogue.specs.Instance.{Instance}
 use Rattle.domains.specs.declared.parts.Part.{Part}
-use Rattle.domains.specs.Sets.{IsFixed, RegionView, Sets, sets}
-use Rattle.reasons.specs.Closed.{HaveChoices, IsClosed}
-use Rattle.reasons.specs.Sure.{least_cost}
-use Rattle.trail.specs.Logs.{Marked}
 use Rattle.trees.specs.declared.steps.Step.{Step}
-use Rattle.trees.specs.Trees.{Tree, inside, outside, steps_of}
-use Rattle.trees.specs.Proving.{IsSplit}
-use Rattle.cert_text.specs.Spelling.{end_line}
-use Rattle.prop_core.specs.Levels.{IsTrailOf}
-use Rattle.prop_core.specs.Lists.{Rise, given_sum}
-use Rattle.prop_core.specs.Propagators.{Meaning, most}
 use Rattle.search.specs.declared.looks.Look.{Look}
 use Rattle.search.specs.declared.looks.Look.TheVariants.{Clear, Narrowed, Refuted}
 use Rattle.search.specs.declared.counts.Best.{Best}

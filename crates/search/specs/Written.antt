@@ -1,17 +1,13 @@
 -- What a search leaves in the file of its certificate.
-use Rattle.std.specs.Prelude.{◌≡◌, ℕ, ◌+◌, List, [], ◌∷◌, ◌++◌, Option, Bool, true, false, IsTrue}
-use Rattle.std.specs.Io.{StartsWith}
-use Rattle.std.specs.List.{flat_map}
+use Rattle.base.specs.Prelude.{◌≡◌, ℕ, ◌+◌, List, [], ◌∷◌, ◌++◌, Option, Bool, true, false, IsTrue, StartsWith, flat_map}
+use Rattle.cert_write.specs.Prelude.{end_line, Files, Instance, OthersStay, step_line}
 use Rattle.cluster.specs.declared.ids.Element.{Element}
-use Rattle.catalogue.specs.Instance.{Instance}
-use Rattle.plan_io.specs.Files.{Files, OthersStay}
 use Rattle.domains.specs.declared.parts.Part.{Part}
 use Rattle.reasons.specs.declared.reason.Reason.{Reason}
 use Rattle.reasons.specs.declared.reason.Reason.TheVariants.{Empty, Bound, Load, Pair, Place, Group, SetLoad, Power, Usable, Hall}
 use Rattle.trees.specs.declared.steps.Goal.{Goal}
 use Rattle.trees.specs.declared.steps.Step.{Step}
 use Rattle.trees.specs.declared.steps.Step.TheVariants.{Decide, Cut, Fail, Plan, Left}
-use Rattle.cert_text.specs.Spelling.{end_line, step_line}
 
 -- the lines of steps
 abbrev pub lines : Instance → List Step → List ℕ

@@ -1,12 +1,6 @@
 //! One region on a trail, with the sum of its least ends.
-ghost use Rattle.std.specs.Prelude.{◌≡◌, ◌∷◌, ◌<◌, ◌-◌, ◌^◌, [], IfOk, OnOk, length};
-ghost use Rattle.catalogue.specs.Instance.{IsElement};
-ghost use Rattle.cluster.specs.declared.ids.Element.{Element as AnyElement};
-ghost use Rattle.domains.specs.Parts.{on_side};
-ghost use Rattle.domains.specs.Sets.{domain_at, keeping, sets};
-ghost use Rattle.domains.specs.Undo.{domain_before};
-ghost use Rattle.prop_core.specs.Propagators.{IsRegionOf, most};
-ghost use Rattle.search.specs.Works.{IsGround};
+ghost use Rattle.base.specs.Prelude.{◌≡◌, ◌∷◌, ◌<◌, ◌-◌, ◌^◌, [], IfOk, OnOk, length};
+ghost use Rattle.search.specs.Prelude.{domain_at, domain_before, Element as AnyElement, IsElement, IsGround, IsRegionOf, keeping, most, on_side, sets};
 
 use base::memory::Memory;
 use bound::lower_bound::LowerBound;

@@ -1,14 +1,6 @@
 //! What is written at a closed region: a leaf, or a split.
-ghost use Rattle.std.specs.Prelude.{◌≡◌, ℕ, ◌+◌, ◌<◌, ◌^◌, IfOk, OnOk, IsTrue, Some};
-ghost use Rattle.plan_io.specs.Causes.{CountsWrites};
-ghost use Rattle.plan_io.specs.Files.{bytes_of};
-ghost use Rattle.base.specs.Least.{lower as the_lower};
-ghost use Rattle.domains.specs.Sets.{IsFixed, sets};
-ghost use Rattle.prop_core.specs.Levels.{AllFollow};
-ghost use Rattle.prop_core.specs.Lists.{Pairs};
-ghost use Rattle.prop_core.specs.Propagators.{SameRule};
-ghost use Rattle.search.specs.Works.{IsClear, IsGround, IsSettled, Splits};
-ghost use Rattle.search.specs.Written.{IsKept, LeavesLines};
+ghost use Rattle.base.specs.Prelude.{◌≡◌, ℕ, ◌+◌, ◌<◌, ◌^◌, IfOk, OnOk, IsTrue, Some};
+ghost use Rattle.search.specs.Prelude.{AllFollow, bytes_of, CountsWrites, IsClear, IsFixed, IsGround, IsKept, IsSettled, LeavesLines, lower as the_lower, Pairs, SameRule, sets, Splits};
 
 use crate::counts::{Best, Counts};
 use crate::ground::Ground;

@@ -1,13 +1,6 @@
 //! Each change, mark and return goes to the region, to the sum of its least ends and to every propagator.
-ghost use Rattle.std.specs.Prelude.{◌≡◌, ◌∷◌, ◌<◌, OnOk, length};
-ghost use Rattle.catalogue.specs.Instance.{IsElement};
-ghost use Rattle.cluster.specs.declared.ids.Element.{Element as AnyElement};
-ghost use Rattle.domains.specs.Parts.{on_side};
-ghost use Rattle.domains.specs.Sets.{keeping, sets};
-ghost use Rattle.prop_core.specs.Levels.{AllFollow};
-ghost use Rattle.prop_core.specs.Lists.{Pairs};
-ghost use Rattle.prop_core.specs.Propagators.{SameRule};
-ghost use Rattle.search.specs.Works.{IsGround};
+ghost use Rattle.base.specs.Prelude.{◌≡◌, ◌∷◌, ◌<◌, OnOk, length};
+ghost use Rattle.search.specs.Prelude.{AllFollow, Element as AnyElement, IsElement, IsGround, keeping, on_side, Pairs, SameRule, sets};
 
 use crate::ground::Ground;
 use base::Memory;

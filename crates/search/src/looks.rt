@@ -1,24 +1,6 @@
 //! Closing a region: propagators are asked until none of them objects, or until it is refuted.
-ghost use Rattle.std.specs.Prelude.{◌≡◌, ℕ, ◌<◌, ◌≤◌, ◌++◌, ◌∷◌, [], false, true, IfOk, OnOk, IfSome, IsTrue, Option, Some};
-ghost use Rattle.std.specs.Option.{IsSomeAnd};
-ghost use Rattle.catalogue.specs.Instance.{IsElement};
-ghost use Rattle.cluster.specs.declared.ids.Element.{Element as AnyElement};
-ghost use Rattle.slices.specs.Elements.{machine_count, node_count};
-ghost use Rattle.domains.specs.Sets.{sets};
-ghost use Rattle.domains.specs.Sizes.{choice_count};
-ghost use Rattle.reasons.specs.Closed.{HaveChoices};
-ghost use Rattle.reasons.specs.Sure.{least_cost};
-ghost use Rattle.trees.specs.Trees.{outside};
-ghost use Rattle.trees.specs.declared.steps.Step.TheVariants.{Fail as FailStep};
-ghost use Rattle.plan_io.specs.Causes.{CountsWrites};
-ghost use Rattle.plan_io.specs.Files.{bytes_of};
-ghost use Rattle.cert_text.specs.Spelling.{HasReason, step_line};
-ghost use Rattle.prop_core.specs.Levels.{AllFollow};
-ghost use Rattle.prop_core.specs.Lists.{Covered, Pairs, SameCover};
-ghost use Rattle.prop_core.specs.Propagators.{CutHolds, SameRule};
-ghost use Rattle.search.specs.Underway.{cost_kept};
-ghost use Rattle.search.specs.Works.{IsClear, IsGround, Works, open_after, still_open};
-ghost use Rattle.search.specs.Written.{IsKept, LeavesLines, cut_steps, lines};
+ghost use Rattle.base.specs.Prelude.{◌≡◌, ℕ, ◌<◌, ◌≤◌, ◌++◌, ◌∷◌, [], false, true, IfOk, OnOk, IfSome, IsTrue, Option, Some, IsSomeAnd};
+ghost use Rattle.search.specs.Prelude.{AllFollow, bytes_of, choice_count, cost_kept, CountsWrites, Covered, cut_steps, CutHolds, Element as AnyElement, Fail as FailStep, HasReason, HaveChoices, IsClear, IsElement, IsGround, IsKept, least_cost, LeavesLines, lines, machine_count, node_count, open_after, outside, Pairs, SameCover, SameRule, sets, step_line, still_open, Works};
 
 use crate::counts::Counts;
 use crate::ground::Ground;

@@ -1,19 +1,6 @@
 //! The whole search.
-ghost use Rattle.std.specs.Prelude.{◌≡◌, ◌∷◌, [], Some, IfOk, IfSome, IsTrue, MatchOption};
-ghost use Rattle.catalogue.specs.Instance.{IsElement};
-ghost use Rattle.plan_io.specs.Causes.{CountsWrites};
-ghost use Rattle.plan_io.specs.Files.{bytes_of};
-ghost use Rattle.slices.specs.Plans.{IsPlanOf};
-ghost use Rattle.domains.specs.Sets.{sets};
-ghost use Rattle.reasons.specs.Closed.{HaveChoices};
-ghost use Rattle.reasons.specs.Start.{start_sets};
-ghost use Rattle.relax.specs.Areas.{IsSized};
-ghost use Rattle.prop_core.specs.Lists.{Covered, Pairs, SameCover};
-ghost use Rattle.search.specs.Answers.{IsTrueOf, goal_in, plan_in};
-ghost use Rattle.search.specs.Staying.{IsStayed, MayStay};
-ghost use Rattle.search.specs.Underway.{found_of, none_yet};
-ghost use Rattle.search.specs.Works.{Goes, IsShown};
-ghost use Rattle.search.specs.Written.{IsKept, LeavesLines, LeavesText};
+ghost use Rattle.base.specs.Prelude.{◌≡◌, ◌∷◌, [], Some, IfOk, IfSome, IsTrue, MatchOption};
+ghost use Rattle.search.specs.Prelude.{bytes_of, CountsWrites, Covered, found_of, goal_in, Goes, HaveChoices, IsElement, IsKept, IsPlanOf, IsShown, IsSized, IsStayed, IsTrueOf, LeavesLines, LeavesText, MayStay, none_yet, Pairs, plan_in, SameCover, sets, start_sets};
 
 use crate::counts::Counts;
 use crate::found::Found;

@@ -1,11 +1,6 @@
 //! Staying as all is, where that is a valid plan.
-ghost use Rattle.std.specs.Prelude.{◌≡◌, ◌↔◌, None, Some, IfOk, IfSome, IsTrue};
-ghost use Rattle.plan_io.specs.Causes.{CountsWrites};
-ghost use Rattle.plan_io.specs.Files.{bytes_of};
-ghost use Rattle.slices.specs.Plans.{IsPlanOf, choices_of};
-ghost use Rattle.slices.specs.Rules.{IsValid};
-ghost use Rattle.search.specs.Staying.{IsStayed, IsStayingPlan, MayStay};
-ghost use Rattle.search.specs.Written.{IsKept, LeavesText};
+ghost use Rattle.base.specs.Prelude.{◌≡◌, ◌↔◌, None, Some, IfOk, IfSome, IsTrue};
+ghost use Rattle.search.specs.Prelude.{bytes_of, choices_of, CountsWrites, IsKept, IsPlanOf, IsStayed, IsStayingPlan, IsValid, LeavesText, MayStay};
 
 use crate::found::Found;
 use base::Memory;

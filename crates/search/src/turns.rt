@@ -1,15 +1,6 @@
 //! The loop over the regions: the one at hand, and the outer sides that wait.
-ghost use Rattle.std.specs.Prelude.{◌≡◌, ℕ, ◌+◌, ◌*◌, ◌-◌, ◌<◌, ◌∷◌, [], true, IfOk, MatchOption, OnOk, IsTrue, Some, reverse, vec_len};
-ghost use Rattle.plan_io.specs.Causes.{CountsWrites};
-ghost use Rattle.plan_io.specs.Files.{bytes_of};
-ghost use Rattle.catalogue.specs.Instance.{IsElement};
-ghost use Rattle.domains.specs.Sets.{sets};
-ghost use Rattle.reasons.specs.Closed.{HaveChoices};
-ghost use Rattle.relax.specs.Areas.{IsSized};
-ghost use Rattle.prop_core.specs.Levels.{AllFollow};
-ghost use Rattle.prop_core.specs.Lists.{Covered, Pairs, SameCover};
-ghost use Rattle.search.specs.Works.{ArePaired, Goes, IsGround, IsTurned, IsVisited};
-ghost use Rattle.search.specs.Written.{IsKept, LeavesLines};
+ghost use Rattle.base.specs.Prelude.{◌≡◌, ℕ, ◌+◌, ◌*◌, ◌-◌, ◌<◌, ◌∷◌, [], true, IfOk, MatchOption, OnOk, IsTrue, Some, reverse, vec_len};
+ghost use Rattle.search.specs.Prelude.{AllFollow, ArePaired, bytes_of, CountsWrites, Covered, Goes, HaveChoices, IsElement, IsGround, IsKept, IsSized, IsTurned, IsVisited, LeavesLines, Pairs, SameCover, sets};
 
 use crate::counts::Counts;
 use crate::ground::Ground;

@@ -1,19 +1,8 @@
 -- Durations fit, so each is at least 1.
-use Rattle.std.proofs.Common.{◌+◌, ◌&&◌, ◌≡◌, ℕ, zero, suc, ◌<◌, ◌≤◌, Bool, true, false, List, [], ◌∷◌, length, take, drop, Option, Some, None, is_none, is_some, nat_le, unwrap_or, slice_get, slice_index_or, get_or, inl, inr, refl, sym, true≢false, arith}
-use Rattle.std.specs.List.{list_all}
-use Rattle.std.specs.Option.{option_map_or}
-use Rattle.std.proofs.lemmas.Bool.{and_parts, false≢true, le-leb, leb-true}
-use Rattle.std.proofs.lemmas.Option.{slice_get_cases}
-use Rattle.cluster.specs.declared.durations.Duration.{Duration}
-use Rattle.cluster.specs.declared.ids.Element.{Element}
-use Rattle.cluster.specs.declared.ids.Element.TheVariants.{Vm, Node as TheNode}
-use Rattle.cluster.specs.declared.kinds.Kind.{Kind}
-use Rattle.cluster.specs.Inventory.{amounts_fit, duration_fits, machine_fits, machine_own_fits, node_fits, node_own_fits, own_fits}
-use Rattle.cluster.specs.Kinds.{kind_number}
+use Rattle.std.proofs.Common.{slice_get, slice_index_or}
+use Rattle.base.proofs.Public.{◌+◌, ◌&&◌, ◌≡◌, ℕ, zero, suc, ◌<◌, ◌≤◌, Bool, true, false, List, [], ◌∷◌, length, take, drop, Option, Some, None, is_none, is_some, nat_le, unwrap_or, get_or, inl, inr, refl, sym, true≢false, arith, list_all, option_map_or, and_parts, false≢true, le-leb, leb-true, slice_get_cases}
+use Rattle.slices.specs.Prelude.{action_duration, amounts_fit, common_of, Duration, duration_fits, duration_of, DurationsLast, Element, end_of, EndsByDuration, Instance, inventory_of, is_legal, IsInstance, Kind, kind_duration, kind_number, kind_of, LegalActsLast, LegalEarlier, machine_fits, machine_own, machine_own_fits, Node as TheNode, node_fits, node_own, node_own_fits, own_fits, own_of, Vm}
 use Rattle.cluster.proofs.Public.{IsDuration, IsDuration-fits, duration_at, kind_number-lt}
-use Rattle.catalogue.specs.Instance.{Instance, IsInstance, inventory_of}
-use Rattle.slices.specs.Actions.{action_duration, common_of, duration_of, end_of, is_legal, kind_duration, kind_of, machine_own, node_own, own_of}
-use Rattle.slices.specs.Legal.{DurationsLast, EndsByDuration, LegalActsLast, LegalEarlier}
 
 -- what is at a place of a list, from what holds where there is nothing, and of each item
 pub of_get : {X : Type 0} (P : Option X → Type 0) (xs : List X) (i : ℕ) → P None → ((x : X) → i < length xs → get_or xs i x ≡ x → P (Some x)) → P (slice_get xs i)

@@ -1,22 +1,7 @@
 -- Over the starts at one place, what is held has a form, by which it is least at an end.
-use Rattle.std.proofs.Common.{◌≡◌, ℕ, ◌+◌, ◌≤◌, min, Bool, true, false, not, ◌&&◌, cond, Option, Some, None, refl, arith}
-use Rattle.std.proofs.lemmas.Bool.Decides.{nat_tests}
-use Rattle.cluster.specs.declared.choices.Choice.{Choice}
-use Rattle.cluster.specs.declared.choices.Choice.TheVariants.{Act}
-use Rattle.cluster.specs.Inventory.{is_online}
-use Rattle.catalogue.specs.Instance.{Instance}
-use Rattle.slices.specs.declared.stage.Progress.{Progress}
-use Rattle.slices.specs.declared.stage.Progress.TheVariants.{Started, Unended, Acting}
-use Rattle.slices.specs.declared.stage.Stage.{Stage}
-use Rattle.slices.specs.declared.slice.Slice.{Slice}
-use Rattle.slices.specs.declared.slice.Span.{Span}
-use Rattle.slices.specs.declared.slice.Span.TheVariants.{Always, FromStart, BeforeEnd}
-use Rattle.slices.specs.declared.slice.Weight.{Weight}
-use Rattle.slices.specs.Actions.{action_duration}
-use Rattle.slices.specs.Elements.{node, vm}
-use Rattle.slices.specs.Ends.{ActionAtEnds, HeldAtEnds, HeldInSteps, IsPointwise, PoweredAtEnds, Steps, UnusableAtEnds, step_value}
-use Rattle.slices.specs.Snapshots.{action_at, held_at, held_by, powered_at, snapshot, stage_at, stages_at, usable_at}
-use Rattle.slices.specs.Stages.{Nodes, covers, powered_of, progress_of, slices_of, stage_of, usable_of, weigh, weight_of}
+use Rattle.std.proofs.Common.{min}
+use Rattle.base.proofs.Public.{◌≡◌, ℕ, ◌+◌, ◌≤◌, Bool, true, false, not, ◌&&◌, cond, Option, Some, None, refl, arith, nat_tests}
+use Rattle.slices.specs.Prelude.{Act, Acting, action_at, action_duration, ActionAtEnds, Always, BeforeEnd, Choice, covers, FromStart, held_at, held_by, HeldAtEnds, HeldInSteps, Instance, is_online, IsPointwise, node, Nodes, powered_at, powered_of, PoweredAtEnds, Progress, progress_of, Slice, slices_of, snapshot, Span, Stage, stage_at, stage_of, stages_at, Started, step_value, Steps, Unended, UnusableAtEnds, usable_at, usable_of, vm, weigh, Weight, weight_of}
 
 -- the snapshot at an instant is made of what each choice gives
 pub is_pointwise : IsPointwise

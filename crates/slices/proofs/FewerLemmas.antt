@@ -1,16 +1,6 @@
 -- A constraint still holds where there is less of what it speaks of.
-use Rattle.std.proofs.Common.{inl, inr, List, cond, arith}
-use Rattle.base.proofs.Sums.{sum_to-le}
-use Rattle.base.proofs.Tests.{cond-implied, cond-le, fails_below}
-use Rattle.cluster.specs.declared.ids.VmId.{VmId}
-use Rattle.cluster.specs.Sets.{has_node}
-use Rattle.catalogue.specs.Instance.{Instance}
-use Rattle.slices.specs.Elements.{machine_count, node_count}
-use Rattle.slices.specs.Fewer.{AreLessPresent, IsLessForForm, IsLessSeparated, LessHolds}
-use Rattle.slices.specs.Forms.{Form, Apart, Allowed, Together, Ordered, InTurn, Bounded, Powered, Settled, Separation, Each, Between, FromOthers, form_of}
-use Rattle.slices.specs.Holds.{AreApart, AreGrouped, IsKept}
-use Rattle.slices.specs.Snapshots.{Snapshot}
-use Rattle.slices.specs.Stages.{Nodes, one}
+use Rattle.base.proofs.Public.{inl, inr, List, cond, arith, sum_to-le, cond-implied, cond-le, fails_below}
+use Rattle.slices.specs.Prelude.{Allowed, Apart, AreApart, AreGrouped, AreLessPresent, Between, Bounded, Each, Form, form_of, FromOthers, has_node, Instance, InTurn, IsKept, IsLessForForm, IsLessSeparated, LessHolds, machine_count, node_count, Nodes, one, Ordered, Powered, Separation, Settled, Snapshot, Together, VmId}
 
 grouped : (p : Instance) (s big : Snapshot) (vs : List VmId) (groups : List Nodes) → AreLessPresent p vs s big → AreGrouped p big vs groups → AreGrouped p s vs groups
 grouped p s big vs groups less (inl absent) = inl (λ v n i j m. fails_below _ _ (less v i m (one n)) (absent v n i j m))

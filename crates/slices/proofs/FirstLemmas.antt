@@ -1,14 +1,6 @@
 -- At most one value is the first broken one.
-use Rattle.std.proofs.Common.{◌≡◌, ◌⊎◌, inl, inr, ℕ, ◌<◌, sym, ap}
-use Rattle.std.proofs.lemmas.Bool.{cases_order}
-use Rattle.cluster.specs.declared.ids.NodeId.{NodeId}
-use Rattle.cluster.specs.declared.ids.VmId.{VmId}
-use Rattle.catalogue.specs.Instance.{Instance}
-use Rattle.slices.specs.declared.rule.Rule.{Rule}
-use Rattle.slices.specs.declared.rule.Rule.TheVariants.{Load, Usable, Constraint as OfConstraint}
-use Rattle.slices.specs.Parts.{FirstIsOne}
-use Rattle.slices.specs.Plans.{Choices}
-use Rattle.slices.specs.Rules.{IsFirstRule, Precedes}
+use Rattle.base.proofs.Public.{◌≡◌, ◌⊎◌, inl, inr, ℕ, ◌<◌, sym, ap, cases_order}
+use Rattle.slices.specs.Prelude.{Choices, Constraint as OfConstraint, FirstIsOne, Instance, IsFirstRule, Load, NodeId, Precedes, Rule, Usable, VmId}
 
 -- two pairs of numbers are the same, or one comes before the other
 pairs_order : (a b r q : ℕ) → ((a ≡ b) × (r ≡ q)) ⊎ (((a < b) ⊎ ((a ≡ b) × (r < q))) ⊎ ((b < a) ⊎ ((b ≡ a) × (q < r))))

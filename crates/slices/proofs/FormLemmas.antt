@@ -1,11 +1,8 @@
 -- The form of a constraint without a fault is sound.
-use Rattle.std.proofs.Common.{◌≡◌, Bool, true, false, ◌&&◌, length, refl}
-use Rattle.std.proofs.lemmas.Bool.{and_parts, false≢true, ltb-true}
+use Rattle.base.proofs.Public.{◌≡◌, Bool, true, false, ◌&&◌, length, refl, and_parts, false≢true, ltb-true}
+use Rattle.slices.specs.Prelude.{are_named_machines, are_named_nodes, differ, form_of, Instance, inventory_of, is_fitting, is_named_resource, is_rule, IsSound, machines_in, SoundForm}
 use Rattle.catalogue.specs.declared.constraint.Constraint.{Constraint}
 use Rattle.catalogue.specs.declared.constraint.Constraint.TheVariants.{Spread, Ban, Fence, Gather, Lonely, Among, Split, Root, Precedence, Serialize, Preserve, ResourceCapacity, RunningCapacity, MaxOnline, Overbook, Online, Offline, Running, Sleeping, Ready, Killed}
-use Rattle.catalogue.specs.Faults.{are_named_machines, are_named_nodes, differ, is_fitting, is_named_resource, is_rule, machines_in}
-use Rattle.catalogue.specs.Instance.{Instance, inventory_of}
-use Rattle.slices.specs.Forms.{IsSound, SoundForm, form_of}
 
 -- the parts of a constraint without a fault
 record IsRule (p : Instance) (c : Constraint) : Type 0 where

@@ -1,23 +1,8 @@
 -- What is held of slices says all that they weigh.
 use Rattle.std.proofs.Common.{◌≡◌, inl, inr, ℕ, ◌+◌, ◌-◌, ◌<◌, Bool, true, false, ◌&&◌, ◌||◌, nat_lt, Option, Some, None, cond, refl, ap, ◌∙◌, subst, arith}
-use Rattle.cluster.specs.declared.choices.Choice.{Choice}
-use Rattle.cluster.specs.declared.ids.NodeId.{NodeId}
-use Rattle.catalogue.specs.Instance.{Instance, IsInstance}
-use Rattle.catalogue.specs.Values.{demand_of, use_of}
+use Rattle.slices.specs.Prelude.{Amount, amount_in, Choice, count_in, covers, Demand, demand_of, Held, held_at, held_by, held_of, Holding, holding_of, Image, image_in, Instance, is_in, is_raise, IsHeldWithin, IsHolding, IsHoldingAt, IsInstance, IsNodeWithin, node_count, node_of, NodeId, Nodes, Presence, Slice, Slices, slices_of, Stage, stage_at, Use, use_of, vm, weigh, Weight, weight_of, What, with_raise}
+use Rattle.slices.specs.declared.slice.What.TheVariants.{Image as OfImage}
 use Rattle.catalogue.proofs.Public.{use_of_le}
-use Rattle.slices.specs.declared.holding.Held.{Held}
-use Rattle.slices.specs.declared.holding.Holding.{Holding}
-use Rattle.slices.specs.declared.slice.Slice.{Slice}
-use Rattle.slices.specs.declared.slice.Slices.{Slices}
-use Rattle.slices.specs.declared.stage.Stage.{Stage}
-use Rattle.slices.specs.declared.slice.Weight.{Weight}
-use Rattle.slices.specs.declared.slice.Weight.TheVariants.{Amount, Presence, Image}
-use Rattle.slices.specs.declared.slice.What.{What}
-use Rattle.slices.specs.declared.slice.What.TheVariants.{Use, Demand, Image as OfImage}
-use Rattle.slices.specs.Elements.{node_count, vm}
-use Rattle.slices.specs.Holdings.{IsHeldWithin, IsHolding, IsHoldingAt, IsNodeWithin, amount_in, count_in, held_of, holding_of, image_in, is_in, is_raise, with_raise, node_of}
-use Rattle.slices.specs.Snapshots.{held_at, held_by, stage_at}
-use Rattle.slices.specs.Stages.{Nodes, covers, slices_of, weigh, weight_of}
 use Rattle.slices.proofs.PlaceLemmas.{AreSlices, ArePlain, IsSliceOf, allocated, are_slices}
 
 module _ (p : Instance) (v : ℕ) (set : Nodes) (g : Stage) where

@@ -1,14 +1,8 @@
 -- Some elements have a last start up to an instant.
-use Rattle.std.proofs.Common.{◌≡◌, ◌⊎◌, inl, inr, ℕ, zero, suc, ◌<◌, ◌≤◌, Bool, true, false, Some, None, IsTrue, refl, sym, ◌∙◌, subst, arith}
-use Rattle.std.proofs.lemmas.Bool.{cases_lt, cases_eq, false≢true}
-use Rattle.cluster.specs.declared.choices.Choice.{Choice}
-use Rattle.cluster.specs.declared.choices.Choice.TheVariants.{Idle, Act}
-use Rattle.cluster.specs.declared.ids.Element.{Element}
-use Rattle.cluster.specs.Elements.{element_at, element_count, element_number}
+use Rattle.std.proofs.Common.{IsTrue}
+use Rattle.base.proofs.Public.{◌≡◌, ◌⊎◌, inl, inr, ℕ, zero, suc, ◌<◌, ◌≤◌, Bool, true, false, Some, None, refl, sym, ◌∙◌, subst, arith, cases_lt, cases_eq, false≢true}
+use Rattle.slices.specs.Prelude.{Act, Choice, Choices, Element, element_at, element_count, element_number, HasLastStart, Idle, Instance, inventory_of, IsElement, IsQuiet, start_of}
 use Rattle.cluster.proofs.Public.{IsListed-element_at, element_at-element_number, element_number-lt}
-use Rattle.catalogue.specs.Instance.{Instance, IsElement, inventory_of}
-use Rattle.slices.specs.Plans.{Choices}
-use Rattle.slices.specs.Starts.{HasLastStart, IsQuiet, start_of}
 
 -- ---- the last start
 

@@ -1,25 +1,9 @@
 -- What is held on a set of nodes, by its nodes; and how much it is at most.
-use Rattle.std.proofs.Common.{◌≡◌, inl, inr, ℕ, zero, suc, ◌+◌, ◌-◌, ◌<◌, ◌≤◌, Bool, true, false, ◌&&◌, ◌==◌, cond, Option, Some, None, IsTrue, refl, sym, ap, ◌∙◌, arith}
-use Rattle.std.proofs.lemmas.Bool.{false≢true, lt-ltb, ltb-true, cases_lt}
-use Rattle.std.proofs.lemmas.Bool.Decides.{nat_tests}
-use Rattle.base.specs.Sums.{sum_to}
-use Rattle.base.proofs.Sums.{sum_to-add, sum_to-none, sum_to-one, sum_to-same}
-use Rattle.base.proofs.Tests.{cond-none}
-use Rattle.cluster.specs.Limits.{max_amount}
-use Rattle.catalogue.specs.Instance.{Instance, IsInstance}
-use Rattle.catalogue.specs.Values.{demand_of, use_of}
+use Rattle.std.proofs.Common.{IsTrue}
+use Rattle.base.proofs.Public.{◌≡◌, inl, inr, ℕ, zero, suc, ◌+◌, ◌-◌, ◌<◌, ◌≤◌, Bool, true, false, ◌&&◌, ◌==◌, cond, Option, Some, None, refl, sym, ap, ◌∙◌, arith, false≢true, lt-ltb, ltb-true, cases_lt, nat_tests, sum_to-add, sum_to-none, sum_to-one, sum_to-same, cond-none}
+use Rattle.slices.specs.Prelude.{AbsentUsesNothing, Amount, covers, Demand, demand_of, held_at, held_by, HeldByNode, HeldIsSmall, HeldOnMore, Image, Instance, IsInstance, max_amount, node_count, Nodes, one, Presence, PresentOnSet, PresentSomewhere, Raise, Slice, Slices, slices_of, Stage, stage_at, sum_to, Use, use_of, vm, weigh, Weight, weight_of, What}
+use Rattle.slices.specs.declared.slice.What.TheVariants.{Image as OfImage}
 use Rattle.catalogue.proofs.Public.{demand_of_le, use_of_le}
-use Rattle.slices.specs.declared.slice.Slice.{Slice}
-use Rattle.slices.specs.declared.slice.Slices.{Slices}
-use Rattle.slices.specs.declared.stage.Stage.{Stage}
-use Rattle.slices.specs.declared.slice.Weight.{Weight}
-use Rattle.slices.specs.declared.slice.Weight.TheVariants.{Amount, Presence, Image}
-use Rattle.slices.specs.declared.slice.What.{What}
-use Rattle.slices.specs.declared.slice.What.TheVariants.{Use, Demand, Raise, Image as OfImage}
-use Rattle.slices.specs.Elements.{node_count, vm}
-use Rattle.slices.specs.ByNode.{AbsentUsesNothing, HeldByNode, HeldIsSmall, HeldOnMore, PresentOnSet, PresentSomewhere}
-use Rattle.slices.specs.Snapshots.{held_at, held_by, stage_at}
-use Rattle.slices.specs.Stages.{Nodes, covers, one, slices_of, weigh, weight_of}
 use Rattle.slices.proofs.HoldingLemmas.{no_weight}
 use Rattle.slices.proofs.PlaceLemmas.{AreSlices, IsSliceOf, are_slices}
 

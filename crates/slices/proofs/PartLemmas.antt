@@ -1,30 +1,7 @@
 -- A part of a snapshot keeps what the snapshot keeps, and earlier stages make a part.
-use Rattle.std.proofs.Common.{ℕ, ◌≤◌, Bool, true, false, not, ◌&&◌, ◌||◌, ◌==◌, Option, Some, None, IsTrue, slice_get, refl, arith}
-use Rattle.std.proofs.lemmas.Bool.{false≢true}
-use Rattle.base.proofs.Sums.{sum_to-le}
-use Rattle.base.proofs.Tests.{cond-implied, positive_above}
-use Rattle.cluster.specs.declared.choices.Choice.{Choice}
-use Rattle.cluster.specs.declared.choices.Choice.TheVariants.{Idle, Act}
-use Rattle.cluster.specs.Inventory.{is_online}
-use Rattle.catalogue.specs.Instance.{Instance}
-use Rattle.catalogue.specs.Values.{continuous_at}
-use Rattle.slices.specs.declared.rule.Rule.{Rule}
-use Rattle.slices.specs.declared.rule.Rule.TheVariants.{Load, Usable, Constraint as OfConstraint}
-use Rattle.slices.specs.declared.slice.Slice.{Slice}
-use Rattle.slices.specs.declared.slice.Span.{Span}
-use Rattle.slices.specs.declared.slice.Span.TheVariants.{Always, FromStart, BeforeEnd}
-use Rattle.slices.specs.declared.stage.Progress.{Progress}
-use Rattle.slices.specs.declared.stage.Progress.TheVariants.{Started, Unended, Acting}
-use Rattle.slices.specs.declared.stage.Stage.{Stage}
-use Rattle.slices.specs.declared.slice.Weight.{Weight}
-use Rattle.slices.specs.declared.slice.Weight.TheVariants.{Amount, Presence, Image}
-use Rattle.slices.specs.Elements.{machine_count, node, vm}
-use Rattle.slices.specs.Fewer.{IsLessForForm, IsLessSeparated}
-use Rattle.slices.specs.Forms.{Form, Apart, Allowed, Together, Ordered, InTurn, Bounded, Powered, Settled, Separation, Each, Between, FromOthers, form_of}
-use Rattle.slices.specs.Parts.{ExecutionKeeps, IsPartOf, PartsKeep, StagePartsArePart}
-use Rattle.slices.specs.Rules.{IsValid, Keeps}
-use Rattle.slices.specs.Snapshots.{Snapshot, held_by, snapshot, snapshot_at, stages_at}
-use Rattle.slices.specs.Stages.{Nodes, covers, one, powered_of, progress_of, slices_of, usable_of, weigh, weight_of}
+use Rattle.std.proofs.Common.{IsTrue, slice_get}
+use Rattle.base.proofs.Public.{ℕ, ◌≤◌, Bool, true, false, not, ◌&&◌, ◌||◌, ◌==◌, Option, Some, None, refl, arith, false≢true, sum_to-le, cond-implied, positive_above}
+use Rattle.slices.specs.Prelude.{Act, Acting, Allowed, Always, Amount, Apart, BeforeEnd, Between, Bounded, Choice, Constraint as OfConstraint, continuous_at, covers, Each, ExecutionKeeps, Form, form_of, FromOthers, FromStart, held_by, Idle, Image, Instance, InTurn, is_online, IsLessForForm, IsLessSeparated, IsPartOf, IsValid, Keeps, Load, machine_count, node, Nodes, one, Ordered, PartsKeep, Powered, powered_of, Presence, Progress, progress_of, Rule, Separation, Settled, Slice, slices_of, Snapshot, snapshot, snapshot_at, Span, Stage, StagePartsArePart, stages_at, Started, Together, Unended, Usable, usable_of, vm, weigh, Weight, weight_of}
 use Rattle.slices.proofs.FewerLemmas.{less_holds}
 
 -- ---- tests that imply others

@@ -1,26 +1,10 @@
 -- The slices of a machine: on nodes of the instance, the source a use, the target a demand, or both an allocation.
-use Rattle.std.proofs.Common.{◌≡◌, ◌⊎◌, inl, inr, ℕ, ◌<◌, Bool, true, false, Option, Some, None, if◌then◌else◌, refl}
-use Rattle.std.proofs.lemmas.Bool.{ltb-true}
-use Rattle.cluster.specs.declared.choices.Choice.{Choice}
-use Rattle.cluster.specs.declared.choices.Choice.TheVariants.{Idle, Act}
-use Rattle.cluster.specs.declared.kinds.Kind.{Kind}
-use Rattle.cluster.specs.declared.kinds.Kind.TheVariants.{Boot, Shutdown, Suspend, Resume, Migrate, Allocate, Kill}
-use Rattle.cluster.specs.declared.ids.NodeId.{NodeId}
-use Rattle.cluster.specs.declared.choices.Place.{Place}
-use Rattle.cluster.specs.declared.choices.Place.TheVariants.{Nowhere, At}
-use Rattle.cluster.specs.declared.states.State.{State}
-use Rattle.cluster.specs.declared.states.State.TheVariants.{Init, Ready, Running, Sleeping, Gone}
-use Rattle.cluster.specs.Inventory.{host_is_online}
+use Rattle.std.proofs.Common.{if◌then◌else◌}
+use Rattle.base.proofs.Public.{◌≡◌, ◌⊎◌, inl, inr, ℕ, ◌<◌, Bool, true, false, Option, Some, None, refl, ltb-true}
+use Rattle.slices.specs.Prelude.{Act, acting_slices, Allocate, Always, At, Boot, Choice, Demand, FromStart, Gone, host_is_online, Idle, idle_slices, Init, Instance, is_place, is_raised, IsInstance, Kill, Kind, kind_of, machine_kind, Migrate, node_count, NodeId, Nowhere, Place, Raise, Resume, Shutdown, Slice, slice, Slices, slices_by, slices_of, State, state_in, state_of, Suspend, Use, wanted_state, What}
+use Rattle.cluster.specs.declared.states.State.TheVariants.{Ready, Running, Sleeping}
+use Rattle.slices.specs.declared.slice.What.TheVariants.{Image as OfImage}
 use Rattle.cluster.proofs.Public.{is_online-lt}
-use Rattle.catalogue.specs.Instance.{Instance, IsInstance}
-use Rattle.slices.specs.declared.slice.Slice.{Slice}
-use Rattle.slices.specs.declared.slice.Slices.{Slices}
-use Rattle.slices.specs.declared.slice.Span.TheVariants.{Always, FromStart}
-use Rattle.slices.specs.declared.slice.What.{What}
-use Rattle.slices.specs.declared.slice.What.TheVariants.{Use, Demand, Raise, Image as OfImage}
-use Rattle.slices.specs.Actions.{is_raised, kind_of, machine_kind, wanted_state}
-use Rattle.slices.specs.Elements.{is_place, node_count, state_in, state_of}
-use Rattle.slices.specs.Stages.{acting_slices, idle_slices, slice, slices_by, slices_of}
 use Rattle.slices.proofs.DurationLemmas.{of_get}
 
 -- the slice, if there is one, is of this sort and on one of so many nodes

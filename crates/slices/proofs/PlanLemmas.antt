@@ -1,27 +1,8 @@
 -- Lists of legal choices are plans, and a plan that is over is as it was planned.
-use Rattle.std.proofs.Common.{◌≡◌, ◌⊎◌, inl, inr, ℕ, ◌+◌, ◌≤◌, true, nat_lt, ◌-◌, slice_index_or, IsTrue, IsSome, refl, ap, sym, ◌∙◌, subst, arith}
-use Rattle.std.proofs.lemmas.Bool.{and_parts, le-leb, leb-true, lt-ltb, le-ltb}
-use Rattle.std.proofs.lemmas.List.{get_or-drop, get_or-take, length-drop, length-take-le}
-use Rattle.cluster.specs.declared.choices.Choice.{Choice}
-use Rattle.cluster.specs.declared.choices.Choice.TheVariants.{Idle, Act}
-use Rattle.cluster.specs.declared.choices.Place.{Place}
-use Rattle.cluster.specs.declared.ids.Element.{Element}
-use Rattle.cluster.specs.declared.ids.Element.TheVariants.{Vm, Node as TheNode}
-use Rattle.cluster.specs.declared.states.State.{State}
-use Rattle.cluster.specs.declared.states.State.TheVariants.{Init, Ready, Running, Sleeping, Gone}
-use Rattle.cluster.specs.Inventory.{is_online}
-use Rattle.catalogue.specs.Instance.{Instance, IsElement}
-use Rattle.slices.specs.declared.stage.Stage.{Stage}
-use Rattle.slices.specs.declared.slice.Weight.{Weight}
-use Rattle.slices.specs.declared.slice.Weight.TheVariants.{Presence}
-use Rattle.slices.specs.Actions.{action_duration, end_of, is_legal}
-use Rattle.slices.specs.Elements.{machine_count, node, state_of, vm}
-use Rattle.slices.specs.Legal.{LegalIsPlan}
-use Rattle.slices.specs.Parts.{AreOver, OverAsPlanned}
-use Rattle.slices.specs.Plans.{IsPlanOf, PlanChoices, choices_of, parted}
-use Rattle.slices.specs.Snapshots.{held_by, snapshot, stage_at, stages_at}
-use Rattle.slices.specs.Stages.{Nodes, idle_slices, powered_of, progress_of, slices_of, usable_of, weigh}
-use Rattle.slices.specs.Starts.{start_of}
+use Rattle.std.proofs.Common.{slice_index_or, IsTrue}
+use Rattle.base.proofs.Public.{◌≡◌, ◌⊎◌, inl, inr, ℕ, ◌+◌, ◌≤◌, true, nat_lt, ◌-◌, IsSome, refl, ap, sym, ◌∙◌, subst, arith, and_parts, le-leb, leb-true, lt-ltb, le-ltb, get_or-drop, get_or-take, length-drop, length-take-le}
+use Rattle.slices.specs.Prelude.{Act, action_duration, AreOver, Choice, choices_of, Element, end_of, Gone, held_by, Idle, idle_slices, Init, Instance, is_legal, is_online, IsElement, IsPlanOf, LegalIsPlan, machine_count, node, Node as TheNode, Nodes, OverAsPlanned, parted, Place, PlanChoices, powered_of, Presence, progress_of, slices_of, snapshot, Stage, stage_at, stages_at, start_of, State, state_of, usable_of, Vm, vm, weigh, Weight}
+use Rattle.cluster.specs.declared.states.State.TheVariants.{Ready, Running, Sleeping}
 use Rattle.slices.proofs.StartLemmas.{past-idle}
 
 -- ---- lists of legal choices

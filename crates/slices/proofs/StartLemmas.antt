@@ -1,36 +1,8 @@
 -- Between starts there is only less.
-use Rattle.std.proofs.Common.{◌≡◌, ◌⊎◌, inl, inr, ℕ, zero, suc, ◌+◌, ◌≤◌, Bool, ◌==◌, List, [], ◌∷◌, IsTrue, slice_index_or, refl, ◌∙◌, arith}
-use Rattle.std.proofs.lemmas.Bool.{le-leb, leb-true, cases_lt, or_left, or_right}
-use Rattle.std.proofs.lemmas.Bool.Decides.{nat_tests}
-use Rattle.std.proofs.lemmas.List.{get_or_past}
-use Rattle.std.proofs.lemmas.List.Folds.{list_any-append}
-use Rattle.base.proofs.Sums.{sum_to-le}
-use Rattle.base.proofs.Tests.{positive_above}
-use Rattle.cluster.specs.declared.choices.Choice.{Choice}
-use Rattle.cluster.specs.declared.choices.Choice.TheVariants.{Idle, Act}
-use Rattle.cluster.specs.declared.ids.Element.{Element}
-use Rattle.cluster.specs.declared.ids.Element.TheVariants.{Vm, Node as TheNode}
-use Rattle.cluster.specs.declared.ids.VmId.{VmId}
-use Rattle.cluster.specs.Inventory.{is_online}
+use Rattle.std.proofs.Common.{IsTrue, slice_index_or}
+use Rattle.base.proofs.Public.{◌≡◌, ◌⊎◌, inl, inr, ℕ, zero, suc, ◌+◌, ◌≤◌, Bool, ◌==◌, List, [], ◌∷◌, refl, ◌∙◌, arith, le-leb, leb-true, cases_lt, or_left, or_right, nat_tests, get_or_past, list_any-append, sum_to-le, positive_above}
+use Rattle.slices.specs.Prelude.{Act, Acting, action_at, action_duration, ActionQuiet, all_of, Allowed, Amount, Apart, Between, Bounded, Choice, choice_duration, Choices, choices_of, Constraint as OfConstraint, Each, Element, Form, form_of, FromOthers, held_at, HeldQuiet, Holds, Idle, Image, Instance, InTurn, is_member, is_online, IsElement, IsLessForForm, IsLessSeparated, IsPlanOf, IsQuiet, Keeps, KeepsQuiet, Load, machine_count, machine_matters, matters, MattersQuiet, node, Node as TheNode, node_count, node_matters, Nodes, one, Ordered, PlanChoices, Powered, powered_at, PoweredQuiet, Presence, Progress, Rule, Separation, separation_matters, Settled, snapshot, snapshot_at, stage_at, stage_of, stages_at, Started, Together, Unended, Usable, usable_at, UsableQuiet, Vm, vm, VmId, Weight}
 use Rattle.catalogue.specs.declared.constraint.Constraint.{Constraint}
-use Rattle.catalogue.specs.Faults.{all_of, is_member}
-use Rattle.catalogue.specs.Instance.{Instance, IsElement}
-use Rattle.slices.specs.declared.rule.Rule.{Rule}
-use Rattle.slices.specs.declared.rule.Rule.TheVariants.{Load, Usable, Constraint as OfConstraint}
-use Rattle.slices.specs.declared.stage.Progress.{Progress}
-use Rattle.slices.specs.declared.stage.Progress.TheVariants.{Started, Unended, Acting}
-use Rattle.slices.specs.declared.slice.Weight.{Weight}
-use Rattle.slices.specs.declared.slice.Weight.TheVariants.{Amount, Presence, Image}
-use Rattle.slices.specs.Actions.{action_duration, choice_duration}
-use Rattle.slices.specs.Elements.{machine_count, node_count, node, vm}
-use Rattle.slices.specs.Fewer.{IsLessForForm, IsLessSeparated}
-use Rattle.slices.specs.Forms.{Form, Apart, Allowed, Together, Ordered, InTurn, Bounded, Powered, Settled, Separation, Each, Between, FromOthers, form_of}
-use Rattle.slices.specs.Holds.{Holds}
-use Rattle.slices.specs.Plans.{Choices, IsPlanOf, PlanChoices, choices_of}
-use Rattle.slices.specs.Rules.{Keeps}
-use Rattle.slices.specs.Snapshots.{action_at, held_at, powered_at, snapshot, snapshot_at, stage_at, stages_at, usable_at}
-use Rattle.slices.specs.Stages.{Nodes, one, stage_of}
-use Rattle.slices.specs.Starts.{ActionQuiet, HeldQuiet, IsQuiet, KeepsQuiet, MattersQuiet, PoweredQuiet, UsableQuiet, machine_matters, matters, node_matters, separation_matters}
 use Rattle.slices.proofs.FewerLemmas.{less_holds}
 use Rattle.slices.proofs.PartLemmas.{held_by-part, not-part, or_implied, powered_of-part, progress_of-part, usable_of-part}
 

@@ -1,7 +1,6 @@
 -- The action that brings an element to what is wanted of it, how long it lasts, and which choices are legal.
-use Rattle.std.specs.Prelude.{ℕ, ◌+◌, ◌*◌, Bool, true, false, not, ◌&&◌, ◌==◌, nat_le, length, Option, Some, None, is_some, unwrap_or, slice_get, slice_index_or, if◌then◌else◌}
-use Rattle.std.specs.List.{list_any, range_with_len}
-use Rattle.std.specs.Option.{option_map_or}
+use Rattle.base.specs.Prelude.{ℕ, ◌+◌, ◌*◌, Bool, true, false, not, ◌&&◌, ◌==◌, nat_le, length, Option, Some, None, is_some, unwrap_or, slice_get, slice_index_or, if◌then◌else◌, list_any, range_with_len, option_map_or}
+use Rattle.catalogue.specs.Prelude.{demand_of, Instance, is_online, kind_number, use_of, wanted_of, written_of}
 use Rattle.cluster.specs.declared.choices.Choice.{Choice}
 use Rattle.cluster.specs.declared.choices.Choice.TheVariants.{Idle, Act}
 use Rattle.cluster.specs.declared.durations.Duration.{Duration}
@@ -15,13 +14,9 @@ use Rattle.cluster.specs.declared.states.State.{State}
 use Rattle.cluster.specs.declared.states.State.TheVariants.{Init, Ready, Running, Sleeping, Gone}
 use Rattle.cluster.specs.declared.machines.Machine.{Machine}
 use Rattle.cluster.specs.declared.nodes.Node.{Node}
-use Rattle.cluster.specs.Inventory.{is_online}
-use Rattle.cluster.specs.Kinds.{kind_number}
 use Rattle.catalogue.specs.declared.targets.Target.TheVariants.{Online as ToOnline, Offline as ToOffline, Running as ToRunning, Sleeping as ToSleeping, Ready as ToReady, Killed as ToKilled}
 use Rattle.catalogue.specs.declared.targets.Wish.{Wish}
 use Rattle.catalogue.specs.declared.targets.Wish.TheVariants.{Keep, To, Clash}
-use Rattle.catalogue.specs.Instance.{Instance}
-use Rattle.catalogue.specs.Values.{demand_of, use_of, wanted_of, written_of}
 use Rattle.slices.specs.Elements.{is_place, state_of, vm}
 
 -- ---- which action

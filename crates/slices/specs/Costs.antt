@@ -1,7 +1,6 @@
 -- The cost of a plan, and the best plan.
-use Rattle.std.specs.Prelude.{ℕ, ◌+◌, ◌≤◌}
+use Rattle.base.specs.Prelude.{ℕ, ◌+◌, ◌≤◌, sum_to}
 use Rattle.catalogue.specs.Instance.{Instance}
-use Rattle.base.specs.Sums.{sum_to}
 use Rattle.slices.specs.Elements.{machine_count, node_count, vm, node}
 use Rattle.slices.specs.Actions.{end_of}
 use Rattle.slices.specs.Plans.{Choices, IsPlan}

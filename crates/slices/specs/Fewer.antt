@@ -1,9 +1,8 @@
 -- Helping only: what may be taken away from a snapshot so that a constraint still holds.
-use Rattle.std.specs.Prelude.{ℕ, ◌<◌, ◌≤◌, List, IsTrue}
+use Rattle.base.specs.Prelude.{ℕ, ◌<◌, ◌≤◌, List, IsTrue}
+use Rattle.catalogue.specs.Prelude.{has_node, Instance}
 use Rattle.cluster.specs.declared.ids.VmId.{VmId}
-use Rattle.cluster.specs.Sets.{has_node}
 use Rattle.catalogue.specs.declared.constraint.Constraint.{Constraint}
-use Rattle.catalogue.specs.Instance.{Instance}
 use Rattle.slices.specs.declared.stage.Progress.{Progress}
 use Rattle.slices.specs.declared.stage.Progress.TheVariants.{Started, Unended, Acting}
 use Rattle.slices.specs.declared.slice.Weight.{Weight}

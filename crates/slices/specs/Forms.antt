@@ -1,12 +1,11 @@
 -- The form of a constraint: what it asks of what is where. All that holds of constraints, and all that looks at them, goes by the few
 -- forms; the table below is the one place that says which kind has which.
-use Rattle.std.specs.Prelude.{◌≡◌, ℕ, List, [], ◌∷◌, length, nat_lt, true}
+use Rattle.base.specs.Prelude.{◌≡◌, ℕ, List, [], ◌∷◌, length, nat_lt, true}
+use Rattle.catalogue.specs.Prelude.{all_of, are_below, differ, Instance, inventory_of, is_rule}
 use Rattle.cluster.specs.declared.ids.VmId.{VmId}
 use Rattle.cluster.specs.declared.sets.NodeSet.{NodeSet}
 use Rattle.catalogue.specs.declared.constraint.Constraint.{Constraint}
 use Rattle.catalogue.specs.declared.constraint.Constraint.TheVariants.{Spread, Ban, Fence, Gather, Lonely, Among, Split, Root, Precedence, Serialize, Preserve, ResourceCapacity, RunningCapacity, MaxOnline, Overbook, Online, Offline, Running, Sleeping, Ready, Killed}
-use Rattle.catalogue.specs.Faults.{all_of, are_below, differ, is_rule}
-use Rattle.catalogue.specs.Instance.{Instance, inventory_of}
 use Rattle.slices.specs.declared.form.Form.{Form as Lent}
 use Rattle.slices.specs.declared.form.Form.TheVariants.{Apart as LentApart, Allowed as LentAllowed, Together as LentTogether, Ordered as LentOrdered, InTurn as LentInTurn, Bounded as LentBounded, Powered as LentPowered, Settled as LentSettled}
 use Rattle.slices.specs.declared.form.Groups.{Groups as LentGroups}

@@ -1,13 +1,10 @@
 -- When a constraint holds, by its form.
-use Rattle.std.specs.Prelude.{◌≡◌, ◌≢◌, ◌⊎◌, ℕ, ◌<◌, ◌≤◌, Bool, false, not, ◌==◌, List, [], map, Any, slice_index_or, IsTrue}
-use Rattle.std.specs.List.{range_with_len}
+use Rattle.base.specs.Prelude.{◌≡◌, ◌≢◌, ◌⊎◌, ℕ, ◌<◌, ◌≤◌, Bool, false, not, ◌==◌, List, [], map, Any, slice_index_or, IsTrue, range_with_len}
+use Rattle.catalogue.specs.Prelude.{has_node, Instance, is_member}
 use Rattle.cluster.specs.declared.states.State.{State}
 use Rattle.cluster.specs.declared.states.State.TheVariants.{Init, Ready as IsReady, Running as Runs, Sleeping as Sleeps, Gone}
 use Rattle.cluster.specs.declared.ids.VmId.{VmId}
-use Rattle.cluster.specs.Sets.{has_node}
 use Rattle.catalogue.specs.declared.constraint.Constraint.{Constraint}
-use Rattle.catalogue.specs.Faults.{is_member}
-use Rattle.catalogue.specs.Instance.{Instance}
 use Rattle.slices.specs.declared.stage.Progress.TheVariants.{Started, Unended, Acting}
 use Rattle.slices.specs.Elements.{machine_count, node_count, state_of}
 use Rattle.slices.specs.Forms.{Form, Apart, Allowed, Together, Ordered, InTurn, Bounded, Powered, Settled, Groups, AnyNode, AnyOf, Places, Outside, Within, OnHost, Separation, Each, Between, FromOthers, form_of}

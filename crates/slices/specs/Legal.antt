@@ -1,12 +1,11 @@
 -- Helping only: laws of legal choices.
-use Rattle.std.specs.Prelude.{◌≡◌, ℕ, ◌+◌, ◌<◌, ◌≤◌, List, length, slice_index_or, IsTrue}
+use Rattle.base.specs.Prelude.{◌≡◌, ℕ, ◌+◌, ◌<◌, ◌≤◌, List, length, slice_index_or, IsTrue}
+use Rattle.catalogue.specs.Prelude.{element_at, element_count, Instance, inventory_of, IsInstance}
 use Rattle.cluster.specs.declared.choices.Choice.{Choice}
 use Rattle.cluster.specs.declared.choices.Choice.TheVariants.{Idle, Act}
 use Rattle.cluster.specs.declared.choices.Place.{Place}
 use Rattle.cluster.specs.declared.ids.Element.{Element}
 use Rattle.cluster.specs.declared.kinds.Kind.{Kind}
-use Rattle.cluster.specs.Elements.{element_at, element_count}
-use Rattle.catalogue.specs.Instance.{Instance, IsInstance, inventory_of}
 use Rattle.slices.specs.Actions.{action_duration, duration_of, end_of, is_legal}
 use Rattle.slices.specs.Plans.{IsPlanOf, parted}
 

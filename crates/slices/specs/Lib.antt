@@ -17,3 +17,4 @@ pub mod Starts
 pub mod Parts
 pub mod Ends
 pub mod ByNode
+pub mod Prelude

@@ -1,11 +1,8 @@
 -- What is where at one moment.
-use Rattle.std.specs.Prelude.{ℕ, ◌+◌, ◌<◌, Bool, ◌||◌, length, nat_lt, if◌then◌else◌}
+use Rattle.base.specs.Prelude.{ℕ, ◌+◌, ◌<◌, Bool, ◌||◌, length, nat_lt, if◌then◌else◌, sum_to}
+use Rattle.catalogue.specs.Prelude.{capacity_of, Instance, is_online}
 use Rattle.cluster.specs.declared.choices.Choice.{Choice}
 use Rattle.cluster.specs.declared.ids.Element.{Element}
-use Rattle.cluster.specs.Inventory.{is_online}
-use Rattle.catalogue.specs.Instance.{Instance}
-use Rattle.catalogue.specs.Values.{capacity_of}
-use Rattle.base.specs.Sums.{sum_to}
 use Rattle.slices.specs.declared.stage.Progress.{Progress}
 use Rattle.slices.specs.declared.stage.Stage.{Stage}
 use Rattle.slices.specs.declared.slice.Weight.{Weight}

@@ -1,5 +1,6 @@
 -- Stages of actions, and what a machine holds at a stage.
-use Rattle.std.specs.Prelude.{ℕ, ◌+◌, ◌-◌, Bool, true, false, not, ◌&&◌, ◌==◌, nat_le, Option, Some, None, if◌then◌else◌}
+use Rattle.base.specs.Prelude.{ℕ, ◌+◌, ◌-◌, Bool, true, false, not, ◌&&◌, ◌==◌, nat_le, Option, Some, None, if◌then◌else◌}
+use Rattle.catalogue.specs.Prelude.{demand_of, Instance, use_of}
 use Rattle.cluster.specs.declared.choices.Choice.{Choice}
 use Rattle.cluster.specs.declared.choices.Choice.TheVariants.{Idle, Act}
 use Rattle.cluster.specs.declared.kinds.Kind.{Kind}
@@ -9,8 +10,6 @@ use Rattle.cluster.specs.declared.choices.Place.{Place}
 use Rattle.cluster.specs.declared.choices.Place.TheVariants.{At}
 use Rattle.cluster.specs.declared.states.State.{State}
 use Rattle.cluster.specs.declared.states.State.TheVariants.{Ready, Running, Sleeping}
-use Rattle.catalogue.specs.Instance.{Instance}
-use Rattle.catalogue.specs.Values.{demand_of, use_of}
 use Rattle.slices.specs.declared.slice.Slice.{Slice}
 use Rattle.slices.specs.declared.slice.Slices.{Slices}
 use Rattle.slices.specs.declared.slice.Span.{Span}

@@ -1,15 +1,7 @@
 //! Which action an element takes, how long it lasts, and which choices are legal.
-ghost use Rattle.std.specs.Prelude.{◌≡◌, ◌<◌, ◌≤◌, Bool, length, unwrap_or, IsTrue, IfSome};
-ghost use Rattle.cluster.specs.Limits.{max_amount, max_resources};
+ghost use Rattle.base.specs.Prelude.{◌≡◌, ◌<◌, ◌≤◌, Bool, length, unwrap_or, IsTrue, IfSome};
+ghost use Rattle.slices.specs.Prelude.{amount_at, choice_duration, common_of, demand_of, differs_in, duration_amount, duration_of, end_of, end_wish, is_legal, is_raised, IsElement, kind_duration, kind_of, machine_kind, max_action, max_amount, max_resources, may_idle, may_machine_idle, may_node_idle, node_kind, own_of, stage_at, stage_from, start_of, state_of, use_of, wanted_of, wanted_state};
 ghost use Rattle.cluster.proofs.Public.{IsDuration};
-ghost use Rattle.catalogue.specs.Instance.{IsElement};
-ghost use Rattle.catalogue.specs.Values.{demand_of, use_of, wanted_of};
-ghost use Rattle.slices.specs.Elements.{state_of};
-ghost use Rattle.slices.specs.Actions.{kind_of, end_wish, wanted_state, machine_kind, node_kind, may_machine_idle, may_node_idle, differs_in, is_raised, may_idle, own_of, common_of, duration_amount, amount_at, duration_of, kind_duration, choice_duration, is_legal, end_of};
-ghost use Rattle.slices.specs.Limits.{max_action};
-ghost use Rattle.slices.specs.Snapshots.{stage_at};
-ghost use Rattle.slices.specs.Starts.{start_of};
-ghost use Rattle.slices.specs.Stages.{stage_from};
 
 use crate::elements::{is_online, is_place, state_of};
 use crate::stage::{Stage, WAITING};

@@ -1,10 +1,7 @@
 //! What one element has under a choice: the slices of a machine, what it holds at an instant and
 //! how far its action is; whether a node is usable and powered.
-ghost use Rattle.std.specs.Prelude.{◌≡◌};
-ghost use Rattle.catalogue.specs.Instance.{IsElement};
-ghost use Rattle.slices.specs.Holdings.{IsHoldingAt};
-ghost use Rattle.slices.specs.Snapshots.{usable_at, powered_at, action_at};
-ghost use Rattle.slices.specs.Stages.{slices_of, usable_of, powered_of, progress_of};
+ghost use Rattle.base.specs.Prelude.{◌≡◌};
+ghost use Rattle.slices.specs.Prelude.{action_at, IsElement, IsHoldingAt, powered_at, powered_of, progress_of, slices_of, usable_at, usable_of};
 
 use crate::actions::{kind_of, stage, stage_by};
 use crate::elements::{is_online, state_of};

@@ -1,8 +1,6 @@
 //! What is asked of one element of a problem.
-ghost use Rattle.std.specs.Prelude.{◌≡◌, ◌↔◌, IsTrue};
-ghost use Rattle.cluster.specs.Inventory.{is_online};
-ghost use Rattle.catalogue.specs.Instance.{IsElement};
-ghost use Rattle.slices.specs.Elements.{state_of, is_place};
+ghost use Rattle.base.specs.Prelude.{◌≡◌, ◌↔◌, IsTrue};
+ghost use Rattle.slices.specs.Prelude.{is_online, is_place, IsElement, state_of};
 
 use catalogue::problem::Problem;
 use cluster::{Element, NodeId, Place, State, VmId};

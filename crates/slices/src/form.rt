@@ -1,10 +1,6 @@
 //! The form of a constraint: what it asks of what is where, whatever its kind.
-ghost use Rattle.std.specs.Prelude.{◌≡◌, ◌↔◌, ◌<◌, true, IsTrue};
-ghost use Rattle.catalogue.specs.Faults.{is_rule};
-ghost use Rattle.catalogue.specs.Instance.{Instance, inventory_of};
-ghost use Rattle.slices.specs.Elements.{machine_count};
-ghost use Rattle.slices.specs.Forms.{IsSound, form_of as the_form_of, form_seen, places_seen};
-ghost use Rattle.slices.specs.Holds.{IsOffLimits, runs_elsewhere as the_runs_elsewhere};
+ghost use Rattle.base.specs.Prelude.{◌≡◌, ◌↔◌, ◌<◌, true, IsTrue};
+ghost use Rattle.slices.specs.Prelude.{form_of as the_form_of, form_seen, Instance, inventory_of, is_rule, IsOffLimits, IsSound, machine_count, places_seen, runs_elsewhere as the_runs_elsewhere};
 
 use crate::elements::state_of;
 use crate::slice::Weight;

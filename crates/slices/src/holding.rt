@@ -1,10 +1,6 @@
 //! What a machine holds at one moment: at most two nodes, and its image.
-ghost use Rattle.std.specs.Prelude.{◌≡◌, ◌<◌, ◌≤◌, length};
-ghost use Rattle.cluster.specs.Limits.{max_amount};
-ghost use Rattle.catalogue.specs.Instance.{IsElement};
-ghost use Rattle.slices.specs.Stages.{weight_of};
-ghost use Rattle.slices.specs.Holdings.{held_of, node_of, with_raise, holding_of};
-ghost use Rattle.slices.specs.declared.slice.Weight.TheVariants.{Amount};
+ghost use Rattle.base.specs.Prelude.{◌≡◌, ◌<◌, ◌≤◌, length};
+ghost use Rattle.slices.specs.Prelude.{Amount, held_of, holding_of, IsElement, max_amount, node_of, weight_of, with_raise};
 
 use crate::actions::usage;
 use crate::slice::{Slice, Slices, What, covers};

@@ -1,11 +1,6 @@
 //! Laws of the definitions: each is the contract of a function that does nothing, and a lemma of the
 //! same name in proofs/Public proves it.
-ghost use Rattle.slices.specs.ByNode.{HeldByNode, HeldOnMore, PresentSomewhere, PresentOnSet, AbsentUsesNothing, HeldIsSmall};
-ghost use Rattle.slices.specs.Ends.{IsPointwise, HeldInSteps, HeldAtEnds, UnusableAtEnds, PoweredAtEnds, ActionAtEnds};
-ghost use Rattle.slices.specs.Fewer.{LessHolds};
-ghost use Rattle.slices.specs.Legal.{DurationsLast, EndsByDuration, LegalActsLast, LegalEarlier, LegalIsPlan};
-ghost use Rattle.slices.specs.Parts.{PartsKeep, StagePartsArePart, ExecutionKeeps, OverAsPlanned, FirstIsOne};
-ghost use Rattle.slices.specs.Starts.{HeldQuiet, UsableQuiet, PoweredQuiet, ActionQuiet, MattersQuiet, KeepsQuiet, HasLastStart};
+ghost use Rattle.slices.specs.Prelude.{AbsentUsesNothing, ActionAtEnds, ActionQuiet, DurationsLast, EndsByDuration, ExecutionKeeps, FirstIsOne, HasLastStart, HeldAtEnds, HeldByNode, HeldInSteps, HeldIsSmall, HeldOnMore, HeldQuiet, IsPointwise, KeepsQuiet, LegalActsLast, LegalEarlier, LegalIsPlan, LessHolds, MattersQuiet, OverAsPlanned, PartsKeep, PoweredAtEnds, PoweredQuiet, PresentOnSet, PresentSomewhere, StagePartsArePart, UnusableAtEnds, UsableQuiet};
 
 /// A constraint of each kind still holds where there is less of what it speaks of: presences of
 /// its machines, their amounts, their actions, powered nodes.

@@ -1,14 +1,6 @@
 //! What is where at an instant of a plan.
-ghost use Rattle.std.specs.Prelude.{◌≡◌, ◌≤◌, ◌<◌, length, nat_lt};
-ghost use Rattle.cluster.specs.Limits.{max_amount};
-ghost use Rattle.catalogue.specs.Instance.{IsElement};
-ghost use Rattle.slices.specs.Elements.{node_count};
-ghost use Rattle.slices.specs.Limits.{max_load};
-ghost use Rattle.slices.specs.Plans.{choices_of, IsPlanOf};
-ghost use Rattle.slices.specs.Stages.{one};
-ghost use Rattle.slices.specs.Holdings.{amount_in, is_in, image_in, IsHoldingOf};
-ghost use Rattle.slices.specs.Snapshots.{snapshot_at, load};
-ghost use Rattle.slices.specs.declared.slice.Weight.TheVariants.{Image};
+ghost use Rattle.base.specs.Prelude.{◌≡◌, ◌≤◌, ◌<◌, length, nat_lt};
+ghost use Rattle.slices.specs.Prelude.{amount_in, choices_of, Image, image_in, is_in, IsElement, IsHoldingOf, IsPlanOf, load, max_amount, max_load, node_count, one, snapshot_at};
 
 use crate::choice;
 use crate::holding::{Held, Holding, amount};

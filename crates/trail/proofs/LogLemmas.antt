@@ -1,8 +1,7 @@
 -- What a log tells.
-use Rattle.std.proofs.Common.{◌≡◌, ◌≤◌, ℕ, List, [], ◌∷◌, ◌++◌, length, reverse, arith}
-use Rattle.std.proofs.lemmas.List.{length-reverse, reverse-append}
-use Rattle.domains.specs.Sets.{RegionView, with_domain, domain_at}
-use Rattle.domains.specs.Undo.{restored}
+use Rattle.std.proofs.Common.{reverse}
+use Rattle.base.proofs.Public.{◌≡◌, ◌≤◌, ℕ, List, [], ◌∷◌, ◌++◌, length, arith, length-reverse, reverse-append}
+use Rattle.domains.specs.Prelude.{domain_at, RegionView, restored, with_domain}
 use Rattle.trail.specs.declared.log.Entry.{Entry}
 use Rattle.trail.specs.declared.log.Entry.TheVariants.{Mark, Whole, Lost}
 use Rattle.trail.specs.Logs.{marked, IsLog}

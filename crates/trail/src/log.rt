@@ -1,9 +1,7 @@
 //! What is kept of one change, and how it is undone.
-ghost use Rattle.std.specs.Prelude.{◌≡◌, ◌++◌, ◌∷◌, [], OnOk, OnErr, IfOk, length};
+ghost use Rattle.base.specs.Prelude.{◌≡◌, ◌++◌, ◌∷◌, [], OnOk, OnErr, IfOk, length};
+ghost use Rattle.domains.specs.Prelude.{domain_at, HasElement, in_part, keeping, out_of_part, restored, sets};
 ghost use Rattle.cluster.specs.declared.ids.Element.{Element as AnyElement};
-ghost use Rattle.domains.specs.Parts.{in_part, out_of_part};
-ghost use Rattle.domains.specs.Sets.{HasElement, domain_at, sets, keeping};
-ghost use Rattle.domains.specs.Undo.{restored};
 ghost use Rattle.trail.specs.Logs.{undone, CanUndo, HasKept};
 
 use base::memory::Memory;

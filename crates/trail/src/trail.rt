@@ -1,9 +1,7 @@
 //! The trail.
-ghost use Rattle.std.specs.Prelude.{◌≡◌, ◌<◌, ◌∷◌, [], OnOk, OnErr, IfOk, length};
+ghost use Rattle.base.specs.Prelude.{◌≡◌, ◌<◌, ◌∷◌, [], OnOk, OnErr, IfOk, length};
+ghost use Rattle.domains.specs.Prelude.{domain_at, domain_before, HasElement, keeping, on_side, out_of_part, restored, sets};
 ghost use Rattle.cluster.specs.declared.ids.Element.{Element as AnyElement};
-ghost use Rattle.domains.specs.Parts.{on_side, out_of_part};
-ghost use Rattle.domains.specs.Sets.{HasElement, domain_at, sets, keeping};
-ghost use Rattle.domains.specs.Undo.{domain_before, restored};
 ghost use Rattle.trail.specs.Logs.{Marked};
 
 use crate::log::{Entry, cut, keep, undo};

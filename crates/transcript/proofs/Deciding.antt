@@ -1,19 +1,9 @@
 -- What can be told of an execution: which action may start first, and whether all have ended.
-use Rattle.std.proofs.Common.{◌≡◌, ◌≢◌, ◌⊎◌, ◌↔◌, inl, inr, ℕ, zero, suc, ◌<◌, IsNone, IsTrue, refl, sym, subst, ◌∙◌, arith}
-use Rattle.std.proofs.lemmas.Bool.{cases_Bool, cases_eq, false≢true}
-use Rattle.cluster.specs.declared.ids.Element.{Element}
-use Rattle.cluster.specs.declared.ids.Element.TheVariants.{Vm, Node as TheNode}
-use Rattle.cluster.specs.Elements.{element_at, element_count, element_number}
+use Rattle.std.proofs.Common.{◌↔◌, IsNone, IsTrue}
+use Rattle.base.proofs.Public.{◌≡◌, ◌≢◌, ◌⊎◌, inl, inr, ℕ, zero, suc, ◌<◌, refl, sym, subst, ◌∙◌, arith, cases_Bool, cases_eq, false≢true}
+use Rattle.transcript.specs.Prelude.{AllEnded, choices_of, Element, element_at, element_count, element_number, Ended, Failed, Instance, inventory_of, IsElement, IsExecution, IsFirst, IsPlanOf, MayStart, Moves, Node as TheNode, None as NoAction, Phase, Phases, PlanChoices, Running, start_of, Vm, Waiting, waits}
 use Rattle.cluster.proofs.Public.{element_at-element_number, element_number-lt}
-use Rattle.catalogue.specs.Instance.{Instance, IsElement, inventory_of}
-use Rattle.slices.specs.Plans.{IsPlanOf, PlanChoices, choices_of}
-use Rattle.slices.specs.Starts.{start_of}
 use Rattle.slices.proofs.Public.{past-idle}
-use Rattle.executor.specs.declared.phase.Phase.{Phase}
-use Rattle.executor.specs.declared.phase.Phase.TheVariants.{None as NoAction, Waiting, Running, Ended, Failed}
-use Rattle.executor.specs.Answers.{IsFirst}
-use Rattle.executor.specs.Phases.{AllEnded, Moves, Phases}
-use Rattle.executor.specs.Steps.{IsExecution, MayStart, waits}
 use Rattle.executor.proofs.Public.{first_element, waited_is_listed}
 
 -- ---- phases

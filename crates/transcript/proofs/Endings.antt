@@ -1,27 +1,10 @@
 -- Every text has a transcript, of which all that was written before a fault is a beginning.
-use Rattle.std.proofs.Common.{◌≡◌, inl, inr, ℕ, zero, suc, ◌+◌, ◌<◌, ◌≤◌, List, ◌++◌, Option, Some, None, refl, sym, subst, arith}
-use Rattle.std.specs.Io.{StartsWith}
-use Rattle.base.proofs.Prefixes.{further, longer, whole as all_of_it}
-use Rattle.cluster.specs.declared.ids.Element.{Element}
-use Rattle.cluster.specs.Inventory.{element_named}
+use Rattle.base.proofs.Public.{◌≡◌, inl, inr, ℕ, zero, suc, ◌+◌, ◌<◌, ◌≤◌, List, ◌++◌, Option, Some, None, refl, sym, subst, arith, StartsWith, further, longer, whole as all_of_it}
+use Rattle.transcript.specs.Prelude.{AlwaysEnds, Choices, choices_of, Conclusion, Done, Element, element_named, End, Ended, EndsAt, EventKind, EveryPointIsSafe, Fail, FaultsLeaveABeginning, first_point, Instance, inventory_of, IsBegun, IsDue, IsEvent, IsExecution, IsFirst, IsPlanOf, IsStep, IsTurn, Line, MayStart, Memory, Nothing, NotValid, PlanChoices, Point, point, Reaches, ReadFault, ReadsLine, Refused, Running, Short, Start, start_line, StoppedEnd, StoppedFail, StopsInStart, TakesEvent, TooLong, Turns, Whole, WriteFault}
+use Rattle.executor.specs.Steps.{End as AnEnd}
 use Rattle.cluster.proofs.Public.{listed-element_named}
-use Rattle.catalogue.specs.Instance.{Instance, inventory_of}
-use Rattle.slices.specs.Plans.{Choices, IsPlanOf, PlanChoices, choices_of}
-use Rattle.executor.specs.declared.phase.Phase.TheVariants.{Running, Ended}
-use Rattle.executor.specs.Answers.{IsFirst}
-use Rattle.executor.specs.Steps.{End as AnEnd, IsExecution, IsStep, MayStart, Start}
 use Rattle.executor.proofs.Public.{begins_well, executions_are_safe, steps_keep}
-use Rattle.transcript.specs.declared.conclusion.Conclusion.{Conclusion}
-use Rattle.transcript.specs.declared.conclusion.Conclusion.TheVariants.{Done, StoppedFail, StoppedEnd, Refused}
 use Rattle.transcript.specs.declared.conclusion.EventFault.TheVariants as fault
-use Rattle.transcript.specs.declared.conclusion.ExecuteFault.TheVariants.{NotValid, ReadFault, WriteFault, Memory}
-use Rattle.transcript.specs.declared.lines.EventKind.{EventKind}
-use Rattle.transcript.specs.declared.lines.EventKind.TheVariants.{End, Fail}
-use Rattle.transcript.specs.declared.lines.Line.{Line}
-use Rattle.transcript.specs.declared.lines.Line.TheVariants.{Whole, TooLong, Short, Nothing}
-use Rattle.transcript.specs.Laws.{AlwaysEnds, EveryPointIsSafe, FaultsLeaveABeginning, IsBegun}
-use Rattle.transcript.specs.Lines.{IsEvent, ReadsLine, start_line}
-use Rattle.transcript.specs.Transcript.{EndsAt, IsDue, IsTurn, Point, Reaches, StopsInStart, TakesEvent, Turns, first_point, point}
 use Rattle.transcript.proofs.Deciding.{ended_or_not, is_or_not, moved_to, moves, ready_or_quiet}
 use Rattle.transcript.proofs.EventLines.{event_or_not, takes_line}
 use Rattle.transcript.proofs.Measure.{end_left, start_left, steps_left}

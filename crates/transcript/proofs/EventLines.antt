@@ -1,15 +1,7 @@
 -- Which line is taken of some bytes, and which event it says.
-use Rattle.std.proofs.Common.{◌≡◌, ◌≢◌, ◌⊎◌, inl, inr, ℕ, zero, suc, ◌+◌, ◌≤◌, List, [], ◌∷◌, ◌++◌, length, refl, sym, ap, ◌∙◌, append_assoc, arith, length-append}
-use Rattle.std.specs.List.{Contains}
-use Rattle.std.proofs.lemmas.Bool.{cases_Bool, cases_eq, false≢true}
-use Rattle.std.proofs.lemmas.List.Elements.{Contains-append_cases}
-use Rattle.cluster.specs.Names.{is_name}
-use Rattle.transcript.specs.declared.lines.EventKind.{EventKind}
-use Rattle.transcript.specs.declared.lines.EventKind.TheVariants.{End, Fail}
-use Rattle.transcript.specs.declared.lines.Line.{Line}
-use Rattle.transcript.specs.declared.lines.Line.TheVariants.{Whole, TooLong, Short, Nothing}
-use Rattle.transcript.specs.declared.lines.TheConstants.{MAX_LINE_BYTES}
-use Rattle.transcript.specs.Lines.{BeginsLine, IsEvent, IsOneLine, ReadsLine, kind_text}
+use Rattle.std.proofs.Common.{length-append}
+use Rattle.base.proofs.Public.{◌≡◌, ◌≢◌, ◌⊎◌, inl, inr, ℕ, zero, suc, ◌+◌, ◌≤◌, List, [], ◌∷◌, ◌++◌, length, refl, sym, ap, ◌∙◌, append_assoc, arith, Contains, cases_Bool, cases_eq, false≢true, Contains-append_cases}
+use Rattle.transcript.specs.Prelude.{BeginsLine, End, EventKind, Fail, is_name, IsEvent, IsOneLine, kind_text, Line, MAX_LINE_BYTES, Nothing, ReadsLine, Short, TooLong, Whole}
 
 -- ---- which line
 

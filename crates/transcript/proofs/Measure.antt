@@ -1,17 +1,8 @@
 -- An execution has so many steps before it at most.
-use Rattle.std.proofs.Common.{◌≡◌, inl, inr, ℕ, ◌+◌, ◌-◌, ◌≤◌, length, refl, sym, ap, ◌∙◌, arith}
-use Rattle.std.proofs.lemmas.Bool.{cases_lt, lt-ltb, le-ltb}
-use Rattle.base.specs.Sums.{sum_to}
-use Rattle.base.proofs.Sums.{sum_to-bound, sum_to-change}
-use Rattle.cluster.specs.declared.ids.Element.{Element}
-use Rattle.cluster.specs.Elements.{element_at, element_count, element_number}
+use Rattle.base.proofs.Public.{◌≡◌, inl, inr, ℕ, ◌+◌, ◌-◌, ◌≤◌, length, refl, sym, ap, ◌∙◌, arith, cases_lt, lt-ltb, le-ltb, sum_to-bound, sum_to-change}
+use Rattle.transcript.specs.Prelude.{Choices, Element, element_at, element_count, element_number, Ended, Failed, Instance, inventory_of, IsElement, IsInstance, IsStep, Moves, None as NoAction, Phase, Phases, Running, Start, sum_to, Waiting}
+use Rattle.executor.specs.Steps.{End}
 use Rattle.cluster.proofs.Public.{element_at-element_number, element_number-lt}
-use Rattle.catalogue.specs.Instance.{Instance, IsElement, IsInstance, inventory_of}
-use Rattle.slices.specs.Plans.{Choices}
-use Rattle.executor.specs.declared.phase.Phase.{Phase}
-use Rattle.executor.specs.declared.phase.Phase.TheVariants.{None as NoAction, Waiting, Running, Ended, Failed}
-use Rattle.executor.specs.Phases.{Moves, Phases}
-use Rattle.executor.specs.Steps.{End, IsStep, Start}
 
 -- how many steps an action has before it at most
 abbrev weight : Phase → ℕ

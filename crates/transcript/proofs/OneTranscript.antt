@@ -1,28 +1,9 @@
 -- Two transcripts of one text are the same.
-use Rattle.std.proofs.Common.{◌≡◌, ◌≢◌, ◌⊎◌, inl, inr, ℕ, zero, suc, ◌+◌, ◌<◌, List, [], ◌∷◌, ◌++◌, length, Option, Some, None, refl, sym, ap, subst, ◌∙◌, arith, length-append}
-use Rattle.std.proofs.lemmas.Bool.{cases_order}
-use Rattle.cluster.specs.declared.ids.Element.{Element}
-use Rattle.cluster.specs.Elements.{element_at, element_number}
-use Rattle.cluster.specs.Inventory.{element_named}
+use Rattle.std.proofs.Common.{length-append}
+use Rattle.base.proofs.Public.{◌≡◌, ◌≢◌, ◌⊎◌, inl, inr, ℕ, zero, suc, ◌+◌, ◌<◌, List, [], ◌∷◌, ◌++◌, length, Option, Some, None, refl, sym, ap, subst, ◌∙◌, arith, cases_order}
+use Rattle.transcript.specs.Prelude.{AllEnded, Choices, Conclusion, Done, Element, element_at, element_named, element_number, End, Ended, EndsAt, EventFault, EventKind, Fail, Instance, inventory_of, IsDue, IsEndTurn, IsEvent, IsFirst, IsOneLine, IsRefused, IsStartTurn, IsTurn, Line, MayStart, Moves, None as NoAction, Nothing, Phase, Phases, Point, ReadsLine, Refused, Running, Short, start_line, StoppedEnd, StoppedFail, TakesEvent, TooLong, TranscriptIsOne, Turns, Waiting, Whole}
 use Rattle.cluster.proofs.Public.{element_at-element_number}
-use Rattle.catalogue.specs.Instance.{Instance, inventory_of}
-use Rattle.slices.specs.Plans.{Choices}
-use Rattle.executor.specs.declared.phase.Phase.{Phase}
-use Rattle.executor.specs.declared.phase.Phase.TheVariants.{None as NoAction, Waiting, Running, Ended}
-use Rattle.executor.specs.Answers.{IsFirst}
-use Rattle.executor.specs.Phases.{AllEnded, Moves, Phases}
-use Rattle.executor.specs.Steps.{MayStart}
-use Rattle.transcript.specs.declared.conclusion.Conclusion.{Conclusion}
-use Rattle.transcript.specs.declared.conclusion.Conclusion.TheVariants.{Done, StoppedFail, StoppedEnd, Refused}
-use Rattle.transcript.specs.declared.conclusion.EventFault.{EventFault}
 use Rattle.transcript.specs.declared.conclusion.EventFault.TheVariants as fault
-use Rattle.transcript.specs.declared.lines.EventKind.{EventKind}
-use Rattle.transcript.specs.declared.lines.EventKind.TheVariants.{End, Fail}
-use Rattle.transcript.specs.declared.lines.Line.{Line}
-use Rattle.transcript.specs.declared.lines.Line.TheVariants.{Whole, TooLong, Short, Nothing}
-use Rattle.transcript.specs.Laws.{TranscriptIsOne}
-use Rattle.transcript.specs.Lines.{IsEvent, IsOneLine, ReadsLine, start_line}
-use Rattle.transcript.specs.Transcript.{EndsAt, IsDue, IsEndTurn, IsRefused, IsStartTurn, IsTurn, Point, TakesEvent, Turns}
 use Rattle.transcript.proofs.Deciding.{is_or_not, same_or_not}
 use Rattle.transcript.proofs.EventLines.{contains_here, event_or_not, later_line, same_event}
 

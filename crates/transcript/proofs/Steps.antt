@@ -1,30 +1,11 @@
 -- What the parts of a run do to where it stands.
-use Rattle.std.proofs.Common.{◌≡◌, ◌≢◌, inl, inr, ℕ, suc, ◌+◌, List, Bool, true, false, Option, Some, None, Result, Ok, Err, IsTrue, refl, sym, ap, subst, ◌∙◌}
-use Rattle.std.proofs.lemmas.Bool.{false≢true}
-use Rattle.cluster.specs.declared.ids.Element.{Element}
-use Rattle.cluster.specs.Inventory.{element_named}
+use Rattle.std.proofs.Common.{Result, Err, IsTrue}
+use Rattle.base.proofs.Public.{◌≡◌, ◌≢◌, inl, inr, ℕ, suc, ◌+◌, List, Bool, true, false, Option, Some, None, Ok, refl, sym, ap, subst, ◌∙◌, false≢true}
+use Rattle.transcript.specs.Prelude.{AllEnded, Already, BeginsLine, BeginsStart, Choices, choices_of, Conclusion, Done, Element, element_named, End, EndsAt, EventGives, EventKind, ExecuteFault, ExecuteGives, Fail, first_phases, first_point, Instance, inventory_of, IsDue, IsEvent, IsFirst, IsHindrance, IsStep, IsValid, MayStart, Memory, NotReady, NotRunning, NotValid, Phase, Phases, PlanChoices, Point, point, Reaches, ReadFault, ReadsLine, Refused, RunGives, Running, Start, StartGives, StepFault, StopGives as Stops, StoppedEnd, StoppedFail, StopsInEvent, StopsInStart, TakeGives, TakesEvent, WriteFault}
+use Rattle.executor.specs.Answers.{StartGives as Starts}
 use Rattle.cluster.proofs.Public.{listed-element_named}
-use Rattle.catalogue.specs.Instance.{Instance, inventory_of}
-use Rattle.slices.specs.Plans.{Choices, PlanChoices, choices_of}
-use Rattle.slices.specs.Rules.{IsValid}
-use Rattle.executor.specs.declared.phase.Phase.TheVariants.{Running}
-use Rattle.executor.specs.declared.phase.StepFault.{StepFault}
-use Rattle.executor.specs.declared.phase.StepFault.TheVariants.{Already, NotReady, NotRunning}
-use Rattle.executor.specs.Answers.{IsFirst, IsHindrance, StartGives as Starts, StopGives as Stops}
-use Rattle.executor.specs.declared.phase.Phase.{Phase}
-use Rattle.executor.specs.Phases.{AllEnded, Phases, first_phases}
-use Rattle.executor.specs.Steps.{IsStep, MayStart, Start}
-use Rattle.transcript.specs.declared.conclusion.Conclusion.{Conclusion}
-use Rattle.transcript.specs.declared.conclusion.Conclusion.TheVariants.{Done, StoppedFail, StoppedEnd, Refused}
 use Rattle.transcript.specs.declared.conclusion.EventFault.TheVariants as fault
-use Rattle.transcript.specs.declared.conclusion.ExecuteFault.{ExecuteFault}
-use Rattle.transcript.specs.declared.conclusion.ExecuteFault.TheVariants.{NotValid, ReadFault, WriteFault, Memory}
-use Rattle.transcript.specs.declared.lines.EventKind.{EventKind}
-use Rattle.transcript.specs.declared.lines.EventKind.TheVariants.{End, Fail}
 use Rattle.transcript.specs.declared.lines.Line.TheVariants as found
-use Rattle.transcript.specs.Lines.{BeginsLine, IsEvent, ReadsLine}
-use Rattle.transcript.specs.Parts.{BeginsStart, EventGives, StartGives, TakeGives}
-use Rattle.transcript.specs.Transcript.{EndsAt, ExecuteGives, IsDue, Point, Reaches, RunGives, StopsInEvent, StopsInStart, TakesEvent, first_point, point}
 use Rattle.transcript.proofs.Measure.{end_left, start_left, steps_left}
 
 -- ---- a start

@@ -1,11 +1,6 @@
 -- Laws of transcripts.
-use Rattle.std.specs.Prelude.{◌≡◌, ℕ, List, Err}
-use Rattle.std.specs.Io.{StartsWith}
-use Rattle.catalogue.specs.Instance.{Instance, IsInstance}
-use Rattle.slices.specs.Plans.{Choices, IsPlanOf, PlanChoices, choices_of}
-use Rattle.slices.specs.Rules.{IsValid}
-use Rattle.executor.specs.Laws.{IsSafe}
-use Rattle.executor.specs.Steps.{IsExecution}
+use Rattle.base.specs.Prelude.{◌≡◌, ℕ, List, Err, StartsWith}
+use Rattle.executor.specs.Prelude.{Choices, choices_of, Instance, IsExecution, IsInstance, IsPlanOf, IsSafe, IsValid, PlanChoices}
 use Rattle.transcript.specs.declared.conclusion.Conclusion.{Conclusion}
 use Rattle.transcript.specs.declared.conclusion.ExecuteFault.{ExecuteFault}
 use Rattle.transcript.specs.Transcript.{EndsFrom, Point, Reaches, RunGives, first_point}

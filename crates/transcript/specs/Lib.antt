@@ -5,3 +5,4 @@ pub mod Laws
 pub mod Causes
 -- what the parts of the run give
 pub mod Parts
+pub mod Prelude

@@ -1,10 +1,7 @@
 -- The lines of a transcript: those of starts, which are written, and those of events, which are read.
-use Rattle.std.specs.Prelude.{◌≡◌, ℕ, ◌+◌, ◌<◌, ◌≤◌, List, [], ◌∷◌, ◌++◌, length, IsTrue, codes}
-use Rattle.std.specs.List.{Contains}
+use Rattle.base.specs.Prelude.{◌≡◌, ℕ, ◌+◌, ◌<◌, ◌≤◌, List, [], ◌∷◌, ◌++◌, length, IsTrue, codes, Contains}
+use Rattle.executor.specs.Prelude.{Instance, inventory_of, is_name, name_of}
 use Rattle.cluster.specs.declared.ids.Element.{Element}
-use Rattle.cluster.specs.Inventory.{name_of}
-use Rattle.cluster.specs.Names.{is_name}
-use Rattle.catalogue.specs.Instance.{Instance, inventory_of}
 use Rattle.transcript.specs.declared.conclusion.EventFault.{EventFault}
 use Rattle.transcript.specs.declared.conclusion.EventFault.TheVariants as fault
 use Rattle.transcript.specs.declared.lines.EventKind.{EventKind}

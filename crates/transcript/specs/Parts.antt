@@ -1,17 +1,10 @@
 -- What the parts of a run give. What is said of bytes is said only of sources and sinks that tell them.
-use Rattle.std.specs.Prelude.{◌≡◌, ◌≢◌, ℕ, ◌+◌, List, ◌++◌, Bool, true, false, IsTrue, Option, Some, None, Result, Ok, Err}
-use Rattle.std.specs.Io.{StartsWith}
+use Rattle.base.specs.Prelude.{◌≡◌, ◌≢◌, ℕ, ◌+◌, List, ◌++◌, Bool, true, false, IsTrue, Option, Some, None, Result, Ok, Err, StartsWith}
+use Rattle.executor.specs.Prelude.{Choices, element_named, End as AnEnd, Instance, inventory_of, IsElement, IsFirst, IsFirstBroken, IsStep, IsValid, MayStart, Moves, Phases, Start}
 use Rattle.plan_io.specs.declared.faults.OutFault.{OutFault}
-use Rattle.plan_io.specs.declared.faults.OutFault.TheVariants as out
 use Rattle.cluster.specs.declared.ids.Element.{Element}
-use Rattle.cluster.specs.Inventory.{element_named}
-use Rattle.catalogue.specs.Instance.{Instance, IsElement, inventory_of}
-use Rattle.slices.specs.Plans.{Choices}
-use Rattle.slices.specs.Rules.{IsFirstBroken, IsValid}
 use Rattle.executor.specs.declared.phase.Phase.TheVariants.{Running, Ended}
-use Rattle.executor.specs.Answers.{IsFirst}
-use Rattle.executor.specs.Phases.{Moves, Phases}
-use Rattle.executor.specs.Steps.{IsStep, MayStart, Start, End as AnEnd}
+use Rattle.plan_io.specs.declared.faults.OutFault.TheVariants as out
 use Rattle.transcript.specs.declared.conclusion.Conclusion.{Conclusion}
 use Rattle.transcript.specs.declared.conclusion.Conclusion.TheVariants.{Done, StoppedFail, StoppedEnd, Refused}
 use Rattle.transcript.specs.declared.conclusion.EventFault.TheVariants as fault

@@ -1,15 +1,8 @@
 -- The transcript of an execution: which lines are written, which bytes are taken, and how it ends.
-use Rattle.std.specs.Prelude.{◌≡◌, ◌≢◌, ◌⊎◌, ℕ, zero, suc, ◌+◌, List, [], ◌++◌, Some, None, Result, Ok, Err}
-use Rattle.std.specs.Io.{StartsWith}
+use Rattle.base.specs.Prelude.{◌≡◌, ◌≢◌, ◌⊎◌, ℕ, zero, suc, ◌+◌, List, [], ◌++◌, Some, None, Result, Ok, Err, StartsWith}
+use Rattle.executor.specs.Prelude.{AllEnded, Choices, element_named, End as AnEnd, first_phases, Instance, inventory_of, IsFirst, IsFirstBroken, IsStep, IsValid, MayStart, Phases, Start}
 use Rattle.cluster.specs.declared.ids.Element.{Element}
-use Rattle.cluster.specs.Inventory.{element_named}
-use Rattle.catalogue.specs.Instance.{Instance, inventory_of}
-use Rattle.slices.specs.Plans.{Choices}
-use Rattle.slices.specs.Rules.{IsFirstBroken, IsValid}
 use Rattle.executor.specs.declared.phase.Phase.TheVariants.{Running}
-use Rattle.executor.specs.Answers.{IsFirst}
-use Rattle.executor.specs.Phases.{AllEnded, Phases, first_phases}
-use Rattle.executor.specs.Steps.{IsStep, MayStart, Start, End as AnEnd}
 use Rattle.transcript.specs.declared.conclusion.Conclusion.{Conclusion}
 use Rattle.transcript.specs.declared.conclusion.Conclusion.TheVariants.{Done, StoppedFail, StoppedEnd, Refused}
 use Rattle.transcript.specs.declared.conclusion.EventFault.{EventFault}

@@ -1,10 +1,6 @@
 //! Event lines, which are read byte by byte.
-ghost use Rattle.std.specs.Prelude.{◌≡◌, [], ◌∷◌, ℕ, List, IsTrue, IfOk, OnErr, MatchOption};
-ghost use Rattle.plan_io.specs.Causes.{CountsReads};
-ghost use Rattle.transcript.specs.declared.lines.EventKind.{EventKind as AnEventKind};
-ghost use Rattle.transcript.specs.Causes.{ReadCauses};
-ghost use Rattle.transcript.specs.Lines.{IsEvent};
-ghost use Rattle.transcript.specs.Parts.{LineGives};
+ghost use Rattle.base.specs.Prelude.{◌≡◌, [], ◌∷◌, ℕ, List, IsTrue, IfOk, OnErr, MatchOption};
+ghost use Rattle.transcript.specs.Prelude.{CountsReads, EventKind as AnEventKind, IsEvent, LineGives, ReadCauses};
 
 use crate::conclusion::ExecuteFault;
 use cluster::names::is_name_text;

@@ -1,13 +1,6 @@
 //! The run of a plan: starts are written to a sink, and event lines are read from a source.
-ghost use Rattle.std.specs.Prelude.{◌≡◌, IsTrue, IfOk, IfErr};
-ghost use Rattle.std.specs.Io.{StartsWith};
-ghost use Rattle.catalogue.specs.Instance.{IsElement};
-ghost use Rattle.slices.specs.Plans.{IsPlanOf, choices_of};
-ghost use Rattle.executor.specs.Views.{IsSameWork, phases_of};
-ghost use Rattle.transcript.specs.Causes.{ReadCauses, WriteCauses};
-ghost use Rattle.transcript.specs.Lines.{start_line};
-ghost use Rattle.transcript.specs.Parts.{EventGives, IsJudged, IsOfRunning, NamesListed, StartGives, StaysIfNotValid, TakeGives};
-ghost use Rattle.transcript.specs.Transcript.{ExecuteGives, IsDue, RunGives, point};
+ghost use Rattle.base.specs.Prelude.{◌≡◌, IsTrue, IfOk, IfErr, StartsWith};
+ghost use Rattle.transcript.specs.Prelude.{choices_of, EventGives, ExecuteGives, IsDue, IsElement, IsJudged, IsOfRunning, IsPlanOf, IsSameWork, NamesListed, phases_of, point, ReadCauses, RunGives, start_line, StartGives, StaysIfNotValid, TakeGives, WriteCauses};
 
 use crate::conclusion::{Conclusion, EventFault, ExecuteFault};
 use crate::lines::{EventKind, Line, event_of, read_line};

@@ -1,12 +1,8 @@
 -- The cheapest of costs stands for them all; and sets that are the same for each element are the same.
 use mathlib.Core.Path.{fun_ext}
-use Rattle.std.proofs.Common.{◌≡◌, ◌⊎◌, inl, inr, ℕ, ◌<◌, ◌≤◌, ◌↔◌, min, List, [], ◌∷◌, ◌++◌, refl, ap, ◌∙◌, arith, Option, Some, None}
-use Rattle.std.specs.Option.{IsSomeAnd}
-use Rattle.base.specs.Least.{lower, lowest}
-use Rattle.cluster.specs.declared.ids.Element.{Element}
-use Rattle.domains.specs.Sets.{Sets}
-use Rattle.trees.specs.Finding.{AllFrom, IsLow}
-use Rattle.trees.specs.Searching.{AllAbove, SomeUpto}
+use Rattle.std.proofs.Common.{◌↔◌, min}
+use Rattle.base.proofs.Public.{◌≡◌, ◌⊎◌, inl, inr, ℕ, ◌<◌, ◌≤◌, List, [], ◌∷◌, ◌++◌, refl, ap, ◌∙◌, arith, Option, Some, None, IsSomeAnd}
+use Rattle.trees.specs.Prelude.{AllAbove, AllFrom, Element, IsLow, lower, lowest, Sets, SomeUpto}
 
 pub same_sets : (a b : Sets) → ((e : Element) → a e ≡ b e) → a ≡ b
 same_sets a b same = fun_ext same

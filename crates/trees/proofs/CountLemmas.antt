@@ -1,9 +1,6 @@
 -- What is counted along steps, of several steps after one another.
 use Rattle.std.proofs.Common.{◌≡◌, ◌+◌, List, [], ◌∷◌, ◌++◌, refl, ap, arith, ◌||◌}
-use Rattle.trees.specs.declared.steps.Step.{Step}
-use Rattle.trees.specs.declared.steps.Step.TheVariants.{Decide, Cut, Fail, Plan, Left}
-use Rattle.trees.specs.Goals.{decisions, has_left}
-use Rattle.trees.specs.Searching.{plan_costs}
+use Rattle.trees.specs.Prelude.{Cut, Decide, decisions, Fail, has_left, Left, Plan, plan_costs, Step}
 
 pub decisions_append : (a b : List Step) → decisions (a ++ b) ≡ decisions a + decisions b
 decisions_append [] b = omega arith

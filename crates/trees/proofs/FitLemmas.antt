@@ -1,23 +1,7 @@
 -- How many decisions a lean tree has.
-use Rattle.std.proofs.Common.{◌≡◌, ◌≢◌, ℕ, ◌+◌, ◌≤◌, List, [], ◌∷◌, ◌++◌, refl, sym, ap, ◌∙◌, arith, Option, Bool, true, false, cond, ◌||◌}
-use Rattle.std.specs.List.{filter}
-use Rattle.std.proofs.lemmas.Bool.{false≢true}
-use Rattle.cluster.specs.declared.choices.Choice.{Choice}
-use Rattle.cluster.specs.declared.ids.Element.{Element}
-use Rattle.cluster.specs.declared.ids.Element.TheVariants.{Vm, Node}
-use Rattle.catalogue.specs.Instance.{Instance, IsElement}
-use Rattle.slices.specs.Elements.{machine_count, node_count}
-use Rattle.domains.specs.Parts.{in_part, out_of_part}
-use Rattle.domains.specs.Sets.{Sets, keeping, same_element}
-use Rattle.domains.specs.Sizes.{size, IsOneOf}
+use Rattle.base.proofs.Public.{◌≡◌, ◌≢◌, ℕ, ◌+◌, ◌≤◌, List, [], ◌∷◌, ◌++◌, refl, sym, ap, ◌∙◌, arith, Option, Bool, true, false, cond, ◌||◌, filter, false≢true}
+use Rattle.trees.specs.Prelude.{AtEach, Choice, Cut, cut_then, Decide, decide_both, decisions, DecisionsFit, Element, fail_leaf, has_left, in_part, inside, Instance, IsElement, IsOneOf, IsUndecided, keeping, LeanAt, LeanTreesFit, left_leaf, machine_count, Node, node_count, out_of_part, outside, plan_leaf, same_element, Sets, size, Step, StepHolds, steps_of, Tree, Vm}
 use Rattle.domains.proofs.Public.{open_has_two, same_is, size_falls, size_is_positive, split_adds_up}
-use Rattle.trees.specs.declared.steps.Step.{Step}
-use Rattle.trees.specs.declared.steps.Step.TheVariants.{Decide, Cut}
-use Rattle.trees.specs.Trees.{Tree, fail_leaf, plan_leaf, left_leaf, cut_then, decide_both, steps_of, inside, outside, AtEach}
-use Rattle.trees.specs.Proving.{StepHolds}
-use Rattle.trees.specs.Goals.{decisions, has_left}
-use Rattle.trees.specs.Searching.{IsUndecided, LeanAt}
-use Rattle.trees.specs.Laws.{DecisionsFit, LeanTreesFit}
 use Rattle.trees.proofs.CountLemmas.{decisions_append, has_left_append}
 
 -- ---- numbers alone

@@ -1,18 +1,7 @@
 -- What a search found is a tree that proves, is lean and was searched.
-use Rattle.std.proofs.Common.{◌≡◌, ◌≢◌, ◌⊎◌, inl, inr, ℕ, ◌≤◌, List, [], ◌∷◌, ◌++◌, refl, sym, subst, arith, Option, Some, None}
-use Rattle.std.specs.Option.{IsSomeAnd}
-use Rattle.catalogue.specs.Instance.{Instance}
-use Rattle.domains.specs.Sets.{Sets}
-use Rattle.reasons.specs.declared.reason.Reason.{Reason}
+use Rattle.base.proofs.Public.{◌≡◌, ◌≢◌, ◌⊎◌, inl, inr, ℕ, ◌≤◌, List, [], ◌∷◌, ◌++◌, refl, sym, subst, arith, Option, Some, None, IsSomeAnd}
+use Rattle.trees.specs.Prelude.{Cut, Decide, Fail, FoundAt, FoundIsLean, FoundIsSearched, FoundProves, inside, Instance, IsLow, LeanAt, least_cost, Left, Plan, plan_costs, Reason, Refutes, SearchedAt, Sets, SomeUpto, StayingProves, Step, StepHolds}
 use Rattle.reasons.specs.declared.reason.Reason.TheVariants.{Empty, Bound, Load, Pair, Place, Group, SetLoad, Power, Usable, Hall}
-use Rattle.reasons.specs.Reasons.{Refutes}
-use Rattle.reasons.specs.Sure.{least_cost}
-use Rattle.trees.specs.declared.steps.Step.{Step}
-use Rattle.trees.specs.declared.steps.Step.TheVariants.{Decide, Cut, Fail, Plan, Left}
-use Rattle.trees.specs.Trees.{inside}
-use Rattle.trees.specs.Proving.{StepHolds}
-use Rattle.trees.specs.Searching.{LeanAt, SearchedAt, SomeUpto, plan_costs}
-use Rattle.trees.specs.Finding.{FoundAt, FoundIsLean, FoundIsSearched, FoundProves, IsLow, StayingProves}
 use Rattle.trees.proofs.CountLemmas.{plan_costs_append}
 use Rattle.trees.proofs.TurnLemmas.{at_each_map, at_each_turn}
 

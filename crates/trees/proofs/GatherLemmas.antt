@@ -1,9 +1,6 @@
 -- What is listed of each step, along steps and over trees.
 use Rattle.std.proofs.Common.{◌≡◌, List, [], ◌∷◌, ◌++◌, refl, sym, ap, subst, ◌∙◌, append_assoc, append-nil}
-use Rattle.domains.specs.Sets.{Sets}
-use Rattle.trees.specs.declared.steps.Step.{Step}
-use Rattle.trees.specs.declared.steps.Step.TheVariants.{Decide, Cut}
-use Rattle.trees.specs.Trees.{Tree, fail_leaf, plan_leaf, left_leaf, cut_then, decide_both, steps_of, inside, outside, Fact, Leads, children, gathered, gathered_along}
+use Rattle.trees.specs.Prelude.{children, Cut, cut_then, Decide, decide_both, Fact, fail_leaf, gathered, gathered_along, inside, Leads, left_leaf, outside, plan_leaf, Sets, Step, steps_of, Tree}
 
 module _ {A : Type 0} (f : Sets → Step → List A) where
   -- one more step at the end

@@ -1,18 +1,6 @@
 -- What each goal says of all plans of the instance.
-use Rattle.std.proofs.Common.{◌≡◌, ℕ, ◌≤◌, refl, sym, subst, Option, Some, None, Bool, true, false}
-use Rattle.std.specs.Option.{IsSomeAnd}
-use Rattle.catalogue.specs.Instance.{Instance, IsInstance}
-use Rattle.slices.specs.Costs.{cost_of}
-use Rattle.slices.specs.Plans.{Choices, IsPlan}
-use Rattle.slices.specs.Rules.{IsValid}
-use Rattle.reasons.specs.Start.{start_sets, within}
-use Rattle.trees.specs.declared.steps.Goal.{Goal}
-use Rattle.trees.specs.declared.steps.Goal.TheVariants.{Optimal, Infeasible, Undecided}
-use Rattle.trees.specs.Trees.{Tree, steps_of}
-use Rattle.trees.specs.Proving.{Proves}
-use Rattle.trees.specs.Goals.{decisions, goal_of, has_left, least_shown, shown}
-use Rattle.trees.specs.Certificates.{bound_of, GoalHolds, IsHandedIn, least_of, NoneUndercuts}
-use Rattle.trees.specs.Laws.{CertificatesHold}
+use Rattle.base.proofs.Public.{◌≡◌, ℕ, ◌≤◌, refl, sym, subst, Option, Some, None, Bool, true, false, IsSomeAnd}
+use Rattle.trees.specs.Prelude.{bound_of, CertificatesHold, Choices, cost_of, decisions, Goal, goal_of, GoalHolds, has_left, Infeasible, Instance, IsHandedIn, IsInstance, IsPlan, IsValid, least_of, least_shown, NoneUndercuts, Optimal, Proves, shown, start_sets, steps_of, Tree, Undecided, within}
 use Rattle.trees.proofs.LeaveLemmas.{proved_excludes}
 use Rattle.trees.proofs.LeastLemmas.{least_holds, number_shown}
 use Rattle.reasons.proofs.Public.{cost_within, start_has, within_valid}

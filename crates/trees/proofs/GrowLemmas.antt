@@ -1,12 +1,6 @@
 -- Steps that leave nothing open are those of a tree.
 use Rattle.std.proofs.Common.{◌≡◌, List, [], ◌∷◌, ◌++◌, refl, sym, ap, subst, ◌∙◌, append_assoc, append-nil}
-use Rattle.cluster.specs.declared.ids.Element.{Element}
-use Rattle.domains.specs.declared.parts.Part.{Part}
-use Rattle.domains.specs.Sets.{Sets}
-use Rattle.reasons.specs.declared.reason.Reason.{Reason}
-use Rattle.trees.specs.declared.steps.Step.{Step}
-use Rattle.trees.specs.declared.steps.Step.TheVariants.{Decide, Cut, Fail, Plan, Left}
-use Rattle.trees.specs.Trees.{Tree, fail_leaf, plan_leaf, left_leaf, cut_then, decide_both, steps_of, inside, outside, Fact, AtEach, Leads}
+use Rattle.trees.specs.Prelude.{AtEach, Cut, cut_then, Decide, decide_both, Element, Fact, Fail, fail_leaf, inside, Leads, Left, left_leaf, outside, Part, Plan, plan_leaf, Reason, Sets, Step, steps_of, Tree}
 
 -- the steps of several trees, one tree after the other
 abbrev all_steps : List Tree → List Step

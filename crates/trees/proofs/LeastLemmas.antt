@@ -1,20 +1,9 @@
 -- The least that a tree shows where sets are left.
-use Rattle.std.proofs.Common.{◌≡◌, ◌⊎◌, inl, inr, ℕ, ◌≤◌, min, List, [], ◌∷◌, ◌++◌, refl, sym, ◌∙◌, arith, Option, Some, None, is_some, Bool, true, false, ◌||◌}
-use Rattle.std.specs.Option.{IsSomeAnd}
-use Rattle.std.proofs.lemmas.Bool.{false≢true}
-use Rattle.base.specs.Least.{lower, lowest}
-use Rattle.base.proofs.Least.{lower-le}
-use Rattle.catalogue.specs.Instance.{Instance, IsInstance}
-use Rattle.slices.specs.Costs.{cost_of}
-use Rattle.slices.specs.Plans.{Choices}
-use Rattle.slices.specs.Rules.{IsValid}
-use Rattle.domains.specs.Sets.{Sets, IsIn}
+use Rattle.std.proofs.Common.{min}
+use Rattle.base.proofs.Public.{◌≡◌, ◌⊎◌, inl, inr, ℕ, ◌≤◌, List, [], ◌∷◌, ◌++◌, refl, sym, ◌∙◌, arith, Option, Some, None, is_some, Bool, true, false, ◌||◌, IsSomeAnd, false≢true, lower-le}
+use Rattle.trees.specs.Prelude.{Choices, cost_of, cut_then, decide_both, fail_leaf, has_left, inside, Instance, IsIn, IsInSome, IsInstance, IsValid, least_cost, least_shown, LeastHolds, LeastIsShown, left_leaf, left_sets, lower, lower_of, lowest, outside, plan_leaf, Sets, steps_of, Tree}
 use Rattle.reasons.specs.declared.reason.Reason.TheVariants.{Bound}
-use Rattle.reasons.specs.Sure.{least_cost}
 use Rattle.reasons.proofs.Public.{refuted_excludes}
-use Rattle.trees.specs.Trees.{Tree, fail_leaf, plan_leaf, left_leaf, cut_then, decide_both, steps_of, inside, outside}
-use Rattle.trees.specs.Goals.{has_left, least_shown, left_sets, lower_of}
-use Rattle.trees.specs.Laws.{IsInSome, LeastHolds, LeastIsShown}
 use Rattle.trees.proofs.CountLemmas.{has_left_append}
 use Rattle.trees.proofs.LeaveLemmas.{none_left, proved_leaves}
 

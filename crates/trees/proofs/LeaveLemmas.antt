@@ -1,22 +1,9 @@
 -- What a tree that proves sets leaves of their valid plans.
 use mathlib.Core.Path.{fun_ext}
-use Rattle.std.proofs.Common.{◌≡◌, ◌⊎◌, inl, inr, ℕ, ◌≤◌, List, [], ◌∷◌, ◌++◌, refl, sym, ap, subst, ◌∙◌, Option, Bool, true, false, ◌||◌}
-use Rattle.std.specs.List.{Contains}
-use Rattle.std.specs.Option.{IsSomeAnd}
-use Rattle.std.proofs.lemmas.Bool.{false≢true}
-use Rattle.catalogue.specs.Instance.{Instance, IsInstance}
-use Rattle.slices.specs.Costs.{cost_of}
-use Rattle.slices.specs.Plans.{Choices}
-use Rattle.slices.specs.Rules.{IsValid}
-use Rattle.domains.specs.Sets.{Sets, IsIn, IsOnly}
+use Rattle.base.proofs.Public.{◌≡◌, ◌⊎◌, inl, inr, ℕ, ◌≤◌, List, [], ◌∷◌, ◌++◌, refl, sym, ap, subst, ◌∙◌, Option, Bool, true, false, ◌||◌, Contains, IsSomeAnd, false≢true}
+use Rattle.trees.specs.Prelude.{AtEach, Choices, cost_of, Cut, cut_then, Decide, decide_both, fail_leaf, has_left, inside, Instance, IsIn, IsInSome, IsInstance, IsOnly, IsPlanLeaf, IsValid, left_leaf, left_sets, outside, plan_leaf, ProvedExcludes, ProvedLeaves, Sets, Step, StepHolds, steps_of, Tree}
 use Rattle.domains.proofs.Public.{contains_one, plan_splits}
 use Rattle.reasons.proofs.Public.{refuted_excludes}
-use Rattle.trees.specs.declared.steps.Step.{Step}
-use Rattle.trees.specs.declared.steps.Step.TheVariants.{Decide, Cut}
-use Rattle.trees.specs.Trees.{Tree, fail_leaf, plan_leaf, left_leaf, cut_then, decide_both, steps_of, inside, outside, AtEach}
-use Rattle.trees.specs.Proving.{IsPlanLeaf, StepHolds}
-use Rattle.trees.specs.Goals.{has_left, left_sets}
-use Rattle.trees.specs.Laws.{IsInSome, ProvedExcludes, ProvedLeaves}
 use Rattle.trees.proofs.CountLemmas.{has_left_append}
 
 -- ---- at leaves

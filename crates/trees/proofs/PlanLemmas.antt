@@ -1,21 +1,7 @@
 -- The plans of plan leaves.
-use Rattle.std.proofs.Common.{◌⊎◌, inl, inr, ℕ, ◌≤◌, List, [], ◌∷◌, ◌++◌, sym, subst, Option}
-use Rattle.std.specs.Option.{IsSomeAnd}
-use Rattle.std.specs.List.{Contains}
-use Rattle.catalogue.specs.Instance.{Instance}
-use Rattle.slices.specs.Costs.{cost_of}
-use Rattle.slices.specs.Plans.{Choices}
-use Rattle.slices.specs.Rules.{IsValid}
-use Rattle.domains.specs.Parts.{in_part, out_of_part}
-use Rattle.domains.specs.Sets.{Sets, IsIn, IsOnly}
+use Rattle.base.proofs.Public.{◌⊎◌, inl, inr, ℕ, ◌≤◌, List, [], ◌∷◌, ◌++◌, sym, subst, Option, IsSomeAnd, Contains}
+use Rattle.trees.specs.Prelude.{AtEach, Choices, cost_of, Cut, cut_then, Decide, decide_both, fail_leaf, in_part, inside, Instance, IsIn, IsOnly, IsPlanLeaf, IsPlanOfSome, IsValid, left_leaf, out_of_part, outside, plan_leaf, plan_sets, PlansFoundHold, Sets, start_sets, Step, StepHolds, steps_of, Tree}
 use Rattle.domains.proofs.Public.{contains_here, plan_stays}
-use Rattle.reasons.specs.Start.{start_sets}
-use Rattle.trees.specs.declared.steps.Step.{Step}
-use Rattle.trees.specs.declared.steps.Step.TheVariants.{Decide, Cut}
-use Rattle.trees.specs.Trees.{Tree, fail_leaf, plan_leaf, left_leaf, cut_then, decide_both, steps_of, inside, outside, AtEach}
-use Rattle.trees.specs.Proving.{IsPlanLeaf, StepHolds}
-use Rattle.trees.specs.Searching.{IsPlanOfSome, plan_sets}
-use Rattle.trees.specs.Laws.{PlansFoundHold}
 use Rattle.trees.proofs.LeaveLemmas.{at_plan, only_plan}
 use Rattle.reasons.proofs.Public.{start_is_plan}
 

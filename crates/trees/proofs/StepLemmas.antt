@@ -1,9 +1,6 @@
 -- Trees and their steps in order, for any fact at each step.
 use Rattle.std.proofs.Common.{◌≡◌, List, [], ◌∷◌, ◌++◌, refl, sym, subst, ◌∙◌, append_assoc, append-nil}
-use Rattle.domains.specs.Sets.{Sets}
-use Rattle.trees.specs.declared.steps.Step.{Step}
-use Rattle.trees.specs.declared.steps.Step.TheVariants.{Decide, Cut}
-use Rattle.trees.specs.Trees.{Tree, fail_leaf, plan_leaf, left_leaf, cut_then, decide_both, steps_of, inside, outside, Fact, AtEach, Leads, children}
+use Rattle.trees.specs.Prelude.{AtEach, children, Cut, cut_then, Decide, decide_both, Fact, fail_leaf, inside, Leads, left_leaf, outside, plan_leaf, Sets, Step, steps_of, Tree}
 
 module _ (fact : Fact) where
   -- steps, and more from where they lead

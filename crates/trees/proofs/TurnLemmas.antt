@@ -1,9 +1,6 @@
 -- From one fact at each step to another.
 use Rattle.std.proofs.Common.{List, [], ◌∷◌, ◌++◌, sym, subst, append_assoc}
-use Rattle.domains.specs.Sets.{Sets}
-use Rattle.trees.specs.declared.steps.Step.{Step}
-use Rattle.trees.specs.declared.steps.Step.TheVariants.{Decide, Cut, Fail, Plan, Left}
-use Rattle.trees.specs.Trees.{Tree, fail_leaf, plan_leaf, left_leaf, cut_then, decide_both, steps_of, inside, outside, Fact, AtEach, Leads, children}
+use Rattle.trees.specs.Prelude.{AtEach, children, Cut, cut_then, Decide, decide_both, Fact, Fail, fail_leaf, inside, Leads, Left, left_leaf, outside, Plan, plan_leaf, Sets, Step, steps_of, Tree}
 
 -- where a property holds of all steps, and with it of each front of them, it may be used at each step, which it is said of with those before it
 module _ (fact other : Fact) (property : List Step → Type 0) (front : (a b : List Step) → property (a ++ b) → property a)

@@ -1,10 +1,7 @@
 -- Certificates: trees over all legal choices, for a plan or for none, and what their goals say.
-use Rattle.std.specs.Prelude.{◌≡◌, ℕ, ◌≤◌, Option, Some, None, IsSomeAnd}
-use Rattle.catalogue.specs.Instance.{Instance}
-use Rattle.slices.specs.Costs.{cost_of, IsInfeasible, IsOptimal}
-use Rattle.slices.specs.Plans.{Choices, IsPlan}
-use Rattle.slices.specs.Rules.{IsValid}
-use Rattle.reasons.specs.Start.{start_sets}
+use Rattle.std.specs.Prelude.{IsSomeAnd}
+use Rattle.base.specs.Prelude.{◌≡◌, ℕ, ◌≤◌, Option, Some, None}
+use Rattle.reasons.specs.Prelude.{Choices, cost_of, Instance, IsInfeasible, IsOptimal, IsPlan, IsValid, start_sets}
 use Rattle.trees.specs.declared.steps.Goal.{Goal}
 use Rattle.trees.specs.declared.steps.Goal.TheVariants.{Optimal, Infeasible, Undecided}
 use Rattle.trees.specs.Trees.{Tree, steps_of}

@@ -1,13 +1,10 @@
 -- Helping only: what a search knows of its steps before it knows the cost of its plan, and what follows at the end.
-use Rattle.std.specs.Prelude.{◌≡◌, ◌≢◌, ℕ, ◌≤◌, List, [], ◌∷◌, Option, Some, None}
+use Rattle.base.specs.Prelude.{◌≡◌, ◌≢◌, ℕ, ◌≤◌, List, [], ◌∷◌, Option, Some, None}
+use Rattle.reasons.specs.Prelude.{Instance, least_cost, Refutes, Sets}
 use Rattle.cluster.specs.declared.ids.Element.{Element}
-use Rattle.catalogue.specs.Instance.{Instance}
 use Rattle.domains.specs.declared.parts.Part.{Part}
-use Rattle.domains.specs.Sets.{Sets}
 use Rattle.reasons.specs.declared.reason.Reason.{Reason}
 use Rattle.reasons.specs.declared.reason.Reason.TheVariants.{Bound}
-use Rattle.reasons.specs.Reasons.{Refutes}
-use Rattle.reasons.specs.Sure.{least_cost}
 use Rattle.trees.specs.declared.steps.Step.{Step}
 use Rattle.trees.specs.declared.steps.Step.TheVariants.{Decide, Cut, Fail, Plan, Left}
 use Rattle.trees.specs.Trees.{Tree, AtEach, fail_leaf, steps_of}

@@ -1,9 +1,6 @@
 -- The goal that a tree shows, and the cost that no valid plan undercuts where sets are left.
-use Rattle.std.specs.Prelude.{ℕ, ◌+◌, Bool, true, false, List, [], ◌∷◌, Option, Some, None}
-use Rattle.catalogue.specs.Instance.{Instance}
-use Rattle.base.specs.Least.{lower, lowest}
-use Rattle.domains.specs.Sets.{Sets}
-use Rattle.reasons.specs.Sure.{least_cost}
+use Rattle.base.specs.Prelude.{ℕ, ◌+◌, Bool, true, false, List, [], ◌∷◌, Option, Some, None, lower, lowest}
+use Rattle.reasons.specs.Prelude.{Instance, least_cost, Sets}
 use Rattle.trees.specs.declared.steps.Step.{Step}
 use Rattle.trees.specs.declared.steps.Step.TheVariants.{Decide, Cut, Fail, Plan, Left}
 use Rattle.trees.specs.declared.steps.Goal.{Goal}

@@ -1,14 +1,7 @@
 -- Helping only: what trees say of plans, and how large they are.
-use Rattle.std.specs.Prelude.{◌≡◌, ◌⊎◌, ℕ, ◌+◌, ◌≤◌, max, Bool, true, false, List, [], ◌∷◌, Option, Some, is_some, IsSomeAnd}
-use Rattle.catalogue.specs.Instance.{Instance, IsInstance}
-use Rattle.slices.specs.Costs.{cost_of}
-use Rattle.slices.specs.Elements.{machine_count, node_count}
-use Rattle.slices.specs.Plans.{Choices, IsPlan}
-use Rattle.slices.specs.Rules.{IsValid}
-use Rattle.domains.specs.Sets.{Sets, IsIn}
-use Rattle.domains.specs.Sizes.{size}
-use Rattle.reasons.specs.Laws.{Excludes}
-use Rattle.reasons.specs.Start.{start_sets}
+use Rattle.std.specs.Prelude.{IsSomeAnd}
+use Rattle.base.specs.Prelude.{◌≡◌, ◌⊎◌, ℕ, ◌+◌, ◌≤◌, max, Bool, true, false, List, [], ◌∷◌, Option, Some, is_some}
+use Rattle.reasons.specs.Prelude.{Choices, cost_of, Excludes, Instance, IsIn, IsInstance, IsPlan, IsValid, machine_count, node_count, Sets, size, start_sets}
 use Rattle.trees.specs.declared.steps.Goal.{Goal}
 use Rattle.trees.specs.Trees.{Tree, steps_of}
 use Rattle.trees.specs.Proving.{Proves}

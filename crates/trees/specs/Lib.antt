@@ -7,3 +7,4 @@ pub mod Certificates
 -- what the laws say beside it
 pub mod Laws
 pub mod Finding
+pub mod Prelude

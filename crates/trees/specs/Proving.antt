@@ -1,15 +1,10 @@
 -- What a tree proves of the sets of choices that it is over.
-use Rattle.std.specs.Prelude.{◌≡◌, ◌≢◌, ℕ, ◌≤◌, [], filter, Option, IsSomeAnd}
+use Rattle.std.specs.Prelude.{filter, IsSomeAnd}
+use Rattle.base.specs.Prelude.{◌≡◌, ◌≢◌, ℕ, ◌≤◌, [], Option}
+use Rattle.reasons.specs.Prelude.{Choices, cost_of, in_part, Instance, IsElement, IsOnly, IsValid, out_of_part, Refutes, Sets}
 use Rattle.cluster.specs.declared.ids.Element.{Element}
-use Rattle.catalogue.specs.Instance.{Instance, IsElement}
-use Rattle.slices.specs.Costs.{cost_of}
-use Rattle.slices.specs.Plans.{Choices}
-use Rattle.slices.specs.Rules.{IsValid}
 use Rattle.domains.specs.declared.parts.Part.{Part}
-use Rattle.domains.specs.Parts.{in_part, out_of_part}
-use Rattle.domains.specs.Sets.{Sets, IsOnly}
 use Rattle.reasons.specs.declared.reason.Reason.{Reason}
-use Rattle.reasons.specs.Reasons.{Refutes}
 use Rattle.trees.specs.declared.steps.Step.{Step}
 use Rattle.trees.specs.declared.steps.Step.TheVariants.{Decide, Cut, Fail, Plan, Left}
 use Rattle.trees.specs.Trees.{Tree, AtEach, inside}

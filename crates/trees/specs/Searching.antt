@@ -1,14 +1,9 @@
 -- Trees as a search leaves them: what is decided is closed, and plans that were met come first.
-use Rattle.std.specs.Prelude.{◌≡◌, ◌≢◌, ◌⊎◌, ℕ, ◌<◌, ◌≤◌, List, [], ◌∷◌, length, Option, Some, None}
+use Rattle.base.specs.Prelude.{◌≡◌, ◌≢◌, ◌⊎◌, ℕ, ◌<◌, ◌≤◌, List, [], ◌∷◌, length, Option, Some, None}
+use Rattle.reasons.specs.Prelude.{Choices, Instance, IsClosed, IsElement, IsOnly, IsValid, least_cost, Sets}
 use Rattle.cluster.specs.declared.choices.Choice.TheVariants.{Idle}
 use Rattle.cluster.specs.declared.ids.Element.{Element}
-use Rattle.catalogue.specs.Instance.{Instance, IsElement}
-use Rattle.slices.specs.Plans.{Choices}
-use Rattle.slices.specs.Rules.{IsValid}
-use Rattle.domains.specs.Sets.{Sets, IsOnly}
 use Rattle.reasons.specs.declared.reason.Reason.TheVariants.{Bound}
-use Rattle.reasons.specs.Closed.{IsClosed}
-use Rattle.reasons.specs.Sure.{least_cost}
 use Rattle.trees.specs.declared.steps.Step.{Step}
 use Rattle.trees.specs.declared.steps.Step.TheVariants.{Decide, Cut, Fail, Plan, Left}
 use Rattle.trees.specs.Trees.{Tree, fail_leaf, AtEach, gathered}

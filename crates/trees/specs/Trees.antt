@@ -1,9 +1,8 @@
 -- Certificate trees: their steps in order, and what is open after each.
-use Rattle.std.specs.Prelude.{◌≡◌, ℕ, List, [], ◌∷◌, ◌++◌}
+use Rattle.base.specs.Prelude.{◌≡◌, ℕ, List, [], ◌∷◌, ◌++◌}
+use Rattle.reasons.specs.Prelude.{in_part, keeping, out_of_part, Sets}
 use Rattle.cluster.specs.declared.ids.Element.{Element}
 use Rattle.domains.specs.declared.parts.Part.{Part}
-use Rattle.domains.specs.Parts.{in_part, out_of_part}
-use Rattle.domains.specs.Sets.{Sets, keeping}
 use Rattle.reasons.specs.declared.reason.Reason.{Reason}
 use Rattle.trees.specs.declared.steps.Step.{Step}
 use Rattle.trees.specs.declared.steps.Step.TheVariants.{Decide, Cut, Fail, Plan, Left}

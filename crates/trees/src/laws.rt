@@ -1,7 +1,6 @@
 //! Laws of the definitions: each is the contract of a function that does nothing, and a lemma of the
 //! same name in proofs/Public proves it.
-ghost use Rattle.trees.specs.Finding.{FoundIsLean, FoundIsSearched, FoundProves, StayingProves};
-ghost use Rattle.trees.specs.Laws.{CertificatesHold, LeanTreesFit, LeastHolds, LeastIsShown, PlansFoundHold, ProvedExcludes, ProvedLeaves};
+ghost use Rattle.trees.specs.Prelude.{CertificatesHold, FoundIsLean, FoundIsSearched, FoundProves, LeanTreesFit, LeastHolds, LeastIsShown, PlansFoundHold, ProvedExcludes, ProvedLeaves, StayingProves};
 
 /// A tree that proves sets, and leaves nothing, leaves no valid plan in them that costs less than
 /// the one handed in, and none at all where no plan is handed in.

@@ -1,7 +1,5 @@
 use Rattle.std.proofs.Common.{ap}
-use Rattle.base.specs.Least.{least}
-use Rattle.slices.specs.Actions.{end_of}
-use Rattle.domains.specs.Choices.{choices}
+use Rattle.relax.specs.Prelude.{choices, end_of, least}
 use Rattle.bound.proofs.EndLemmas.{all_stay, before_loss}
 use Rattle.bound.proofs.ends.after_change.Goals as goal
 

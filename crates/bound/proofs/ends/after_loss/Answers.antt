@@ -1,8 +1,5 @@
-use Rattle.std.proofs.Common.{arith, sym, ◌∙◌}
-use Rattle.std.specs.List.{filter}
-use Rattle.slices.specs.Actions.{end_of}
-use Rattle.domains.specs.Choices.{choices}
-use Rattle.domains.specs.Parts.{stays}
+use Rattle.base.proofs.Public.{arith, sym, ◌∙◌, filter}
+use Rattle.relax.specs.Prelude.{choices, end_of, stays}
 use Rattle.bound.proofs.EndLemmas.{all_lost, some_kept}
 use Rattle.bound.proofs.ends.after_loss.Goals as goal
 

@@ -1,7 +1,5 @@
 use Rattle.std.proofs.Common.{ap, ◌∙◌, unwrap_or}
-use Rattle.base.specs.Least.{lowest}
-use Rattle.slices.specs.Actions.{end_of}
-use Rattle.domains.specs.Choices.{choices}
+use Rattle.relax.specs.Prelude.{choices, end_of, lowest}
 use Rattle.bound.proofs.EndLemmas.{all_stay}
 use Rattle.bound.proofs.ends.least_end.Goals as goal
 

@@ -1,5 +1,4 @@
-use Rattle.std.proofs.Common.{◌<◌}
-use Rattle.std.specs.Prelude.{take}
+use Rattle.base.proofs.Public.{◌<◌, take}
 use Rattle.branching.proofs.SplitLemmas.{StartsFirstUpto}
 use Rattle.branching.proofs.split.earliest.Given as goal
 

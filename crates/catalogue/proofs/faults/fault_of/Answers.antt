@@ -1,7 +1,6 @@
-use Rattle.std.proofs.Common.{arith}
-use Rattle.std.proofs.lemmas.Grind.{common_steps}
-use Rattle.catalogue.proofs.TwiceLemmas.{small_numbers}
+use Rattle.base.proofs.Public.{arith, common_steps}
 use Rattle.catalogue.specs.Faults.{machines_in}
+use Rattle.catalogue.proofs.TwiceLemmas.{small_numbers}
 use Rattle.catalogue.proofs.faults.fault_of.Goals as goal
 
 pub names_each_once-requires : goal.names_each_once-requires

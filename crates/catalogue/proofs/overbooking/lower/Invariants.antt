@@ -1,8 +1,6 @@
 use Rattle.std.proofs.Common.{◌≡◌, ℕ, ◌<◌, length, if◌then◌else◌, nat_lt}
+use Rattle.catalogue.specs.Prelude.{limit_cell, limit_with, max_resources, written_of}
 use Rattle.catalogue.specs.declared.constraint.Constraint.TheVariants.{Overbook}
-use Rattle.catalogue.specs.Values.{limit_with, written_of}
-use Rattle.catalogue.specs.Cells.{limit_cell}
-use Rattle.cluster.specs.Limits.{max_resources}
 use Rattle.catalogue.proofs.overbooking.lower.Given as goal
 
 abbrev pub invariant-loop-i : goal.invariant-loop-i

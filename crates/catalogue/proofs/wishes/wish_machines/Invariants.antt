@@ -1,7 +1,5 @@
 use Rattle.std.proofs.Common.{◌≡◌, ℕ, ◌<◌, length, take}
-use Rattle.catalogue.specs.Faults.{is_member}
-use Rattle.catalogue.specs.Values.{wish_where}
-use Rattle.catalogue.specs.Cells.{wish_cell}
+use Rattle.catalogue.specs.Prelude.{is_member, wish_cell, wish_where}
 use Rattle.catalogue.proofs.wishes.wish_machines.Given as goal
 
 abbrev pub invariant-loop-id : goal.invariant-loop-id

@@ -1,7 +1,5 @@
 use Rattle.std.proofs.Common.{◌≡◌, ℕ, ◌<◌, length, if◌then◌else◌, nat_lt}
-use Rattle.cluster.specs.Sets.{has_node}
-use Rattle.catalogue.specs.Values.{wish_where}
-use Rattle.catalogue.specs.Cells.{wish_cell}
+use Rattle.catalogue.specs.Prelude.{has_node, wish_cell, wish_where}
 use Rattle.catalogue.proofs.wishes.wish_nodes.Given as goal
 
 abbrev pub invariant-loop-i : goal.invariant-loop-i

@@ -1,7 +1,6 @@
-use Rattle.std.proofs.Common.{IsTrue, rules}
-use Rattle.std.specs.Option.{option_copied}
-use Rattle.plan_io.specs.Files.{bytes_of}
-use Rattle.cert_model.specs.Walks.{choices_handed}
+use Rattle.std.proofs.Common.{IsTrue}
+use Rattle.base.proofs.Public.{rules, option_copied}
+use Rattle.cert_check.specs.Prelude.{bytes_of, choices_handed}
 use Rattle.cert_check.proofs.SoundLemmas.{yes_is_sound}
 use Rattle.cert_check.proofs.certificate.check.Goals as goal
 

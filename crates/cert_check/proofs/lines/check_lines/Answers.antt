@@ -1,9 +1,6 @@
-use Rattle.std.proofs.Common.{IsTrue, Ok, refl, subst, sym}
-use Rattle.std.specs.Option.{option_copied}
-use Rattle.plan_io.specs.Files.{bytes_of}
-use Rattle.trees.specs.Certificates.{bound_of}
-use Rattle.cert_model.specs.Walks.{choices_handed}
-use Rattle.cert_check.specs.Turns.{Concludes, TurnGives}
+use Rattle.std.proofs.Common.{IsTrue}
+use Rattle.base.proofs.Public.{Ok, refl, subst, sym, option_copied}
+use Rattle.cert_check.specs.Prelude.{bound_of, bytes_of, choices_handed, Concludes, TurnGives}
 use Rattle.cert_check.proofs.TurnLemmas.{error_is, file_kept}
 use Rattle.cert_check.proofs.lines.check_lines.Goals as goal
 

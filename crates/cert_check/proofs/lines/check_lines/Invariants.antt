@@ -1,10 +1,6 @@
-use Rattle.std.proofs.Common.{◌≡◌, ◌<◌, ◌-◌, ◌^◌, IsTrue}
-use Rattle.std.specs.Option.{option_copied}
-use Rattle.plan_io.specs.Files.{bytes_of}
-use Rattle.trees.specs.Certificates.{bound_of}
-use Rattle.cert_model.specs.Walks.{choices_handed}
-use Rattle.cert_read.specs.Reader.{StandsIn}
-use Rattle.cert_check.specs.Turns.{IsUnderway}
+use Rattle.std.proofs.Common.{◌^◌, IsTrue}
+use Rattle.base.proofs.Public.{◌≡◌, ◌<◌, ◌-◌, option_copied}
+use Rattle.cert_check.specs.Prelude.{bound_of, bytes_of, choices_handed, IsUnderway, StandsIn}
 use Rattle.cert_check.proofs.lines.check_lines.Given as goal
 
 abbrev pub invariant-lines : goal.invariant-lines

@@ -1,6 +1,5 @@
 use Rattle.std.proofs.Common.{IsTrue, subst, sym}
-use Rattle.cert_check.specs.declared.verdict.CheckFault.TheVariants.{Line}
-use Rattle.cert_check.specs.Turns.{Concludes}
+use Rattle.cert_check.specs.Prelude.{Concludes, Line}
 use Rattle.cert_check.proofs.TurnLemmas.{error_is, fault_after, faults_as, no_value, nothing_follows, yes_here}
 use Rattle.cert_check.proofs.lines.end.Goals as goal
 

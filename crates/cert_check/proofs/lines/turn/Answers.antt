@@ -1,6 +1,5 @@
 use Rattle.std.proofs.Common.{IsTrue, subst, sym}
-use Rattle.cert_check.specs.Turns.{TurnGives}
-use Rattle.cert_read.specs.declared.line.Line.TheVariants.{Step as StepLine, End}
+use Rattle.cert_check.specs.Prelude.{End, Step as StepLine, TurnGives}
 use Rattle.cert_check.proofs.TurnLemmas.{error_is, file_kept, line_as, moved_step, underway_next}
 use Rattle.cert_check.proofs.lines.turn.Goals as goal
 

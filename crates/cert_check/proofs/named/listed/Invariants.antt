@@ -1,6 +1,5 @@
 use Rattle.std.proofs.Common.{◌≡◌, drop}
-use Rattle.cluster.specs.Sets.{no_nodes}
-use Rattle.cert_check.specs.Names.{nodes_added}
+use Rattle.cert_check.specs.Prelude.{no_nodes, nodes_added}
 use Rattle.cert_check.proofs.named.listed.Given as goal
 
 abbrev pub invariant-loop-name : goal.invariant-loop-name

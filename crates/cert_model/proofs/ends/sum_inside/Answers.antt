@@ -1,9 +1,5 @@
-use Rattle.std.proofs.Common.{◌≡◌, arith, ap, ◌∙◌, unwrap_or}
-use Rattle.std.specs.List.{filter}
-use Rattle.base.specs.Least.{least}
-use Rattle.slices.specs.Actions.{end_of}
-use Rattle.domains.specs.Parts.{in_part}
-use Rattle.domains.specs.Sets.{sets}
+use Rattle.base.proofs.Public.{◌≡◌, arith, ap, ◌∙◌, unwrap_or, filter}
+use Rattle.cert_model.specs.Prelude.{end_of, in_part, least, sets}
 use Rattle.cert_model.proofs.EndLemmas.{end_inside, has_end, is_narrowed, small_with}
 use Rattle.cert_model.proofs.ends.sum_inside.Goals as goal
 

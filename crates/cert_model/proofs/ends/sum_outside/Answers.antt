@@ -1,6 +1,5 @@
 use Rattle.std.proofs.Common.{Some}
-use Rattle.domains.specs.Parts.{stays}
-use Rattle.domains.specs.Sets.{sets}
+use Rattle.cert_model.specs.Prelude.{sets, stays}
 use Rattle.cert_model.proofs.EndLemmas.{has_end, is_narrowed, small_with, whole_of_loss}
 use Rattle.cert_model.proofs.ends.sum_outside.Goals as goal
 

@@ -1,6 +1,4 @@
-use Rattle.cluster.specs.Sets.{has_node}
-use Rattle.domains.specs.Views.{seen}
-use Rattle.reasons.specs.Sure.{sure}
+use Rattle.cert_model.specs.Prelude.{has_node, seen, sure}
 use Rattle.cert_model.proofs.WeighedLemmas.{weighed_over}
 use Rattle.cert_model.proofs.weighed.is_over.Goals as goal
 

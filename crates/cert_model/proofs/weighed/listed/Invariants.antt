@@ -1,7 +1,4 @@
-use Rattle.domains.specs.Views.{seen}
-use Rattle.reasons.specs.Sure.{sure}
-use Rattle.relax.specs.Areas.{nodes_of}
-use Rattle.cert_model.specs.Weighed.{IsWeighed}
+use Rattle.cert_model.specs.Prelude.{IsWeighed, nodes_of, seen, sure}
 use Rattle.cert_model.proofs.weighed.listed.Given as goal
 
 abbrev pub invariant-loop-i : goal.invariant-loop-i

@@ -1,7 +1,5 @@
 use Rattle.std.proofs.Common.{arith}
-use Rattle.domains.specs.Views.{seen}
-use Rattle.reasons.specs.Sure.{sure}
-use Rattle.relax.specs.Areas.{nodes_of}
+use Rattle.cert_model.specs.Prelude.{nodes_of, seen, sure}
 use Rattle.cert_model.proofs.WeighedLemmas.{weighed_more}
 use Rattle.cert_model.proofs.weighed.with.Goals as goal
 

@@ -1,5 +1,4 @@
-use Rattle.std.proofs.Common.{◌≡◌, ◌∙◌, ◌+◌, ◌-◌, ℕ, List, length, take, drop, ap, arith}
-use Rattle.std.proofs.lemmas.Grind.{common_steps}
+use Rattle.base.proofs.Public.{◌≡◌, ◌∙◌, ◌+◌, ◌-◌, ℕ, List, length, take, drop, ap, arith, common_steps}
 use Rattle.cert_read.specs.Lines.{bytes_before_newline}
 use Rattle.cert_read.proofs.LineLemmas.{counted}
 use Rattle.cert_read.proofs.cursor.before_newline_from.Goals as goal

@@ -1,5 +1,4 @@
-use Rattle.std.proofs.Common.{◌≡◌, length, refl, ap, arith}
-use Rattle.base.proofs.Prefixes.{whole}
+use Rattle.base.proofs.Public.{◌≡◌, length, refl, ap, arith, whole}
 use Rattle.cert_read.proofs.LineLemmas.{no_newline, nothing_clean, too_long}
 use Rattle.cert_read.proofs.cursor.fill.Goals as goal
 

@@ -1,8 +1,6 @@
-use Rattle.std.proofs.Common.{◌≡◌, ◌+◌, ◌-◌, ◌<◌, ◌≤◌, ◌^◌, length, take, drop, IsTrue}
-use Rattle.std.specs.Io.{StartsWith}
-use Rattle.plan_io.specs.Files.{bytes_of}
-use Rattle.cert_read.specs.Lines.{bytes_before_newline}
-use Rattle.cert_read.specs.Reader.{max_held}
+use Rattle.std.proofs.Common.{◌^◌, IsTrue}
+use Rattle.base.proofs.Public.{◌≡◌, ◌+◌, ◌-◌, ◌<◌, ◌≤◌, length, take, drop, StartsWith}
+use Rattle.cert_read.specs.Prelude.{bytes_before_newline, bytes_of, max_held}
 use Rattle.cert_read.proofs.cursor.fill.Given as goal
 
 abbrev pub invariant-pieces : goal.invariant-pieces

@@ -1,5 +1,4 @@
-use Rattle.std.proofs.Common.{◌≡◌, ◌++◌, length, true}
-use Rattle.std.specs.List.{list_all}
+use Rattle.base.proofs.Public.{◌≡◌, ◌++◌, length, true, list_all}
 use Rattle.cluster.specs.Names.{is_name}
 use Rattle.cert_text.proofs.parsing.names.Given as goal
 

@@ -1,6 +1,4 @@
-use Rattle.std.proofs.Common.{◌==◌, rules}
-use Rattle.std.proofs.lemmas.Iterator.Consumers.{map_from_collect}
-use Rattle.std.proofs.lemmas.Iterator.Splits.{YieldsList-from_slice_split}
+use Rattle.base.proofs.Public.{◌==◌, rules, map_from_collect, YieldsList-from_slice_split}
 use Rattle.cert_text.proofs.parsing.words_of.Goals as goal
 
 pub returns : goal.returns

@@ -1,8 +1,6 @@
-use Rattle.std.proofs.Common.{◌≡◌, ◌<◌, ◌≤◌, ◌-◌, ◌++◌, IsTrue, string_bytes}
-use Rattle.std.specs.List.{flat_map, range_with_len}
-use Rattle.cluster.specs.Sets.{has_node}
-use Rattle.slices.specs.Elements.{node_count}
-use Rattle.cert_text.specs.Spaced.{spaced_if_in}
+use Rattle.std.proofs.Common.{IsTrue, string_bytes}
+use Rattle.base.proofs.Public.{◌≡◌, ◌<◌, ◌≤◌, ◌-◌, ◌++◌, flat_map, range_with_len}
+use Rattle.cert_text.specs.Prelude.{has_node, node_count, spaced_if_in}
 use Rattle.cert_text.proofs.printing.push_listed.Given as goal
 
 abbrev pub invariant-loop-n : goal.invariant-loop-n

@@ -1,7 +1,4 @@
-use Rattle.std.specs.Prelude.{ℕ, List}
-use Rattle.std.specs.Borrow.{Bor}
-use Rattle.std.specs.Str.{bytes_eq}
-use Rattle.std.proofs.Common.{◌∙◌, sym}
+use Rattle.base.proofs.Public.{ℕ, List, Bor, bytes_eq, ◌∙◌, sym}
 use Rattle.cluster.proofs.Numbering.{position-map}
 use Rattle.cluster.proofs.words.place_of_word.Goals as goal
 

@@ -1,7 +1,5 @@
-use Rattle.std.specs.Prelude.{ℕ, List, []}
-use Rattle.std.specs.Borrow.{Bor}
-use Rattle.std.proofs.Common.{sym}
 use Rattle.std.proofs.Math.ListN.{get_or-map}
+use Rattle.base.proofs.Public.{ℕ, List, [], Bor, sym}
 use Rattle.cluster.proofs.words.word_at.Goals as goal
 
 pub returns : goal.returns

@@ -1,5 +1,4 @@
-use Rattle.std.proofs.Common.{length, sym, ap, arith}
-use Rattle.std.proofs.lemmas.List.Edits.{length-insert}
+use Rattle.base.proofs.Public.{length, sym, ap, arith, length-insert}
 use Rattle.domains.proofs.UndoLemmas.{put_found, put_gap, Climbs-put}
 use Rattle.domains.proofs.domain.put.Goals as goal
 

@@ -1,7 +1,5 @@
-use Rattle.std.proofs.Common.{ℕ, ◌<◌}
-use Rattle.std.specs.Prelude.{slice_index_or}
-use Rattle.domains.specs.Choices.{Climbs, staying}
-use Rattle.domains.specs.Kept.{AreCounted}
+use Rattle.base.proofs.Public.{ℕ, ◌<◌, slice_index_or}
+use Rattle.domains.specs.Prelude.{AreCounted, Climbs, staying}
 use Rattle.domains.proofs.listing.counted.Given as goal
 
 abbrev pub invariant-loop-i : goal.invariant-loop-i

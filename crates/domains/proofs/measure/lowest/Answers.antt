@@ -1,6 +1,5 @@
-use Rattle.domains.specs.Choices.{no_row}
 use Rattle.std.proofs.Common.{◌≡◌, ◌∙◌, Some, arith}
-use Rattle.domains.specs.Parts.{stays}
+use Rattle.domains.specs.Prelude.{no_row, stays}
 use Rattle.domains.proofs.RowLemmas.{Climbs-at}
 use Rattle.domains.proofs.MeasureLemmas.{lowest_more, lowest_no_more, lowest_at_floor, same_some}
 use Rattle.domains.proofs.measure.lowest.Goals as goal

@@ -1,6 +1,5 @@
 use Rattle.std.proofs.Common.{◌≡◌, take}
-use Rattle.base.specs.Least.{lowest as lowest_of}
-use Rattle.domains.specs.Parts.{stays}
+use Rattle.domains.specs.Prelude.{lowest as lowest_of, stays}
 use Rattle.domains.proofs.MeasureLemmas.{passed}
 use Rattle.domains.proofs.measure.lowest.Given as goal
 

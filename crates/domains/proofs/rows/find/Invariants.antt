@@ -1,7 +1,5 @@
-use Rattle.std.proofs.Common.{ℕ, ◌-◌, ◌<◌, ◌≤◌, length}
-use Rattle.std.specs.Prelude.{slice_index_or}
-use Rattle.domains.specs.declared.parts.Row.{Row}
-use Rattle.domains.specs.Choices.{place_index}
+use Rattle.base.proofs.Public.{ℕ, ◌-◌, ◌<◌, ◌≤◌, length, slice_index_or}
+use Rattle.domains.specs.Prelude.{place_index, Row}
 use Rattle.domains.proofs.rows.find.Given as goal
 
 abbrev pub invariant-loop-from : goal.invariant-loop-from

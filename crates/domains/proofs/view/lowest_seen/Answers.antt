@@ -1,8 +1,5 @@
-use Rattle.std.proofs.Common.{ap, sym, ◌∙◌}
-use Rattle.base.specs.Least.{lowest as lowest_of}
-use Rattle.domains.specs.Choices.{choices}
-use Rattle.domains.specs.Parts.{in_part}
-use Rattle.std.specs.List.{filter}
+use Rattle.base.proofs.Public.{ap, sym, ◌∙◌, filter}
+use Rattle.domains.specs.Prelude.{choices, in_part, lowest as lowest_of}
 use Rattle.domains.proofs.MeasureLemmas.{filter_true}
 use Rattle.domains.proofs.view.lowest_seen.Goals as goal
 

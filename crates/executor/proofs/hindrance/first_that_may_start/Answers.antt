@@ -1,10 +1,5 @@
 use Rattle.std.proofs.Common.{◌≡◌, sym, ap, subst, ◌∙◌}
-use Rattle.cluster.specs.Elements.{element_at}
-use Rattle.catalogue.specs.Instance.{inventory_of}
-use Rattle.slices.specs.Plans.{choices_of}
-use Rattle.executor.specs.Answers.{IsFirst}
-use Rattle.executor.specs.Phases.{phases_in}
-use Rattle.executor.specs.Steps.{MayStart}
+use Rattle.executor.specs.Prelude.{choices_of, element_at, inventory_of, IsFirst, MayStart, phases_in}
 use Rattle.executor.proofs.GoingOn.{never_stands_still}
 use Rattle.executor.proofs.TableLemmas.{first_ready, none_after_failure, none_ready}
 use Rattle.executor.proofs.hindrance.first_that_may_start.Goals as goal

@@ -1,10 +1,5 @@
 use Rattle.std.proofs.Common.{◌≡◌, IsTrue, sym, ap, subst, ◌∙◌}
-use Rattle.cluster.specs.Elements.{element_at, element_number}
-use Rattle.catalogue.specs.Instance.{inventory_of}
-use Rattle.slices.specs.Plans.{choices_of}
-use Rattle.executor.specs.Answers.{IsHindrance}
-use Rattle.executor.specs.Phases.{phases_in}
-use Rattle.executor.specs.Tables.{is_open_at}
+use Rattle.executor.specs.Prelude.{choices_of, element_at, element_number, inventory_of, is_open_at, IsHindrance, phases_in}
 use Rattle.executor.proofs.TableLemmas.{number, open_hinders, phase_by_number, ready_may_start}
 use Rattle.executor.proofs.hindrance.hindrance.Goals as goal
 

@@ -1,6 +1,5 @@
 use Rattle.std.proofs.Common.{◌≡◌, ◌⊎◌, ℕ, ◌<◌}
-use Rattle.executor.specs.declared.phase.Phase.TheVariants.{None as NoAction, Ended}
-use Rattle.executor.specs.Phases.{phase_at}
+use Rattle.executor.specs.Prelude.{Ended, None as NoAction, phase_at}
 use Rattle.executor.proofs.phases.all_ended.Given as goal
 
 abbrev pub invariant-loop-x : goal.invariant-loop-x

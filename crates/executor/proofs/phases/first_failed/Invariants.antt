@@ -1,6 +1,5 @@
 use Rattle.std.proofs.Common.{◌≡◌, ℕ, ◌<◌}
-use Rattle.executor.specs.declared.phase.Phase.TheVariants.{Failed}
-use Rattle.executor.specs.Phases.{phase_at}
+use Rattle.executor.specs.Prelude.{Failed, phase_at}
 use Rattle.executor.proofs.phases.first_failed.Given as goal
 
 abbrev pub invariant-loop-x : goal.invariant-loop-x

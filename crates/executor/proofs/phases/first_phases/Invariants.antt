@@ -1,8 +1,5 @@
 use Rattle.std.proofs.Common.{◌≡◌, ℕ, ◌<◌, length}
-use Rattle.cluster.specs.Elements.{element_at}
-use Rattle.catalogue.specs.Instance.{inventory_of}
-use Rattle.slices.specs.Plans.{choices_of}
-use Rattle.executor.specs.Phases.{first_phase, phase_at}
+use Rattle.executor.specs.Prelude.{choices_of, element_at, first_phase, inventory_of, phase_at}
 use Rattle.executor.proofs.phases.first_phases.Given as goal
 
 abbrev pub invariant-loop-x : goal.invariant-loop-x

@@ -1,8 +1,5 @@
 use Rattle.std.proofs.Common.{◌≡◌, ℕ, ◌<◌, length, slice_index_or, None}
-use Rattle.cluster.specs.Elements.{element_at}
-use Rattle.catalogue.specs.Instance.{inventory_of}
-use Rattle.slices.specs.Plans.{choices_of}
-use Rattle.executor.specs.Tables.{times_of}
+use Rattle.executor.specs.Prelude.{choices_of, element_at, inventory_of, times_of}
 use Rattle.executor.proofs.times.all_times.Given as goal
 
 abbrev pub invariant-loop-x : goal.invariant-loop-x

@@ -1,14 +1,6 @@
-use Rattle.std.proofs.Common.{◌≡◌, ◌∙◌, ◌<◌, ◌++◌, ◌-◌, length, take, replicate, Ok, ap, sym, arith, rules}
-use Rattle.std.proofs.lemmas.List.{take-append-drop}
+use Rattle.base.proofs.Public.{◌≡◌, ◌∙◌, ◌<◌, ◌++◌, ◌-◌, length, take, replicate, Ok, ap, sym, arith, rules, take-append-drop}
+use Rattle.instance_json.specs.Prelude.{amounts_fit, Field, instance_fault_of, map_walk, max_amount, max_resources, optional_number, path_of, resource_amounts, ◌>>=◌}
 use Rattle.serde_json.specs.View.{view}
-use Rattle.json_walk.specs.PathRef.{path_of}
-use Rattle.json_walk.specs.Walk.{◌>>=◌}
-use Rattle.cluster.specs.Inventory.{amounts_fit}
-use Rattle.cluster.specs.Limits.{max_amount, max_resources}
-use Rattle.json_walk.specs.Members.{optional_number, map_walk}
-use Rattle.instance_json.specs.declared.fault.InstanceFault.TheVariants.{Field}
-use Rattle.instance_json.specs.Walk.{instance_fault_of}
-use Rattle.instance_json.specs.Elements.{resource_amounts}
 use Rattle.instance_json.proofs.Loops.{fills_more, fills_all, fill_fails, fails_then}
 use Rattle.instance_json.proofs.Fitting.{amounts_more, amounts_all}
 use Rattle.instance_json.proofs.amounts.resource_amounts.Goals as goal

@@ -1,8 +1,5 @@
 use Rattle.serde_json.specs.View.{view}
-use Rattle.json_walk.specs.PathRef.{path_of}
-use Rattle.cluster.specs.Limits.{max_amount}
-use Rattle.json_walk.specs.Members.{optional_number}
-use Rattle.instance_json.specs.declared.fault.InstanceFault.TheVariants.{Field}
+use Rattle.instance_json.specs.Prelude.{Field, max_amount, optional_number, path_of}
 use Rattle.instance_json.proofs.Loops.{Fills}
 use Rattle.instance_json.proofs.Fitting.{AreAmounts}
 use Rattle.instance_json.proofs.amounts.resource_amounts.Given as goal

@@ -1,11 +1,6 @@
-use Rattle.std.proofs.Common.{◌∙◌, ◌<◌, ◌≤◌, length, ap, Ok, arith, rules}
-use Rattle.std.proofs.lemmas.List.{take_all, length-set}
+use Rattle.base.proofs.Public.{◌∙◌, ◌<◌, ◌≤◌, length, ap, Ok, arith, rules, take_all, length-set}
+use Rattle.instance_json.specs.Prelude.{duration_by_kind, instance_fault_of, KINDS, kinds, path_of}
 use Rattle.serde_json.specs.View.{view}
-use Rattle.json_walk.specs.PathRef.{path_of}
-use Rattle.cluster.specs.declared.kinds.TheConstants.{KINDS}
-use Rattle.cluster.specs.Kinds.{kinds}
-use Rattle.instance_json.specs.Walk.{instance_fault_of}
-use Rattle.instance_json.specs.Durations.{duration_by_kind}
 use Rattle.instance_json.proofs.Loops.{fills_more_at, fills_all, fill_fails_at}
 use Rattle.instance_json.proofs.Fitting.{owner_more_at}
 use Rattle.instance_json.proofs.durations.kind_durations.Goals as goal

@@ -1,10 +1,6 @@
 use Rattle.std.proofs.Common.{◌≡◌, length, true}
+use Rattle.instance_json.specs.Prelude.{duration_by_kind, kind_count, KINDS, owner_fits, path_of}
 use Rattle.serde_json.specs.View.{view}
-use Rattle.json_walk.specs.PathRef.{path_of}
-use Rattle.cluster.specs.declared.kinds.TheConstants.{KINDS}
-use Rattle.cluster.specs.Kinds.{kind_count}
-use Rattle.instance_json.specs.Durations.{duration_by_kind}
-use Rattle.instance_json.specs.Fitting.{owner_fits}
 use Rattle.instance_json.proofs.Loops.{Fills}
 use Rattle.instance_json.proofs.durations.kind_durations.Given as goal
 

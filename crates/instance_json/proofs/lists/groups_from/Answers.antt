@@ -1,9 +1,7 @@
 use Rattle.std.proofs.Common.{rules, arith, [], ◌<◌, length}
+use Rattle.instance_json.specs.Prelude.{group_step, instance_fault_of, path_of}
 use Rattle.serde_json.specs.View.{view}
-use Rattle.json_walk.specs.PathRef.{path_of}
 use Rattle.json_walk.proofs.Public.{fails_in_loop}
-use Rattle.instance_json.specs.Walk.{instance_fault_of}
-use Rattle.instance_json.specs.Lists.{group_step}
 use Rattle.instance_json.proofs.lists.groups_from.Goals as goal
 
 pub returns-in_err-push_group-clause-gives : goal.returns-in_err-push_group-clause-gives

@@ -1,10 +1,7 @@
-use Rattle.std.proofs.Common.{◌≡◌, [], length, true}
+use Rattle.base.proofs.Public.{◌≡◌, [], length, true, list_all}
+use Rattle.instance_json.specs.Prelude.{are_nodes, group_step, path_of}
 use Rattle.serde_json.specs.View.{view}
-use Rattle.json_walk.specs.PathRef.{path_of}
 use Rattle.json_walk.proofs.Public.{StandsAt}
-use Rattle.std.specs.List.{list_all}
-use Rattle.catalogue.specs.Faults.{are_nodes}
-use Rattle.instance_json.specs.Lists.{group_step}
 use Rattle.instance_json.proofs.lists.groups_from.Given as goal
 
 abbrev pub invariant-loop-i : goal.invariant-loop-i

@@ -1,10 +1,7 @@
 use Rattle.std.proofs.Common.{◌≡◌, true}
+use Rattle.instance_json.specs.Prelude.{are_nodes, no_nodes, node_item, path_of}
 use Rattle.serde_json.specs.View.{view}
-use Rattle.json_walk.specs.PathRef.{path_of}
 use Rattle.json_walk.proofs.Public.{StandsAt}
-use Rattle.cluster.specs.Sets.{no_nodes}
-use Rattle.catalogue.specs.Faults.{are_nodes}
-use Rattle.instance_json.specs.Lists.{node_item}
 use Rattle.instance_json.proofs.lists.nodes_from.Given as goal
 
 abbrev pub invariant-loop-i : goal.invariant-loop-i

@@ -1,9 +1,7 @@
 use Rattle.std.proofs.Common.{◌≡◌, [], length, true}
+use Rattle.instance_json.specs.Prelude.{all_of, are_machines, part_step, path_of}
 use Rattle.serde_json.specs.View.{view}
-use Rattle.json_walk.specs.PathRef.{path_of}
 use Rattle.json_walk.proofs.Public.{StandsAt}
-use Rattle.catalogue.specs.Faults.{are_machines, all_of}
-use Rattle.instance_json.specs.Lists.{part_step}
 use Rattle.instance_json.proofs.lists.parts_from.Given as goal
 
 abbrev pub invariant-loop-i : goal.invariant-loop-i

@@ -1,8 +1,7 @@
 use Rattle.std.proofs.Common.{◌≡◌, length}
+use Rattle.instance_json.specs.Prelude.{machine_step, path_of}
 use Rattle.serde_json.specs.View.{view}
-use Rattle.json_walk.specs.PathRef.{path_of}
 use Rattle.json_walk.proofs.Public.{StandsAt}
-use Rattle.instance_json.specs.Elements.{machine_step}
 use Rattle.instance_json.proofs.machines.machines_in.Given as goal
 
 abbrev pub invariant-loop-i : goal.invariant-loop-i

@@ -1,9 +1,7 @@
 use Rattle.std.proofs.Common.{◌≡◌, [], length, true}
+use Rattle.instance_json.specs.Prelude.{are_distinct, path_of, resource_step}
 use Rattle.serde_json.specs.View.{view}
-use Rattle.json_walk.specs.PathRef.{path_of}
 use Rattle.json_walk.proofs.Public.{StandsAt}
-use Rattle.cluster.specs.Inventory.{are_distinct}
-use Rattle.instance_json.specs.Names.{resource_step}
 use Rattle.instance_json.proofs.names.resources_in.Given as goal
 
 abbrev pub invariant-loop-i : goal.invariant-loop-i

@@ -1,8 +1,7 @@
 use Rattle.std.proofs.Common.{◌≡◌, length}
+use Rattle.instance_json.specs.Prelude.{constraint_step, path_of}
 use Rattle.serde_json.specs.View.{view}
-use Rattle.json_walk.specs.PathRef.{path_of}
 use Rattle.json_walk.proofs.Public.{StandsAt}
-use Rattle.instance_json.specs.Rules.{constraint_step}
 use Rattle.instance_json.proofs.rules.constraints_in.Given as goal
 
 abbrev pub invariant-loop-i : goal.invariant-loop-i

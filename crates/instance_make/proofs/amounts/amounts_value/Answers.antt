@@ -1,7 +1,6 @@
 use Rattle.std.proofs.Common.{◌≡◌, ◌∙◌, ◌<◌, length, ap, arith}
+use Rattle.instance_make.specs.Prelude.{amounts_data, members}
 use Rattle.serde_json.specs.Data.{object}
-use Rattle.json_text.specs.Out.{members}
-use Rattle.instance_make.specs.Elements.{amounts_data}
 use Rattle.instance_make.proofs.Putting.{none_to, resource_free, amounts_more, amounts_to}
 use Rattle.instance_make.proofs.amounts.amounts_value.Goals as goal
 

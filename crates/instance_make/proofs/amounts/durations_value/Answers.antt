@@ -1,11 +1,6 @@
-use Rattle.std.proofs.Common.{◌∙◌, ◌<◌, length, ap, arith, rules}
-use Rattle.std.proofs.lemmas.List.{take_all}
+use Rattle.base.proofs.Public.{◌∙◌, ◌<◌, length, ap, arith, rules, take_all}
+use Rattle.instance_make.specs.Prelude.{duration_of_kind, durations_data, kind_count, kind_word, KINDS, kinds, members, members_by}
 use Rattle.serde_json.specs.Data.{object}
-use Rattle.cluster.specs.declared.kinds.TheConstants.{KINDS}
-use Rattle.json_text.specs.Out.{members}
-use Rattle.cluster.specs.Kinds.{kind_count, kind_word, kinds}
-use Rattle.instance_make.specs.Members.{members_by}
-use Rattle.instance_make.specs.Elements.{duration_of_kind, durations_data}
 use Rattle.instance_make.proofs.Putting.{kind_free, kinds_more}
 use Rattle.instance_make.proofs.amounts.durations_value.Goals as goal
 

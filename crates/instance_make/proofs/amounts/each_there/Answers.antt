@@ -1,7 +1,6 @@
-use Rattle.std.proofs.Common.{◌≡◌, ◌∙◌, length, map, Some, None, sym, arith, rules}
-use Rattle.std.proofs.lemmas.List.{ext_get_or, get_or-map, length-map}
-use Rattle.cluster.specs.Kinds.{kind_count}
-use Rattle.instance_json.specs.Durations.{one_instant}
+use Rattle.std.proofs.Common.{map}
+use Rattle.base.proofs.Public.{◌≡◌, ◌∙◌, length, Some, None, sym, arith, rules, ext_get_or, get_or-map, length-map}
+use Rattle.instance_make.specs.Prelude.{kind_count, one_instant}
 use Rattle.instance_make.proofs.amounts.each_there.Goals as goal
 
 pub returns : goal.returns

@@ -1,6 +1,5 @@
 use Rattle.std.proofs.Common.{◌≡◌, map}
-use Rattle.instance_make.specs.Building.{with_more}
-use Rattle.instance_make.specs.Generated.{from, spread_of}
+use Rattle.instance_make.specs.Prelude.{from, spread_of, with_more}
 use Rattle.instance_make.proofs.generating.add_spreads.Given as goal
 
 abbrev pub invariant-loop-g : goal.invariant-loop-g

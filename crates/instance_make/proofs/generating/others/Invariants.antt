@@ -1,5 +1,4 @@
-use Rattle.std.proofs.Common.{◌≡◌, ◌==◌, not}
-use Rattle.std.specs.List.{filter}
+use Rattle.base.proofs.Public.{◌≡◌, ◌==◌, not, filter}
 use Rattle.instance_make.specs.Generated.{from, set_of}
 use Rattle.instance_make.proofs.generating.others.Given as goal
 

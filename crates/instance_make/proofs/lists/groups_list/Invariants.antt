@@ -1,6 +1,5 @@
 use Rattle.std.proofs.Common.{◌≡◌, map, take}
-use Rattle.json_text.specs.Out.{items}
-use Rattle.instance_make.specs.Rules.{nodes_list}
+use Rattle.instance_make.specs.Prelude.{items, nodes_list}
 use Rattle.instance_make.proofs.lists.groups_list.Given as goal
 
 abbrev pub invariant-loop-group : goal.invariant-loop-group

@@ -1,6 +1,5 @@
 use Rattle.std.proofs.Common.{◌≡◌, map, take}
-use Rattle.json_text.specs.Out.{items}
-use Rattle.instance_make.specs.Elements.{machine_name}
+use Rattle.instance_make.specs.Prelude.{items, machine_name}
 use Rattle.instance_make.proofs.lists.machines_list.Given as goal
 
 abbrev pub invariant-loop-v : goal.invariant-loop-v

@@ -1,8 +1,6 @@
-use Rattle.std.proofs.Common.{◌≡◌, map}
-use Rattle.std.specs.List.{filter, range_with_len}
-use Rattle.json_text.specs.Out.{items}
-use Rattle.cluster.specs.Sets.{has_node}
-use Rattle.instance_make.specs.Rules.{node_name_at}
+use Rattle.std.proofs.Common.{map}
+use Rattle.base.proofs.Public.{◌≡◌, filter, range_with_len}
+use Rattle.instance_make.specs.Prelude.{has_node, items, node_name_at}
 use Rattle.instance_make.proofs.lists.nodes_list.Given as goal
 
 abbrev pub invariant-loop-n : goal.invariant-loop-n

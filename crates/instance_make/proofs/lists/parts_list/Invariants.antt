@@ -1,6 +1,5 @@
 use Rattle.std.proofs.Common.{◌≡◌, map, take}
-use Rattle.json_text.specs.Out.{items}
-use Rattle.instance_make.specs.Rules.{machines_list}
+use Rattle.instance_make.specs.Prelude.{items, machines_list}
 use Rattle.instance_make.proofs.lists.parts_list.Given as goal
 
 abbrev pub invariant-loop-part : goal.invariant-loop-part

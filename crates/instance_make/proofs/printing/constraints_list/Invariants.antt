@@ -1,6 +1,5 @@
 use Rattle.std.proofs.Common.{◌≡◌, map, take}
-use Rattle.json_text.specs.Out.{items}
-use Rattle.instance_make.specs.Rules.{constraint_data}
+use Rattle.instance_make.specs.Prelude.{constraint_data, items}
 use Rattle.instance_make.proofs.printing.constraints_list.Given as goal
 
 abbrev pub invariant-loop-constraint : goal.invariant-loop-constraint

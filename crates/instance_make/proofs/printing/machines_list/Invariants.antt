@@ -1,6 +1,5 @@
 use Rattle.std.proofs.Common.{◌≡◌, map, take}
-use Rattle.json_text.specs.Out.{items}
-use Rattle.instance_make.specs.Elements.{machine_data}
+use Rattle.instance_make.specs.Prelude.{items, machine_data}
 use Rattle.instance_make.proofs.printing.machines_list.Given as goal
 
 abbrev pub invariant-loop-machine : goal.invariant-loop-machine

@@ -1,6 +1,5 @@
 use Rattle.std.proofs.Common.{◌≡◌, map, take}
-use Rattle.json_text.specs.Out.{items}
-use Rattle.instance_make.specs.Elements.{node_data}
+use Rattle.instance_make.specs.Prelude.{items, node_data}
 use Rattle.instance_make.proofs.printing.nodes_list.Given as goal
 
 abbrev pub invariant-loop-node : goal.invariant-loop-node

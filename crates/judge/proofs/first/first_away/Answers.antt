@@ -1,5 +1,4 @@
-use Rattle.slices.specs.Plans.{choices_of}
-use Rattle.slices.specs.Snapshots.{snapshot_at}
+use Rattle.judge.specs.Prelude.{choices_of, snapshot_at}
 use Rattle.judge.proofs.Stances.{machines_more}
 use Rattle.judge.proofs.first.first_away.Goals as goal
 

@@ -1,6 +1,4 @@
-use Rattle.slices.specs.Plans.{choices_of}
-use Rattle.slices.specs.Snapshots.{snapshot_at}
-use Rattle.judge.specs.Standing.{AreUsable}
+use Rattle.judge.specs.Prelude.{AreUsable, choices_of, snapshot_at}
 use Rattle.judge.proofs.first.first_away.Given as goal
 
 abbrev pub invariant-loop-i : goal.invariant-loop-i

@@ -1,6 +1,4 @@
-use Rattle.slices.specs.Elements.{node_count}
-use Rattle.slices.specs.Plans.{choices_of}
-use Rattle.slices.specs.Snapshots.{snapshot_at}
+use Rattle.judge.specs.Prelude.{choices_of, node_count, snapshot_at}
 use Rattle.judge.proofs.Lowering.{keeps_all, table_fits, unmet_first}
 use Rattle.judge.proofs.first.first_broken_rule.Goals as goal
 

@@ -1,7 +1,5 @@
-use Rattle.std.proofs.Common.{arith}
-use Rattle.std.proofs.lemmas.Bool.{iff_false}
-use Rattle.slices.specs.Plans.{choices_of}
-use Rattle.slices.specs.Snapshots.{snapshot_at}
+use Rattle.base.proofs.Public.{arith, iff_false}
+use Rattle.judge.specs.Prelude.{choices_of, snapshot_at}
 use Rattle.judge.proofs.Stances.{first_off, below_more}
 use Rattle.judge.proofs.first.first_off.Goals as goal
 

@@ -1,6 +1,4 @@
-use Rattle.slices.specs.Plans.{choices_of}
-use Rattle.slices.specs.Snapshots.{snapshot_at}
-use Rattle.judge.specs.Standing.{StandsBelow}
+use Rattle.judge.specs.Prelude.{choices_of, snapshot_at, StandsBelow}
 use Rattle.judge.proofs.first.first_off.Given as goal
 
 abbrev pub invariant-loop-i : goal.invariant-loop-i

@@ -1,5 +1,4 @@
-use Rattle.slices.specs.Plans.{choices_of}
-use Rattle.judge.specs.Verdict.{ConstraintsHold}
+use Rattle.judge.specs.Prelude.{choices_of, ConstraintsHold}
 use Rattle.judge.proofs.first.first_unmet.Given as goal
 
 abbrev pub invariant-loop-i : goal.invariant-loop-i

@@ -1,5 +1,4 @@
-use Rattle.std.proofs.Common.{arith}
-use Rattle.std.proofs.lemmas.Bool.{eq-eqb, iff_false, or_right}
+use Rattle.base.proofs.Public.{arith, eq-eqb, iff_false, or_right}
 use Rattle.slices.specs.Plans.{choices_of}
 use Rattle.judge.proofs.Lowering.{discrete_met, suspect_met}
 use Rattle.judge.proofs.least.least_at_end.Goals.{else-horizon-best-via-then-horizon-best+else-not-holds, else-horizon-best-via-else-horizon-best}

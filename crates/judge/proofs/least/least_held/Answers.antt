@@ -1,6 +1,5 @@
-use Rattle.std.proofs.Common.{◌≡◌, ◌+◌, Some, length, refl, slice_get, arith}
-use Rattle.std.proofs.lemmas.Bool.{iff_false, or_left}
-use Rattle.std.proofs.lemmas.Option.{slice_get_read}
+use Rattle.std.proofs.Common.{slice_get}
+use Rattle.base.proofs.Public.{◌≡◌, ◌+◌, Some, length, refl, arith, iff_false, or_left, slice_get_read}
 use Rattle.slices.specs.Plans.{choices_of}
 use Rattle.judge.proofs.Lowering.{continuous_met, suspect_met}
 use Rattle.judge.proofs.Quiet.{holds_until}

@@ -1,6 +1,5 @@
 use Rattle.std.proofs.Common.{ℕ, ◌-◌, ◌<◌}
-use Rattle.slices.specs.Plans.{choices_of}
-use Rattle.placement_rules.specs.HoldsAt.{HoldsAt}
+use Rattle.judge.specs.Prelude.{choices_of, HoldsAt}
 use Rattle.judge.proofs.least.least_held.Given as goal
 
 abbrev pub invariant-loop-at : goal.invariant-loop-at

@@ -1,6 +1,5 @@
 use Rattle.std.proofs.Common.{ℕ, ◌<◌}
-use Rattle.slices.specs.Plans.{choices_of}
-use Rattle.judge.specs.Verdict.{IsLower, IsMetBefore}
+use Rattle.judge.specs.Prelude.{choices_of, IsLower, IsMetBefore}
 use Rattle.judge.proofs.least.least_of_all.Given as goal
 
 abbrev pub invariant-loop-c : goal.invariant-loop-c

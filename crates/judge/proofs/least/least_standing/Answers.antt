@@ -1,5 +1,4 @@
-use Rattle.std.proofs.Common.{◌+◌, arith}
-use Rattle.std.proofs.lemmas.Bool.{iff_false}
+use Rattle.base.proofs.Public.{◌+◌, arith, iff_false}
 use Rattle.slices.specs.Plans.{choices_of}
 use Rattle.judge.proofs.Lowering.{suspect_standing}
 use Rattle.judge.proofs.Quiet.{stands_until}

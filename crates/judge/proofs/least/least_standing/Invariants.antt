@@ -1,6 +1,5 @@
 use Rattle.std.proofs.Common.{ℕ, ◌+◌, ◌-◌, ◌<◌, ◌≤◌}
-use Rattle.slices.specs.Plans.{choices_of}
-use Rattle.judge.specs.Verdict.{StandsAt}
+use Rattle.judge.specs.Prelude.{choices_of, StandsAt}
 use Rattle.judge.proofs.least.least_standing.Given as goal
 
 abbrev pub invariant-loop-t : goal.invariant-loop-t

@@ -1,6 +1,5 @@
 use Rattle.std.proofs.Common.{◌≡◌, ℕ, ◌+◌, ◌<◌, ◌≤◌, slice_index}
-use Rattle.slices.specs.Stages.{weight_of}
-use Rattle.slices.specs.declared.slice.Weight.TheVariants.{Amount}
+use Rattle.judge.specs.Prelude.{Amount, weight_of}
 use Rattle.judge.proofs.loads.add_row.Given as goal
 
 abbrev pub invariant-loop-r : goal.invariant-loop-r

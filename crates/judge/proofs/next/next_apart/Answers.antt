@@ -1,6 +1,5 @@
 use Rattle.std.proofs.Common.{◌∙◌}
-use Rattle.slices.specs.Elements.{machine_count}
-use Rattle.slices.specs.Plans.{choices_of}
+use Rattle.judge.specs.Prelude.{choices_of, machine_count}
 use Rattle.catalogue.proofs.Public.{below_parts}
 use Rattle.judge.proofs.Starting.{parts_matter}
 use Rattle.judge.proofs.next.next_apart.Goals as goal

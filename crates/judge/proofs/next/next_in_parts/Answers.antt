@@ -1,8 +1,6 @@
-use Rattle.std.proofs.Common.{◌+◌, [], ◌∙◌, slice_index_or}
-use Rattle.std.proofs.lemmas.List.{get_or_read}
-use Rattle.slices.specs.Holds.{IsMember}
-use Rattle.slices.specs.Plans.{choices_of}
-use Rattle.judge.specs.Starts.{AreMachines, IsInSome}
+use Rattle.std.proofs.Common.{slice_index_or}
+use Rattle.base.proofs.Public.{◌+◌, [], ◌∙◌, get_or_read}
+use Rattle.judge.specs.Prelude.{AreMachines, choices_of, IsInSome, IsMember}
 use Rattle.judge.proofs.Starting.{next_of_both, parts_more}
 use Rattle.judge.proofs.next.next_in_parts.Goals as goal
 

@@ -1,5 +1,4 @@
-use Rattle.slices.specs.Plans.{choices_of}
-use Rattle.judge.specs.Starts.{AreMachines, IsInSome, IsNext}
+use Rattle.judge.specs.Prelude.{AreMachines, choices_of, IsInSome, IsNext}
 use Rattle.judge.proofs.next.next_in_parts.Given as goal
 
 abbrev pub invariant-loop-i : goal.invariant-loop-i

@@ -1,6 +1,5 @@
 use Rattle.std.proofs.Common.{◌<◌}
-use Rattle.slices.specs.Plans.{choices_of}
-use Rattle.judge.specs.Starts.{AreMachines, IsNext}
+use Rattle.judge.specs.Prelude.{AreMachines, choices_of, IsNext}
 use Rattle.judge.proofs.next.next_machine.Given as goal
 
 abbrev pub invariant-loop-v : goal.invariant-loop-v

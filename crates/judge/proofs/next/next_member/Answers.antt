@@ -1,9 +1,5 @@
-use Rattle.std.proofs.Common.{◌≡◌, ◌+◌, get_or, take, arith}
-use Rattle.std.proofs.lemmas.List.{take_all}
-use Rattle.slices.specs.Elements.{vm}
-use Rattle.slices.specs.Holds.{IsMember}
-use Rattle.slices.specs.Plans.{choices_of}
-use Rattle.judge.specs.Starts.{AreMachines}
+use Rattle.base.proofs.Public.{◌≡◌, ◌+◌, get_or, take, arith, take_all}
+use Rattle.judge.specs.Prelude.{AreMachines, choices_of, IsMember, vm}
 use Rattle.judge.proofs.Starting.{members_more, next_of_both}
 use Rattle.judge.proofs.next.next_member.Goals as goal
 

@@ -1,7 +1,5 @@
 use Rattle.std.proofs.Common.{take}
-use Rattle.slices.specs.Holds.{IsMember}
-use Rattle.slices.specs.Plans.{choices_of}
-use Rattle.judge.specs.Starts.{AreMachines, IsNext}
+use Rattle.judge.specs.Prelude.{AreMachines, choices_of, IsMember, IsNext}
 use Rattle.judge.proofs.next.next_member.Given as goal
 
 abbrev pub invariant-loop-v : goal.invariant-loop-v

@@ -1,7 +1,5 @@
 use Rattle.std.proofs.Common.{◌<◌, IsTrue}
-use Rattle.cluster.specs.Sets.{has_node}
-use Rattle.slices.specs.Plans.{choices_of}
-use Rattle.judge.specs.Starts.{AreNodes, IsNext}
+use Rattle.judge.specs.Prelude.{AreNodes, choices_of, has_node, IsNext}
 use Rattle.judge.proofs.next.next_node.Given as goal
 
 abbrev pub invariant-loop-i : goal.invariant-loop-i

@@ -1,6 +1,5 @@
 use Rattle.std.proofs.Common.{◌+◌}
-use Rattle.slices.specs.Plans.{choices_of}
-use Rattle.judge.specs.Starts.{IsNext}
+use Rattle.judge.specs.Prelude.{choices_of, IsNext}
 use Rattle.judge.proofs.Starting.{AreNumbered}
 use Rattle.judge.proofs.next.next_start.Given as goal
 

@@ -1,6 +1,5 @@
 use Rattle.std.proofs.Common.{ℕ, ◌<◌, ◌≤◌}
-use Rattle.catalogue.specs.Cells.{cell}
-use Rattle.catalogue.specs.Values.{capacity_of}
+use Rattle.judge.specs.Prelude.{capacity_of, cell}
 use Rattle.judge.proofs.standing.first_in.Given as goal
 
 abbrev pub invariant-loop-i : goal.invariant-loop-i

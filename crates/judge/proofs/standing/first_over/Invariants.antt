@@ -1,5 +1,4 @@
-use Rattle.catalogue.specs.Cells.{cell}
-use Rattle.judge.specs.Standing.{LoadsFit}
+use Rattle.judge.specs.Prelude.{cell, LoadsFit}
 use Rattle.judge.proofs.standing.first_over.Given as goal
 
 abbrev pub invariant-loop-i : goal.invariant-loop-i

@@ -1,6 +1,5 @@
-use Rattle.std.proofs.Common.{false}
+use Rattle.base.proofs.Public.{false, copies_at}
 use Rattle.cluster.specs.Limits.{max_nodes}
-use Rattle.base.proofs.Lists.{copies_at}
 use Rattle.judge.proofs.standing.no_nodes.Goals as goal
 
 pub returns : goal.returns

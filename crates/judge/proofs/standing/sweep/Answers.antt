@@ -1,8 +1,5 @@
 use Rattle.std.proofs.Common.{arith}
-use Rattle.slices.specs.declared.slice.Weight.TheVariants.{Amount}
-use Rattle.slices.specs.Plans.{choices_of}
-use Rattle.slices.specs.Snapshots.{snapshot_at}
-use Rattle.slices.specs.Stages.{one}
+use Rattle.judge.specs.Prelude.{Amount, choices_of, one, snapshot_at}
 use Rattle.judge.proofs.Stances.{usable_where, usable_more}
 use Rattle.judge.proofs.Tables.{sum_more}
 use Rattle.judge.proofs.standing.sweep.Goals as goal

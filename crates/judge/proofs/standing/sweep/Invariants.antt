@@ -1,11 +1,5 @@
 use Rattle.std.proofs.Common.{◌≡◌, ◌↔◌, ℕ, ◌*◌, ◌<◌, ◌≤◌, length, IsTrue}
-use Rattle.catalogue.specs.Cells.{cell}
-use Rattle.base.specs.Sums.{sum_to}
-use Rattle.slices.specs.declared.slice.Weight.TheVariants.{Amount}
-use Rattle.slices.specs.Plans.{choices_of}
-use Rattle.slices.specs.Snapshots.{snapshot_at}
-use Rattle.slices.specs.Stages.{one}
-use Rattle.judge.specs.Standing.{AreUsable}
+use Rattle.judge.specs.Prelude.{Amount, AreUsable, cell, choices_of, one, snapshot_at, sum_to}
 use Rattle.judge.proofs.standing.sweep.Given as goal
 
 abbrev pub invariant-loop-i : goal.invariant-loop-i

@@ -1,6 +1,5 @@
 use Rattle.std.proofs.Common.{◌≡◌, ℕ, ◌<◌, false, slice_index_or, length}
-use Rattle.slices.specs.Plans.{choices_of}
-use Rattle.slices.specs.Snapshots.{snapshot_at}
+use Rattle.judge.specs.Prelude.{choices_of, snapshot_at}
 use Rattle.judge.proofs.standing.usable_nodes.Given as goal
 
 abbrev pub invariant-loop-n : goal.invariant-loop-n

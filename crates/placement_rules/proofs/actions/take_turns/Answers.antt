@@ -1,7 +1,5 @@
-use Rattle.std.proofs.Common.{◌∙◌, arith, sym}
-use Rattle.std.proofs.lemmas.Bool.{false≢true, iff_false}
-use Rattle.slices.specs.Plans.{choices_of}
-use Rattle.slices.specs.Snapshots.{snapshot_at}
+use Rattle.base.proofs.Public.{◌∙◌, arith, sym, false≢true, iff_false}
+use Rattle.placement_rules.specs.Prelude.{choices_of, snapshot_at}
 use Rattle.placement_rules.proofs.Turns.{meet}
 use Rattle.placement_rules.proofs.actions.take_turns.Goals as goal
 

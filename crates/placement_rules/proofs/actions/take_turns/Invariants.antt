@@ -1,6 +1,5 @@
 use Rattle.std.proofs.Common.{take}
-use Rattle.slices.specs.Plans.{choices_of}
-use Rattle.slices.specs.Snapshots.{snapshot_at}
+use Rattle.placement_rules.specs.Prelude.{choices_of, snapshot_at}
 use Rattle.placement_rules.proofs.Turns.{IsAlone}
 use Rattle.placement_rules.proofs.actions.take_turns.Given as goal
 

@@ -1,5 +1,4 @@
-use Rattle.std.proofs.Common.{◌∙◌, [], arith}
-use Rattle.std.proofs.lemmas.List.{get_or_read}
+use Rattle.base.proofs.Public.{◌∙◌, [], arith, get_or_read}
 use Rattle.placement_rules.proofs.Noting.{noted_more, refused_meets}
 use Rattle.placement_rules.proofs.LabelLemmas.{part_labels, part_more, part_end, split_meets}
 use Rattle.placement_rules.proofs.apart.claim_part.Goals as goal

@@ -1,6 +1,4 @@
-use Rattle.slices.specs.Plans.{choices_of}
-use Rattle.slices.specs.Snapshots.{snapshot_at}
-use Rattle.placement_rules.specs.Labels.{AreNoted}
+use Rattle.placement_rules.specs.Prelude.{AreNoted, choices_of, snapshot_at}
 use Rattle.placement_rules.proofs.LabelLemmas.{part_labels}
 use Rattle.placement_rules.proofs.apart.claim_part.Given as goal
 

@@ -1,6 +1,4 @@
-use Rattle.slices.specs.Plans.{choices_of}
-use Rattle.slices.specs.Snapshots.{snapshot_at}
-use Rattle.placement_rules.specs.Labels.{AreNoted, split_labels}
+use Rattle.placement_rules.specs.Prelude.{AreNoted, choices_of, snapshot_at, split_labels}
 use Rattle.placement_rules.proofs.apart.is_split.Given as goal
 
 abbrev pub invariant-loop-i : goal.invariant-loop-i

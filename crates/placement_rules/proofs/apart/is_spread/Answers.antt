@@ -1,5 +1,4 @@
-use Rattle.std.proofs.Common.{refl, arith}
-use Rattle.std.proofs.lemmas.Bool.{false≢true}
+use Rattle.base.proofs.Public.{refl, arith, false≢true}
 use Rattle.placement_rules.proofs.Noting.{noted_more, refused_meets}
 use Rattle.placement_rules.proofs.LabelLemmas.{spread_labels, spread_more, spread_apart, spread_meets}
 use Rattle.placement_rules.proofs.apart.is_spread.Goals as goal

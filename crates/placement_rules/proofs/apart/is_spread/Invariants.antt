@@ -1,6 +1,4 @@
-use Rattle.slices.specs.Plans.{choices_of}
-use Rattle.slices.specs.Snapshots.{snapshot_at}
-use Rattle.placement_rules.specs.Labels.{AreNoted}
+use Rattle.placement_rules.specs.Prelude.{AreNoted, choices_of, snapshot_at}
 use Rattle.placement_rules.proofs.LabelLemmas.{spread_labels}
 use Rattle.placement_rules.proofs.apart.is_spread.Given as goal
 

@@ -1,6 +1,5 @@
+use Rattle.base.proofs.Public.{None, copies_at}
 use Rattle.cluster.specs.Limits.{max_nodes}
-use Rattle.std.proofs.Common.{None}
-use Rattle.base.proofs.Lists.{copies_at}
 use Rattle.placement_rules.proofs.apart.no_labels.Goals as goal
 
 pub returns : goal.returns

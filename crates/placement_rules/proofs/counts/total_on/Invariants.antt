@@ -1,8 +1,5 @@
 use Rattle.std.proofs.Common.{◌≡◌, ◌*◌, ◌≤◌}
-use Rattle.cluster.specs.Sets.{has_node}
-use Rattle.base.specs.Sums.{sum_to}
-use Rattle.slices.specs.Plans.{choices_of}
-use Rattle.slices.specs.Snapshots.{snapshot_at}
+use Rattle.placement_rules.specs.Prelude.{choices_of, has_node, snapshot_at, sum_to}
 use Rattle.placement_rules.proofs.counts.total_on.Given as goal
 
 abbrev pub invariant-loop-v : goal.invariant-loop-v

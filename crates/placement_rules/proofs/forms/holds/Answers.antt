@@ -1,8 +1,6 @@
-use Rattle.std.proofs.Common.{◌≡◌, Some, subst, slice_get, length, refl}
-use Rattle.std.proofs.lemmas.Option.{slice_get_read}
-use Rattle.slices.specs.Holds.{Holds}
-use Rattle.slices.specs.Plans.{choices_of}
-use Rattle.slices.specs.Snapshots.{snapshot_at}
+use Rattle.std.proofs.Common.{slice_get}
+use Rattle.base.proofs.Public.{◌≡◌, Some, subst, length, refl, slice_get_read}
+use Rattle.placement_rules.specs.Prelude.{choices_of, Holds, snapshot_at}
 use Rattle.placement_rules.proofs.forms.holds.Goals as goal
 
 pub returns : goal.returns

@@ -1,6 +1,5 @@
 use Rattle.std.proofs.Common.{◌∙◌, inl, refl, sym}
-use Rattle.slices.specs.Plans.{choices_of}
-use Rattle.slices.specs.Snapshots.{snapshot_at}
+use Rattle.placement_rules.specs.Prelude.{choices_of, snapshot_at}
 use Rattle.placement_rules.proofs.Reaching.{among, none_absent, together}
 use Rattle.placement_rules.proofs.groups.are_grouped.Goals as goal
 

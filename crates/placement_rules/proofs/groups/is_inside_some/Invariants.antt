@@ -1,6 +1,5 @@
 use Rattle.std.proofs.Common.{◌≡◌, ℕ, ◌<◌, slice_index_or, IsTrue}
-use Rattle.cluster.specs.Sets.{has_node}
-use Rattle.cluster.specs.declared.sets.NodeSet.{NodeSet}
+use Rattle.placement_rules.specs.Prelude.{has_node, NodeSet}
 use Rattle.placement_rules.proofs.groups.is_inside_some.Given as goal
 
 abbrev pub invariant-loop-group : goal.invariant-loop-group

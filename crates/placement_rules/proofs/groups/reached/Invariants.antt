@@ -1,7 +1,5 @@
 use Rattle.std.proofs.Common.{take}
-use Rattle.slices.specs.Plans.{choices_of}
-use Rattle.slices.specs.Snapshots.{snapshot_at}
-use Rattle.placement_rules.specs.Places.{AreReached}
+use Rattle.placement_rules.specs.Prelude.{AreReached, choices_of, snapshot_at}
 use Rattle.placement_rules.proofs.groups.reached.Given as goal
 
 abbrev pub invariant-loop-v : goal.invariant-loop-v

@@ -1,9 +1,5 @@
 use Rattle.std.proofs.Common.{ℕ, take, IsTrue}
-use Rattle.catalogue.specs.Faults.{is_member}
-use Rattle.slices.specs.Forms.{places_seen}
-use Rattle.slices.specs.Plans.{choices_of}
-use Rattle.slices.specs.Snapshots.{snapshot_at}
-use Rattle.placement_rules.specs.Places.{IsAllowed}
+use Rattle.placement_rules.specs.Prelude.{choices_of, is_member, IsAllowed, places_seen, snapshot_at}
 use Rattle.placement_rules.proofs.places.are_allowed.Given as goal
 
 abbrev pub invariant-loop-v : goal.invariant-loop-v

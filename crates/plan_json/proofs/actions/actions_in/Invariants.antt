@@ -1,9 +1,7 @@
 use Rattle.std.proofs.Common.{[]}
+use Rattle.plan_json.specs.Prelude.{action_step, AreActions, path_of}
 use Rattle.serde_json.specs.View.{view}
-use Rattle.json_walk.specs.PathRef.{path_of}
 use Rattle.json_walk.proofs.Public.{StandsAt}
-use Rattle.plan_json.specs.Marks.{AreActions}
-use Rattle.plan_json.specs.Plans.{action_step}
 use Rattle.plan_json.proofs.actions.actions_in.Given as goal
 
 abbrev pub invariant-loop-i : goal.invariant-loop-i

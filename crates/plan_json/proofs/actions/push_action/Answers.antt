@@ -1,6 +1,5 @@
 use Rattle.std.proofs.Common.{◌≡◌, sym, true, None}
-use Rattle.catalogue.specs.Instance.{IsElement}
-use Rattle.plan_json.specs.Plans.{action_for, is_legal_action}
+use Rattle.plan_json.specs.Prelude.{action_for, is_legal_action, IsElement}
 use Rattle.plan_json.proofs.Finding.{none_of}
 use Rattle.plan_json.proofs.MarkLemmas.{AreActions-more}
 use Rattle.plan_json.proofs.actions.push_action.Goals as goal

@@ -1,5 +1,4 @@
-use Rattle.std.proofs.Common.{◌≤◌, ◌∙◌, ap, length, take, arith}
-use Rattle.std.proofs.lemmas.List.{take_all}
+use Rattle.base.proofs.Public.{◌≤◌, ◌∙◌, ap, length, take, arith, take_all}
 use Rattle.plan_json.specs.Plans.{choices_for}
 use Rattle.plan_json.proofs.ChoiceLemmas.{choices_for-none, choices_for-next, length-choices_for}
 use Rattle.plan_json.proofs.choosing.choices.Goals as goal

@@ -1,5 +1,4 @@
-use Rattle.std.proofs.Common.{◌≡◌, ◌-◌, length}
-use Rattle.std.specs.List.{find, range_with_len}
+use Rattle.base.proofs.Public.{◌≡◌, ◌-◌, length, find, range_with_len}
 use Rattle.plan_json.specs.Plans.{must_act}
 use Rattle.plan_json.proofs.choosing.first_to_act.Given as goal
 

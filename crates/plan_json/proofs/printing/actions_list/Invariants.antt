@@ -1,7 +1,5 @@
-use Rattle.std.proofs.Common.{◌≡◌}
-use Rattle.std.specs.List.{flat_map, range_with_len}
-use Rattle.json_text.specs.Out.{items}
-use Rattle.plan_json.specs.Print.{element_data}
+use Rattle.base.proofs.Public.{◌≡◌, flat_map, range_with_len}
+use Rattle.plan_json.specs.Prelude.{element_data, items}
 use Rattle.plan_json.proofs.printing.actions_list.Given as goal
 
 abbrev pub invariant-loop-x : goal.invariant-loop-x

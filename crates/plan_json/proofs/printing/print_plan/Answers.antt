@@ -1,9 +1,6 @@
-use Rattle.std.proofs.Common.{◌≤◌, length, arith}
-use Rattle.std.specs.Option.{option_copied}
+use Rattle.base.proofs.Public.{◌≤◌, length, arith, option_copied}
+use Rattle.plan_json.specs.Prelude.{IsPlanOf, MAX_TEXT_BYTES, plan_text}
 use Rattle.serde_json.specs.View.{view}
-use Rattle.json_walk.specs.declared.reading.TheConstants.{MAX_TEXT_BYTES}
-use Rattle.slices.specs.Plans.{IsPlanOf}
-use Rattle.plan_json.specs.Print.{plan_text}
 use Rattle.plan_json.proofs.ReadBack.{lent, bytes_again}
 use Rattle.plan_json.proofs.Sizes.{length-plan_text}
 use Rattle.plan_json.proofs.printing.print_plan.Goals as goal

@@ -1,5 +1,4 @@
-use Rattle.domains.specs.Sets.{sets}
-use Rattle.prop_core.specs.Lists.{PostedSame}
+use Rattle.prop_core.specs.Prelude.{PostedSame, sets}
 use Rattle.prop_core.proofs.TurnLemmas.{Turned}
 use Rattle.prop_core.proofs.all.post_all.Given as goal
 

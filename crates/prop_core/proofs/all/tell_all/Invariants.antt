@@ -1,5 +1,4 @@
-use Rattle.domains.specs.Sets.{sets}
-use Rattle.prop_core.specs.Lists.{ToldSame}
+use Rattle.prop_core.specs.Prelude.{sets, ToldSame}
 use Rattle.prop_core.proofs.TurnLemmas.{Turned}
 use Rattle.prop_core.proofs.all.tell_all.Given as goal
 

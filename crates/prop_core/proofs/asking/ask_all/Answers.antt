@@ -1,5 +1,4 @@
-use Rattle.std.proofs.Common.{◌<◌, arith, length}
-use Rattle.std.proofs.lemmas.Result.{err_from_is_err_and}
+use Rattle.base.proofs.Public.{◌<◌, arith, length, err_from_is_err_and}
 use Rattle.prop_core.proofs.AskLemmas.{Rise-same, Rise-at, counts_of}
 use Rattle.prop_core.proofs.asking.ask_all.Goals as goal
 

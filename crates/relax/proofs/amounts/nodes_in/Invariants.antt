@@ -1,6 +1,5 @@
 use Rattle.std.proofs.Common.{◌≡◌, ◌≤◌, cond}
-use Rattle.cluster.specs.Sets.{has_node}
-use Rattle.base.specs.Sums.{sum_to}
+use Rattle.relax.specs.Prelude.{has_node, sum_to}
 use Rattle.relax.proofs.amounts.nodes_in.Given as goal
 
 abbrev pub invariant-loop-n : goal.invariant-loop-n

@@ -1,8 +1,5 @@
-use Rattle.std.proofs.Common.{◌≡◌, ◌≤◌, length, take}
-use Rattle.std.specs.List.{filter}
-use Rattle.domains.specs.Views.{seen}
-use Rattle.reasons.specs.Sure.{sure}
-use Rattle.relax.specs.Areas.{nodes_of}
+use Rattle.base.proofs.Public.{◌≡◌, ◌≤◌, length, take, filter}
+use Rattle.relax.specs.Prelude.{nodes_of, seen, sure}
 use Rattle.relax.proofs.amounts.present_in.Given as goal
 
 abbrev pub invariant-loop-v : goal.invariant-loop-v

@@ -1,7 +1,5 @@
-use Rattle.std.proofs.Common.{◌-◌, ◌<◌, ◌≤◌, ◌∙◌, inl, inr, length, get_or, sym, arith}
-use Rattle.std.proofs.lemmas.Bool.Decides.{nat_tests}
-use Rattle.slices.specs.Elements.{node_count}
-use Rattle.domains.specs.Choices.{no_row, place_index}
+use Rattle.base.proofs.Public.{◌-◌, ◌<◌, ◌≤◌, ◌∙◌, inl, inr, length, get_or, sym, arith, nat_tests}
+use Rattle.relax.specs.Prelude.{no_row, node_count, place_index}
 use Rattle.relax.proofs.FloorLemmas.{place_acts}
 use Rattle.relax.proofs.floors.always_acts.Goals as goal
 

@@ -1,5 +1,4 @@
-use Rattle.std.proofs.Common.{◌+◌, ◌-◌, inl, inr, length, arith}
-use Rattle.std.proofs.lemmas.Bool.{cases_lt}
+use Rattle.base.proofs.Public.{◌+◌, ◌-◌, inl, inr, length, arith, cases_lt}
 use Rattle.domains.specs.Choices.{no_row}
 use Rattle.relax.proofs.FloorLemmas.{not_there}
 use Rattle.relax.proofs.floors.has_no_row.Goals as goal

@@ -1,6 +1,5 @@
 use Rattle.std.proofs.Common.{◌≢◌, ℕ, ◌+◌, ◌-◌, ◌<◌, ◌≤◌, length, get_or}
-use Rattle.domains.specs.Choices.{place_index}
-use Rattle.domains.specs.declared.parts.Row.{Row}
+use Rattle.relax.specs.Prelude.{place_index, Row}
 use Rattle.relax.proofs.floors.has_no_row.Given as goal
 
 abbrev pub invariant-loop-k : goal.invariant-loop-k

@@ -1,8 +1,5 @@
-use Rattle.std.proofs.Common.{◌≡◌, ◌∙◌, Bool, true, false, not, refl, sym}
-use Rattle.std.specs.List.{Contains}
-use Rattle.domains.specs.Sets.{sets}
-use Rattle.slices.specs.Elements.{vm}
-use Rattle.relax.specs.Areas.{nodes_of}
+use Rattle.base.proofs.Public.{◌≡◌, ◌∙◌, Bool, true, false, not, refl, sym, Contains}
+use Rattle.relax.specs.Prelude.{nodes_of, sets, vm}
 use Rattle.relax.proofs.MoveLemmas.{all_stay}
 use Rattle.relax.proofs.floors.keeps_on.Goals as goal
 

@@ -1,6 +1,5 @@
 use Rattle.std.specs.List.{Contains}
-use Rattle.domains.specs.Sets.{sets}
-use Rattle.slices.specs.Elements.{vm}
+use Rattle.relax.specs.Prelude.{sets, vm}
 use Rattle.relax.proofs.FloorLemmas.{all_up, host_there}
 use Rattle.relax.proofs.floors.runs_on.Goals as goal
 

@@ -1,10 +1,6 @@
 use Rattle.std.proofs.Common.{arith, ltb-true}
+use Rattle.relax.specs.Prelude.{HasOutside, node_count, one, seen, sure}
 use borrow.Author.Count.{below_more}
-use Rattle.domains.specs.Views.{seen}
-use Rattle.slices.specs.Elements.{node_count}
-use Rattle.slices.specs.Stages.{one}
-use Rattle.reasons.specs.Reasons.{HasOutside}
-use Rattle.reasons.specs.Sure.{sure}
 use Rattle.relax.proofs.MemberLemmas.{nodes_not_scattered, nodes_scattered}
 use Rattle.relax.proofs.groups.are_apart.Goals as goal
 

@@ -1,8 +1,5 @@
 use Rattle.std.proofs.Common.{ℕ, ◌<◌}
-use Rattle.domains.specs.Views.{seen}
-use Rattle.slices.specs.Stages.{one}
-use Rattle.reasons.specs.Reasons.{HasOutside}
-use Rattle.reasons.specs.Sure.{sure}
+use Rattle.relax.specs.Prelude.{HasOutside, one, seen, sure}
 use Rattle.relax.proofs.groups.are_apart.Given as goal
 
 abbrev pub invariant-loop-n : goal.invariant-loop-n

@@ -1,7 +1,5 @@
-use Rattle.std.proofs.Common.{◌∙◌, arith, sym}
-use Rattle.std.proofs.lemmas.Bool.{iff_false}
-use Rattle.domains.specs.Views.{seen}
-use Rattle.reasons.specs.Sure.{sure}
+use Rattle.base.proofs.Public.{◌∙◌, arith, sym, iff_false}
+use Rattle.relax.specs.Prelude.{seen, sure}
 use Rattle.relax.proofs.MemberLemmas.{meet, none_meet}
 use Rattle.relax.proofs.groups.are_both_acting.Goals as goal
 

@@ -1,5 +1,4 @@
-use Rattle.domains.specs.Views.{seen}
-use Rattle.reasons.specs.Sure.{sure}
+use Rattle.relax.specs.Prelude.{seen, sure}
 use Rattle.relax.proofs.MemberLemmas.{IsAlone}
 use Rattle.relax.proofs.groups.are_both_acting.Given as goal
 

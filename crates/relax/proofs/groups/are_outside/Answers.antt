@@ -1,6 +1,5 @@
 use Rattle.std.proofs.Common.{arith, ltb-true}
-use Rattle.domains.specs.Views.{seen}
-use Rattle.reasons.specs.Sure.{sure}
+use Rattle.relax.specs.Prelude.{seen, sure}
 use Rattle.relax.proofs.MemberLemmas.{more_outside, sets_not_scattered, sets_scattered}
 use Rattle.relax.proofs.groups.are_outside.Goals as goal
 

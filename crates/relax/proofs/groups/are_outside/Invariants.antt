@@ -1,9 +1,5 @@
 use Rattle.std.proofs.Common.{ℕ, ◌<◌, get_or}
-use Rattle.cluster.specs.declared.sets.NodeSet.{NodeSet}
-use Rattle.cluster.specs.Sets.{has_node}
-use Rattle.domains.specs.Views.{seen}
-use Rattle.reasons.specs.Reasons.{HasOutside}
-use Rattle.reasons.specs.Sure.{sure}
+use Rattle.relax.specs.Prelude.{has_node, HasOutside, NodeSet, seen, sure}
 use Rattle.relax.proofs.groups.are_outside.Given as goal
 
 abbrev pub invariant-loop-group : goal.invariant-loop-group

@@ -1,7 +1,5 @@
 use Rattle.std.proofs.Common.{arith}
-use Rattle.domains.specs.Views.{seen}
-use Rattle.reasons.specs.Sure.{sure}
-use Rattle.relax.specs.Areas.{nodes_of}
+use Rattle.relax.specs.Prelude.{nodes_of, seen, sure}
 use Rattle.relax.proofs.MemberLemmas.{none_in}
 use Rattle.relax.proofs.groups.find_in.Goals as goal
 

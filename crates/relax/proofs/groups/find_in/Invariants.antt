@@ -1,8 +1,5 @@
 use Rattle.std.proofs.Common.{◌≡◌, ℕ, ◌<◌, false, get_or}
-use Rattle.cluster.specs.declared.ids.VmId.{VmId}
-use Rattle.domains.specs.Views.{seen}
-use Rattle.reasons.specs.Sure.{sure}
-use Rattle.relax.specs.Areas.{nodes_of}
+use Rattle.relax.specs.Prelude.{nodes_of, seen, sure, VmId}
 use Rattle.relax.proofs.groups.find_in.Given as goal
 
 abbrev pub invariant-loop-i : goal.invariant-loop-i

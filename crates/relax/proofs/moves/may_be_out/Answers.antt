@@ -1,7 +1,5 @@
 use Rattle.std.proofs.Common.{◌∙◌, sym}
-use Rattle.domains.specs.Views.{seen}
-use Rattle.slices.specs.Elements.{vm}
-use Rattle.relax.specs.Areas.{nodes_of}
+use Rattle.relax.specs.Prelude.{nodes_of, seen, vm}
 use Rattle.relax.proofs.MoveLemmas.{left_least}
 use Rattle.relax.proofs.moves.may_be_out.Goals as goal
 

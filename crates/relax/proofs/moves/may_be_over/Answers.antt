@@ -1,7 +1,5 @@
-use Rattle.std.proofs.Common.{get_or}
-use Rattle.std.specs.List.{Contains}
-use Rattle.cluster.specs.declared.choices.Choice.TheVariants.{Act}
-use Rattle.domains.specs.Choices.{choices, no_row}
+use Rattle.base.proofs.Public.{get_or, Contains}
+use Rattle.relax.specs.Prelude.{Act, choices, no_row}
 use Rattle.relax.proofs.AwayLemmas.{start_in}
 use Rattle.relax.proofs.moves.may_be_over.Goals as goal
 

@@ -1,9 +1,5 @@
-use Rattle.std.proofs.Common.{◌∙◌, sym, subst}
-use Rattle.std.specs.List.{Contains}
-use Rattle.slices.specs.Elements.{vm}
-use Rattle.slices.specs.Stages.{one}
-use Rattle.domains.specs.Choices.{choices}
-use Rattle.domains.specs.Sets.{sets}
+use Rattle.base.proofs.Public.{◌∙◌, sym, subst, Contains}
+use Rattle.relax.specs.Prelude.{choices, one, sets, vm}
 use Rattle.relax.proofs.AwayLemmas.{away_least}
 use Rattle.relax.proofs.one_node.is_elsewhere.Goals as goal
 

@@ -1,6 +1,5 @@
 use Rattle.std.proofs.Common.{sym, arith}
-use Rattle.slices.specs.declared.slice.Weight.TheVariants.{Amount}
-use Rattle.reasons.specs.Sure.{sure}
+use Rattle.relax.specs.Prelude.{Amount, sure}
 use Rattle.relax.proofs.OneNodeLemmas.{sum_of_more, sum_of_next}
 use Rattle.relax.proofs.one_node.load.Goals as goal
 

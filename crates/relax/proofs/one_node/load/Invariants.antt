@@ -1,11 +1,5 @@
 use Rattle.std.proofs.Common.{◌≡◌, ◌*◌, ◌-◌, ◌≤◌}
-use Rattle.base.specs.Sums.{sum_to}
-use Rattle.slices.specs.declared.slice.Weight.TheVariants.{Amount}
-use Rattle.slices.specs.Elements.{machine_count}
-use Rattle.slices.specs.Limits.{max_held}
-use Rattle.slices.specs.Stages.{one}
-use Rattle.domains.specs.Views.{seen}
-use Rattle.reasons.specs.Sure.{sure}
+use Rattle.relax.specs.Prelude.{Amount, machine_count, max_held, one, seen, sum_to, sure}
 use Rattle.relax.proofs.one_node.load.Given as goal
 
 abbrev pub invariant-loop-i : goal.invariant-loop-i

@@ -1,10 +1,5 @@
 use Rattle.std.proofs.Common.{◌≡◌, ℕ, ◌≤◌, ◌<◌}
-use Rattle.base.specs.Least.{least}
-use Rattle.slices.specs.declared.slice.Weight.{Weight}
-use Rattle.slices.specs.Elements.{vm}
-use Rattle.slices.specs.Snapshots.{held_at}
-use Rattle.slices.specs.Stages.{one}
-use Rattle.domains.specs.Views.{seen}
+use Rattle.relax.specs.Prelude.{held_at, least, one, seen, vm, Weight}
 use Rattle.relax.proofs.one_node.next_near.Given as goal
 
 abbrev pub invariant-loop-i : goal.invariant-loop-i

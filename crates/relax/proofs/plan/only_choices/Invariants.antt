@@ -1,8 +1,6 @@
 use Rattle.std.proofs.Common.{◌≡◌, ℕ, ◌<◌, [], ◌∷◌, length, slice_index_or}
+use Rattle.relax.specs.Prelude.{element_at, inventory_of, sets}
 use Rattle.cluster.specs.declared.choices.Choice.TheVariants.{Idle}
-use Rattle.cluster.specs.Elements.{element_at}
-use Rattle.catalogue.specs.Instance.{inventory_of}
-use Rattle.domains.specs.Sets.{sets}
 use Rattle.relax.proofs.plan.only_choices.Given as goal
 
 abbrev pub invariant-loop-x : goal.invariant-loop-x

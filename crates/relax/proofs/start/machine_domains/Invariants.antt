@@ -1,7 +1,5 @@
 use Rattle.std.proofs.Common.{◌≡◌, ℕ, ◌<◌, length, slice_index_or}
-use Rattle.domains.specs.Choices.{choices, staying}
-use Rattle.slices.specs.Elements.{vm}
-use Rattle.reasons.specs.Start.{start_sets}
+use Rattle.relax.specs.Prelude.{choices, start_sets, staying, vm}
 use Rattle.relax.proofs.start.machine_domains.Given as goal
 
 abbrev pub invariant-loop-v : goal.invariant-loop-v

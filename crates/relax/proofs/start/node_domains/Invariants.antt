@@ -1,7 +1,5 @@
 use Rattle.std.proofs.Common.{◌≡◌, ℕ, ◌<◌, length, slice_index_or}
-use Rattle.domains.specs.Choices.{choices, staying}
-use Rattle.slices.specs.Elements.{node}
-use Rattle.reasons.specs.Start.{start_sets}
+use Rattle.relax.specs.Prelude.{choices, node, start_sets, staying}
 use Rattle.relax.proofs.start.node_domains.Given as goal
 
 abbrev pub invariant-loop-n : goal.invariant-loop-n

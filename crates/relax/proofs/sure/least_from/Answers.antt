@@ -1,8 +1,5 @@
 use Rattle.std.proofs.Common.{◌∙◌, ap, unwrap_or}
-use Rattle.slices.specs.Elements.{vm}
-use Rattle.slices.specs.Snapshots.{held_at}
-use Rattle.domains.specs.Views.{seen}
-use Rattle.relax.specs.Areas.{nodes_of}
+use Rattle.relax.specs.Prelude.{held_at, nodes_of, seen, vm}
 use Rattle.relax.proofs.FloorLemmas.{least_from}
 use Rattle.relax.proofs.sure.least_from.Goals as goal
 

@@ -1,10 +1,6 @@
 use Rattle.std.proofs.Common.{ap, sym, ◌∙◌}
-use Rattle.slices.specs.Snapshots.{usable_at}
+use Rattle.relax.specs.Prelude.{is_nought, node, seen, sure, usable_at}
 use Rattle.domains.proofs.Public.{may_by_least}
-use Rattle.slices.specs.Elements.{node}
-use Rattle.domains.specs.Laws.{is_nought}
-use Rattle.domains.specs.Views.{seen}
-use Rattle.reasons.specs.Sure.{sure}
 use Rattle.relax.proofs.sure.may_be_usable.Goals as goal
 
 pub returns : goal.returns

@@ -1,12 +1,6 @@
 use Rattle.std.proofs.Common.{ap, sym, ◌∙◌}
-use Rattle.slices.specs.declared.slice.Weight.TheVariants.{Presence}
-use Rattle.slices.specs.Snapshots.{held_at}
+use Rattle.relax.specs.Prelude.{held_at, is_above_none, nodes_of, Presence, seen, sure, vm}
 use Rattle.relax.proofs.LeastLemmas.{surely_positive}
-use Rattle.slices.specs.Elements.{vm}
-use Rattle.domains.specs.Laws.{is_above_none}
-use Rattle.domains.specs.Views.{seen}
-use Rattle.reasons.specs.Sure.{sure}
-use Rattle.relax.specs.Areas.{nodes_of}
 use Rattle.relax.proofs.sure.surely_in.Goals as goal
 
 pub returns : goal.returns

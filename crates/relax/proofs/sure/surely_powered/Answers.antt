@@ -1,10 +1,6 @@
 use Rattle.std.proofs.Common.{ap, sym, ◌∙◌}
-use Rattle.slices.specs.Snapshots.{powered_at}
+use Rattle.relax.specs.Prelude.{is_above_none, node, powered_at, seen, sure}
 use Rattle.domains.proofs.Public.{surely_by_least}
-use Rattle.slices.specs.Elements.{node}
-use Rattle.domains.specs.Laws.{is_above_none}
-use Rattle.domains.specs.Views.{seen}
-use Rattle.reasons.specs.Sure.{sure}
 use Rattle.relax.proofs.sure.surely_powered.Goals as goal
 
 pub returns : goal.returns

@@ -1,10 +1,6 @@
 use Rattle.std.proofs.Common.{ap, sym, ◌∙◌}
-use Rattle.slices.specs.Snapshots.{action_at}
+use Rattle.relax.specs.Prelude.{action_at, is_above_none, seen, sure, vm}
 use Rattle.domains.proofs.Public.{surely_by_least}
-use Rattle.slices.specs.Elements.{vm}
-use Rattle.domains.specs.Laws.{is_above_none}
-use Rattle.domains.specs.Views.{seen}
-use Rattle.reasons.specs.Sure.{sure}
 use Rattle.relax.proofs.sure.surely_so_far.Goals as goal
 
 pub returns : goal.returns

@@ -1,9 +1,5 @@
 use Rattle.std.proofs.Common.{◌≡◌, ◌*◌, ◌^◌, ◌≤◌}
-use Rattle.base.specs.Least.{least}
-use Rattle.base.specs.Sums.{sum_to}
-use Rattle.slices.specs.Actions.{end_of}
-use Rattle.slices.specs.Elements.{node}
-use Rattle.domains.specs.Views.{seen}
+use Rattle.relax.specs.Prelude.{end_of, least, node, seen, sum_to}
 use Rattle.relax.proofs.totals.node_ends.Given as goal
 
 abbrev pub invariant-loop-n : goal.invariant-loop-n

@@ -1,8 +1,5 @@
 use Rattle.std.proofs.Common.{◌≡◌, ◌≤◌, cond}
-use Rattle.base.specs.Sums.{sum_to}
-use Rattle.domains.specs.Views.{seen}
-use Rattle.reasons.specs.Sure.{sure}
-use Rattle.relax.specs.Areas.{nodes_of}
+use Rattle.relax.specs.Prelude.{nodes_of, seen, sum_to, sure}
 use Rattle.relax.proofs.totals.powered_nodes.Given as goal
 
 abbrev pub invariant-loop-n : goal.invariant-loop-n

@@ -1,10 +1,5 @@
 use Rattle.std.proofs.Common.{◌≡◌, ◌*◌, ◌≤◌, cond}
-use Rattle.base.specs.Sums.{sum_to}
-use Rattle.catalogue.specs.Limits.{max_capacity}
-use Rattle.catalogue.specs.Values.{capacity_of}
-use Rattle.domains.specs.Views.{seen}
-use Rattle.reasons.specs.Sure.{sure}
-use Rattle.relax.specs.Areas.{nodes_of}
+use Rattle.relax.specs.Prelude.{capacity_of, max_capacity, nodes_of, seen, sum_to, sure}
 use Rattle.relax.proofs.totals.room.Given as goal
 
 abbrev pub invariant-loop-n : goal.invariant-loop-n

@@ -1,9 +1,5 @@
 use Rattle.std.proofs.Common.{◌≡◌, ◌*◌, ◌≤◌}
-use Rattle.base.specs.Sums.{sum_to}
-use Rattle.slices.specs.Limits.{max_held}
-use Rattle.domains.specs.Views.{seen}
-use Rattle.reasons.specs.Sure.{sure}
-use Rattle.relax.specs.Areas.{nodes_of}
+use Rattle.relax.specs.Prelude.{max_held, nodes_of, seen, sum_to, sure}
 use Rattle.relax.proofs.totals.total.Given as goal
 
 abbrev pub invariant-loop-v : goal.invariant-loop-v

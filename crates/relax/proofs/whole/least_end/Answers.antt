@@ -1,7 +1,5 @@
 use Rattle.std.proofs.Common.{◌≤◌, ◌∙◌, sym, arith, Some, ◌≡◌}
-use Rattle.base.specs.Least.{lowest}
-use Rattle.slices.specs.Actions.{end_of}
-use Rattle.domains.specs.Sets.{sets}
+use Rattle.relax.specs.Prelude.{end_of, lowest, sets}
 use Rattle.relax.proofs.LeastLemmas.{least_end_small}
 use Rattle.relax.proofs.whole.least_end.Goals as goal
 

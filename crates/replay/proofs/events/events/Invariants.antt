@@ -1,7 +1,5 @@
-use Rattle.std.proofs.Common.{◌≡◌}
-use Rattle.std.specs.List.{filter, range_with_len}
-use Rattle.slices.specs.Plans.{choices_of}
-use Rattle.replay.specs.Events.{is_event}
+use Rattle.base.proofs.Public.{◌≡◌, filter, range_with_len}
+use Rattle.replay.specs.Prelude.{choices_of, is_event}
 use Rattle.replay.proofs.events.events.Given as goal
 
 abbrev pub invariant-loop-t : goal.invariant-loop-t

@@ -1,6 +1,5 @@
 use Rattle.std.proofs.Common.{◌≡◌, ◌||◌, ℕ, false, slice_index_or}
-use Rattle.slices.specs.Plans.{choices_of}
-use Rattle.replay.specs.Events.{turns_below}
+use Rattle.replay.specs.Prelude.{choices_of, turns_below}
 use Rattle.replay.proofs.events.mark_elements.Given as goal
 
 abbrev pub invariant-loop-x : goal.invariant-loop-x

@@ -1,9 +1,6 @@
 use Rattle.std.proofs.Common.{◌||◌, ◌==◌, Bool, List, false, slice_index_or, ◌∙◌, ap, arith}
-use Rattle.cluster.specs.Elements.{element_count}
-use Rattle.catalogue.specs.Instance.{inventory_of}
-use Rattle.slices.specs.Plans.{choices_of}
+use Rattle.replay.specs.Prelude.{choices_of, element_count, inventory_of, is_event, turns_below}
 use Rattle.replay.proofs.Marks.{ends_marked, prefix_is}
-use Rattle.replay.specs.Events.{is_event, turns_below}
 use Rattle.replay.proofs.events.marks.Goals as goal
 
 pub returns-clause-marks : goal.returns-clause-marks

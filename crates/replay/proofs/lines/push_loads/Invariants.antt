@@ -1,8 +1,6 @@
-use Rattle.std.proofs.Common.{◌≡◌, ◌++◌, string_bytes}
-use Rattle.std.specs.Fmt.{decimal}
-use Rattle.std.specs.List.{flat_map, range_with_len}
-use Rattle.catalogue.specs.Cells.{cell}
-use Rattle.replay.specs.Lines.{spaced}
+use Rattle.std.proofs.Common.{string_bytes}
+use Rattle.base.proofs.Public.{◌≡◌, ◌++◌, decimal, flat_map, range_with_len}
+use Rattle.replay.specs.Prelude.{cell, spaced}
 use Rattle.replay.proofs.lines.push_loads.Given as goal
 
 abbrev pub invariant-loop-r : goal.invariant-loop-r

@@ -1,7 +1,6 @@
-use Rattle.std.proofs.Common.{◌≡◌, ◌++◌, string_bytes}
-use Rattle.std.specs.List.{flat_map, range_with_len}
-use Rattle.catalogue.specs.Cells.{cell}
-use Rattle.replay.specs.Lines.{node_text}
+use Rattle.std.proofs.Common.{string_bytes}
+use Rattle.base.proofs.Public.{◌≡◌, ◌++◌, flat_map, range_with_len}
+use Rattle.replay.specs.Prelude.{cell, node_text}
 use Rattle.replay.proofs.lines.push_nodes.Given as goal
 
 abbrev pub invariant-loop-n : goal.invariant-loop-n

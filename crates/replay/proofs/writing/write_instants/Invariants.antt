@@ -1,8 +1,6 @@
-use Rattle.std.proofs.Common.{◌≡◌, ◌++◌, drop, IsTrue}
-use Rattle.std.specs.Io.{StartsWith}
-use Rattle.std.specs.List.{flat_map}
-use Rattle.slices.specs.Plans.{choices_of}
-use Rattle.replay.specs.Lines.{at_line}
+use Rattle.std.proofs.Common.{IsTrue}
+use Rattle.base.proofs.Public.{◌≡◌, ◌++◌, drop, StartsWith, flat_map}
+use Rattle.replay.specs.Prelude.{at_line, choices_of}
 use Rattle.replay.proofs.writing.write_instants.Given as goal
 
 abbrev pub invariant-loop-t : goal.invariant-loop-t

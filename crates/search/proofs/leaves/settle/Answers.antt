@@ -1,6 +1,5 @@
 use Rattle.std.proofs.Common.{◌∙◌, ap, refl, rules}
-use Rattle.plan_io.specs.Files.{bytes_of}
-use Rattle.trees.specs.declared.steps.Step.TheVariants.{Left, Plan}
+use Rattle.search.specs.Prelude.{bytes_of, Left, Plan}
 use Rattle.search.proofs.LeafLemmas.{leaf_left, leaf_plan}
 use Rattle.search.proofs.TextLemmas.{leaves_line, leaves_lined, leaves_none, text_line}
 use Rattle.search.proofs.leaves.settle.Goals as goal

@@ -1,9 +1,5 @@
 use Rattle.std.proofs.Common.{◌∙◌, ap, refl, rules}
-use Rattle.plan_io.specs.Files.{bytes_of}
-use Rattle.domains.specs.Sets.{sets}
-use Rattle.trail.specs.Logs.{Marked}
-use Rattle.trees.specs.declared.steps.Step.TheVariants.{Decide}
-use Rattle.trees.specs.Trees.{inside}
+use Rattle.search.specs.Prelude.{bytes_of, Decide, inside, Marked, sets}
 use Rattle.trees.proofs.Public.{same_sets}
 use Rattle.search.proofs.LeafLemmas.{split_works}
 use Rattle.search.proofs.NamedLemmas.{split_named}

@@ -1,13 +1,5 @@
 use Rattle.std.proofs.Common.{◌≡◌, ℕ, [], ◌∷◌}
-use Rattle.slices.specs.Elements.{machine_count, node_count}
-use Rattle.domains.specs.Sets.{sets}
-use Rattle.domains.specs.Sizes.{choice_count}
-use Rattle.reasons.specs.Closed.{HaveChoices}
-use Rattle.plan_io.specs.Files.{bytes_of}
-use Rattle.prop_core.specs.Levels.{AllFollow}
-use Rattle.prop_core.specs.Lists.{Pairs, SameCover}
-use Rattle.search.specs.Works.{IsGround, Works}
-use Rattle.search.specs.Written.{IsKept}
+use Rattle.search.specs.Prelude.{AllFollow, bytes_of, choice_count, HaveChoices, IsGround, IsKept, machine_count, node_count, Pairs, SameCover, sets, Works}
 use Rattle.search.proofs.looks.close.Given as goal
 
 abbrev pub invariant-looks : goal.invariant-looks

@@ -1,6 +1,5 @@
 use Rattle.std.proofs.Common.{[], ◌∷◌, ap, rules}
-use Rattle.plan_io.specs.Files.{bytes_of}
-use Rattle.trees.specs.declared.steps.Step.TheVariants.{Cut}
+use Rattle.search.specs.Prelude.{bytes_of, Cut}
 use Rattle.search.proofs.NamedLemmas.{cut_named}
 use Rattle.search.proofs.TextLemmas.{leaves_line, leaves_lined, leaves_then, text_line}
 use Rattle.search.proofs.looks.cut.Goals as goal

@@ -1,6 +1,5 @@
 use Rattle.std.proofs.Common.{ap}
-use Rattle.plan_io.specs.Files.{bytes_of}
-use Rattle.trees.specs.declared.steps.Step.TheVariants.{Fail}
+use Rattle.search.specs.Prelude.{bytes_of, Fail}
 use Rattle.search.proofs.TextLemmas.{leaves_line, leaves_lined}
 use Rattle.search.proofs.looks.fail.Goals as goal
 

@@ -1,6 +1,5 @@
 use Rattle.std.proofs.Common.{◌∙◌, ap, rules}
-use Rattle.domains.specs.Sets.{sets}
-use Rattle.plan_io.specs.Files.{bytes_of}
+use Rattle.search.specs.Prelude.{bytes_of, sets}
 use Rattle.prop_core.proofs.Public.{all_asked}
 use Rattle.trees.proofs.Public.{same_sets}
 use Rattle.search.proofs.LookLemmas.{asked_told, look_bound, look_clear, look_cut, look_empty, look_fail}

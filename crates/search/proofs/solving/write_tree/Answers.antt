@@ -1,10 +1,7 @@
 use Rattle.std.proofs.Common.{◌≡◌, ◌∙◌, [], ap, refl, sym}
-use Rattle.plan_io.specs.Files.{bytes_of}
-use Rattle.domains.specs.Sets.{sets}
+use Rattle.search.specs.Prelude.{bytes_of, Marked, none_yet, sets}
 use Rattle.prop_core.proofs.Public.{all_posted, covered_after}
-use Rattle.trail.specs.Logs.{Marked}
 use Rattle.trees.proofs.Public.{same_sets}
-use Rattle.search.specs.Underway.{none_yet}
 use Rattle.search.proofs.TextLemmas.{leaves_none}
 use Rattle.search.proofs.WholeLemmas.{goes_start, start_empty}
 use Rattle.search.proofs.WorkLemmas.{cover_rule, cover_same, cover_trans}

@@ -1,8 +1,7 @@
 use Rattle.std.proofs.Common.{[], ◌∷◌, ap}
-use Rattle.plan_io.specs.Files.{bytes_of}
+use Rattle.search.specs.Prelude.{bytes_of, Fail}
 use Rattle.reasons.specs.declared.reason.Reason.TheVariants.{Bound}
 use Rattle.trees.specs.declared.steps.Goal.TheVariants.{Optimal}
-use Rattle.trees.specs.declared.steps.Step.TheVariants.{Fail}
 use Rattle.search.proofs.TextLemmas.{leaves_line, text_end, text_line, text_some}
 use Rattle.search.proofs.staying.stay.Goals as goal
 

@@ -1,8 +1,5 @@
-use Rattle.std.proofs.Common.{◌≡◌, rules}
-use Rattle.std.specs.Prelude.{replicate}
-use Rattle.cluster.specs.Elements.{element_count}
-use Rattle.cluster.specs.declared.choices.Choice.TheVariants.{Idle}
-use Rattle.catalogue.specs.Instance.{inventory_of}
+use Rattle.base.proofs.Public.{◌≡◌, rules, replicate}
+use Rattle.search.specs.Prelude.{element_count, Idle, inventory_of}
 use Rattle.search.proofs.StayLemmas.{not_valid}
 use Rattle.search.proofs.staying.staying_plan.Goals as goal
 

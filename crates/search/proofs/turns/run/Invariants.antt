@@ -1,11 +1,5 @@
 use Rattle.std.proofs.Common.{◌≡◌, [], ◌∷◌, reverse, ◌+◌, ◌-◌, ◌*◌, vec_len}
-use Rattle.domains.specs.Sets.{sets}
-use Rattle.reasons.specs.Closed.{HaveChoices}
-use Rattle.plan_io.specs.Files.{bytes_of}
-use Rattle.prop_core.specs.Levels.{AllFollow}
-use Rattle.prop_core.specs.Lists.{Pairs, SameCover}
-use Rattle.search.specs.Works.{ArePaired, Goes, IsGround, open_sets}
-use Rattle.search.specs.Written.{IsKept}
+use Rattle.search.specs.Prelude.{AllFollow, ArePaired, bytes_of, Goes, HaveChoices, IsGround, IsKept, open_sets, Pairs, SameCover, sets}
 use Rattle.search.proofs.turns.run.Given as goal
 
 abbrev pub invariant-turns : goal.invariant-turns

@@ -1,5 +1,4 @@
-use Rattle.std.proofs.Common.{◌≡◌, ◌-◌, length}
-use Rattle.std.specs.List.{list_any, range_with_len}
+use Rattle.base.proofs.Public.{◌≡◌, ◌-◌, length, list_any, range_with_len}
 use Rattle.slices.specs.Actions.{differs_in, is_raised}
 use Rattle.slices.proofs.actions.is_raised.Given as goal
 

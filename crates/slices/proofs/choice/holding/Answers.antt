@@ -1,10 +1,5 @@
 use Rattle.std.proofs.Common.{◌≡◌}
-use Rattle.cluster.specs.declared.choices.Choice.TheVariants.{Idle, Act}
-use Rattle.slices.specs.Actions.{action_duration}
-use Rattle.slices.specs.Elements.{vm}
-use Rattle.slices.specs.Holdings.{holding_of}
-use Rattle.slices.specs.Snapshots.{stage_at}
-use Rattle.slices.specs.Stages.{slices_of}
+use Rattle.slices.specs.Prelude.{Act, action_duration, holding_of, Idle, slices_of, stage_at, vm}
 use Rattle.slices.proofs.HoldingLemmas.{holding_of-is}
 use Rattle.slices.proofs.choice.holding.Goals as goal
 

@@ -1,9 +1,5 @@
 use Rattle.std.proofs.Common.{◌≡◌, ◌+◌, ◌*◌, ◌≤◌}
-use Rattle.catalogue.specs.Limits.{max_horizon}
-use Rattle.base.specs.Sums.{sum_to}
-use Rattle.slices.specs.Actions.{end_of}
-use Rattle.slices.specs.Elements.{machine_count, node, vm}
-use Rattle.slices.specs.Plans.{choices_of}
+use Rattle.slices.specs.Prelude.{choices_of, end_of, machine_count, max_horizon, node, sum_to, vm}
 use Rattle.slices.proofs.plan.cost.Given as goal
 
 abbrev pub invariant-loop-v : goal.invariant-loop-v

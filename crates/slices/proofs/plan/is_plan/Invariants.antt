@@ -1,8 +1,5 @@
 use Rattle.std.proofs.Common.{ℕ, ◌<◌, IsTrue, slice_index_or}
-use Rattle.cluster.specs.declared.choices.Choice.TheVariants.{Idle}
-use Rattle.slices.specs.Actions.{is_legal}
-use Rattle.cluster.specs.Elements.{element_at}
-use Rattle.catalogue.specs.Instance.{inventory_of}
+use Rattle.slices.specs.Prelude.{element_at, Idle, inventory_of, is_legal}
 use Rattle.slices.proofs.plan.is_plan.Given as goal
 
 abbrev pub invariant-loop-x : goal.invariant-loop-x

@@ -1,10 +1,5 @@
 use Rattle.std.proofs.Common.{◌≡◌, ◌*◌, ◌≤◌}
-use Rattle.base.specs.Sums.{sum_to}
-use Rattle.slices.specs.declared.slice.Weight.TheVariants.{Amount}
-use Rattle.slices.specs.Plans.{choices_of}
-use Rattle.slices.specs.Limits.{max_held}
-use Rattle.slices.specs.Snapshots.{snapshot_at}
-use Rattle.slices.specs.Stages.{one}
+use Rattle.slices.specs.Prelude.{Amount, choices_of, max_held, one, snapshot_at, sum_to}
 use Rattle.slices.proofs.snapshot.used.Given as goal
 
 abbrev pub invariant-loop-v : goal.invariant-loop-v

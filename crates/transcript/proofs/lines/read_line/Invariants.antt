@@ -1,6 +1,5 @@
 use Rattle.std.proofs.Common.{◌≡◌, ◌++◌, ◌+◌, ◌-◌, ◌≤◌, length, IsTrue}
-use Rattle.transcript.specs.Lines.{IsOneLine}
-use Rattle.transcript.specs.declared.lines.TheConstants.{MAX_LINE_BYTES}
+use Rattle.transcript.specs.Prelude.{IsOneLine, MAX_LINE_BYTES}
 use Rattle.transcript.proofs.lines.read_line.Given as goal
 
 abbrev pub invariant-bytes : goal.invariant-bytes

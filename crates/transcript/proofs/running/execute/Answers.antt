@@ -1,7 +1,5 @@
 use Rattle.std.proofs.Common.{subst}
-use Rattle.slices.specs.Plans.{choices_of}
-use Rattle.executor.specs.Views.{phases_of}
-use Rattle.transcript.specs.Transcript.{RunGives, first_point, point}
+use Rattle.transcript.specs.Prelude.{choices_of, first_point, phases_of, point, RunGives}
 use Rattle.transcript.proofs.Steps.{executes, stops_at_first}
 use Rattle.transcript.proofs.running.execute.Goals as goal
 

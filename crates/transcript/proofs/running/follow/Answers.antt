@@ -1,9 +1,6 @@
-use Rattle.std.proofs.Common.{◌≡◌, ◌+◌, ◌∙◌, Err, sym, refl, rules, arith}
-use Rattle.base.proofs.Prefixes.{further}
-use Rattle.slices.specs.Plans.{choices_of}
-use Rattle.executor.specs.Phases.{AllEnded}
-use Rattle.executor.specs.Views.{phases_of}
-use Rattle.transcript.specs.Transcript.{IsDue}
+use Rattle.std.proofs.Common.{Err}
+use Rattle.base.proofs.Public.{◌≡◌, ◌+◌, ◌∙◌, sym, refl, rules, arith, further}
+use Rattle.transcript.specs.Prelude.{AllEnded, choices_of, IsDue, phases_of}
 use Rattle.transcript.proofs.Measure.{few_steps, steps_left}
 use Rattle.transcript.proofs.Steps.{after_end, after_quiet, after_start, all_done, due_after, end_fewer, line_ends, quiet_same, start_fewer, stops_in_event, stops_in_start}
 use Rattle.transcript.proofs.running.follow.Goals as goal

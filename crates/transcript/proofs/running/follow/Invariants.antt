@@ -1,8 +1,6 @@
-use Rattle.std.proofs.Common.{◌≡◌, ◌+◌, ◌≤◌, IsTrue}
-use Rattle.std.specs.Io.{StartsWith}
-use Rattle.slices.specs.Plans.{choices_of}
-use Rattle.executor.specs.Views.{phases_of}
-use Rattle.transcript.specs.Transcript.{Reaches, point}
+use Rattle.std.proofs.Common.{IsTrue}
+use Rattle.base.proofs.Public.{◌≡◌, ◌+◌, ◌≤◌, StartsWith}
+use Rattle.transcript.specs.Prelude.{choices_of, phases_of, point, Reaches}
 use Rattle.transcript.proofs.Measure.{steps_left}
 use Rattle.transcript.proofs.running.follow.Given as goal
 

@@ -1,6 +1,5 @@
 use Rattle.std.proofs.Common.{sym, subst}
-use Rattle.transcript.specs.declared.lines.Line.TheVariants.{Whole}
-use Rattle.transcript.specs.Lines.{ReadsLine}
+use Rattle.transcript.specs.Prelude.{ReadsLine, Whole}
 use Rattle.transcript.proofs.Steps.{takes_event}
 use Rattle.transcript.proofs.running.take_event.Goals as goal
 

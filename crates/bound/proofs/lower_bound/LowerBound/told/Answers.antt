@@ -1,6 +1,5 @@
 use Rattle.std.proofs.Common.{ap, ◌∙◌}
-use Rattle.domains.specs.Sets.{domain_at}
-use Rattle.domains.specs.Undo.{domain_before}
+use Rattle.relax.specs.Prelude.{domain_at, domain_before}
 use Rattle.bound.proofs.CostLemmas.{is_told}
 use Rattle.bound.proofs.lower_bound.LowerBound.told.Goals as goal
 

@@ -1,6 +1,5 @@
 use Rattle.std.proofs.Common.{◌≡◌, ◌∙◌, ap, sym, rules, is_some}
-use Rattle.trees.specs.Goals.{goal_of}
-use Rattle.cert_model.specs.contracts.walk.Walk.{the_view}
+use Rattle.cert_model.specs.Prelude.{goal_of, the_view}
 use Rattle.cert_model.proofs.StandLemmas.{goal_kept, stands_as}
 use Rattle.cert_model.proofs.WholeLemmas.{proof_of, whole_of}
 use Rattle.cert_model.proofs.walk.Walk.finish.Goals as goal

@@ -1,8 +1,5 @@
 use Rattle.std.proofs.Common.{sym, refl}
-use Rattle.domains.specs.Sets.{sets}
-use Rattle.reasons.specs.Sure.{least_cost}
-use Rattle.cert_model.specs.Walks.{left_along}
-use Rattle.cert_model.specs.contracts.walk.Walk.{the_view}
+use Rattle.cert_model.specs.Prelude.{least_cost, left_along, sets, the_view}
 use Rattle.cert_model.proofs.StandLemmas.{IsHeld, few_decisions, legal_here, no_value, stands_as, stands_next, sum_here}
 use Rattle.cert_model.proofs.walk.Walk.step.Goals as goal
 

@@ -1,7 +1,5 @@
 use Rattle.std.proofs.Common.{◌<◌, ◌/◌, ap, sym, subst, arith, length, ◌∙◌}
-use Rattle.cluster.specs.Bits.{IsBits, IsBits-with_bit, has_bit}
-use Rattle.cluster.specs.Limits.{max_machines}
-use Rattle.cluster.specs.Sets.{has_machine}
+use Rattle.cluster.specs.Prelude.{has_bit, has_machine, IsBits, IsBits-with_bit, max_machines}
 use Rattle.cluster.proofs.BitLemmas.{has_bit-with_bit}
 use Rattle.cluster.proofs.sets.MachineSet.insert.Goals as goal
 

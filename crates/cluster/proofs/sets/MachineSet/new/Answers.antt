@@ -1,7 +1,5 @@
 use Rattle.std.proofs.Common.{◌/◌}
-use Rattle.cluster.specs.Bits.{IsBits-zero}
-use Rattle.cluster.specs.Limits.{max_machines}
-use Rattle.cluster.specs.Sets.{has_machine}
+use Rattle.cluster.specs.Prelude.{has_machine, IsBits-zero, max_machines}
 use Rattle.cluster.proofs.BitLemmas.{has_bit-zero}
 use Rattle.cluster.proofs.sets.MachineSet.new.Goals as goal
 

@@ -1,7 +1,5 @@
 use Rattle.std.proofs.Common.{◌/◌, refl}
-use Rattle.cluster.specs.Bits.{IsBits-zero}
-use Rattle.cluster.specs.Limits.{max_nodes}
-use Rattle.cluster.specs.Sets.{has_node, no_nodes}
+use Rattle.cluster.specs.Prelude.{has_node, IsBits-zero, max_nodes, no_nodes}
 use Rattle.cluster.proofs.BitLemmas.{has_bit-zero}
 use Rattle.cluster.proofs.SetLemmas.{same_set_of_words}
 use Rattle.cluster.proofs.sets.NodeSet.new.Goals as goal

@@ -1,5 +1,4 @@
-use Rattle.std.proofs.Common.{arith}
-use Rattle.std.proofs.lemmas.List.{length-append}
+use Rattle.base.proofs.Public.{arith, length-append}
 use Rattle.domains.proofs.RowLemmas.{Climbs-push}
 use Rattle.domains.proofs.domain.Domain.push.Goals as goal
 

@@ -1,6 +1,5 @@
 use Rattle.std.proofs.Common.{List, ap}
-use Rattle.domains.specs.Choices.{DomainView}
-use Rattle.domains.specs.Sets.{RegionView}
+use Rattle.domains.specs.Prelude.{DomainView, RegionView}
 use Rattle.domains.proofs.RegionLemmas.{cut_back}
 use Rattle.domains.proofs.region.Region.cut.Goals as goal
 

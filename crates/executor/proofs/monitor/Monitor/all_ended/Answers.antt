@@ -1,8 +1,5 @@
 use Rattle.std.proofs.Common.{◌≡◌, ◌↔◌, IsTrue, sym, ap, subst, ◌∙◌}
-use Rattle.slices.specs.Plans.{choices_of}
-use Rattle.executor.specs.Phases.{AllEnded, phases_in}
-use Rattle.executor.specs.Steps.{IsExecution}
-use Rattle.executor.specs.Views.{phases_of}
+use Rattle.executor.specs.Prelude.{AllEnded, choices_of, IsExecution, phases_in, phases_of}
 use Rattle.executor.proofs.monitor.Monitor.all_ended.Goals as goal
 
 pub is_finished-requires-clause-execution : goal.is_finished-requires-clause-execution

@@ -1,8 +1,5 @@
 use Rattle.std.proofs.Common.{◌≡◌, sym, ap, ◌∙◌}
-use Rattle.slices.specs.Plans.{choices_of}
-use Rattle.executor.specs.declared.phase.Phase.TheVariants.{Running}
-use Rattle.executor.specs.Phases.{phases_in}
-use Rattle.executor.specs.Steps.{End}
+use Rattle.executor.specs.Prelude.{choices_of, End, phases_in, Running}
 use Rattle.executor.proofs.StepLemmas.{steps_keep}
 use Rattle.executor.proofs.monitor.Monitor.ended.Goals as goal
 

@@ -1,8 +1,5 @@
 use Rattle.std.proofs.Common.{subst}
-use Rattle.slices.specs.Plans.{choices_of}
-use Rattle.executor.specs.Laws.{IsSafe}
-use Rattle.executor.specs.Phases.{phases_in}
-use Rattle.executor.specs.Views.{phases_of}
+use Rattle.executor.specs.Prelude.{choices_of, IsSafe, phases_in, phases_of}
 use Rattle.executor.proofs.SafeLemmas.{executions_are_safe}
 use Rattle.executor.proofs.monitor.Monitor.is_safe.Goals as goal
 

@@ -1,7 +1,5 @@
 use Rattle.std.proofs.Common.{sym, subst, refl, rules}
-use Rattle.slices.specs.Plans.{choices_of}
-use Rattle.slices.specs.Rules.{IsValid}
-use Rattle.executor.specs.Steps.{IsExecution}
+use Rattle.executor.specs.Prelude.{choices_of, IsExecution, IsValid}
 use Rattle.executor.proofs.StepLemmas.{begins_well}
 use Rattle.executor.proofs.TableLemmas.{first_told}
 use Rattle.executor.proofs.monitor.Monitor.new.Goals as goal

@@ -1,7 +1,5 @@
 use Rattle.std.proofs.Common.{sym, subst}
-use Rattle.slices.specs.Plans.{choices_of}
-use Rattle.executor.specs.Phases.{phases_in}
-use Rattle.executor.specs.Steps.{IsExecution}
+use Rattle.executor.specs.Prelude.{choices_of, IsExecution, phases_in}
 use Rattle.executor.proofs.monitor.Monitor.next_ready.Goals as goal
 
 pub first_that_may_start-requires-clause-execution : goal.first_that_may_start-requires-clause-execution

@@ -1,7 +1,5 @@
 use Rattle.std.proofs.Common.{subst}
-use Rattle.slices.specs.Plans.{choices_of}
-use Rattle.executor.specs.Phases.{phases_in}
-use Rattle.executor.specs.Steps.{MayStart, Start}
+use Rattle.executor.specs.Prelude.{choices_of, MayStart, phases_in, Start}
 use Rattle.executor.proofs.StepLemmas.{steps_keep}
 use Rattle.executor.proofs.monitor.Monitor.start.Goals as goal
 

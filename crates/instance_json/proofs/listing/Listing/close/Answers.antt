@@ -1,5 +1,4 @@
-use Rattle.std.proofs.Common.{◌≡◌, ◌++◌, ◌∷◌, [], arith}
-use Rattle.std.proofs.lemmas.Grind.{common_steps}
+use Rattle.base.proofs.Public.{◌≡◌, ◌++◌, ◌∷◌, [], arith, common_steps}
 use Rattle.instance_json.proofs.ListLemmas.{AreMarked-close}
 use Rattle.instance_json.proofs.listing.Listing.close.Goals as goal
 

@@ -1,7 +1,5 @@
-use Rattle.std.proofs.Common.{◌≡◌, ◌∙◌, ap, ◌++◌, ◌∷◌, [], false, arith}
-use Rattle.std.proofs.lemmas.Grind.{common_steps}
-use Rattle.catalogue.specs.Faults.{is_member, all_of}
-use Rattle.instance_json.specs.Listed.{listed_machines}
+use Rattle.base.proofs.Public.{◌≡◌, ◌∙◌, ap, ◌++◌, ◌∷◌, [], false, arith, common_steps}
+use Rattle.instance_json.specs.Prelude.{all_of, is_member, listed_machines}
 use Rattle.instance_json.proofs.ListLemmas.{AreMarked-push}
 use Rattle.instance_json.proofs.listing.Listing.push.Goals as goal
 

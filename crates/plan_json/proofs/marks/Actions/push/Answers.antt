@@ -1,5 +1,4 @@
-use Rattle.std.proofs.Common.{◌≡◌, ◌++◌, ◌∷◌, [], arith}
-use Rattle.std.proofs.lemmas.Grind.{common_steps}
+use Rattle.base.proofs.Public.{◌≡◌, ◌++◌, ◌∷◌, [], arith, common_steps}
 use Rattle.plan_json.proofs.MarkLemmas.{AreMarked-push}
 use Rattle.plan_json.proofs.marks.Actions.push.Goals as goal
 

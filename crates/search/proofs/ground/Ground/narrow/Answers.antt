@@ -1,6 +1,5 @@
 use Rattle.std.proofs.Common.{List, map, ◌∙◌, ap, sym}
-use Rattle.domains.specs.Sets.{RegionView, sets}
-use Rattle.reasons.specs.Sure.{least_cost}
+use Rattle.search.specs.Prelude.{least_cost, RegionView, sets}
 use Rattle.search.proofs.RegionLemmas.{agreed_next, fewer_next, region_next, trail_next}
 use Rattle.search.proofs.ground.Ground.narrow.Goals as goal
 
