@@ -5,7 +5,10 @@ use Rattle.reasons.specs.declared.reason.ReasonKind.{ReasonKind}
 use Rattle.reasons.specs.declared.reason.ReasonKind.TheVariants as kind
 use Rattle.prop_core.specs.Lists.{Covered, is_covered}
 use Rattle.prop_core.specs.Propagators.{IsStandard, Meaning}
-use Rattle.constraint_rules.specs.Covers.{forbidden_kinds, group_kinds, pair_kinds, place_kinds, set_kinds}
+use Rattle.rule_group.specs.Covers.{group_kinds}
+use Rattle.rule_pair.specs.Covers.{pair_kinds}
+use Rattle.rule_place.specs.Covers.{forbidden_kinds, place_kinds}
+use Rattle.rule_setload.specs.Covers.{set_kinds}
 use Rattle.rule_load.specs.Watched.{is_load}
 
 -- what a box covers, by the type behind it

@@ -14,7 +14,7 @@ use Rattle.closing.specs.Looks.{IsClean, broken_at}
 use Rattle.closing.specs.Watches.{IsLocal, IsPartWithin, IsUnseen, Scope, Watch}
 use Rattle.prop_core.specs.Propagators.{putting}
 use Rattle.rule_frame.specs.Changes.{IsLess, IsStill}
-use Rattle.rule_frame.specs.Laws.{LookingDisturbs, StillClean, UnseenStill}
+use Rattle.rule_frame.specs.Laws.{StillClean, UnseenStill}
 
 self : (x : Element) → same_element x x ≡ true
 self (Vm v) = eq-eqb v.0 v.0 refl
@@ -128,11 +128,3 @@ unseen-less p k (TheNode n) un t cs ds = record { usable = λ i. absurd (un.usab
 
 pub unseen_still : UnseenStill
 unseen_still p k x old now un = record { sure = λ t l. unseen-less p k x un t now old; ends = λ c e t l. inl (unseen-less p k x un t (c ∷ []) old) }
-
-pub looking_disturbs : LookingDisturbs
-looking_disturbs watch p x old now m n further looking = record {
-  older = looking.older;
-  count = looking.count;
-  kept = looking.kept;
-  still = λ c h e. unseen_still p (watch c).scope x old now (further c (looking.unseen c h e));
-}

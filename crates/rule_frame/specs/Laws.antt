@@ -4,13 +4,10 @@ use Rattle.cluster.specs.declared.choices.Choice.{Choice}
 use Rattle.cluster.specs.declared.ids.Element.{Element}
 use Rattle.catalogue.specs.Instance.{Instance, IsElement}
 use Rattle.domains.specs.Sets.{Sets}
-use Rattle.closing.specs.Kinds.{constraint_watch}
 use Rattle.closing.specs.Watches.{IsLocal, IsUnseen, Scope, Watch}
 use Rattle.closing.specs.Looks.{IsClean}
 use Rattle.prop_core.specs.Propagators.{putting}
-use Rattle.rule_frame.specs.Changes.{IsDisturbed, IsStill}
-use Rattle.rule_frame.specs.Indexes.{AreLooking}
-use Rattle.rule_frame.specs.Levels.{Levels}
+use Rattle.rule_frame.specs.Changes.{IsStill}
 
 -- a clean watch stays clean where a change does not weigh on it
 abbrev pub StillClean : Type 1
@@ -19,9 +16,3 @@ StillClean = (w : Watch) (p : Instance) (s : Sets) (x : Element) (old : List Cho
 -- a change of an element that is not looked at does not weigh
 abbrev pub UnseenStill : Type 1
 UnseenStill = (p : Instance) (k : Scope) (x : Element) (old now : List Choice) → IsUnseen k x → IsStill p k x old now
-
--- where all constraints that look at an element are marked, so is each watch on which a change of it weighs that looks no further
-abbrev pub LookingDisturbs : Type 1
-LookingDisturbs =
-    (watch : ℕ → Watch) (p : Instance) (x : Element) (old now : List Choice) (m n : Levels) →
-    ((c : ℕ) → IsUnseen (constraint_watch p c).scope x → IsUnseen (watch c).scope x) → AreLooking p x m n → IsDisturbed watch p x old now m n

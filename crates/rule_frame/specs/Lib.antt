@@ -4,6 +4,5 @@ pub mod Changes
 pub mod Caches
 pub mod Asked
 pub mod Rules
-pub mod Indexes
 -- what the laws say beside it
 pub mod Laws

@@ -1,7 +1,6 @@
 //! Rules as lists of watches with marks.
 #![tactic(auto)]
 
-pub mod index;
 pub mod keeper;
 pub mod marks;
 pub mod no_cache;

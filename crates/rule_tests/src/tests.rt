@@ -9,7 +9,10 @@ mod standard;
 
 use cases::{CASES, Case};
 use catalogue::Problem;
-use constraint_rules::rules::{GroupRule, PairRule, PlaceRule, SetRule};
+use rule_group::rule::GroupRule;
+use rule_pair::rule::PairRule;
+use rule_place::rule::PlaceRule;
+use rule_setload::rule::SetRule;
 use driving::run;
 use instance_json::read_instance;
 use plain::closed_plainly;

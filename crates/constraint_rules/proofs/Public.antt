@@ -1,1 +1,0 @@
--- What crates above may cite.

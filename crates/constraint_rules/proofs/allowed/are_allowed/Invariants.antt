@@ -1,8 +1,0 @@
-use Rattle.std.proofs.Common.{ℕ, ◌<◌, get_or}
-use Rattle.cluster.specs.declared.ids.VmId.{VmId}
-use Rattle.domains.specs.Sets.{sets}
-use Rattle.constraint_rules.specs.Allowed.{IsAllowed}
-use Rattle.constraint_rules.proofs.allowed.are_allowed.Given as goal
-
-abbrev pub invariant-loop-i : goal.invariant-loop-i
-invariant-loop-i l = (k : ℕ) (d : VmId) → k < l.i → IsAllowed l.p.given (sets l.g) l.constraint (get_or l.machines k d).0

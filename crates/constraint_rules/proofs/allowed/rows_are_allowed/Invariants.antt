@@ -1,7 +1,0 @@
-use Rattle.std.proofs.Common.{ℕ, ◌<◌, slice_index_or}
-use Rattle.domains.specs.Choices.{no_row}
-use Rattle.constraint_rules.specs.Allowed.{MayGo}
-use Rattle.constraint_rules.proofs.allowed.rows_are_allowed.Given as goal
-
-abbrev pub invariant-loop-i : goal.invariant-loop-i
-invariant-loop-i l = (k : ℕ) → k < l.i → MayGo l.p.given l.constraint l.v.0 (slice_index_or l.rows k no_row).place

@@ -1,8 +1,0 @@
-use Rattle.std.proofs.Common.{arith}
-use Rattle.domains.specs.Sets.{sets}
-use Rattle.constraint_rules.specs.Apart.{KeepsOff, part_of}
-use Rattle.constraint_rules.proofs.ApartLemmas.{each_member}
-use Rattle.constraint_rules.proofs.clear.machines_keep_off.Goals as goal
-
-pub returns : goal.returns
-returns c = each_member (λ w. KeepsOff c.args.p.now.given (sets c.args.g.now) c.args.table.now (part_of c.args.part w) w) c.args.machines.now c.loop-i.i (omega arith) c.loop-i.invariant

@@ -1,8 +1,0 @@
-use Rattle.std.proofs.Common.{ℕ, ◌<◌}
-use Rattle.slices.specs.Holds.{IsInPart}
-use Rattle.domains.specs.Sets.{sets}
-use Rattle.constraint_rules.specs.Apart.{KeepsOff}
-use Rattle.constraint_rules.proofs.clear.parts_keep_off.Given as goal
-
-abbrev pub invariant-loop-j : goal.invariant-loop-j
-invariant-loop-j l = (k w : ℕ) → k < l.j → IsInPart l.parts k w → KeepsOff l.p.given (sets l.g) l.table k w

@@ -1,9 +1,0 @@
-use Rattle.std.proofs.Common.{ℕ, ◌<◌}
-use Rattle.slices.specs.Elements.{machine_count}
-use Rattle.domains.specs.Views.{seen}
-use Rattle.reasons.specs.Reasons.{IsPair}
-use Rattle.reasons.specs.Sure.{sure}
-use Rattle.constraint_rules.proofs.pairs.pair_with.Given as goal
-
-abbrev pub invariant-loop-i : goal.invariant-loop-i
-invariant-loop-i l = (n : ℕ) → n < l.i → (w : ℕ) → w < machine_count l.p.given → ¬ IsPair l.p.given (sure l.p.given (seen l.view.region.now l.view.lens) l.t) l.constraint l.v.0 w n

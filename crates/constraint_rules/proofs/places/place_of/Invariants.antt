@@ -1,8 +1,0 @@
-use Rattle.std.proofs.Common.{ℕ, ◌<◌}
-use Rattle.domains.specs.Views.{seen}
-use Rattle.reasons.specs.Reasons.{IsPlace}
-use Rattle.reasons.specs.Sure.{sure}
-use Rattle.constraint_rules.proofs.places.place_of.Given as goal
-
-abbrev pub invariant-loop-i : goal.invariant-loop-i
-invariant-loop-i l = (n : ℕ) → n < l.i → ¬ IsPlace l.p.given (sure l.p.given (seen l.view.region.now l.view.lens) l.t) l.constraint l.v.0 n

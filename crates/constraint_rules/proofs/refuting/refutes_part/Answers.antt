@@ -1,5 +1,0 @@
-use Rattle.std.proofs.Common.{None}
-use Rattle.constraint_rules.proofs.refuting.refutes_part.Goals as goal
-
-pub returns-in-Pair : goal.returns-in-Pair
-returns-in-Pair c = λ yes. rw c.in-Pair.is (c.pair_refutes.ensures.yes yes None)

@@ -1,7 +1,0 @@
-use Rattle.std.proofs.Common.{ℕ, ◌<◌}
-use Rattle.domains.specs.Sets.{sets}
-use Rattle.constraint_rules.specs.Shutdowns.{LetsGo}
-use Rattle.constraint_rules.proofs.shutdowns.all_let_go.Given as goal
-
-abbrev pub invariant-loop-i : goal.invariant-loop-i
-invariant-loop-i l = (v : ℕ) → v < l.i → LetsGo l.p.given (sets l.g) v l.n.0 l.x

@@ -1,5 +1,0 @@
-use Rattle.constraint_rules.specs.Amounts.{AreAllStayers}
-use Rattle.constraint_rules.proofs.stayers.all_stayers.Given as goal
-
-abbrev pub invariant-loop-c : goal.invariant-loop-c
-invariant-loop-c l = AreAllStayers l.p.given l.c l.all.items

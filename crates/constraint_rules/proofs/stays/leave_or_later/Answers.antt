@@ -1,7 +1,0 @@
-use Rattle.domains.specs.Choices.{choices}
-use Rattle.profiles.specs.Standing.Standings.{leave_of}
-use Rattle.constraint_rules.proofs.StayLemmas.{least_raised}
-use Rattle.constraint_rules.proofs.stays.leave_or_later.Goals as goal
-
-pub returns-in-Some : goal.returns-in-Some
-returns-in-Some c = rw c.unwrap_or.ensures (least_raised (leave_of c.args.p.now.given c.args.v.0) c.in-Some.leaves.lasts (choices c.args.domain.now) c.lowest.result c.lowest.ensures)

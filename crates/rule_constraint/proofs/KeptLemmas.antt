@@ -1,0 +1,21 @@
+-- Why a constraint is broken that a rule watches.
+use Rattle.std.proofs.Common.{◌≡◌, ℕ, Bool, true, false, ◌||◌, ◌==◌, Option, Some, None, IsTrue, refl}
+use Rattle.std.specs.Prelude.{IsSomeAnd}
+use Rattle.catalogue.specs.declared.constraint.Constraint.{Constraint}
+use Rattle.catalogue.specs.Instance.{Instance}
+use Rattle.catalogue.specs.Kinds.{is_continuous}
+use Rattle.slices.specs.Snapshots.{Snapshot}
+use Rattle.reasons.specs.declared.reason.ReasonKind.{ReasonKind}
+use Rattle.closing.specs.Kinds.{IsBroken, rule_watch}
+use Rattle.closing.specs.Looks.{broken_at}
+use Rattle.constraint_kinds.specs.Given.{reason_kind}
+use Rattle.rule_constraint.specs.Watches.{choose, kept_watch, no_watch, passes}
+
+-- one that is broken as a watch of a rule applies, and is broken by what a kind that passes says
+pub kept_applies : (kinds : ReasonKind → Bool) (p : Instance) (o : Option Constraint) (t : ℕ) (b : Snapshot) (P : Constraint → Type 0) → ((k : Constraint) → passes kinds (reason_kind k) ≡ true → IsBroken p b k → P k) → broken_at (kept_watch kinds p o) p t b → IsSomeAnd o (λ k. IsTrue (is_continuous k || (t == p.horizon)) × P k)
+kept_applies kinds p None t b P of h = absurd h
+kept_applies kinds p (Some k) t b P of h = by (passes kinds (reason_kind k)) refl h
+  where
+    by : (on : Bool) → passes kinds (reason_kind k) ≡ on → broken_at (choose on (rule_watch p k) no_watch) p t b → IsTrue (is_continuous k || (t == p.horizon)) × P k
+    by true is x = (x.0, of k is x.1)
+    by false is x = absurd x

@@ -1,0 +1,38 @@
+-- What a setting of one element leaves of presences, and the first start of a row.
+use Rattle.std.proofs.Common.{◌≡◌, ◌≢◌, ◌⊎◌, inl, inr, ℕ, ◌<◌, List, length, slice_index_or, refl, sym, ap}
+use Rattle.std.proofs.lemmas.Bool.{cases_eq}
+use Rattle.cluster.specs.declared.choices.Choice.{Choice}
+use Rattle.cluster.specs.declared.choices.Choice.TheVariants.{Act}
+use Rattle.cluster.specs.declared.ids.Element.{Element}
+use Rattle.cluster.specs.declared.ids.Element.TheVariants.{Vm, Node as TheNode}
+use Rattle.cluster.specs.declared.ids.VmId.{VmId}
+use Rattle.catalogue.specs.Instance.{Instance}
+use Rattle.slices.specs.Elements.{vm}
+use Rattle.slices.specs.Snapshots.{present_at}
+use Rattle.slices.specs.Stages.{one}
+use Rattle.domains.specs.Choices.{Climbs, DomainView, choices, no_row}
+use Rattle.domains.specs.declared.parts.Row.{Row}
+use Rattle.domains.specs.Sets.{Sets, setting}
+use Rattle.reasons.specs.Closed.{IsEnd}
+use Rattle.reasons.specs.Regions.{row_at}
+use Rattle.reasons.specs.Sure.{sure}
+use Rattle.reasons.proofs.Public.{ends_of_rows, setting_sets}
+
+pub other-vm : (v w : ℕ) → v ≢ w → vm v ≢ vm w
+other-vm v w ne e = ne (let same : record { 0 = v } ≡ (let x : VmId = record { 0 = w } in x) = cc in ap (λ (x : VmId). x.0) same)
+
+pub vm_or : (e : Element) (v : ℕ) → (e ≡ vm v) ⊎ (vm v ≢ e)
+vm_or (Vm w) v = elim (cases_eq v w.0) [ inl same ↦ inl (ap (λ (k : ℕ). vm k) (sym same)) | inr ne ↦ inr (other-vm v w.0 ne) ]
+vm_or (TheNode n) v = inr (λ e. cc)
+
+module _ (p : Instance) (s : Sets) where
+  pub same_present : (e : Element) (c : Choice) (v n t : ℕ) → vm v ≢ e → (sure p (setting e c s) t).present v (one n) ≡ (sure p s t).present v (one n)
+  same_present e c v n t ne = ((setting_sets p s e c t).other_machines v ne).present (one n)
+
+  pub own_present : (v n t : ℕ) (c : Choice) → (sure p (setting (vm v) c s) t).present v (one n) ≡ present_at p v (one n) t c
+  own_present v n t c = ((setting_sets p s (vm v) c t).set_machine v refl).present (one n)
+
+-- the first start of a row is an end of the choices
+pub row_end : (d : DomainView) (rows : List Row) (i : ℕ) → rows ≡ d.rows → Climbs 0 rows → i < length rows → IsEnd (choices d) (Act (slice_index_or rows i no_row).place (slice_index_or rows i no_row).lo)
+row_end d rows i same climbs low =
+    rw same ((ends_of_rows d (rw same at climbs) (Act (row_at d i).place (row_at d i).lo)).1 (i, rw same at low, refl, inl refl))

@@ -1,0 +1,6 @@
+-- what a reader must believe
+pub mod Watches
+pub mod Indexes
+-- what the laws say beside it, and what the trait of watchers asks a proof of
+pub mod Laws
+pub mod Quiet

@@ -1,0 +1,33 @@
+-- The watches of rules over constraints.
+use Rattle.std.specs.Prelude.{ℕ, Bool, true, false, length, slice_get, Option, Some, None}
+use Rattle.catalogue.specs.declared.constraint.Constraint.{Constraint}
+use Rattle.catalogue.specs.Instance.{Instance}
+use Rattle.reasons.specs.declared.reason.ReasonKind.{ReasonKind}
+use Rattle.closing.specs.Kinds.{nothing, rule_watch}
+use Rattle.closing.specs.Watches.{Watch}
+use Rattle.constraint_kinds.specs.Given.{reason_kind}
+
+-- nothing breaks it
+abbrev pub no_watch : Watch
+no_watch = record { scope = nothing; broken = λ s last. ⊥ }
+
+abbrev pub choose : Bool → Watch → Watch → Watch
+choose true a b = a
+choose false a b = b
+
+-- there is a kind, and it passes
+abbrev pub passes : (ReasonKind → Bool) → Option ReasonKind → Bool
+passes kinds None = false
+passes kinds (Some kind) = kinds kind
+
+-- a constraint, where it gives reasons of the kinds that pass
+abbrev pub kept_watch : (ReasonKind → Bool) → Instance → Option Constraint → Watch
+kept_watch kinds p None = no_watch
+kept_watch kinds p (Some k) = choose (passes kinds (reason_kind k)) (rule_watch p k) no_watch
+
+-- a watch for each constraint, by its number
+abbrev pub watch_at : (ReasonKind → Bool) → Instance → ℕ → Watch
+watch_at kinds p i = kept_watch kinds p (slice_get p.constraints i)
+
+abbrev pub watch_count : Instance → ℕ
+watch_count p = length p.constraints

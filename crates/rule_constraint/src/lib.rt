@@ -1,0 +1,7 @@
+//! Constraints as the watches of rules: an index of them by what they look at, and the watcher of those that give reasons of
+//! some kinds.
+#![tactic(auto)]
+
+pub mod index;
+pub mod machines;
+pub mod watcher;

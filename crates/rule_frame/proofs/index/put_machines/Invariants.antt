@@ -1,7 +1,0 @@
-use Rattle.std.proofs.Common.{◌≡◌, ℕ, ◌<◌, slice_index_or}
-use Rattle.cluster.specs.declared.ids.VmId.{VmId}
-use Rattle.rule_frame.specs.Indexes.{IsPut}
-use Rattle.rule_frame.proofs.index.put_machines.Given as goal
-
-abbrev pub invariant-loop-v : goal.invariant-loop-v
-invariant-loop-v l = IsPut (λ v. (k : ℕ) × (k < l.v-index) × ((d : VmId) → (slice_index_or l.machines k d).0 ≡ v)) l.c l.fn.lists l.lists

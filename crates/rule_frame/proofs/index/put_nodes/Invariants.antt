@@ -1,7 +1,0 @@
-use Rattle.std.proofs.Common.{◌<◌, IsTrue}
-use Rattle.cluster.specs.Sets.{has_node}
-use Rattle.rule_frame.specs.Indexes.{IsPut}
-use Rattle.rule_frame.proofs.index.put_nodes.Given as goal
-
-abbrev pub invariant-loop-n : goal.invariant-loop-n
-invariant-loop-n l = IsPut (λ n. (n < l.n) × IsTrue (has_node l.nodes n)) l.c l.fn.lists l.lists

@@ -1,0 +1,4 @@
+//! The rule of the constraints on whole groups of machines.
+#![tactic(auto)]
+
+pub mod rule;

@@ -1,0 +1,36 @@
+//! The rule itself.
+ghost use Rattle.std.specs.Prelude.{refl};
+ghost use Rattle.rule_group.specs.Covers.{group_kinds};
+
+use catalogue::Problem;
+use cluster::Instant;
+use domains::View;
+use reasons::{Reason, ReasonKind};
+use rule_constraint::index::ConstraintIndex;
+use rule_constraint::watcher::{ConstraintWatcher, Kinds};
+use rule_frame::rule::Rule;
+
+/// Whole groups of machines: `gather`, `among`, `precedence`, `serialize`.
+#[derive(Clone, Copy, Default)]
+pub struct Groups;
+
+impl Kinds for Groups {
+    ghost kinds = { λ k. group_kinds };
+
+    fn covers(&self, kind: ReasonKind) -> bool {
+        matches!(kind, ReasonKind::Group)
+    }
+
+    // it is broken as a whole, and has no witness
+    #[tactic(auto, using(crate::proofs::BrokenLemmas::group_broken))]
+    fn reason(&self, _p: &Problem, _view: &View, c: u32, t: Instant) -> Reason {
+        Reason::Group(c, t)
+    }
+
+    ghost no_loads = { λ k. refl };
+
+    ghost no_nodes = { λ k. refl };
+}
+
+/// The rule of the constraints on whole groups of machines.
+pub type GroupRule = Rule<ConstraintWatcher<Groups>, ConstraintIndex>;

@@ -1,0 +1,229 @@
+-- Machines that are told to keep apart at all instants.
+use Rattle.std.proofs.Common.{◌≡◌, ◌≢◌, ◌⊎◌, inl, inr, ℕ, zero, suc, ◌+◌, ◌<◌, ◌≤◌, Bool, true, false, ◌&&◌, nat_lt, if◌then◌else◌, IsTrue, List, [], ◌∷◌, length, get_or, slice_index_or, Some, refl, sym, ◌∙◌, arith}
+use Rattle.std.proofs.lemmas.Bool.{and_parts, both_ways, cases_eq, cases_lt, eqb-true, false≢true}
+use Rattle.std.proofs.lemmas.Bool.Decides.{nat_tests}
+use Rattle.std.proofs.lemmas.List.{get_or_default, get_or_past}
+use Rattle.base.specs.Least.{least}
+use Rattle.cluster.specs.declared.choices.Choice.{Choice}
+use Rattle.cluster.specs.declared.choices.Choice.TheVariants.{Idle, Act}
+use Rattle.cluster.specs.declared.choices.Place.{Place}
+use Rattle.cluster.specs.declared.choices.Place.TheVariants.{Nowhere, At}
+use Rattle.cluster.specs.declared.ids.Element.{Element}
+use Rattle.cluster.specs.declared.ids.VmId.{VmId}
+use Rattle.catalogue.specs.declared.constraint.Constraint.{Constraint}
+use Rattle.catalogue.specs.declared.constraint.Constraint.TheVariants.{Spread, Split}
+use Rattle.catalogue.specs.Faults.{is_member}
+use Rattle.catalogue.specs.Instance.{Instance}
+use Rattle.slices.specs.declared.slice.Weight.TheVariants.{Presence}
+use Rattle.slices.specs.Elements.{state_of, vm}
+use Rattle.slices.specs.Holds.{ForbidsPair, IsInPart, IsMember}
+use Rattle.slices.specs.Snapshots.{present_at}
+use Rattle.slices.specs.Stages.{one}
+use Rattle.domains.specs.Choices.{Climbs, DomainView, choices, no_row, place_index}
+use Rattle.domains.specs.declared.parts.Row.{Row}
+use Rattle.domains.specs.Sets.{Sets, setting}
+use Rattle.domains.proofs.Public.{surely_each}
+use Rattle.reasons.specs.Closed.{IsEnd}
+use Rattle.reasons.specs.declared.reason.ReasonKind.TheVariants.{Pair}
+use Rattle.reasons.specs.Regions.{row_at}
+use Rattle.reasons.specs.Sure.{sure}
+use Rattle.reasons.proofs.Public.{end_is_choice, ends_of_rows, some_end}
+use Rattle.relax.specs.Areas.{hosted_in}
+use Rattle.closing.specs.Kinds.{rule_watch}
+use Rattle.closing.specs.Looks.{IsClean}
+use Rattle.constraint_kinds.specs.Given.{reason_kind}
+use Rattle.constraint_kinds.proofs.Public.{pair_of}
+use Rattle.profiles.specs.declared.standing.numbers.Standing.{Standing}
+use Rattle.profiles.specs.Standing.Standings.{IsStanding, base, comes_by, gain, has_come, kept_use, leave_of, never}
+use Rattle.profiles.proofs.Public.{present_law}
+use Rattle.rule_pair.specs.declared.clear.Seen.{Seen}
+use Rattle.rule_pair.specs.declared.clear.Seen.TheVariants.{Clear, Doubtful, Unknown}
+use Rattle.rule_pair.specs.declared.posts.Posts.{Posts}
+use Rattle.rule_pair.specs.declared.longest.Longest.{Longest}
+use Rattle.rule_pair.specs.Apart.{HasPosts, IsAt, IsLate, IsTold, KeepsClear, KeepsOff, OnClear}
+use Rattle.rule_pair.specs.Longest.{AreLonger, AreOrdered, told_until}
+use Rattle.rule_pair.specs.Stays.{StandsWithin}
+use Rattle.rule_constraint.proofs.Public.{and-true, arrival, arrived, numbers, of_one, other-vm, own_present, same_present, vm_or}
+
+-- ---- one choice
+
+-- who is hosted elsewhere is on a node only where it has come there
+not-there : (p : Instance) (v n t : ℕ) (c : Choice) → t < never → hosted_in (state_of p v) (one n) ≡ false → has_come n t c ≡ false → present_at p v (one n) t c ≡ false
+not-there p v n t c h host come =
+    sym (and-true (present_at p v (one n) t c))
+    ∙ present_law p v n t (c ∷ []) (numbers p v c) h (λ e. cc) (of_one p v c)
+    ∙ nothing (arrived n t c ∙ come)
+  where
+    nothing : comes_by n t (arrival c) ≡ false → nat_lt 0 (kept_use p v Presence n t (numbers p v c)) ≡ false
+    nothing e = rw (host, e) refl
+
+-- ---- posts
+
+-- what is surely there is by one of the two numbers
+by-number : (a b : Bool) (x y : ℕ) → IsTrue (nat_lt 0 ((if a then x else 0) + (if b then y else 0))) → IsTrue a ⊎ IsTrue b
+by-number true b x y h = inl refl
+by-number false true x y h = inr refl
+by-number false false x y h = absurd (false≢true h)
+
+stays-on : (b : Bool) (t x y : ℕ) → x ≤ y → IsTrue (b && nat_lt t x) → IsTrue (b && nat_lt t y)
+stays-on true t x y l h = grind (arith, nat_tests, h, l)
+stays-on false t x y l h = h
+
+pub has_posts : (p : Instance) (s : Sets) (v : ℕ) (k : Standing) (x : Posts) → p.horizon < never → s (vm v) ≢ [] → StandsWithin p v (s (vm v)) k → ((n t : ℕ) → t ≤ p.horizon → IsTrue (hosted_in (state_of p v) (one n) && nat_lt t k.leave) → IsAt x.host n t) → ((n t : ℕ) → t ≤ p.horizon → IsTrue (comes_by n t k.come) → IsAt x.come n t) → HasPosts p s v x
+unfolding sure
+has_posts p s v k x short some is host come =
+    let own : Standing = record { leave = least (leave_of p v) (s (vm v)); come = k.come } in
+    let exact : IsStanding p v (s (vm v)) own = record { leave = refl; come = is.come } in
+    record {
+      each = λ n t l there.
+          elim (by-number (hosted_in (state_of p v) (one n) && nat_lt t own.leave) (comes_by n t k.come) (base p v Presence) (gain p v Presence n) (sym (present_law p v n t (s (vm v)) own (omega (arith, l, short)) some exact) ∙ there)) [
+            | inl a ↦ inl (host n t l (stays-on (hosted_in (state_of p v) (one n)) t own.leave k.leave is.leave a))
+            | inr b ↦ inr (come n t l b)
+          ];
+    }
+
+-- ---- loops
+
+-- a part with a member is listed
+part-listed : (parts : List (List VmId)) (i v : ℕ) → IsInPart parts i v → i < length parts
+part-listed parts i v h =
+    elim (cases_lt i (length parts)) [
+      | inl low ↦ low
+      | inr past ↦ absurd (both_ways (is_member (slice_index_or parts i []) v) (rw (get_or_past parts i [] past) refl) h)
+    ]
+
+-- ---- who keeps off
+
+-- a table in which more was told
+pub record AreTold (old new : List Longest) (more : Type 0) : Type 0 where
+  pub ordered : AreOrdered new
+  pub longer : AreLonger old new
+  pub told : more
+
+-- told stays, of which none is told to be shorter later on
+pub told_longer : (p : Instance) (s : Sets) (xs ys : List Longest) (part v : ℕ) → AreLonger xs ys → IsTold p s xs part v → IsTold p s ys part v
+told_longer p s xs ys part v longer told = record {
+  each = λ q n t ne l there. omega (arith, told.each q n t ne l there, longer.each q n);
+}
+
+pub longer_both : (xs ys zs : List Longest) → AreLonger xs ys → AreLonger ys zs → AreLonger xs zs
+longer_both xs ys zs first second = record { each = λ q n. omega (arith, first.each q n, second.each q n) }
+
+-- where both posts of a machine are told, the machine is
+pub told_posts : (p : Instance) (s : Sets) (v part : ℕ) (x : Posts) (ys zs : List Longest) → HasPosts p s v x → AreLonger ys zs → ((n t q : ℕ) → IsAt x.host n t → q ≢ part → t < told_until ys q n) → ((n t q : ℕ) → IsAt x.come n t → q ≢ part → t < told_until zs q n) → IsTold p s zs part v
+told_posts p s v part x ys zs posts longer host come = record {
+  each = λ q n t ne l there. elim (posts.each n t l there) [ inl a ↦ omega (arith, host n t q a ne, longer.each q n) | inr b ↦ come n t q b ne ];
+}
+
+-- an action that starts late has not come where a stay goes on
+late-come : (xs : List Longest) (part n t : ℕ) (q : Place) (low u : ℕ) → IsLate xs part q low → low ≤ u → t < told_until xs part n → has_come n t (Act q u) ≡ false
+late-come xs part n t Nowhere low u late l before = refl
+late-come xs part n t (At m) low u late l before = by (has_come n t (Act (At m) u)) refl
+  where
+    by : (b : Bool) → has_come n t (Act (At m) u) ≡ b → b ≡ false
+    by false e = refl
+    by true e =
+        let parts = and_parts (one n m.0) _ e in
+        let same : m.0 ≡ n = eqb-true m.0 n parts.0 in
+        let early : u ≤ t = grind (arith, nat_tests, parts.1) in
+        absurd (omega (arith, (rw same at late), early, l, before))
+
+row-order : (from : ℕ) (rows : List Row) (i : ℕ) → Climbs from rows → i < length rows → (slice_index_or rows i no_row).lo ≤ (slice_index_or rows i no_row).hi
+row-order from [] i c h = absurd (omega (arith, h))
+row-order from (r ∷ rs) zero c h = c.1
+row-order from (r ∷ rs) (suc i) c h = row-order (place_index r.place + 1) rs i c.2 (omega (arith, h))
+
+module _ (p : Instance) (s : Sets) (xs : List Longest) (part w : ℕ) (short : p.horizon < never) where
+  -- under an end that has come to no stay, and with a host where there is none
+  off-end : (n t : ℕ) (c : Choice) → t ≤ p.horizon → t < told_until xs part n → ((n : ℕ) → IsTrue (hosted_in (state_of p w) (one n)) → told_until xs part n ≤ 0) → has_come n t c ≡ false → present_at p w (one n) t c ≡ false
+  off-end n t c l before host come = not-there p w n t c (omega (arith, l, short)) (by (hosted_in (state_of p w) (one n)) refl) come
+    where
+      by : (b : Bool) → hosted_in (state_of p w) (one n) ≡ b → b ≡ false
+      by false e = refl
+      by true e = absurd (omega (arith, host n e, before))
+
+  pub keeps_off : (d : DomainView) (rows : List Row) → s (vm w) ≡ choices d → choices d ≢ [] → rows ≡ d.rows → Climbs 0 rows → ((n : ℕ) → IsTrue (hosted_in (state_of p w) (one n)) → told_until xs part n ≤ 0) → ((i : ℕ) → i < length rows → IsLate xs part (slice_index_or rows i no_row).place (slice_index_or rows i no_row).lo) → KeepsOff p s xs part w
+  keeps_off d rows is some same climbs host late = record { some = rw is some; off = λ n t c l before end. off-end n t c l before host (come n t c before (rw is at end)) }
+    where
+      own : Climbs 0 d.rows
+      own = rw same at climbs
+
+      by : (n t i u : ℕ) (q : Place) → t < told_until xs part n → i < length d.rows → (row_at d i).place ≡ q → ((row_at d i).lo ≡ u) ⊎ ((row_at d i).hi ≡ u) → has_come n t (Act q u) ≡ false
+      by n t i u q before low place ends =
+          late-come xs part n t q (row_at d i).lo u (rw place at ((rw same at late) i low)) (elim ends [ inl first ↦ omega (arith, first) | inr last ↦ omega (arith, last, row-order 0 d.rows i own low) ]) before
+
+      come : (n t : ℕ) (c : Choice) → t < told_until xs part n → IsEnd (choices d) c → has_come n t c ≡ false
+      come n t Idle before end = refl
+      come n t (Act q u) before end = let r = (ends_of_rows d own (Act q u)).0 end in by n t r.0 u q before r.1 r.2 r.3
+
+-- one that keeps off what is told of another one keeps clear of it
+pub keeps_clear : (p : Instance) (s : Sets) (xs : List Longest) (i j v w : ℕ) → i ≢ j → IsTold p s xs i v → KeepsOff p s xs j w → KeepsClear p s v w
+keeps_clear p s xs i j v w ne told off = record { some = off.some; off = λ n t c l there end. off.off n t c l (told.each j n t (λ e. ne (sym e)) l there) end }
+
+-- ---- loops over parts
+
+-- what holds of the machines of the first parts holds of those of one more
+pub next_part : (P : ℕ → ℕ → Type 0) (parts : List (List VmId)) (vs given : List VmId) (i : ℕ) → i < length parts → vs ≡ given → given ≡ get_or parts i given → ((k v : ℕ) → k < i → IsInPart parts k v → P k v) → ((v : ℕ) → IsMember vs v → P i v) → (k v : ℕ) → k < i + 1 → IsInPart parts k v → P k v
+next_part P parts vs given i low same is before here k v h there =
+    elim (cases_eq k i) [
+      | inl at ↦ rw at (here v (rw (same ∙ is ∙ get_or_default parts i given [] low) (rw at at there)))
+      | inr other ↦ before k v (omega (arith, h, other)) there
+    ]
+
+-- and so of those of all
+pub each_part : (P : ℕ → ℕ → Type 0) (parts : List (List VmId)) (count : ℕ) → length parts ≤ count → ((k v : ℕ) → k < count → IsInPart parts k v → P k v) → (k v : ℕ) → IsInPart parts k v → P k v
+each_part P parts count l each k v there = each k v (omega (arith, part-listed parts k v there, l)) there
+
+module _ (p : Instance) (s : Sets) where
+  -- ---- two machines
+
+  never-both : (v w n t : ℕ) → t ≤ p.horizon → KeepsClear p s v w → IsTrue ((sure p s t).present v (one n)) → IsTrue ((sure p s t).present w (one n)) → ⊥
+  unfolding sure
+  never-both v w n t l clear first second =
+      let c = some_end (s (vm w)) clear.some in
+      false≢true (sym (clear.off n t c.0 l first c.1) ∙ surely_each (present_at p w (one n) t) (s (vm w)) c.0 (end_is_choice (s (vm w)) c.0 c.1) second)
+
+  -- where one is set to a choice
+  never-with : (v w n t : ℕ) (c : Choice) → v ≢ w → t ≤ p.horizon → KeepsClear p s v w → IsEnd (s (vm w)) c → IsTrue ((sure p (setting (vm w) c s) t).present v (one n)) → IsTrue ((sure p (setting (vm w) c s) t).present w (one n)) → ⊥
+  never-with v w n t c ne l clear end first second =
+      false≢true (sym (clear.off n t c l (sym (same_present p s (vm w) c v n t (other-vm v w ne)) ∙ first) end) ∙ (sym (own_present p s w n t c) ∙ second))
+
+  meet-never : (v w n t : ℕ) (e : Element) (c : Choice) → v ≢ w → t ≤ p.horizon → KeepsClear p s v w → KeepsClear p s w v → IsEnd (s e) c → IsTrue ((sure p (setting e c s) t).present v (one n)) → IsTrue ((sure p (setting e c s) t).present w (one n)) → ⊥
+  meet-never v w n t e c ne l one_way other_way end first second =
+      elim (vm_or e w) [
+        | inl same ↦ never-with v w n t c ne l one_way (rw same at end) (rw same at first) (rw same at second)
+        | inr off_w ↦
+            elim (vm_or e v) [
+              | inl same ↦ never-with w v n t c (λ x. ne (sym x)) l other_way (rw same at end) (rw same at second) (rw same at first)
+              | inr off_v ↦ never-both v w n t l one_way (sym (same_present p s e c v n t off_v) ∙ first) (sym (same_present p s e c w n t off_w) ∙ second)
+            ]
+      ]
+
+  -- ---- constraints
+
+  pair-clean : (k : Constraint) → reason_kind k ≡ Some Pair → ((v w : ℕ) → ForbidsPair k v w → v ≢ w → KeepsClear p s v w × KeepsClear p s w v) → IsClean (rule_watch p k) p s
+  pair-clean k is clear t l = record {
+    base = λ x.
+        let h = pair_of p (sure p s t) k is x.1 in
+        let both = clear h.0 h.1 h.6.forbidden h.6.differ in
+        never-both h.0 h.1 h.2 t l both.0 h.6.first h.6.second;
+    ends = λ e c there end x.
+        let h = pair_of p (sure p (setting e c s) t) k is x.1 in
+        let both = clear h.0 h.1 h.6.forbidden h.6.differ in
+        meet-never h.0 h.1 h.2 t e c h.6.differ l both.0 both.1 end h.6.first h.6.second;
+  }
+
+  pub spread_clean : (k : Constraint) (vs given : List VmId) (always : Bool) → k ≡ Spread vs always → given ≡ vs → ((v w : ℕ) → IsMember given v → IsMember given w → v ≢ w → KeepsClear p s v w) → IsClean (rule_watch p k) p s
+  spread_clean k vs given always is same apart =
+      rw is (pair-clean (Spread vs always) refl (λ v w h ne. ((rw same at apart) v w h.0 h.1 ne, (rw same at apart) w v h.1 h.0 (λ e. ne (sym e)))))
+
+  pub split_clean : (k : Constraint) (parts given : List (List VmId)) (always : Bool) → k ≡ Split parts always → given ≡ parts → ((i j v w : ℕ) → i ≢ j → IsInPart given i v → IsInPart given j w → KeepsClear p s v w) → IsClean (rule_watch p k) p s
+  split_clean k parts given always is same apart =
+      rw is (pair-clean (Split parts always) refl (λ v w h ne. ((rw same at apart) h.0 h.1 v w h.2 h.3 h.4, (rw same at apart) h.1 h.0 w v (λ e. h.2 (sym e)) h.4 h.3)))
+
+-- ---- what is seen
+
+pub on_clear : (x : Seen) (P Q : Type 0) → (P → Q) → OnClear x P → OnClear x Q
+on_clear Clear P Q f h = f h
+on_clear (Doubtful d) P Q f h = h
+on_clear Unknown P Q f h = h

@@ -1,0 +1,4 @@
+mod ApartLemmas
+mod BrokenLemmas
+mod LongestLemmas
+mod StayLemmas

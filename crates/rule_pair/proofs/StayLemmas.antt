@@ -1,0 +1,28 @@
+-- How long a machine stays that runs.
+use Rattle.std.proofs.Common.{◌≡◌, ℕ, ◌≤◌, true, max, unwrap_or, Option, None, List, [], ◌∷◌, refl, arith}
+use Rattle.std.specs.List.{filter}
+use Rattle.base.specs.Least.{least, lowest}
+use Rattle.cluster.specs.declared.choices.Choice.{Choice}
+use Rattle.catalogue.specs.Instance.{Instance}
+use Rattle.domains.specs.Choices.{DomainView, choices}
+use Rattle.domains.specs.Parts.{stays}
+use Rattle.profiles.specs.declared.standing.numbers.Standing.{Standing}
+use Rattle.profiles.specs.Standing.Standings.{IsStanding, leave_of}
+use Rattle.profiles.proofs.Public.{all_stay}
+use Rattle.rule_pair.specs.Stays.{StandsWithin}
+
+-- one that may stay has not come elsewhere, and is not told too short how long it stays
+pub idle_stands : (p : Instance) (v : ℕ) (d : DomainView) (k : Standing) → d.idle ≡ true → least (leave_of p v) (choices d) ≤ k.leave → k.come ≡ None → StandsWithin p v (choices d) k
+idle_stands p v d k idle leave come = record { leave = leave; come = λ n t. rw (come, idle) refl }
+
+pub stands_within : (p : Instance) (v : ℕ) (cs : List Choice) (k : Standing) → IsStanding p v cs k → StandsWithin p v cs k
+stands_within p v cs k is = record { leave = rw is.leave (omega arith); come = is.come }
+
+-- the least of what is raised is no less than the least
+raised : (f : Choice → ℕ) (a : ℕ) (cs : List Choice) → least f cs ≤ least (λ c. max a (f c)) cs
+raised f a [] = omega arith
+raised f a (c ∷ []) = omega arith
+raised f a (c ∷ d ∷ cs) = let rest = raised f a (d ∷ cs) in omega (arith, rest)
+
+pub least_raised : (f : Choice → ℕ) (a : ℕ) (cs : List Choice) (found : Option ℕ) → found ≡ lowest (λ c. max a (f c)) (filter (stays None) cs) → least f cs ≤ unwrap_or found 0
+least_raised f a cs found is = rw (is, all_stay cs) (raised f a cs)

@@ -1,0 +1,8 @@
+use Rattle.std.proofs.Common.{ℕ, ◌<◌}
+use Rattle.slices.specs.Holds.{IsInPart}
+use Rattle.domains.specs.Sets.{sets}
+use Rattle.rule_pair.specs.Apart.{KeepsOff}
+use Rattle.rule_pair.proofs.clear.parts_keep_off.Given as goal
+
+abbrev pub invariant-loop-j : goal.invariant-loop-j
+invariant-loop-j l = (k w : ℕ) → k < l.j → IsInPart l.parts k w → KeepsOff l.p.given (sets l.g) l.table k w

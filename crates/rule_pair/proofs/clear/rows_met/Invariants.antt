@@ -1,0 +1,7 @@
+use Rattle.std.proofs.Common.{ℕ, ◌<◌, slice_index_or}
+use Rattle.domains.specs.Choices.{no_row}
+use Rattle.rule_pair.specs.Apart.{IsLate}
+use Rattle.rule_pair.proofs.clear.rows_met.Given as goal
+
+abbrev pub invariant-loop-i : goal.invariant-loop-i
+invariant-loop-i l = (k : ℕ) → k < l.i → IsLate l.table l.part (slice_index_or l.rows k no_row).place (slice_index_or l.rows k no_row).lo

@@ -1,0 +1,26 @@
+use Rattle.std.proofs.Common.{arith}
+use Rattle.cluster.specs.declared.ids.VmId.{VmId}
+use Rattle.domains.specs.Sets.{sets}
+use Rattle.rule_pair.specs.Apart.{IsTold, part_of}
+use Rattle.rule_constraint.proofs.Public.{each_member, next_member}
+use Rattle.rule_pair.proofs.ApartLemmas.{longer_both, told_longer}
+use Rattle.rule_pair.proofs.clear.tell_machines.Goals as goal
+
+pub loop-i-preserved : goal.loop-i-preserved
+loop-i-preserved c =
+    let longer = c.tell_machine.ensures.longer in
+    let none : VmId = record { 0 = 0 } in
+    record {
+      ordered = c.tell_machine.ensures.ordered;
+      longer = longer_both _ _ _ c.loop-i.invariant.longer longer;
+      told = next_member (λ v. IsTold c.args.p.now.given (sets c.args.g.now) c.tell_machine.new.table (part_of c.args.part v) v) c.args.machines.now c.loop-i.i none c.loop-i-test.true
+          (λ k d h. told_longer _ _ _ _ _ _ longer (c.loop-i.invariant.told k d h))
+          (rw c.part_of.ensures at (c.tell_machine.ensures.told c.if-not-tell_machine.false));
+    }
+
+pub returns : goal.returns
+returns c = record {
+  ordered = c.loop-i.invariant.ordered;
+  longer = c.loop-i.invariant.longer;
+  told = λ yes. each_member (λ v. IsTold c.args.p.now.given (sets c.args.g.now) c.loop-i.table (part_of c.args.part v) v) c.args.machines.now c.loop-i.i (omega arith) c.loop-i.invariant.told;
+}

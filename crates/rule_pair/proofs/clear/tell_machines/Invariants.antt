@@ -1,0 +1,10 @@
+use Rattle.std.proofs.Common.{ℕ, ◌<◌, get_or}
+use Rattle.cluster.specs.declared.ids.VmId.{VmId}
+use Rattle.domains.specs.Sets.{sets}
+use Rattle.rule_pair.specs.Apart.{IsTold, part_of}
+use Rattle.rule_pair.proofs.ApartLemmas.{AreTold}
+use Rattle.rule_pair.proofs.clear.tell_machines.Given as goal
+
+abbrev pub invariant-loop-i : goal.invariant-loop-i
+invariant-loop-i l =
+    AreTold l.fn.table l.table ((k : ℕ) (d : VmId) → k < l.i → IsTold l.p.given (sets l.g) l.table (part_of l.part (get_or l.machines k d).0) (get_or l.machines k d).0)

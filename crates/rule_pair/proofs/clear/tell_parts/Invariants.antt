@@ -1,0 +1,9 @@
+use Rattle.std.proofs.Common.{ℕ, ◌<◌}
+use Rattle.slices.specs.Holds.{IsInPart}
+use Rattle.domains.specs.Sets.{sets}
+use Rattle.rule_pair.specs.Apart.{IsTold}
+use Rattle.rule_pair.proofs.ApartLemmas.{AreTold}
+use Rattle.rule_pair.proofs.clear.tell_parts.Given as goal
+
+abbrev pub invariant-loop-i : goal.invariant-loop-i
+invariant-loop-i l = AreTold l.fn.table l.table ((k v : ℕ) → k < l.i → IsInPart l.parts k v → IsTold l.p.given (sets l.g) l.table k v)

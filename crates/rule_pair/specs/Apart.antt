@@ -1,0 +1,57 @@
+-- Helping only: where a machine may surely be up to the horizon, and who keeps off.
+use Rattle.std.specs.Prelude.{◌≡◌, ◌≢◌, ◌⊎◌, ℕ, ◌<◌, ◌≤◌, false, List, [], Option, Some, None, IsTrue}
+use Rattle.cluster.specs.declared.choices.Choice.{Choice}
+use Rattle.cluster.specs.declared.choices.Place.{Place}
+use Rattle.cluster.specs.declared.choices.Place.TheVariants.{Nowhere, At}
+use Rattle.catalogue.specs.Instance.{Instance}
+use Rattle.slices.specs.Elements.{vm}
+use Rattle.slices.specs.Snapshots.{present_at}
+use Rattle.slices.specs.Stages.{one}
+use Rattle.domains.specs.Sets.{Sets}
+use Rattle.reasons.specs.Closed.{IsEnd}
+use Rattle.reasons.specs.Sure.{sure}
+use Rattle.rule_pair.specs.declared.longest.Longest.{Longest}
+use Rattle.rule_pair.specs.declared.posts.Post.{Post}
+use Rattle.rule_pair.specs.declared.posts.Posts.{Posts}
+use Rattle.rule_pair.specs.declared.clear.Seen.{Seen}
+use Rattle.rule_pair.specs.declared.clear.Seen.TheVariants.{Clear, Doubtful, Unknown}
+use Rattle.rule_pair.specs.Longest.{told_until}
+
+-- the post, if there is one, is the node, and lasts until the instant
+abbrev pub IsAt : Option Post → ℕ → ℕ → Type 0
+IsAt None n t = ⊥
+IsAt (Some a) n t = (a.node.0 ≡ n) × (t ≤ a.last)
+
+-- up to the horizon a machine surely is nowhere but at its posts
+pub record HasPosts (p : Instance) (s : Sets) (v : ℕ) (x : Posts) : Type 0 where
+  pub each : (n t : ℕ) → t ≤ p.horizon → IsTrue ((sure p s t).present v (one n)) → IsAt x.host n t ⊎ IsAt x.come n t
+
+-- the part of a machine: that of a number, or where each is to be alone its own
+abbrev pub part_of : Option ℕ → ℕ → ℕ
+part_of None v = v
+part_of (Some i) v = i
+
+-- wherever machine v of a part surely is up to the horizon, machines of other parts are told so
+pub record IsTold (p : Instance) (s : Sets) (xs : List Longest) (part v : ℕ) : Type 0 where
+  pub each : (q n t : ℕ) → q ≢ part → t ≤ p.horizon → IsTrue ((sure p s t).present v (one n)) → t < told_until xs q n
+
+-- an action there starts after all stays of machines of other parts
+abbrev pub IsLate : List Longest → ℕ → Place → ℕ → Type 0
+IsLate xs part Nowhere start = Unit {0}
+IsLate xs part (At n) start = told_until xs part n.0 ≤ start
+
+-- machine w of a part has a choice, and is under no end of its choices at a node where a stay of another part is told
+pub record KeepsOff (p : Instance) (s : Sets) (xs : List Longest) (part w : ℕ) : Type 0 where
+  pub some : s (vm w) ≢ []
+  pub off : (n t : ℕ) (c : Choice) → t ≤ p.horizon → t < told_until xs part n → IsEnd (s (vm w)) c → present_at p w (one n) t c ≡ false
+
+-- machine w has a choice, and is under no end of its choices where v surely is
+pub record KeepsClear (p : Instance) (s : Sets) (v w : ℕ) : Type 0 where
+  pub some : s (vm w) ≢ []
+  pub off : (n t : ℕ) (c : Choice) → t ≤ p.horizon → IsTrue ((sure p s t).present v (one n)) → IsEnd (s (vm w)) c → present_at p w (one n) t c ≡ false
+
+-- what is so where it was seen that machines keep apart
+abbrev pub OnClear : Seen → Type 0 → Type 0
+OnClear Clear P = P
+OnClear (Doubtful d) P = Unit {0}
+OnClear Unknown P = Unit {0}

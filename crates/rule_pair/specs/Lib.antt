@@ -1,0 +1,6 @@
+-- what a reader must believe
+pub mod Covers
+-- what the code says beside it
+pub mod Apart
+pub mod Longest
+pub mod Stays

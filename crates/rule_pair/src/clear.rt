@@ -1,0 +1,279 @@
+//! Whether a constraint is kept, told for all instants up to the horizon at once.
+ghost use Rattle.std.specs.Prelude.{◌≡◌, ◌≢◌, ℕ, ◌<◌, ◌≤◌, nat_lt, true, length, slice_index_or, IfNone, IsTrue};
+ghost use Rattle.std.specs.List.{list_all};
+ghost use Rattle.catalogue.specs.Faults.{is_rule};
+ghost use Rattle.catalogue.specs.Instance.{inventory_of};
+ghost use Rattle.slices.specs.Elements.{machine_count, state_of};
+ghost use Rattle.slices.specs.Holds.{IsInPart, IsMember};
+ghost use Rattle.slices.specs.Stages.{one};
+ghost use Rattle.domains.specs.Choices.{no_row};
+ghost use Rattle.domains.specs.Sets.{sets};
+ghost use Rattle.relax.specs.Areas.{IsSized, hosted_in};
+ghost use Rattle.closing.specs.Kinds.{rule_watch};
+ghost use Rattle.closing.specs.Looks.{IsClean};
+ghost use Rattle.rule_pair.specs.Apart.{IsLate, IsTold, KeepsClear, KeepsOff, OnClear, part_of as the_part_of};
+ghost use Rattle.rule_pair.specs.Longest.{AreLonger, AreOrdered, told_until};
+
+use crate::longest::{NOBODY, Stay, Table, stay_after, tell};
+use crate::posts::{Post, last_before, posts_of};
+use catalogue::{Constraint, Problem, Vms};
+use cluster::{Element, NodeId, Place, VmId};
+use cluster::limits::MAX_NODES;
+use domains::{Region, Row};
+use rule_constraint::machines::host;
+
+/// Two machines, of which the second one may be at a post of the first one.
+#[derive(Clone, Copy)]
+pub struct Doubt {
+    pub first: VmId,
+    pub second: VmId,
+    pub post: Post,
+}
+
+/// What is seen of a constraint.
+#[derive(Clone, Copy)]
+pub enum Seen {
+    /// It is kept.
+    Clear,
+    /// These two may not keep apart.
+    Doubtful(Doubt),
+    /// Nothing.
+    Unknown,
+}
+
+// a stay at a node
+#[derive(Clone, Copy)]
+struct Met {
+    node: NodeId,
+    stay: Stay,
+}
+
+// the part of a machine: of machines that are each to be alone, its number
+fn part_of(part: Option<usize>, v: VmId) -> usize
+    ensures { result ≡ the_part_of part v.0 }
+{
+    match part {
+        None => v.0 as usize,
+        Some(i) => i,
+    }
+}
+
+// tells where a machine surely stays. False where that is not known
+#[tactic(auto, using(crate::proofs::ApartLemmas::told_posts, crate::proofs::ApartLemmas::longer_both))]
+fn tell_machine(p: &Problem, g: &Region, v: VmId, part: usize, table: &mut Table) -> bool
+    requires region { IsSized p.now.given g.now }
+    requires machine { v.0 < machine_count p.now.given }
+    requires ordered { AreOrdered table.old }
+    ensures ordered { AreOrdered table.new }
+    ensures longer { AreLonger table.old table.new }
+    ensures told { IsTrue result → IsTold p.now.given (sets g.now) table.new part v.0 }
+{
+    if g.domain(Element::Vm(v)).is_empty() {
+        return false;
+    }
+    let posts = posts_of(p, g, v);
+    tell(table, v, part, posts.host) && tell(table, v, part, posts.come)
+}
+
+// tells it of each machine of a part, or of each of a list where no two are to meet
+fn tell_machines(
+    p: &Problem,
+    g: &Region,
+    machines: &[VmId],
+    part: Option<usize>,
+    table: &mut Table,
+) -> bool
+    requires region { IsSized p.now.given g.now }
+    requires machines { list_all (λ x. nat_lt x.0 (machine_count p.now.given)) machines.now ≡ true }
+    requires ordered { AreOrdered table.old }
+    ensures ordered { AreOrdered table.new }
+    ensures longer { AreLonger table.old table.new }
+    ensures told { IsTrue result → (v : ℕ) → IsMember machines.now v → IsTold p.now.given (sets g.now) table.new (the_part_of part v) v }
+{
+    for i in 0..machines.len() {
+        let v = machines[i];
+        if !tell_machine(p, g, v, part_of(part, v), table) {
+            return false;
+        }
+    }
+    true
+}
+
+// tells it of each machine of each part
+fn tell_parts(p: &Problem, g: &Region, parts: &[Vms], table: &mut Table) -> bool
+    requires region { IsSized p.now.given g.now }
+    requires machines { list_all (list_all (λ x. nat_lt x.0 (machine_count p.now.given))) parts.now ≡ true }
+    requires ordered { AreOrdered table.old }
+    ensures { IsTrue result → (i v : ℕ) → IsInPart parts.now i v → IsTold p.now.given (sets g.now) table.new i v }
+{
+    for i in 0..parts.len() {
+        if !tell_machines(p, g, parts[i].items(), Some(i), table) {
+            return false;
+        }
+    }
+    true
+}
+
+// a stay of a machine of another part at the host of one
+fn host_met(p: &Problem, w: VmId, part: usize, table: &Table) -> Option<Met>
+    requires machine { w.0 < machine_count p.now.given }
+    ensures { IfNone result ((n : ℕ) → IsTrue (hosted_in (state_of p.now.given w.0) (one n)) → told_until table.now part n ≤ 0) }
+{
+    let node = host(p, w)?;
+    let stay = stay_after(table, node, part, 0)?;
+    Some(Met { node, stay })
+}
+
+// one that may still last when a row starts
+fn row_met(row: Row, part: usize, table: &Table) -> Option<Met>
+    ensures { IfNone result (IsLate table.now part row.place row.lo) }
+{
+    match row.place {
+        Place::Nowhere => None,
+        Place::At(node) => {
+            let stay = stay_after(table, node, part, row.lo)?;
+            Some(Met { node, stay })
+        }
+    }
+}
+
+// the first such of some rows
+fn rows_met(rows: &[Row], part: usize, table: &Table) -> Option<Met>
+    ensures { IfNone result ((i : ℕ) → i < length rows.now → IsLate table.now part (slice_index_or rows.now i no_row).place (slice_index_or rows.now i no_row).lo) }
+{
+    for i in 0..rows.len() {
+        if let Some(met) = row_met(rows[i], part, table) {
+            return Some(met);
+        }
+    }
+    None
+}
+
+// the doubt whether a machine may be at a node while another one stays there
+fn make_doubt(p: &Problem, w: VmId, met: Met) -> Doubt {
+    Doubt {
+        first: met.stay.machine,
+        second: w,
+        post: Post {
+            node: met.node,
+            last: last_before(p, met.stay.until).unwrap_or(0),
+        },
+    }
+}
+
+// whether a machine is nowhere while one of another part stays there
+fn machine_keeps_off(p: &Problem, g: &Region, w: VmId, part: usize, table: &Table) -> Seen
+    requires region { IsSized p.now.given g.now }
+    requires machine { w.0 < machine_count p.now.given }
+    ensures { OnClear result (KeepsOff p.now.given (sets g.now) table.now part w.0) }
+{
+    let domain = g.domain(Element::Vm(w));
+    if domain.is_empty() {
+        return Seen::Unknown;
+    }
+    if let Some(met) = host_met(p, w, part, table) {
+        return Seen::Doubtful(make_doubt(p, w, met));
+    }
+    let rows = domain.rows();
+    match rows_met(rows, part, table) {
+        None => Seen::Clear,
+        Some(met) => Seen::Doubtful(make_doubt(p, w, met)),
+    }
+}
+
+// whether so is each machine of a part, or each of a list where no two are to meet
+fn machines_keep_off(
+    p: &Problem,
+    g: &Region,
+    machines: &[VmId],
+    part: Option<usize>,
+    table: &Table,
+) -> Seen
+    requires region { IsSized p.now.given g.now }
+    requires machines { list_all (λ x. nat_lt x.0 (machine_count p.now.given)) machines.now ≡ true }
+    ensures { OnClear result ((w : ℕ) → IsMember machines.now w → KeepsOff p.now.given (sets g.now) table.now (the_part_of part w) w) }
+{
+    for i in 0..machines.len() {
+        let w = machines[i];
+        match machine_keeps_off(p, g, w, part_of(part, w), table) {
+            Seen::Clear => {}
+            Seen::Doubtful(d) => return Seen::Doubtful(d),
+            Seen::Unknown => return Seen::Unknown,
+        }
+    }
+    Seen::Clear
+}
+
+// whether so is each machine of each part
+fn parts_keep_off(p: &Problem, g: &Region, parts: &[Vms], table: &Table) -> Seen
+    requires region { IsSized p.now.given g.now }
+    requires machines { list_all (list_all (λ x. nat_lt x.0 (machine_count p.now.given))) parts.now ≡ true }
+    ensures { OnClear result ((j w : ℕ) → IsInPart parts.now j w → KeepsOff p.now.given (sets g.now) table.now j w) }
+{
+    for j in 0..parts.len() {
+        match machines_keep_off(p, g, parts[j].items(), Some(j), table) {
+            Seen::Clear => {}
+            Seen::Doubtful(d) => return Seen::Doubtful(d),
+            Seen::Unknown => return Seen::Unknown,
+        }
+    }
+    Seen::Clear
+}
+
+// whether no two of these machines meet
+fn each_alone(p: &Problem, g: &Region, machines: &[VmId]) -> Seen
+    requires region { IsSized p.now.given g.now }
+    requires machines { list_all (λ x. nat_lt x.0 (machine_count p.now.given)) machines.now ≡ true }
+    ensures { OnClear result ((v w : ℕ) → IsMember machines.now v → IsMember machines.now w → v ≢ w → KeepsClear p.now.given (sets g.now) v w) }
+{
+    let mut table = [NOBODY; MAX_NODES];
+    if !tell_machines(p, g, machines, None, &mut table) {
+        return Seen::Unknown;
+    }
+    machines_keep_off(p, g, machines, None, &table)
+}
+
+// whether no two machines of different parts do
+fn parts_alone(p: &Problem, g: &Region, parts: &[Vms]) -> Seen
+    requires region { IsSized p.now.given g.now }
+    requires machines { list_all (list_all (λ x. nat_lt x.0 (machine_count p.now.given))) parts.now ≡ true }
+    ensures { OnClear result ((i j v w : ℕ) → i ≢ j → IsInPart parts.now i v → IsInPart parts.now j w → KeepsClear p.now.given (sets g.now) v w) }
+{
+    let mut table = [NOBODY; MAX_NODES];
+    if !tell_parts(p, g, parts, &mut table) {
+        return Seen::Unknown;
+    }
+    parts_keep_off(p, g, parts, &table)
+}
+
+/// Whether a constraint is seen to be kept at all instants. Of machines that are to keep apart it is told where
+/// each surely stays, and then asked of each whether it may be anywhere that one of another part stays.
+pub fn look_over(p: &Problem, g: &Region, constraint: &Constraint) -> Seen
+    requires region { IsSized p.now.given g.now }
+    requires rule { is_rule (inventory_of p.now.given) constraint.now ≡ true }
+    ensures { OnClear result (IsClean (rule_watch p.now.given constraint.now) p.now.given (sets g.now)) }
+{
+    match constraint {
+        Constraint::Spread { machines, .. } => each_alone(p, g, machines.items()),
+        Constraint::Split { parts, .. } => parts_alone(p, g, parts.items()),
+        Constraint::Lonely { .. }
+        | Constraint::Ban { .. }
+        | Constraint::Fence { .. }
+        | Constraint::Root { .. }
+        | Constraint::Gather { .. }
+        | Constraint::Among { .. }
+        | Constraint::Precedence { .. }
+        | Constraint::Serialize { .. }
+        | Constraint::Preserve { .. }
+        | Constraint::ResourceCapacity { .. }
+        | Constraint::RunningCapacity { .. }
+        | Constraint::MaxOnline { .. }
+        | Constraint::Overbook { .. }
+        | Constraint::Online { .. }
+        | Constraint::Offline { .. }
+        | Constraint::Running { .. }
+        | Constraint::Sleeping { .. }
+        | Constraint::Ready { .. }
+        | Constraint::Killed { .. } => Seen::Unknown,
+    }
+}

@@ -1,0 +1,146 @@
+//! Machines that are to be on different nodes, and are more than the nodes that are left to them.
+ghost use Rattle.std.specs.Prelude.{◌≡◌, ◌<◌, IfSome, length, nat_lt, true};
+ghost use Rattle.std.specs.List.{list_all};
+ghost use Rattle.catalogue.specs.Faults.{is_rule};
+ghost use Rattle.catalogue.specs.Instance.{inventory_of};
+ghost use Rattle.domains.specs.Sets.{sets};
+ghost use Rattle.slices.specs.Elements.{machine_count};
+ghost use Rattle.prop_core.specs.Propagators.{FailHolds};
+ghost use Rattle.relax.specs.Areas.{IsSized};
+
+use catalogue::{Constraint, Problem};
+use cluster::{Element, NodeId, NodeSet, Place, VmId};
+use domains::{Domain, Region};
+use profiles::standing::leaves::runs_on;
+use reasons::Reason;
+use relax::refutes::refutes;
+
+// nodes, and how many more there must be for each of some machines to have one of its own
+#[derive(Clone, Copy)]
+struct Room {
+    nodes: NodeSet,
+    missing: usize,
+}
+
+impl Room {
+    // no node for so many machines
+    fn new(machines: usize) -> Room {
+        Room {
+            nodes: NodeSet::new(),
+            missing: machines,
+        }
+    }
+
+    // one machine or one node less is to be found
+    fn lower(&mut self) {
+        self.missing = self.missing.saturating_sub(1);
+    }
+
+    // a node of the problem more, where it is not among them
+    fn add(&mut self, p: &Problem, n: NodeId) {
+        if (n.0 as usize) < p.cluster().nodes().len() && !self.nodes.has(n) {
+            self.nodes.insert(n);
+            self.lower();
+        }
+    }
+}
+
+// whether a machine may be on no node at the end
+fn may_be_off(p: &Problem, v: VmId, domain: &Domain) -> bool
+    requires { v.0 < machine_count p.now.given }
+{
+    if domain.idle() && runs_on(p, v).is_none() {
+        return true;
+    }
+    // a row at no node comes before all others
+    match domain.rows() {
+        [] => false,
+        [first, ..] => first.place == Place::Nowhere,
+    }
+}
+
+// the nodes more on which a machine may be at the end, until there are enough; one that may be on none needs none
+fn add_member(p: &Problem, g: &Region, v: VmId, room: &mut Room)
+    requires region { IsSized p.now.given g.now }
+    requires machine { v.0 < machine_count p.now.given }
+{
+    let domain = g.domain(Element::Vm(v));
+    if may_be_off(p, v, domain) {
+        room.lower();
+        return;
+    }
+    if domain.idle() {
+        if let Some(n) = runs_on(p, v) {
+            room.add(p, n);
+        }
+    }
+    for row in domain.rows() {
+        if room.missing == 0 {
+            return;
+        }
+        if let Place::At(n) = row.place {
+            room.add(p, n);
+        }
+    }
+}
+
+// the nodes on which those of the machines may be that cannot be off, if they are seen to be too few
+fn too_few(p: &Problem, g: &Region, machines: &[VmId]) -> Option<NodeSet>
+    requires region { IsSized p.now.given g.now }
+    requires machines { list_all (λ x. nat_lt x.0 (machine_count p.now.given)) machines.now ≡ true }
+{
+    let mut room = Room::new(machines.len());
+    for v in machines {
+        add_member(p, g, *v, &mut room);
+        if room.missing == 0 {
+            return None;
+        }
+    }
+    Some(room.nodes)
+}
+
+// the nodes that are too few for the members of a constraint that are to be on different ones
+fn crowded(p: &Problem, g: &Region, constraint: &Constraint) -> Option<NodeSet>
+    requires region { IsSized p.now.given g.now }
+    requires rule { is_rule (inventory_of p.now.given) constraint.now ≡ true }
+{
+    match constraint {
+        Constraint::Spread { machines, .. } => too_few(p, g, machines.items()),
+        Constraint::Ban { .. }
+        | Constraint::Fence { .. }
+        | Constraint::Gather { .. }
+        | Constraint::Lonely { .. }
+        | Constraint::Among { .. }
+        | Constraint::Split { .. }
+        | Constraint::Root { .. }
+        | Constraint::Precedence { .. }
+        | Constraint::Serialize { .. }
+        | Constraint::Preserve { .. }
+        | Constraint::ResourceCapacity { .. }
+        | Constraint::RunningCapacity { .. }
+        | Constraint::MaxOnline { .. }
+        | Constraint::Overbook { .. }
+        | Constraint::Online { .. }
+        | Constraint::Offline { .. }
+        | Constraint::Running { .. }
+        | Constraint::Sleeping { .. }
+        | Constraint::Ready { .. }
+        | Constraint::Killed { .. } => None,
+    }
+}
+
+/// A reason that refutes the region, where the members of a spread are seen to be more than the nodes on which
+/// they may be at the horizon. The nodes are a guess: whether they refute the region is asked exactly.
+pub(crate) fn hall_reason(p: &Problem, g: &Region, c: u32) -> Option<Reason>
+    requires region { IsSized p.now.given g.now }
+    requires constraint { c < length p.now.given.constraints }
+    ensures { IfSome result (FailHolds p.now.given (sets g.now)) }
+{
+    let nodes = crowded(p, g, &p.constraints()[c as usize])?;
+    let reason = Reason::Hall(c, p.horizon(), nodes);
+    if refutes(p, None, g, &reason) {
+        Some(reason)
+    } else {
+        None
+    }
+}

@@ -1,0 +1,13 @@
+//! The rule of the constraints that keep machines apart.
+#![tactic(auto)]
+
+mod clear;
+mod hall;
+mod longest;
+mod pair_look;
+mod pairs;
+mod posts;
+mod refuting;
+pub mod rule;
+mod stays;
+mod suggest;

@@ -1,0 +1,142 @@
+//! A look at a constraint that tells quickly whether it is kept, and where two machines are not kept apart.
+ghost use Rattle.std.specs.Prelude.{◌≡◌, ◌<◌, ◌≤◌, IfSome, IsTrue, length};
+ghost use Rattle.slices.specs.Elements.{machine_count, node_count, vm};
+ghost use Rattle.domains.specs.Choices.{choices};
+ghost use Rattle.domains.specs.Sets.{setting, sets};
+ghost use Rattle.reasons.specs.Closed.{IsEnd};
+ghost use Rattle.reasons.specs.Sure.{sure};
+ghost use Rattle.relax.specs.Areas.{IsSized};
+ghost use Rattle.closing.specs.Kinds.{constraint_watch};
+ghost use Rattle.closing.specs.Looks.{IsLook, broken_at};
+
+use crate::clear::{Doubt, Seen, look_over};
+use catalogue::Problem;
+use closing::look::Look;
+use closing::watch::look_at_constraint;
+use cluster::{Choice, Element, NodeId, Place};
+use domains::{Domain, Lens, Region, View};
+use profiles::standing::pairs::is_pair;
+use profiles::host::is_host;
+
+// whether a place is a node
+fn is_at(place: Place, n: NodeId) -> bool {
+    match place {
+        Place::Nowhere => false,
+        Place::At(m) => m.0 == n.0,
+    }
+}
+
+// the first start at a node, if there is one
+fn first_start(domain: &Domain, n: NodeId) -> Option<Choice>
+    ensures { IfSome result (IsEnd (choices domain.now)) }
+{
+    let rows = domain.rows();
+    for i in 0..rows.len() {
+        let row = rows[i];
+        if is_at(row.place, n) {
+            return Some(Choice::Act {
+                place: row.place,
+                start: row.lo,
+            });
+        }
+    }
+    None
+}
+
+// Idle, where it is one of the choices
+fn idle_end(domain: &Domain) -> Option<Choice>
+    ensures { IfSome result (IsEnd (choices domain.now)) }
+{
+    if domain.idle() {
+        Some(Choice::Idle)
+    } else {
+        None
+    }
+}
+
+// an end of the second machine's choices that may have it at the post
+fn end_there(p: &Problem, g: &Region, d: Doubt) -> Option<Choice>
+    requires region { IsSized p.now.given g.now }
+    requires machine { d.second.0 < machine_count p.now.given }
+    ensures { IfSome result (IsEnd (sets g.now (vm d.second.0))) }
+{
+    let domain = g.domain(Element::Vm(d.second));
+    if is_host(p, d.second, d.post.node) {
+        idle_end(domain)
+    } else {
+        first_start(domain, d.post.node)
+    }
+}
+
+// whether two machines, a node and an instant are those of the problem
+fn is_within(p: &Problem, d: Doubt) -> bool
+    ensures { IsTrue result → (d.first.0 < machine_count p.now.given) × (d.second.0 < machine_count p.now.given) × (d.post.node.0 < node_count p.now.given) × (d.post.last ≤ p.now.given.horizon) }
+{
+    let machines = p.cluster().machines().len();
+    (d.first.0 as usize) < machines
+        && (d.second.0 as usize) < machines
+        && (d.post.node.0 as usize) < p.cluster().nodes().len()
+        && d.post.last <= p.horizon()
+}
+
+// whether they break the constraint where the second one is set to a choice
+fn breaks(p: &Problem, g: &Region, c: u32, d: Doubt, choice: Choice) -> bool
+    requires region { IsSized p.now.given g.now }
+    requires constraint { c < length p.now.given.constraints }
+    requires first { d.first.0 < machine_count p.now.given }
+    requires second { d.second.0 < machine_count p.now.given }
+    requires node { d.post.node.0 < node_count p.now.given }
+    ensures { IsTrue result → broken_at (constraint_watch p.now.given c) p.now.given d.post.last (sure p.now.given (setting (vm d.second.0) choice (sets g.now)) d.post.last) }
+{
+    let view = View {
+        region: g,
+        lens: Lens::Set(Element::Vm(d.second), choice),
+    };
+    if !p.applies(c, d.post.last) {
+        return false;
+    }
+    let constraint = &p.constraints()[c as usize];
+    is_pair(
+        p,
+        &view,
+        constraint,
+        d.first,
+        d.second,
+        d.post.node,
+        d.post.last,
+    )
+}
+
+// a look where two machines are in doubt
+fn look_at_doubt(p: &Problem, g: &Region, c: u32, d: Doubt) -> Look
+    requires region { IsSized p.now.given g.now }
+    requires constraint { c < length p.now.given.constraints }
+    ensures { IsLook (constraint_watch p.now.given c) p.now.given (sets g.now) result }
+{
+    if !is_within(p, d) {
+        return look_at_constraint(p, g, c);
+    }
+    match end_there(p, g, d) {
+        None => look_at_constraint(p, g, c),
+        Some(choice) => {
+            if breaks(p, g, c, d, choice) {
+                Look::Cut(Element::Vm(d.second), choice, d.post.last)
+            } else {
+                look_at_constraint(p, g, c)
+            }
+        }
+    }
+}
+
+/// A look at the constraint of a number.
+pub fn look_quickly(p: &Problem, g: &Region, c: u32) -> Look
+    requires region { IsSized p.now.given g.now }
+    requires constraint { c < length p.now.given.constraints }
+    ensures { IsLook (constraint_watch p.now.given c) p.now.given (sets g.now) result }
+{
+    match look_over(p, g, &p.constraints()[c as usize]) {
+        Seen::Clear => Look::Clean,
+        Seen::Doubtful(d) => look_at_doubt(p, g, c, d),
+        Seen::Unknown => look_at_constraint(p, g, c),
+    }
+}

@@ -1,0 +1,283 @@
+//! Two machines on one node that a constraint keeps apart, looked for.
+ghost use Rattle.std.specs.Prelude.{◌≡◌, ℕ, ◌<◌, ◌≤◌, false, length, IfNone, IfSome, IsTrue};
+ghost use Rattle.slices.specs.Elements.{machine_count, node_count};
+ghost use Rattle.domains.specs.Views.{seen};
+ghost use Rattle.reasons.specs.Reasons.{Applies, IsPair};
+ghost use Rattle.reasons.specs.Sure.{sure};
+ghost use Rattle.relax.specs.Areas.{IsSized};
+ghost use Rattle.slices.specs.Holds.{ForbidsPair, IsInPart};
+ghost use Rattle.closing.specs.Kinds.{HasPair};
+ghost use Rattle.prop_core.specs.Propagators.{FailHolds};
+
+use catalogue::{Constraint, Problem, Vms};
+use cluster::{Choice, Element, Instant, NodeId, VmId};
+use domains::{Lens, View};
+use reasons::Reason;
+use rule_constraint::machines::{has, likely_node};
+use profiles::standing::pairs::is_pair;
+use profiles::standing::stays::surely_at;
+
+// whether it is in one of several
+fn have(parts: &[Vms], v: VmId) -> bool
+    ensures { result ≡ false → (i : ℕ) → ¬ IsInPart parts.now i v.0 }
+{
+    for i in 0..parts.len() {
+        if has(parts[i].items(), v) {
+            return true;
+        }
+    }
+    false
+}
+
+// whether a constraint may keep a machine apart from others
+fn parts(constraint: &Constraint, v: VmId) -> bool
+    ensures { result ≡ false → (w : ℕ) → ¬ ForbidsPair constraint.now v.0 w }
+{
+    match constraint {
+        Constraint::Spread { machines, .. } | Constraint::Lonely { machines, .. } => {
+            has(machines.items(), v)
+        }
+        Constraint::Split { parts, .. } => have(parts.items(), v),
+        Constraint::Ban { .. }
+        | Constraint::Fence { .. }
+        | Constraint::Gather { .. }
+        | Constraint::Among { .. }
+        | Constraint::Root { .. }
+        | Constraint::Precedence { .. }
+        | Constraint::Serialize { .. }
+        | Constraint::Preserve { .. }
+        | Constraint::ResourceCapacity { .. }
+        | Constraint::RunningCapacity { .. }
+        | Constraint::MaxOnline { .. }
+        | Constraint::Overbook { .. }
+        | Constraint::Online { .. }
+        | Constraint::Offline { .. }
+        | Constraint::Running { .. }
+        | Constraint::Sleeping { .. }
+        | Constraint::Ready { .. }
+        | Constraint::Killed { .. } => false,
+    }
+}
+
+// a machine that is on a node with this one
+fn other_on(
+    p: &Problem,
+    view: &View,
+    constraint: &Constraint,
+    v: VmId,
+    n: NodeId,
+    t: Instant,
+) -> Option<VmId>
+    requires region { IsSized p.now.given view.now.region.now }
+    requires machine { v.0 < machine_count p.now.given }
+    ensures none { IfNone result ((w : ℕ) → w < machine_count p.now.given → ¬ IsPair p.now.given (sure p.now.given (seen view.now.region.now view.now.lens) t) constraint.now v.0 w n.0) }
+    ensures some { IfSome result (λ w. (w.0 < machine_count p.now.given) × IsPair p.now.given (sure p.now.given (seen view.now.region.now view.now.lens) t) constraint.now v.0 w.0 n.0) }
+{
+    if !surely_at(p, view, v, n, t) {
+        return None;
+    }
+    for i in 0..p.cluster().machines().len() {
+        let w = VmId(i as u32);
+        if is_pair(p, view, constraint, v, w, n, t) {
+            return Some(w);
+        }
+    }
+    None
+}
+
+// a machine and a node on which it is with this one
+fn pair_with(
+    p: &Problem,
+    view: &View,
+    constraint: &Constraint,
+    v: VmId,
+    t: Instant,
+) -> Option<(VmId, NodeId)>
+    requires region { IsSized p.now.given view.now.region.now }
+    requires machine { v.0 < machine_count p.now.given }
+    ensures none { IfNone result ((w n : ℕ) → w < machine_count p.now.given → n < node_count p.now.given → ¬ IsPair p.now.given (sure p.now.given (seen view.now.region.now view.now.lens) t) constraint.now v.0 w n) }
+    ensures some { IfSome result (λ x. (x.0.0 < machine_count p.now.given) × (x.1.0 < node_count p.now.given) × IsPair p.now.given (sure p.now.given (seen view.now.region.now view.now.lens) t) constraint.now v.0 x.0.0 x.1.0) }
+{
+    if !parts(constraint, v) {
+        return None;
+    }
+    for i in 0..p.cluster().nodes().len() {
+        let n = NodeId(i as u32);
+        if let Some(w) = other_on(p, view, constraint, v, n, t) {
+            return Some((w, n));
+        }
+    }
+    None
+}
+
+// one of these machines that is on a node with this one
+fn member_on(
+    p: &Problem,
+    view: &View,
+    constraint: &Constraint,
+    machines: &[VmId],
+    v: VmId,
+    n: NodeId,
+    t: Instant,
+) -> Option<VmId>
+    requires region { IsSized p.now.given view.now.region.now }
+    requires machine { v.0 < machine_count p.now.given }
+    ensures { IfSome result (λ w. (w.0 < machine_count p.now.given) × IsPair p.now.given (sure p.now.given (seen view.now.region.now view.now.lens) t) constraint.now v.0 w.0 n.0) }
+{
+    for w in machines {
+        if (w.0 as usize) < p.cluster().machines().len()
+            && is_pair(p, view, constraint, v, *w, n, t)
+        {
+            return Some(*w);
+        }
+    }
+    None
+}
+
+// one of the machines of parts that is
+fn part_on(
+    p: &Problem,
+    view: &View,
+    constraint: &Constraint,
+    parts: &[Vms],
+    v: VmId,
+    n: NodeId,
+    t: Instant,
+) -> Option<VmId>
+    requires region { IsSized p.now.given view.now.region.now }
+    requires machine { v.0 < machine_count p.now.given }
+    ensures { IfSome result (λ w. (w.0 < machine_count p.now.given) × IsPair p.now.given (sure p.now.given (seen view.now.region.now view.now.lens) t) constraint.now v.0 w.0 n.0) }
+{
+    for i in 0..parts.len() {
+        let found = member_on(p, view, constraint, parts[i].items(), v, n, t);
+        if found.is_some() {
+            return found;
+        }
+    }
+    None
+}
+
+// a machine that is, looked for among those that a constraint names alone
+fn named_on(
+    p: &Problem,
+    view: &View,
+    constraint: &Constraint,
+    v: VmId,
+    n: NodeId,
+    t: Instant,
+) -> Option<VmId>
+    requires region { IsSized p.now.given view.now.region.now }
+    requires machine { v.0 < machine_count p.now.given }
+    ensures { IfSome result (λ w. (w.0 < machine_count p.now.given) × IsPair p.now.given (sure p.now.given (seen view.now.region.now view.now.lens) t) constraint.now v.0 w.0 n.0) }
+{
+    match constraint {
+        Constraint::Spread { machines, .. } => {
+            member_on(p, view, constraint, machines.items(), v, n, t)
+        }
+        Constraint::Split { parts, .. } => part_on(p, view, constraint, parts.items(), v, n, t),
+        Constraint::Lonely { .. }
+        | Constraint::Ban { .. }
+        | Constraint::Fence { .. }
+        | Constraint::Gather { .. }
+        | Constraint::Among { .. }
+        | Constraint::Root { .. }
+        | Constraint::Precedence { .. }
+        | Constraint::Serialize { .. }
+        | Constraint::Preserve { .. }
+        | Constraint::ResourceCapacity { .. }
+        | Constraint::RunningCapacity { .. }
+        | Constraint::MaxOnline { .. }
+        | Constraint::Overbook { .. }
+        | Constraint::Online { .. }
+        | Constraint::Offline { .. }
+        | Constraint::Running { .. }
+        | Constraint::Sleeping { .. }
+        | Constraint::Ready { .. }
+        | Constraint::Killed { .. } => None,
+    }
+}
+
+// a machine and a node on which it is with this one, which is set to a choice, where that is where it is likely to be
+fn likely_with(
+    p: &Problem,
+    view: &View,
+    constraint: &Constraint,
+    v: VmId,
+    c: Choice,
+    t: Instant,
+) -> Option<(VmId, NodeId)>
+    requires region { IsSized p.now.given view.now.region.now }
+    requires machine { v.0 < machine_count p.now.given }
+    ensures { IfSome result (λ x. (x.0.0 < machine_count p.now.given) × (x.1.0 < node_count p.now.given) × IsPair p.now.given (sure p.now.given (seen view.now.region.now view.now.lens) t) constraint.now v.0 x.0.0 x.1.0) }
+{
+    let n = likely_node(p, v, c)?;
+    if n.0 as usize >= p.cluster().nodes().len() {
+        return None;
+    }
+    match named_on(p, view, constraint, v, n, t) {
+        Some(w) => Some((w, n)),
+        None => None,
+    }
+}
+
+// a machine and a node on which it is with this one, which is set to a choice
+fn pair_set(
+    p: &Problem,
+    view: &View,
+    constraint: &Constraint,
+    v: VmId,
+    c: Choice,
+    t: Instant,
+) -> Option<(VmId, NodeId)>
+    requires region { IsSized p.now.given view.now.region.now }
+    requires machine { v.0 < machine_count p.now.given }
+    ensures { IfSome result (λ x. (x.0.0 < machine_count p.now.given) × (x.1.0 < node_count p.now.given) × IsPair p.now.given (sure p.now.given (seen view.now.region.now view.now.lens) t) constraint.now v.0 x.0.0 x.1.0) }
+{
+    match likely_with(p, view, constraint, v, c, t) {
+        Some(found) => Some(found),
+        None => pair_with(p, view, constraint, v, t),
+    }
+}
+
+/// Two machines and a node on which both surely are, where the constraint keeps them apart. The machine
+/// that is set to a choice is tried first.
+pub fn pair_on(
+    p: &Problem,
+    view: &View,
+    constraint: &Constraint,
+    t: Instant,
+) -> Option<(VmId, VmId, NodeId)>
+    requires region { IsSized p.now.given view.now.region.now }
+    ensures none { IfNone result (¬ HasPair p.now.given (sure p.now.given (seen view.now.region.now view.now.lens) t) constraint.now) }
+    ensures some { IfSome result (λ x. (x.0.0 < machine_count p.now.given) × (x.1.0 < machine_count p.now.given) × (x.2.0 < node_count p.now.given) × IsPair p.now.given (sure p.now.given (seen view.now.region.now view.now.lens) t) constraint.now x.0.0 x.1.0 x.2.0) }
+{
+    let machines = p.cluster().machines().len();
+    if let Lens::Set(Element::Vm(v), c) = view.lens {
+        if (v.0 as usize) < machines {
+            if let Some((w, n)) = pair_set(p, view, constraint, v, c, t) {
+                return Some((v, w, n));
+            }
+        }
+    }
+    for i in 0..machines {
+        let v = VmId(i as u32);
+        if let Some((w, n)) = pair_with(p, view, constraint, v, t) {
+            return Some((v, w, n));
+        }
+    }
+    None
+}
+
+/// Why a constraint that keeps machines apart is broken at an instant, in what is seen of a region.
+pub fn pair_reason(p: &Problem, view: &View, c: u32, t: Instant) -> Reason
+    requires region { IsSized p.now.given view.now.region.now }
+    requires constraint { c < length p.now.given.constraints }
+    requires within { t ≤ p.now.given.horizon }
+    requires broken { Applies p.now.given c t (HasPair p.now.given (sure p.now.given (seen view.now.region.now view.now.lens) t)) }
+    ensures { FailHolds p.now.given (seen view.now.region.now view.now.lens) result }
+{
+    match pair_on(p, view, &p.constraints()[c as usize], t) {
+        Some((v, w, n)) => Reason::Pair(c, t, v, w, n),
+        None => unreachable!(),
+    }
+}

@@ -1,0 +1,38 @@
+//! Whether a reason is seen to refute a region with what is inside a part of an element's choices.
+ghost use Rattle.std.specs.Prelude.{IsTrue};
+ghost use Rattle.domains.specs.Parts.{in_part};
+ghost use Rattle.domains.specs.Sets.{keeping, sets};
+ghost use Rattle.reasons.specs.Reasons.{Refutes};
+ghost use Rattle.relax.specs.Areas.{IsSized};
+
+use catalogue::Problem;
+use cluster::Element;
+use domains::{Lens, Part, Region, View};
+use profiles::standing::pairs::pair_refutes;
+use reasons::Reason;
+use relax::refutes::refutes_inside;
+
+/// Whether it is seen that a reason does.
+pub(crate) fn refutes_part(p: &Problem, g: &Region, e: Element, part: Part, reason: &Reason) -> bool
+    requires region { IsSized p.now.given g.now }
+    ensures { IsTrue result → Refutes p.now.given None (keeping e (in_part part) (sets g.now)) reason.now }
+{
+    match reason {
+        Reason::Pair(c, t, v, w, n) => {
+            let view = View {
+                region: g,
+                lens: Lens::Inside(e, part),
+            };
+            pair_refutes(p, &view, *c, *t, *v, *w, *n)
+        }
+        Reason::Empty(_)
+        | Reason::Bound
+        | Reason::Load(..)
+        | Reason::Place(..)
+        | Reason::Group(..)
+        | Reason::SetLoad(..)
+        | Reason::Power(..)
+        | Reason::Usable(..)
+        | Reason::Hall(..) => refutes_inside(p, None, g, e, part, reason),
+    }
+}

@@ -1,0 +1,6 @@
+mod AllowedLemmas
+mod BrokenLemmas
+mod MarkLemmas
+mod NodeLemmas
+mod ShutdownLemmas
+mod WatchLemmas

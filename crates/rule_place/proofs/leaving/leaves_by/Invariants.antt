@@ -1,0 +1,8 @@
+use Rattle.std.proofs.Common.{ℕ, ◌<◌, ◌≤◌, slice_index_or}
+use Rattle.cluster.specs.declared.choices.Choice.TheVariants.{Act}
+use Rattle.domains.specs.Choices.{no_row}
+use Rattle.profiles.specs.Standing.Standings.{leave_of}
+use Rattle.rule_place.proofs.leaving.leaves_by.Given as goal
+
+abbrev pub invariant-loop-i : goal.invariant-loop-i
+invariant-loop-i l = (k : ℕ) → k < l.i → (leave_of l.p.given l.v.0 (Act (slice_index_or l.rows k no_row).place (slice_index_or l.rows k no_row).lo) ≤ l.end) × (leave_of l.p.given l.v.0 (Act (slice_index_or l.rows k no_row).place (slice_index_or l.rows k no_row).hi) ≤ l.end)

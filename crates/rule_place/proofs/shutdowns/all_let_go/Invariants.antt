@@ -1,0 +1,7 @@
+use Rattle.std.proofs.Common.{ℕ, ◌<◌}
+use Rattle.domains.specs.Sets.{sets}
+use Rattle.rule_place.specs.Shutdowns.{LetsGo}
+use Rattle.rule_place.proofs.shutdowns.all_let_go.Given as goal
+
+abbrev pub invariant-loop-i : goal.invariant-loop-i
+invariant-loop-i l = (v : ℕ) → v < l.i → LetsGo l.p.given (sets l.g) v l.n.0 l.x

@@ -1,0 +1,7 @@
+use Rattle.cluster.specs.declared.ids.Element.TheVariants.{Vm}
+use Rattle.domains.specs.Sets.{sets}
+use Rattle.rule_constraint.proofs.Public.{not_come}
+use Rattle.rule_place.proofs.shutdowns.goes_elsewhere.Goals as goal
+
+pub returns : goal.returns
+returns c = λ yes d t there l. not_come c.args.n c.horizon.result t (sets c.args.g.now (Vm c.args.v)) d (c.leaves_none.ensures.0 yes) there (rw c.horizon.ensures.horizon l)

@@ -1,0 +1,14 @@
+use Rattle.std.proofs.Common.{slice_index_or, arith}
+use Rattle.cluster.specs.declared.choices.Choice.TheVariants.{Act}
+use Rattle.domains.specs.Choices.{choices, no_row}
+use Rattle.reasons.proofs.Public.{end_is_choice}
+use Rattle.rule_constraint.proofs.Public.{row_end}
+use Rattle.rule_place.proofs.shutdowns.may_leave_by.Goals as goal
+
+pub returns-then-leave_at-from : goal.returns-then-leave_at-from
+returns-then-leave_at-from c =
+    λ yes. let row = slice_index_or c.rows-rows.result.now c.loop-i.i no_row in (
+      Act row.place row.lo,
+      end_is_choice (choices c.args.domain.now) (Act row.place row.lo) (row_end c.args.domain.now c.rows-rows.result.now c.loop-i.i c.rows-rows.ensures.items c.rows-rows.ensures.climbs c.loop-i-test.true),
+      omega (arith, c.leave_at.ensures, c.from.ensures, c.if-leave_at-from.true),
+    )

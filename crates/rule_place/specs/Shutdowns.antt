@@ -1,0 +1,22 @@
+-- Helping only: nodes that shut down after what is there has left.
+use Rattle.std.specs.Prelude.{◌≡◌, ℕ, ◌<◌, ◌≤◌, true, false}
+use Rattle.cluster.specs.declared.choices.Choice.{Choice}
+use Rattle.catalogue.specs.Instance.{Instance}
+use Rattle.slices.specs.Elements.{node, vm}
+use Rattle.slices.specs.Snapshots.{stands_on, usable_at}
+use Rattle.domains.specs.Sets.{Sets}
+use Rattle.reasons.specs.Closed.{IsEnd}
+use Rattle.reasons.specs.Sure.{sure}
+use Rattle.closing.specs.Parts.{StandsUnder}
+use Rattle.rule_place.specs.declared.shutdowns.Shutdown.{Shutdown}
+
+-- node n is usable under each end of its choices before the first start, and may be usable before the last
+pub record IsShutdown (p : Instance) (s : Sets) (n : ℕ) (x : Shutdown) : Type 0 where
+  pub order : x.first ≤ x.last
+  pub ends : (c : Choice) (t : ℕ) → IsEnd (s (node n)) c → t < x.first → usable_at p n t c ≡ true
+  pub may : (t : ℕ) → t < x.last → (sure p s t).usable n ≡ true
+
+-- up to the horizon a machine surely is not there from the first start on, and under no end of its choices from the last on
+pub record LetsGo (p : Instance) (s : Sets) (v n : ℕ) (x : Shutdown) : Type 0 where
+  pub surely : (t : ℕ) → t ≤ p.horizon → x.first ≤ t → stands_on (sure p s t) v n ≡ false
+  pub ends : (c : Choice) (t : ℕ) → IsEnd (s (vm v)) c → t ≤ p.horizon → x.last ≤ t → ¬ StandsUnder p v n t c

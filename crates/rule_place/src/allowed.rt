@@ -1,0 +1,152 @@
+//! Whether machines are only where a constraint lets them be, told for all instants up to the horizon at once.
+ghost use Rattle.std.specs.Prelude.{◌≡◌, ℕ, ◌<◌, ◌≤◌, ◌&&◌, ◌||◌, ◌==◌, false, length, nat_lt, true, slice_index_or, IsTrue};
+ghost use Rattle.std.specs.List.{list_all};
+ghost use Rattle.cluster.specs.declared.choices.Choice.{Choice as AnyChoice};
+ghost use Rattle.catalogue.specs.Faults.{is_rule};
+ghost use Rattle.catalogue.specs.Instance.{inventory_of};
+ghost use Rattle.slices.specs.Elements.{machine_count};
+ghost use Rattle.slices.specs.Holds.{ForbidsPlace, IsMember};
+ghost use Rattle.domains.specs.Choices.{choices, no_row};
+ghost use Rattle.domains.specs.Sets.{sets};
+ghost use Rattle.relax.specs.Areas.{IsSized};
+ghost use Rattle.closing.specs.Kinds.{rule_watch};
+ghost use Rattle.closing.specs.Looks.{IsClean};
+ghost use Rattle.rule_place.specs.Allowed.{IsAllowed, IsOffHost, MayGo};
+
+use crate::leaving::leaves_by;
+use catalogue::{Constraint, Problem};
+use cluster::{Element, NodeId, Place, VmId};
+use domains::{Domain, Region, Row};
+use rule_constraint::machines::host;
+use profiles::standing::leaves::runs_on;
+
+// whether a constraint lets its member not be on a node
+fn forbids(p: &Problem, constraint: &Constraint, v: VmId, n: NodeId) -> bool
+    requires { v.0 < machine_count p.now.given }
+    ensures { result ≡ false → ¬ ForbidsPlace p.now.given constraint.now v.0 n.0 }
+{
+    match constraint {
+        Constraint::Ban { nodes, .. } => nodes.has(n),
+        Constraint::Fence { nodes, .. } => !nodes.has(n),
+        Constraint::Root { .. } => match runs_on(p, v) {
+            None => false,
+            Some(h) => h.0 != n.0,
+        },
+        Constraint::Spread { .. }
+        | Constraint::Gather { .. }
+        | Constraint::Lonely { .. }
+        | Constraint::Among { .. }
+        | Constraint::Split { .. }
+        | Constraint::Precedence { .. }
+        | Constraint::Serialize { .. }
+        | Constraint::Preserve { .. }
+        | Constraint::ResourceCapacity { .. }
+        | Constraint::RunningCapacity { .. }
+        | Constraint::MaxOnline { .. }
+        | Constraint::Overbook { .. }
+        | Constraint::Online { .. }
+        | Constraint::Offline { .. }
+        | Constraint::Running { .. }
+        | Constraint::Sleeping { .. }
+        | Constraint::Ready { .. }
+        | Constraint::Killed { .. } => false,
+    }
+}
+
+// whether the actions of a row go to no node that is forbidden
+fn row_is_allowed(p: &Problem, constraint: &Constraint, v: VmId, row: Row) -> bool
+    requires { v.0 < machine_count p.now.given }
+    ensures { IsTrue result → MayGo p.now.given constraint.now v.0 row.place }
+{
+    match row.place {
+        Place::Nowhere => true,
+        Place::At(n) => !forbids(p, constraint, v, n),
+    }
+}
+
+// whether so are those of each row
+fn rows_are_allowed(p: &Problem, constraint: &Constraint, v: VmId, rows: &[Row]) -> bool
+    requires { v.0 < machine_count p.now.given }
+    ensures { IsTrue result → (i : ℕ) → i < length rows.now → MayGo p.now.given constraint.now v.0 (slice_index_or rows.now i no_row).place }
+{
+    for i in 0..rows.len() {
+        if !row_is_allowed(p, constraint, v, rows[i]) {
+            return false;
+        }
+    }
+    true
+}
+
+// whether a machine has no host that is forbidden, or leaves it where the horizon alone counts
+#[tactic(auto, using(crate::proofs::AllowedLemmas::no_host, crate::proofs::AllowedLemmas::other_host, crate::proofs::AllowedLemmas::leaves_host))]
+fn host_is_allowed(p: &Problem, constraint: &Constraint, v: VmId, domain: &Domain) -> bool
+    requires { v.0 < machine_count p.now.given }
+    ensures { IsTrue result → IsOffHost p.now.given constraint.now v.0 (choices domain.now) }
+{
+    let Some(h) = host(p, v) else {
+        return true;
+    };
+    if !forbids(p, constraint, v, h) {
+        return true;
+    }
+    !constraint.is_continuous() && leaves_by(p, v, domain, p.horizon())
+}
+
+// whether a machine is seen to be nowhere that is forbidden to it
+fn machine_is_allowed(p: &Problem, g: &Region, constraint: &Constraint, v: VmId) -> bool
+    requires region { IsSized p.now.given g.now }
+    requires machine { v.0 < machine_count p.now.given }
+    ensures { IsTrue result → IsAllowed p.now.given (sets g.now) constraint.now v.0 }
+{
+    let domain = g.domain(Element::Vm(v));
+    if domain.is_empty() {
+        return false;
+    }
+    let rows = domain.rows();
+    rows_are_allowed(p, constraint, v, rows) && host_is_allowed(p, constraint, v, domain)
+}
+
+// whether each of these machines is seen to be nowhere that the constraint forbids to its members.
+fn are_allowed(p: &Problem, g: &Region, constraint: &Constraint, machines: &[VmId]) -> bool
+    requires region { IsSized p.now.given g.now }
+    requires machines { list_all (λ x. nat_lt x.0 (machine_count p.now.given)) machines.now ≡ true }
+    ensures { IsTrue result → (v : ℕ) → IsMember machines.now v → IsAllowed p.now.given (sets g.now) constraint.now v }
+{
+    for i in 0..machines.len() {
+        if !machine_is_allowed(p, g, constraint, machines[i]) {
+            return false;
+        }
+    }
+    true
+}
+
+/// Whether it is seen that each member of a constraint is only where the constraint lets it be.
+pub fn is_kept(p: &Problem, g: &Region, constraint: &Constraint) -> bool
+    requires region { IsSized p.now.given g.now }
+    requires rule { is_rule (inventory_of p.now.given) constraint.now ≡ true }
+    ensures { IsTrue result → IsClean (rule_watch p.now.given constraint.now) p.now.given (sets g.now) }
+{
+    match constraint {
+        Constraint::Ban { machines, .. }
+        | Constraint::Fence { machines, .. }
+        | Constraint::Root { machines } => are_allowed(p, g, constraint, machines.items()),
+        Constraint::Spread { .. }
+        | Constraint::Gather { .. }
+        | Constraint::Lonely { .. }
+        | Constraint::Among { .. }
+        | Constraint::Split { .. }
+        | Constraint::Precedence { .. }
+        | Constraint::Serialize { .. }
+        | Constraint::Preserve { .. }
+        | Constraint::ResourceCapacity { .. }
+        | Constraint::RunningCapacity { .. }
+        | Constraint::MaxOnline { .. }
+        | Constraint::Overbook { .. }
+        | Constraint::Online { .. }
+        | Constraint::Offline { .. }
+        | Constraint::Running { .. }
+        | Constraint::Sleeping { .. }
+        | Constraint::Ready { .. }
+        | Constraint::Killed { .. } => false,
+    }
+}

@@ -1,0 +1,192 @@
+//! A machine where a constraint lets it not be, and one that needs a node that is not usable, looked for.
+ghost use Rattle.std.specs.Prelude.{◌≡◌, ℕ, ◌<◌, ◌≤◌, false, length, IfNone, IfSome, IsTrue};
+ghost use Rattle.catalogue.specs.Instance.{Instance};
+ghost use Rattle.slices.specs.Elements.{machine_count, node_count};
+ghost use Rattle.slices.specs.Holds.{ForbidsPlace};
+ghost use Rattle.domains.specs.Views.{seen};
+ghost use Rattle.reasons.specs.Reasons.{Applies, IsPlace, IsUnusable};
+ghost use Rattle.reasons.specs.Sure.{sure};
+ghost use Rattle.relax.specs.Areas.{IsSized};
+ghost use Rattle.closing.specs.Kinds.{HasPlace, IsNeeded, usable_watch};
+ghost use Rattle.closing.specs.Looks.{broken_at};
+ghost use Rattle.prop_core.specs.Propagators.{FailHolds};
+
+use catalogue::{Constraint, Problem};
+use cluster::{Choice, Element, Instant, NodeId, VmId};
+use domains::{Lens, View};
+use reasons::Reason;
+use relax::elements::{is_place, is_unusable};
+use rule_constraint::machines::{has, likely_node};
+
+// whether a constraint may keep a machine off nodes
+fn keeps_off(constraint: &Constraint, v: VmId) -> bool
+    ensures { result ≡ false → (p : Instance) (n : ℕ) → ¬ ForbidsPlace p constraint.now v.0 n }
+{
+    match constraint {
+        Constraint::Ban { machines, .. }
+        | Constraint::Fence { machines, .. }
+        | Constraint::Root { machines } => has(machines.items(), v),
+        Constraint::Spread { .. }
+        | Constraint::Gather { .. }
+        | Constraint::Lonely { .. }
+        | Constraint::Among { .. }
+        | Constraint::Split { .. }
+        | Constraint::Precedence { .. }
+        | Constraint::Serialize { .. }
+        | Constraint::Preserve { .. }
+        | Constraint::ResourceCapacity { .. }
+        | Constraint::RunningCapacity { .. }
+        | Constraint::MaxOnline { .. }
+        | Constraint::Overbook { .. }
+        | Constraint::Online { .. }
+        | Constraint::Offline { .. }
+        | Constraint::Running { .. }
+        | Constraint::Sleeping { .. }
+        | Constraint::Ready { .. }
+        | Constraint::Killed { .. } => false,
+    }
+}
+
+// a node on which a machine is, where the constraint lets it not be
+fn place_of(
+    p: &Problem,
+    view: &View,
+    constraint: &Constraint,
+    v: VmId,
+    t: Instant,
+) -> Option<NodeId>
+    requires region { IsSized p.now.given view.now.region.now }
+    requires machine { v.0 < machine_count p.now.given }
+    ensures none { IfNone result ((n : ℕ) → n < node_count p.now.given → ¬ IsPlace p.now.given (sure p.now.given (seen view.now.region.now view.now.lens) t) constraint.now v.0 n) }
+    ensures some { IfSome result (λ n. (n.0 < node_count p.now.given) × IsPlace p.now.given (sure p.now.given (seen view.now.region.now view.now.lens) t) constraint.now v.0 n.0) }
+{
+    if !keeps_off(constraint, v) {
+        return None;
+    }
+    for i in 0..p.cluster().nodes().len() {
+        let n = NodeId(i as u32);
+        if is_place(p, view, constraint, v, n, t) {
+            return Some(n);
+        }
+    }
+    None
+}
+
+// where a machine that is set to a choice is likely to be, where it is there and the constraint lets it not be
+fn likely_place(
+    p: &Problem,
+    view: &View,
+    constraint: &Constraint,
+    v: VmId,
+    c: Choice,
+    t: Instant,
+) -> Option<NodeId>
+    requires region { IsSized p.now.given view.now.region.now }
+    requires machine { v.0 < machine_count p.now.given }
+    ensures { IfSome result (λ n. (n.0 < node_count p.now.given) × IsPlace p.now.given (sure p.now.given (seen view.now.region.now view.now.lens) t) constraint.now v.0 n.0) }
+{
+    let n = likely_node(p, v, c)?;
+    if n.0 as usize >= p.cluster().nodes().len() || !is_place(p, view, constraint, v, n, t) {
+        return None;
+    }
+    Some(n)
+}
+
+// a node on which a machine is that is set to a choice, where the constraint lets it not be
+fn place_set(
+    p: &Problem,
+    view: &View,
+    constraint: &Constraint,
+    v: VmId,
+    c: Choice,
+    t: Instant,
+) -> Option<NodeId>
+    requires region { IsSized p.now.given view.now.region.now }
+    requires machine { v.0 < machine_count p.now.given }
+    ensures { IfSome result (λ n. (n.0 < node_count p.now.given) × IsPlace p.now.given (sure p.now.given (seen view.now.region.now view.now.lens) t) constraint.now v.0 n.0) }
+{
+    match likely_place(p, view, constraint, v, c, t) {
+        Some(n) => Some(n),
+        None => place_of(p, view, constraint, v, t),
+    }
+}
+
+/// A machine and a node on which it surely is, where the constraint lets it not be. The machine that is
+/// set to a choice is tried first.
+pub fn place_on(
+    p: &Problem,
+    view: &View,
+    constraint: &Constraint,
+    t: Instant,
+) -> Option<(VmId, NodeId)>
+    requires region { IsSized p.now.given view.now.region.now }
+    ensures none { IfNone result (¬ HasPlace p.now.given (sure p.now.given (seen view.now.region.now view.now.lens) t) constraint.now) }
+    ensures some { IfSome result (λ x. (x.0.0 < machine_count p.now.given) × (x.1.0 < node_count p.now.given) × IsPlace p.now.given (sure p.now.given (seen view.now.region.now view.now.lens) t) constraint.now x.0.0 x.1.0) }
+{
+    let machines = p.cluster().machines().len();
+    if let Lens::Set(Element::Vm(v), c) = view.lens {
+        if (v.0 as usize) < machines {
+            if let Some(n) = place_set(p, view, constraint, v, c, t) {
+                return Some((v, n));
+            }
+        }
+    }
+    for i in 0..machines {
+        let v = VmId(i as u32);
+        if let Some(n) = place_of(p, view, constraint, v, t) {
+            return Some((v, n));
+        }
+    }
+    None
+}
+
+/// A machine that surely is on a node or surely has its image there, where the node is surely not usable. The
+/// machine that is set to a choice is tried first.
+pub fn machine_in_need(p: &Problem, view: &View, n: NodeId, t: Instant) -> Option<VmId>
+    requires region { IsSized p.now.given view.now.region.now }
+    requires node { n.0 < node_count p.now.given }
+    ensures none { IfNone result (¬ IsNeeded p.now.given n.0 (sure p.now.given (seen view.now.region.now view.now.lens) t)) }
+    ensures some { IfSome result (λ v. (v.0 < machine_count p.now.given) × IsUnusable (sure p.now.given (seen view.now.region.now view.now.lens) t) v.0 n.0) }
+{
+    let machines = p.cluster().machines().len();
+    if let Lens::Set(Element::Vm(v), _) = view.lens {
+        if (v.0 as usize) < machines && is_unusable(p, view, v, n, t) {
+            return Some(v);
+        }
+    }
+    for i in 0..machines {
+        let v = VmId(i as u32);
+        if is_unusable(p, view, v, n, t) {
+            return Some(v);
+        }
+    }
+    None
+}
+
+/// Why a constraint on places is broken at an instant, in what is seen of a region.
+pub fn place_reason(p: &Problem, view: &View, c: u32, t: Instant) -> Reason
+    requires region { IsSized p.now.given view.now.region.now }
+    requires constraint { c < length p.now.given.constraints }
+    requires within { t ≤ p.now.given.horizon }
+    requires broken { Applies p.now.given c t (HasPlace p.now.given (sure p.now.given (seen view.now.region.now view.now.lens) t)) }
+    ensures { FailHolds p.now.given (seen view.now.region.now view.now.lens) result }
+{
+    match place_on(p, view, &p.constraints()[c as usize], t) {
+        Some((v, n)) => Reason::Place(c, t, v, n),
+        None => unreachable!(),
+    }
+}
+
+/// Why a node that is needed is not usable at an instant, in what is seen of a region.
+pub fn usable_reason(p: &Problem, view: &View, n: NodeId, t: Instant) -> Reason
+    requires region { IsSized p.now.given view.now.region.now }
+    requires node { n.0 < node_count p.now.given }
+    requires within { t ≤ p.now.given.horizon }
+    requires broken { broken_at (usable_watch p.now.given n.0) p.now.given t (sure p.now.given (seen view.now.region.now view.now.lens) t) }
+    ensures { FailHolds p.now.given (seen view.now.region.now view.now.lens) result }
+{
+    match machine_in_need(p, view, n, t) {
+        Some(v) => Reason::Usable(t, v, n),
+        None => unreachable!(),
+    }
+}

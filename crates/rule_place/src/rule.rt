@@ -1,0 +1,51 @@
+//! The rules themselves.
+ghost use Rattle.std.specs.Prelude.{refl};
+ghost use Rattle.rule_place.specs.Covers.{forbidden_kinds};
+
+use crate::allowed::is_kept;
+use crate::places::place_reason;
+use crate::watcher::PlaceWatcher;
+use catalogue::Problem;
+use closing::look::Look;
+use closing::watch::look_at_constraint;
+use cluster::Instant;
+use domains::{Region, View};
+use reasons::{Reason, ReasonKind};
+use rule_constraint::index::ConstraintIndex;
+use rule_constraint::watcher::{ConstraintWatcher, Kinds};
+use rule_frame::rule::Rule;
+
+/// Machines on nodes where they may not be: `ban`, `fence`, `root`.
+#[derive(Clone, Copy, Default)]
+pub struct ForbiddenPlaces;
+
+impl Kinds for ForbiddenPlaces {
+    ghost kinds = { λ k. forbidden_kinds };
+
+    fn covers(&self, kind: ReasonKind) -> bool {
+        matches!(kind, ReasonKind::Place)
+    }
+
+    fn look(&self, p: &Problem, g: &Region, c: u32) -> Look {
+        if is_kept(p, g, &p.constraints()[c as usize]) {
+            return Look::Clean;
+        }
+        look_at_constraint(p, g, c)
+    }
+
+    #[tactic(auto, using(crate::proofs::BrokenLemmas::place_broken))]
+    fn reason(&self, p: &Problem, view: &View, c: u32, t: Instant) -> Reason {
+        place_reason(p, view, c, t)
+    }
+
+    ghost no_loads = { λ k. refl };
+
+    ghost no_nodes = { λ k. refl };
+}
+
+/// The rule of the constraints on where machines may be, and of nodes that are needed.
+pub type PlaceRule = Rule<PlaceWatcher, ConstraintIndex>;
+
+/// The part of `PlaceRule` that looks at no node: a place that is forbidden is cut for good, so a caller may ask for
+/// those before all else.
+pub type ForbiddenRule = Rule<ConstraintWatcher<ForbiddenPlaces>, ConstraintIndex>;

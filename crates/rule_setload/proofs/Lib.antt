@@ -1,0 +1,3 @@
+mod AmountLemmas
+mod BoundLemmas
+mod BrokenLemmas

@@ -1,0 +1,12 @@
+use Rattle.std.proofs.Common.{◌*◌, ◌≤◌, take}
+use Rattle.cluster.specs.Limits.{max_amount}
+use Rattle.cluster.specs.Sets.{has_node}
+use Rattle.domains.specs.Sets.{sets}
+use Rattle.rule_setload.specs.Amounts.{AreExtra}
+use Rattle.rule_setload.proofs.movers_hold.extra_of.Given as goal
+
+abbrev pub invariant-loop-i : goal.invariant-loop-i
+invariant-loop-i l = record {
+  extra : AreExtra l.p.given (sets l.g) l.bound.weight (has_node l.bound.nodes) (take l.i l.machines) l.total;
+  small : l.total ≤ l.i * max_amount;
+}

@@ -1,0 +1,10 @@
+use Rattle.std.proofs.Common.{arith}
+use Rattle.std.proofs.lemmas.Bool.Decides.{nat_tests}
+use Rattle.cluster.specs.Sets.{has_node}
+use Rattle.domains.specs.Sets.{sets}
+use Rattle.rule_setload.proofs.AmountLemmas.{stays_in}
+use Rattle.rule_setload.proofs.movers_hold.stays_within.Goals as goal
+
+pub returns : goal.returns
+returns c =
+    λ fits. stays_in c.args.p.now.given (sets c.args.g.now) c.args.bound.now.weight (has_node c.args.bound.now.nodes) c.args.movers.now c.args.stayers c.extra_of-extra.result c.args.bound.now.amount c.args.p.now.sound c.requires.stayers c.requires.movers c.extra_of-extra.ensures.extra (grind (arith, nat_tests, fits))

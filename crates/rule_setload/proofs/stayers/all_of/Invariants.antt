@@ -1,0 +1,6 @@
+use Rattle.cluster.specs.Sets.{has_node}
+use Rattle.rule_setload.specs.Amounts.{AreStayersTo}
+use Rattle.rule_setload.proofs.stayers.all_of.Given as goal
+
+abbrev pub invariant-loop-i : goal.invariant-loop-i
+invariant-loop-i l = AreStayersTo l.p.given l.bound.weight (has_node l.bound.nodes) l.i l.x

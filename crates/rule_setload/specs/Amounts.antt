@@ -1,0 +1,88 @@
+-- Helping only: what machines hold on the nodes of a constraint while they stay as they are, and what they may hold more.
+use Rattle.std.specs.Prelude.{◌≡◌, ℕ, ◌+◌, ◌-◌, ◌*◌, ◌<◌, ◌≤◌, List, length, Option, Some, None, slice_get, slice_index_or}
+use Rattle.std.specs.List.{sum_by}
+use Rattle.cluster.specs.Limits.{max_amount}
+use Rattle.cluster.specs.Sets.{has_node}
+use Rattle.cluster.specs.declared.choices.Choice.{Choice}
+use Rattle.catalogue.specs.declared.constraint.Constraint.{Constraint}
+use Rattle.catalogue.specs.declared.constraint.Constraint.TheVariants.{ResourceCapacity, RunningCapacity}
+use Rattle.catalogue.specs.Instance.{Instance}
+use Rattle.base.specs.Sums.{sum_to}
+use Rattle.slices.specs.declared.slice.Weight.{Weight}
+use Rattle.slices.specs.declared.slice.Weight.TheVariants.{Amount, Presence}
+use Rattle.slices.specs.Elements.{machine_count, state_of, vm}
+use Rattle.slices.specs.Snapshots.{held_at}
+use Rattle.slices.specs.Stages.{Nodes}
+use Rattle.domains.specs.Sets.{Sets}
+use Rattle.reasons.specs.Closed.{IsEnd}
+use Rattle.reasons.specs.Sure.{sure}
+use Rattle.relax.specs.Areas.{hosted_in}
+use Rattle.closing.specs.Most.{if_so, unit_of}
+use Rattle.rule_frame.specs.Caches.{Cache}
+use Rattle.rule_constraint.specs.Indexes.{IsIndexOf, Lists}
+use Rattle.profiles.specs.Movers.{AreMovers}
+use Rattle.profiles.specs.Standing.Standings.{base}
+use Rattle.rule_setload.specs.declared.bounds.Bound.{Bound}
+use Rattle.rule_setload.specs.declared.stayers.Stayers.{Stayers}
+
+-- what a constraint bounds, if it bounds what machines hold
+abbrev pub bound_of : Constraint → Option Bound
+bound_of (ResourceCapacity ns r amount always) = Some (record { weight = Amount r; nodes = ns; amount = amount })
+bound_of (RunningCapacity ns amount always) = Some (record { weight = Presence; nodes = ns; amount = amount })
+bound_of k = None
+
+abbrev pub bound_in : Option Constraint → Option Bound
+bound_in None = None
+bound_in (Some k) = bound_of k
+
+-- up to the horizon what all machines surely hold on the set is no more than the amount, nor is it with one of them set to an end of its choices
+pub record StaysIn (p : Instance) (s : Sets) (w : Weight) (set : Nodes) (amount : ℕ) : Type 0 where
+  pub base : (t : ℕ) → t ≤ p.horizon → sum_to (machine_count p) (λ k. (sure p s t).held k w set) ≤ amount
+  pub each : (v t : ℕ) (c : Choice) → t ≤ p.horizon → v < machine_count p → IsEnd (s (vm v)) c → sum_to (machine_count p) (λ k. (sure p s t).held k w set) + held_at p v w set t c ≤ amount + (sure p s t).held v w set
+
+-- ---- what no change of a region changes
+
+-- what machine v has on its host at present, where that is in the set
+abbrev pub stay_of : Instance → Weight → Nodes → ℕ → ℕ
+stay_of p w set v = if_so (hosted_in (state_of p v) set) (base p v w)
+
+-- what the first so many machines have, and the most that one of them brings
+pub record AreStayersTo (p : Instance) (w : Weight) (set : Nodes) (count : ℕ) (x : Stayers) : Type 0 where
+  pub total : x.total ≡ sum_to count (stay_of p w set)
+  pub most : (v : ℕ) → v < count → unit_of p v w ≤ x.most
+  pub small : x.total ≤ count * max_amount
+  pub small_most : x.most ≤ max_amount
+
+-- so it is of all machines, for what a constraint bounds, if it bounds something
+abbrev pub AreStayersOf : Instance → Option Bound → Stayers → Type 0
+AreStayersOf p None x = Unit {0}
+AreStayersOf p (Some b) x = AreStayersTo p b.weight (has_node b.nodes) (machine_count p) x
+
+abbrev pub no_stayers : Stayers
+no_stayers = record { total = 0; most = 0 }
+
+-- and for each of the first constraints
+pub record AreAllStayers (p : Instance) (many : ℕ) (xs : List Stayers) : Type 0 where
+  pub count : length xs ≡ many
+  pub each : (c : ℕ) → c < many → AreStayersOf p (bound_in (slice_get p.constraints c)) (slice_index_or xs c no_stayers)
+
+-- ---- the machines that may not stay
+
+-- up to the horizon machine v surely holds no more than what it has at present and this
+pub record IsExtra (p : Instance) (s : Sets) (w : Weight) (set : Nodes) (v extra : ℕ) : Type 0 where
+  pub each : (t : ℕ) → t ≤ p.horizon → (sure p s t).held v w set ≤ stay_of p w set v + extra
+
+-- so it is of the machines of a list together
+pub record AreExtra (p : Instance) (s : Sets) (w : Weight) (set : Nodes) (xs : List ℕ) (extra : ℕ) : Type 0 where
+  pub each : (t : ℕ) → t ≤ p.horizon → sum_by (λ v. (sure p s t).held v w set - stay_of p w set v) xs ≤ extra
+
+-- ---- what is kept beside the rule
+
+-- the index of the constraints, the machines that may not stay, and for each constraint what all have at present
+pub record AreAmountsKept (p : Instance) (s : Sets) (l : Lists) (xs : List ℕ) (ys : List Stayers) : Type 0 where
+  pub index : IsIndexOf p (length p.constraints) l
+  pub movers : AreMovers p s xs
+  pub stayers : AreAllStayers p (length p.constraints) ys
+
+abbrev pub cache_of : Lists → ℕ → List ℕ → List Stayers → Cache
+cache_of l level xs ys = record { right = λ p k s. AreAmountsKept p s l xs ys; level = level }

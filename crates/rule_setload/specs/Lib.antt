@@ -1,0 +1,4 @@
+-- what a reader must believe
+pub mod Covers
+-- what the code says beside it
+pub mod Amounts

@@ -1,0 +1,62 @@
+//! What a constraint bounds: what machines hold on the nodes of a set.
+ghost use Rattle.std.specs.Prelude.{◌≡◌, IfSome, true};
+ghost use Rattle.catalogue.specs.Faults.{is_rule};
+ghost use Rattle.catalogue.specs.Instance.{inventory_of};
+ghost use Rattle.relax.specs.Areas.{IsWeight};
+ghost use Rattle.rule_setload.specs.Amounts.{bound_of as the_bound_of};
+
+use catalogue::{Constraint, Problem};
+use cluster::NodeSet;
+use slices::Weight;
+
+/// An amount, and what is no more than it: what all machines hold on the nodes of a set.
+#[derive(Clone, Copy)]
+pub struct Bound {
+    pub weight: Weight,
+    pub nodes: NodeSet,
+    pub amount: u64,
+}
+
+/// What a constraint bounds, if it bounds what machines hold.
+pub fn bound_of(_p: &Problem, constraint: &Constraint) -> Option<Bound>
+    requires rule { is_rule (inventory_of _p.now.given) constraint.now ≡ true }
+    ensures bound { result ≡ the_bound_of constraint.now }
+    ensures weight { IfSome result (λ b. IsWeight _p.now.given b.weight) }
+{
+    match constraint {
+        Constraint::ResourceCapacity {
+            nodes,
+            resource,
+            amount,
+            ..
+        } => Some(Bound {
+            weight: Weight::Amount(*resource),
+            nodes: *nodes,
+            amount: *amount,
+        }),
+        Constraint::RunningCapacity { nodes, amount, .. } => Some(Bound {
+            weight: Weight::Presence,
+            nodes: *nodes,
+            amount: *amount,
+        }),
+        Constraint::Spread { .. }
+        | Constraint::Ban { .. }
+        | Constraint::Fence { .. }
+        | Constraint::Gather { .. }
+        | Constraint::Lonely { .. }
+        | Constraint::Among { .. }
+        | Constraint::Split { .. }
+        | Constraint::Root { .. }
+        | Constraint::Precedence { .. }
+        | Constraint::Serialize { .. }
+        | Constraint::Preserve { .. }
+        | Constraint::MaxOnline { .. }
+        | Constraint::Overbook { .. }
+        | Constraint::Online { .. }
+        | Constraint::Offline { .. }
+        | Constraint::Running { .. }
+        | Constraint::Sleeping { .. }
+        | Constraint::Ready { .. }
+        | Constraint::Killed { .. } => None,
+    }
+}
