@@ -9,7 +9,7 @@ use Rattle.catalogue.specs.Instance.{Instance}
 use Rattle.reasons.specs.declared.reason.ReasonKind.{ReasonKind}
 use Rattle.closing.specs.Kinds.{nothing, rule_watch, watch_of}
 use Rattle.closing.specs.Watches.{IsUnseen}
-use Rattle.constraint_kinds.specs.Given.{reason_kind}
+use Rattle.rule_constraint.specs.Given.{reason_kind}
 use Rattle.rule_frame.specs.Changes.{IsDisturbed, IsStill}
 use Rattle.rule_frame.specs.Levels.{Levels}
 use Rattle.rule_frame.proofs.Public.{unseen_still}

@@ -5,7 +5,7 @@ use Rattle.catalogue.specs.Instance.{Instance}
 use Rattle.reasons.specs.declared.reason.ReasonKind.{ReasonKind}
 use Rattle.closing.specs.Kinds.{nothing, rule_watch}
 use Rattle.closing.specs.Watches.{Watch}
-use Rattle.constraint_kinds.specs.Given.{reason_kind}
+use Rattle.rule_constraint.specs.Given.{reason_kind}
 
 -- nothing breaks it
 abbrev pub no_watch : Watch

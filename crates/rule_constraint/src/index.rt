@@ -17,6 +17,8 @@ use base::Memory;
 use profiles::number_lists::NumberLists;
 use rule_frame::keeper::Keeper;
 use rule_frame::marks::Marks;
+use slices::Form;
+use slices::form::{Separation, form_of};
 use std::alloc::Global;
 use std::default::MadeWith;
 use std::marker::Model;
@@ -110,35 +112,21 @@ impl Lists {
         requires { length self.old.nodes ≤ max_nodes }
         ensures { OnOk result (IsAdded constraint.now c self.old self.new) }
     {
-        match constraint {
-            Constraint::Spread { machines, .. }
-            | Constraint::Ban { machines, .. }
-            | Constraint::Fence { machines, .. }
-            | Constraint::Gather { machines, .. }
-            | Constraint::Among { machines, .. }
-            | Constraint::Root { machines }
-            | Constraint::Serialize { machines } => put_machines(
-                &mut self.machines,
-                machines.items(),
-                c,
-            )?,
-            Constraint::Split { parts, .. } => put_parts(&mut self.machines, parts.items(), c)?,
-            Constraint::Precedence { before, after } => {
+        match form_of(constraint) {
+            Form::Apart(Separation::Each(machines))
+            | Form::Allowed(machines, _)
+            | Form::Together(machines, _)
+            | Form::InTurn(machines) => put_machines(&mut self.machines, machines.items(), c)?,
+            Form::Apart(Separation::Between(parts)) => {
+                put_parts(&mut self.machines, parts.items(), c)?
+            }
+            Form::Ordered(before, after) => {
                 put(&mut self.machines, before.0, c)?;
                 put(&mut self.machines, after.0, c)?;
             }
-            Constraint::Lonely { .. }
-            | Constraint::ResourceCapacity { .. }
-            | Constraint::RunningCapacity { .. } => self.everywhere.push(c)?,
-            Constraint::MaxOnline { nodes, .. } => put_nodes(&mut self.nodes, nodes, c)?,
-            Constraint::Preserve { .. }
-            | Constraint::Overbook { .. }
-            | Constraint::Online { .. }
-            | Constraint::Offline { .. }
-            | Constraint::Running { .. }
-            | Constraint::Sleeping { .. }
-            | Constraint::Ready { .. }
-            | Constraint::Killed { .. } => {}
+            Form::Apart(Separation::FromOthers(_)) | Form::Bounded(..) => self.everywhere.push(c)?,
+            Form::Powered(nodes, _) => put_nodes(&mut self.nodes, nodes, c)?,
+            Form::Settled => {}
         }
         Ok(())
     }

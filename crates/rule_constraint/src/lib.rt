@@ -3,5 +3,6 @@
 #![tactic(auto)]
 
 pub mod index;
+pub mod kinds;
 pub mod machines;
 pub mod watcher;

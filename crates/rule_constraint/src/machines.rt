@@ -1,40 +1,21 @@
-//! The host of a machine, where it is likely to be, and whether it is in a list.
+//! The host of a machine, and where it is likely to be.
 ghost use Rattle.std.specs.Prelude.{◌≡◌, ◌<◌, false, IfNone, IfSome};
-ghost use Rattle.catalogue.specs.Faults.{is_member};
-ghost use Rattle.slices.specs.Elements.{machine_count, state_of};
+ghost use Rattle.slices.specs.Elements.{machine_count, state_of as the_state_of};
 ghost use Rattle.slices.specs.Stages.{Nodes};
 ghost use Rattle.relax.specs.Areas.{hosted_in};
 
 use catalogue::Problem;
-use cluster::{Choice, NodeId, Place, State, VmId};
+use cluster::{Choice, NodeId, Place, VmId};
 use profiles::standing::leaves::runs_on;
-
-/// Whether a machine is in a list.
-pub fn has(machines: &[VmId], v: VmId) -> bool
-    ensures { result ≡ is_member machines.now v.0 }
-{
-    machines.iter().any(|x| x.0 == v.0)
-}
-
-// the host of a state
-fn hosted(state: State) -> Option<NodeId>
-    ensures none { IfNone result ((set : Nodes) → hosted_in state set ≡ false) }
-    ensures some { IfSome result (λ n. (set : Nodes) → hosted_in state set ≡ set n.0) }
-{
-    match state {
-        State::Running(h) => Some(h),
-        State::Sleeping(h) => Some(h),
-        State::Init | State::Ready | State::Gone => None,
-    }
-}
+use slices::elements::state_of;
 
 /// The host of a machine, running or sleeping.
 pub fn host(p: &Problem, v: VmId) -> Option<NodeId>
     requires { v.0 < machine_count p.now.given }
-    ensures none { IfNone result ((set : Nodes) → hosted_in (state_of p.now.given v.0) set ≡ false) }
-    ensures some { IfSome result (λ n. (set : Nodes) → hosted_in (state_of p.now.given v.0) set ≡ set n.0) }
+    ensures none { IfNone result ((set : Nodes) → hosted_in (the_state_of p.now.given v.0) set ≡ false) }
+    ensures some { IfSome result (λ n. (set : Nodes) → hosted_in (the_state_of p.now.given v.0) set ≡ set n.0) }
 {
-    hosted(p.cluster().machines()[v.0 as usize].state)
+    state_of(p, v).host()
 }
 
 /// Where a machine is likely to be under a choice. It may be no node of the problem.

@@ -7,11 +7,11 @@ ghost use Rattle.rule_constraint.specs.Watches.{kept_watch, watch_at, watch_coun
 ghost use Rattle.rule_constraint.specs.Quiet.{kinds_are_quiet, watches_are_local};
 
 use crate::index::{ConstraintIndex, mark_looking};
+use crate::kinds::reason_kind;
 use catalogue::Problem;
 use closing::look::Look;
 use closing::watch::look_at_constraint;
 use cluster::{Element, Instant};
-use constraint_kinds::reason_kind;
 use domains::{Before, Change, Domain, Part, Region, View};
 use base::Memory;
 use reasons::{Reason, ReasonKind};

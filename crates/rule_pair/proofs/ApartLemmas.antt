@@ -11,12 +11,13 @@ use Rattle.cluster.specs.declared.choices.Place.TheVariants.{Nowhere, At}
 use Rattle.cluster.specs.declared.ids.Element.{Element}
 use Rattle.cluster.specs.declared.ids.VmId.{VmId}
 use Rattle.catalogue.specs.declared.constraint.Constraint.{Constraint}
-use Rattle.catalogue.specs.declared.constraint.Constraint.TheVariants.{Spread, Split}
-use Rattle.catalogue.specs.Faults.{is_member}
-use Rattle.catalogue.specs.Instance.{Instance}
+use Rattle.catalogue.specs.Faults.{are_below, is_rule}
+use Rattle.catalogue.specs.Instance.{Instance, inventory_of}
 use Rattle.slices.specs.declared.slice.Weight.TheVariants.{Presence}
-use Rattle.slices.specs.Elements.{state_of, vm}
-use Rattle.slices.specs.Holds.{ForbidsPair, IsInPart, IsMember}
+use Rattle.slices.specs.Elements.{machine_count, state_of, vm}
+use Rattle.slices.specs.Forms.{Apart, Each, Between, Separation, form_of, separated}
+use Rattle.slices.proofs.Public.{sound_form}
+use Rattle.slices.specs.Holds.{IsInPart, IsMember}
 use Rattle.slices.specs.Snapshots.{present_at}
 use Rattle.slices.specs.Stages.{one}
 use Rattle.domains.specs.Choices.{Climbs, DomainView, choices, no_row, place_index}
@@ -31,8 +32,6 @@ use Rattle.reasons.proofs.Public.{end_is_choice, ends_of_rows, some_end}
 use Rattle.relax.specs.Areas.{hosted_in}
 use Rattle.closing.specs.Kinds.{rule_watch}
 use Rattle.closing.specs.Looks.{IsClean}
-use Rattle.constraint_kinds.specs.Given.{reason_kind}
-use Rattle.constraint_kinds.proofs.Public.{pair_of}
 use Rattle.profiles.specs.declared.standing.numbers.Standing.{Standing}
 use Rattle.profiles.specs.Standing.Standings.{IsStanding, base, comes_by, gain, has_come, kept_use, leave_of, never}
 use Rattle.profiles.proofs.Public.{present_law}
@@ -40,10 +39,11 @@ use Rattle.rule_pair.specs.declared.clear.Seen.{Seen}
 use Rattle.rule_pair.specs.declared.clear.Seen.TheVariants.{Clear, Doubtful, Unknown}
 use Rattle.rule_pair.specs.declared.posts.Posts.{Posts}
 use Rattle.rule_pair.specs.declared.longest.Longest.{Longest}
-use Rattle.rule_pair.specs.Apart.{HasPosts, IsAt, IsLate, IsTold, KeepsClear, KeepsOff, OnClear}
+use Rattle.rule_pair.specs.Apart.{AreClear, HasPosts, IsAt, IsLate, IsTold, KeepsClear, KeepsOff, OnClear}
 use Rattle.rule_pair.specs.Longest.{AreLonger, AreOrdered, told_until}
 use Rattle.rule_pair.specs.Stays.{StandsWithin}
-use Rattle.rule_constraint.proofs.Public.{and-true, arrival, arrived, numbers, of_one, other-vm, own_present, same_present, vm_or}
+use Rattle.rule_constraint.specs.Given.{reason_kind}
+use Rattle.rule_constraint.proofs.Public.{and-true, arrival, arrived, numbers, of_kind, of_one, other-vm, own_present, same_present, vm_or}
 
 -- ---- one choice
 
@@ -201,25 +201,29 @@ module _ (p : Instance) (s : Sets) where
 
   -- ---- constraints
 
-  pair-clean : (k : Constraint) → reason_kind k ≡ Some Pair → ((v w : ℕ) → ForbidsPair k v w → v ≢ w → KeepsClear p s v w × KeepsClear p s w v) → IsClean (rule_watch p k) p s
-  pair-clean k is clear t l = record {
+  pub each_clear : (vs : List VmId) → ((v w : ℕ) → IsMember vs v → IsMember vs w → v ≢ w → KeepsClear p s v w) → AreClear p s (Each vs)
+  each_clear vs apart = record { one_way = λ v w h ne. apart v w h.0 h.1 ne; other_way = λ v w h ne. apart w v h.1 h.0 (λ e. ne (sym e)) }
+
+  pub between_clear : (parts : List (List VmId)) → ((i j v w : ℕ) → i ≢ j → IsInPart parts i v → IsInPart parts j w → KeepsClear p s v w) → AreClear p s (Between parts)
+  between_clear parts apart = record { one_way = λ v w h ne. apart h.0 h.1 v w h.2 h.3 h.4; other_way = λ v w h ne. apart h.1 h.0 w v (λ e. h.2 (sym e)) h.4 h.3 }
+
+  pub apart_clean : (k : Constraint) (separation : Separation) → form_of k ≡ Apart separation → AreClear p s separation → IsClean (rule_watch p k) p s
+  apart_clean k separation is clear t l = record {
     base = λ x.
-        let h = pair_of p (sure p s t) k is x.1 in
-        let both = clear h.0 h.1 h.6.forbidden h.6.differ in
-        never-both h.0 h.1 h.2 t l both.0 h.6.first h.6.second;
+        let h = of_kind p (sure p s t) Pair k kind x.1 in
+        never-both h.0 h.1 h.2 t l (clear.one_way h.0 h.1 (rw is at h.6.forbidden) h.6.differ) h.6.first h.6.second;
     ends = λ e c there end x.
-        let h = pair_of p (sure p (setting e c s) t) k is x.1 in
-        let both = clear h.0 h.1 h.6.forbidden h.6.differ in
-        meet-never h.0 h.1 h.2 t e c h.6.differ l both.0 both.1 end h.6.first h.6.second;
+        let h = of_kind p (sure p (setting e c s) t) Pair k kind x.1 in
+        let kept = rw is at h.6.forbidden in
+        meet-never h.0 h.1 h.2 t e c h.6.differ l (clear.one_way h.0 h.1 kept h.6.differ) (clear.other_way h.0 h.1 kept h.6.differ) end h.6.first h.6.second;
   }
+    where
+      kind : reason_kind k ≡ Some Pair
+      kind = rw is refl
 
-  pub spread_clean : (k : Constraint) (vs given : List VmId) (always : Bool) → k ≡ Spread vs always → given ≡ vs → ((v w : ℕ) → IsMember given v → IsMember given w → v ≢ w → KeepsClear p s v w) → IsClean (rule_watch p k) p s
-  spread_clean k vs given always is same apart =
-      rw is (pair-clean (Spread vs always) refl (λ v w h ne. ((rw same at apart) v w h.0 h.1 ne, (rw same at apart) w v h.1 h.0 (λ e. ne (sym e)))))
-
-  pub split_clean : (k : Constraint) (parts given : List (List VmId)) (always : Bool) → k ≡ Split parts always → given ≡ parts → ((i j v w : ℕ) → i ≢ j → IsInPart given i v → IsInPart given j w → KeepsClear p s v w) → IsClean (rule_watch p k) p s
-  split_clean k parts given always is same apart =
-      rw is (pair-clean (Split parts always) refl (λ v w h ne. ((rw same at apart) h.0 h.1 v w h.2 h.3 h.4, (rw same at apart) h.1 h.0 w v (λ e. h.2 (sym e)) h.4 h.3)))
+-- the machines are listed that a constraint without a fault keeps apart
+pub apart_listed : (p : Instance) (k : Constraint) (separation : Separation) → form_of k ≡ Apart separation → is_rule (inventory_of p) k ≡ true → are_below (machine_count p) (separated separation) ≡ true
+apart_listed p k separation is rule = rw is at (sound_form p k rule).listed
 
 -- ---- what is seen
 

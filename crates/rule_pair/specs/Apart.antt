@@ -5,6 +5,8 @@ use Rattle.cluster.specs.declared.choices.Place.{Place}
 use Rattle.cluster.specs.declared.choices.Place.TheVariants.{Nowhere, At}
 use Rattle.catalogue.specs.Instance.{Instance}
 use Rattle.slices.specs.Elements.{vm}
+use Rattle.slices.specs.Forms.{Separation}
+use Rattle.slices.specs.Holds.{Separates}
 use Rattle.slices.specs.Snapshots.{present_at}
 use Rattle.slices.specs.Stages.{one}
 use Rattle.domains.specs.Sets.{Sets}
@@ -49,6 +51,11 @@ pub record KeepsOff (p : Instance) (s : Sets) (xs : List Longest) (part w : ℕ)
 pub record KeepsClear (p : Instance) (s : Sets) (v w : ℕ) : Type 0 where
   pub some : s (vm w) ≢ []
   pub off : (n t : ℕ) (c : Choice) → t ≤ p.horizon → IsTrue ((sure p s t).present v (one n)) → IsEnd (s (vm w)) c → present_at p w (one n) t c ≡ false
+
+-- and so are two machines of each other that are kept apart
+pub record AreClear (p : Instance) (s : Sets) (separation : Separation) : Type 0 where
+  pub one_way : (v w : ℕ) → Separates separation v w → v ≢ w → KeepsClear p s v w
+  pub other_way : (v w : ℕ) → Separates separation v w → v ≢ w → KeepsClear p s w v
 
 -- what is so where it was seen that machines keep apart
 abbrev pub OnClear : Seen → Type 0 → Type 0

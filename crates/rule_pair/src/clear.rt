@@ -1,9 +1,10 @@
 //! Whether a constraint is kept, told for all instants up to the horizon at once.
 ghost use Rattle.std.specs.Prelude.{◌≡◌, ◌≢◌, ℕ, ◌<◌, ◌≤◌, nat_lt, true, length, slice_index_or, IfNone, IsTrue};
 ghost use Rattle.std.specs.List.{list_all};
-ghost use Rattle.catalogue.specs.Faults.{is_rule};
+ghost use Rattle.catalogue.specs.Faults.{are_below, is_rule};
 ghost use Rattle.catalogue.specs.Instance.{inventory_of};
 ghost use Rattle.slices.specs.Elements.{machine_count, state_of};
+ghost use Rattle.slices.specs.Forms.{separated, separation_seen};
 ghost use Rattle.slices.specs.Holds.{IsInPart, IsMember};
 ghost use Rattle.slices.specs.Stages.{one};
 ghost use Rattle.domains.specs.Choices.{no_row};
@@ -11,16 +12,18 @@ ghost use Rattle.domains.specs.Sets.{sets};
 ghost use Rattle.relax.specs.Areas.{IsSized, hosted_in};
 ghost use Rattle.closing.specs.Kinds.{rule_watch};
 ghost use Rattle.closing.specs.Looks.{IsClean};
-ghost use Rattle.rule_pair.specs.Apart.{IsLate, IsTold, KeepsClear, KeepsOff, OnClear, part_of as the_part_of};
+ghost use Rattle.rule_pair.specs.Apart.{AreClear, IsLate, IsTold, KeepsClear, KeepsOff, OnClear, part_of as the_part_of};
 ghost use Rattle.rule_pair.specs.Longest.{AreLonger, AreOrdered, told_until};
 
 use crate::longest::{NOBODY, Stay, Table, stay_after, tell};
+use crate::pairs::separation_of;
 use crate::posts::{Post, last_before, posts_of};
 use catalogue::{Constraint, Problem, Vms};
 use cluster::{Element, NodeId, Place, VmId};
 use cluster::limits::MAX_NODES;
 use domains::{Region, Row};
 use rule_constraint::machines::host;
+use slices::form::Separation;
 
 /// Two machines, of which the second one may be at a post of the first one.
 #[derive(Clone, Copy)]
@@ -246,6 +249,19 @@ fn parts_alone(p: &Problem, g: &Region, parts: &[Vms]) -> Seen
     parts_keep_off(p, g, parts, &table)
 }
 
+// whether no two machines meet that are kept apart
+fn all_alone(p: &Problem, g: &Region, separation: &Separation) -> Seen
+    requires region { IsSized p.now.given g.now }
+    requires machines { are_below (machine_count p.now.given) (separated (separation_seen separation.now)) ≡ true }
+    ensures { OnClear result (AreClear p.now.given (sets g.now) (separation_seen separation.now)) }
+{
+    match separation {
+        Separation::Each(machines) => each_alone(p, g, machines.items()),
+        Separation::Between(parts) => parts_alone(p, g, parts.items()),
+        Separation::FromOthers(_) => Seen::Unknown,
+    }
+}
+
 /// Whether a constraint is seen to be kept at all instants. Of machines that are to keep apart it is told where
 /// each surely stays, and then asked of each whether it may be anywhere that one of another part stays.
 pub fn look_over(p: &Problem, g: &Region, constraint: &Constraint) -> Seen
@@ -253,27 +269,8 @@ pub fn look_over(p: &Problem, g: &Region, constraint: &Constraint) -> Seen
     requires rule { is_rule (inventory_of p.now.given) constraint.now ≡ true }
     ensures { OnClear result (IsClean (rule_watch p.now.given constraint.now) p.now.given (sets g.now)) }
 {
-    match constraint {
-        Constraint::Spread { machines, .. } => each_alone(p, g, machines.items()),
-        Constraint::Split { parts, .. } => parts_alone(p, g, parts.items()),
-        Constraint::Lonely { .. }
-        | Constraint::Ban { .. }
-        | Constraint::Fence { .. }
-        | Constraint::Root { .. }
-        | Constraint::Gather { .. }
-        | Constraint::Among { .. }
-        | Constraint::Precedence { .. }
-        | Constraint::Serialize { .. }
-        | Constraint::Preserve { .. }
-        | Constraint::ResourceCapacity { .. }
-        | Constraint::RunningCapacity { .. }
-        | Constraint::MaxOnline { .. }
-        | Constraint::Overbook { .. }
-        | Constraint::Online { .. }
-        | Constraint::Offline { .. }
-        | Constraint::Running { .. }
-        | Constraint::Sleeping { .. }
-        | Constraint::Ready { .. }
-        | Constraint::Killed { .. } => Seen::Unknown,
+    match separation_of(constraint) {
+        None => Seen::Unknown,
+        Some(separation) => all_alone(p, g, &separation),
     }
 }

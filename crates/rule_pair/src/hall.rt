@@ -1,19 +1,21 @@
 //! Machines that are to be on different nodes, and are more than the nodes that are left to them.
 ghost use Rattle.std.specs.Prelude.{◌≡◌, ◌<◌, IfSome, length, nat_lt, true};
 ghost use Rattle.std.specs.List.{list_all};
-ghost use Rattle.catalogue.specs.Faults.{is_rule};
-ghost use Rattle.catalogue.specs.Instance.{inventory_of};
+ghost use Rattle.catalogue.specs.Faults.{are_below};
 ghost use Rattle.domains.specs.Sets.{sets};
 ghost use Rattle.slices.specs.Elements.{machine_count};
+ghost use Rattle.slices.specs.Forms.{separated, separation_seen};
 ghost use Rattle.prop_core.specs.Propagators.{FailHolds};
 ghost use Rattle.relax.specs.Areas.{IsSized};
 
-use catalogue::{Constraint, Problem};
+use crate::pairs::separation_of;
+use catalogue::Problem;
 use cluster::{Element, NodeId, NodeSet, Place, VmId};
 use domains::{Domain, Region};
 use profiles::standing::leaves::runs_on;
 use reasons::Reason;
 use relax::refutes::refutes;
+use slices::form::Separation;
 
 // nodes, and how many more there must be for each of some machines to have one of its own
 #[derive(Clone, Copy)]
@@ -99,33 +101,14 @@ fn too_few(p: &Problem, g: &Region, machines: &[VmId]) -> Option<NodeSet>
     Some(room.nodes)
 }
 
-// the nodes that are too few for the members of a constraint that are to be on different ones
-fn crowded(p: &Problem, g: &Region, constraint: &Constraint) -> Option<NodeSet>
+// the nodes that are too few for machines that are kept apart, each from each other one
+fn crowded(p: &Problem, g: &Region, separation: &Separation) -> Option<NodeSet>
     requires region { IsSized p.now.given g.now }
-    requires rule { is_rule (inventory_of p.now.given) constraint.now ≡ true }
+    requires machines { are_below (machine_count p.now.given) (separated (separation_seen separation.now)) ≡ true }
 {
-    match constraint {
-        Constraint::Spread { machines, .. } => too_few(p, g, machines.items()),
-        Constraint::Ban { .. }
-        | Constraint::Fence { .. }
-        | Constraint::Gather { .. }
-        | Constraint::Lonely { .. }
-        | Constraint::Among { .. }
-        | Constraint::Split { .. }
-        | Constraint::Root { .. }
-        | Constraint::Precedence { .. }
-        | Constraint::Serialize { .. }
-        | Constraint::Preserve { .. }
-        | Constraint::ResourceCapacity { .. }
-        | Constraint::RunningCapacity { .. }
-        | Constraint::MaxOnline { .. }
-        | Constraint::Overbook { .. }
-        | Constraint::Online { .. }
-        | Constraint::Offline { .. }
-        | Constraint::Running { .. }
-        | Constraint::Sleeping { .. }
-        | Constraint::Ready { .. }
-        | Constraint::Killed { .. } => None,
+    match separation {
+        Separation::Each(machines) => too_few(p, g, machines.items()),
+        Separation::Between(_) | Separation::FromOthers(_) => None,
     }
 }
 
@@ -136,7 +119,8 @@ pub(crate) fn hall_reason(p: &Problem, g: &Region, c: u32) -> Option<Reason>
     requires constraint { c < length p.now.given.constraints }
     ensures { IfSome result (FailHolds p.now.given (sets g.now)) }
 {
-    let nodes = crowded(p, g, &p.constraints()[c as usize])?;
+    let separation = separation_of(&p.constraints()[c as usize])?;
+    let nodes = crowded(p, g, &separation)?;
     let reason = Reason::Hall(c, p.horizon(), nodes);
     if refutes(p, None, g, &reason) {
         Some(reason)

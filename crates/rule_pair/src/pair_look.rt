@@ -7,7 +7,7 @@ ghost use Rattle.reasons.specs.Closed.{IsEnd};
 ghost use Rattle.reasons.specs.Sure.{sure};
 ghost use Rattle.relax.specs.Areas.{IsSized};
 ghost use Rattle.closing.specs.Kinds.{constraint_watch};
-ghost use Rattle.closing.specs.Looks.{IsLook, broken_at};
+ghost use Rattle.closing.specs.Looks.{IsLook, IsMetWith, broken_at};
 
 use crate::clear::{Doubt, Seen, look_over};
 use catalogue::Problem;
@@ -107,24 +107,21 @@ fn breaks(p: &Problem, g: &Region, c: u32, d: Doubt, choice: Choice) -> bool
     )
 }
 
-// a look where two machines are in doubt
-fn look_at_doubt(p: &Problem, g: &Region, c: u32, d: Doubt) -> Look
+// an end of the second machine's choices under which two machines in doubt are seen to break the constraint
+fn broken_end(p: &Problem, g: &Region, c: u32, d: Doubt) -> Option<Choice>
     requires region { IsSized p.now.given g.now }
     requires constraint { c < length p.now.given.constraints }
-    ensures { IsLook (constraint_watch p.now.given c) p.now.given (sets g.now) result }
+    ensures within { IfSome result (λ end. d.post.last ≤ p.now.given.horizon) }
+    ensures met { IfSome result (IsMetWith (broken_at (constraint_watch p.now.given c) p.now.given d.post.last) p.now.given (sets g.now) d.post.last (vm d.second.0)) }
 {
     if !is_within(p, d) {
-        return look_at_constraint(p, g, c);
+        return None;
     }
-    match end_there(p, g, d) {
-        None => look_at_constraint(p, g, c),
-        Some(choice) => {
-            if breaks(p, g, c, d, choice) {
-                Look::Cut(Element::Vm(d.second), choice, d.post.last)
-            } else {
-                look_at_constraint(p, g, c)
-            }
-        }
+    let end = end_there(p, g, d)?;
+    if breaks(p, g, c, d, end) {
+        Some(end)
+    } else {
+        None
     }
 }
 
@@ -135,8 +132,13 @@ pub fn look_quickly(p: &Problem, g: &Region, c: u32) -> Look
     ensures { IsLook (constraint_watch p.now.given c) p.now.given (sets g.now) result }
 {
     match look_over(p, g, &p.constraints()[c as usize]) {
-        Seen::Clear => Look::Clean,
-        Seen::Doubtful(d) => look_at_doubt(p, g, c, d),
-        Seen::Unknown => look_at_constraint(p, g, c),
+        Seen::Clear => return Look::Clean,
+        Seen::Doubtful(d) => {
+            if let Some(end) = broken_end(p, g, c, d) {
+                return Look::Cut(Element::Vm(d.second), end, d.post.last);
+            }
+        }
+        Seen::Unknown => {}
     }
+    look_at_constraint(p, g, c)
 }

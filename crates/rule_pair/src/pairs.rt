@@ -5,7 +5,8 @@ ghost use Rattle.domains.specs.Views.{seen};
 ghost use Rattle.reasons.specs.Reasons.{Applies, IsPair};
 ghost use Rattle.reasons.specs.Sure.{sure};
 ghost use Rattle.relax.specs.Areas.{IsSized};
-ghost use Rattle.slices.specs.Holds.{ForbidsPair, IsInPart};
+ghost use Rattle.slices.specs.Forms.{Apart, form_of as the_form_of, separation_seen};
+ghost use Rattle.slices.specs.Holds.{ForbidsPair, IsInPart, Separates};
 ghost use Rattle.closing.specs.Kinds.{HasPair};
 ghost use Rattle.prop_core.specs.Propagators.{FailHolds};
 
@@ -13,49 +14,58 @@ use catalogue::{Constraint, Problem, Vms};
 use cluster::{Choice, Element, Instant, NodeId, VmId};
 use domains::{Lens, View};
 use reasons::Reason;
-use rule_constraint::machines::{has, likely_node};
+use rule_constraint::machines::likely_node;
+use slices::Form;
+use slices::form::{Separation, form_of};
 use profiles::standing::pairs::is_pair;
 use profiles::standing::stays::surely_at;
 
-// whether it is in one of several
+/// How a constraint keeps machines apart, if it does.
+pub fn separation_of(constraint: &Constraint) -> Option<Separation<'_>>
+    ensures none { IfNone result ((v w : ℕ) → ¬ ForbidsPair constraint.now v w) }
+    ensures some { IfSome result (λ s. the_form_of constraint.now ≡ Apart (separation_seen s)) }
+{
+    match form_of(constraint) {
+        Form::Apart(separation) => Some(separation),
+        Form::Allowed(..)
+        | Form::Together(..)
+        | Form::Ordered(..)
+        | Form::InTurn(_)
+        | Form::Bounded(..)
+        | Form::Powered(..)
+        | Form::Settled => None,
+    }
+}
+
+// whether a machine is in one of several lists
 fn have(parts: &[Vms], v: VmId) -> bool
     ensures { result ≡ false → (i : ℕ) → ¬ IsInPart parts.now i v.0 }
 {
     for i in 0..parts.len() {
-        if has(parts[i].items(), v) {
+        if parts[i].has(v) {
             return true;
         }
     }
     false
 }
 
+// whether a machine may be kept apart from others
+fn is_separated(separation: &Separation, v: VmId) -> bool
+    ensures { result ≡ false → (w : ℕ) → ¬ Separates (separation_seen separation.now) v.0 w }
+{
+    match separation {
+        Separation::Each(machines) | Separation::FromOthers(machines) => machines.has(v),
+        Separation::Between(parts) => have(parts.items(), v),
+    }
+}
+
 // whether a constraint may keep a machine apart from others
 fn parts(constraint: &Constraint, v: VmId) -> bool
     ensures { result ≡ false → (w : ℕ) → ¬ ForbidsPair constraint.now v.0 w }
 {
-    match constraint {
-        Constraint::Spread { machines, .. } | Constraint::Lonely { machines, .. } => {
-            has(machines.items(), v)
-        }
-        Constraint::Split { parts, .. } => have(parts.items(), v),
-        Constraint::Ban { .. }
-        | Constraint::Fence { .. }
-        | Constraint::Gather { .. }
-        | Constraint::Among { .. }
-        | Constraint::Root { .. }
-        | Constraint::Precedence { .. }
-        | Constraint::Serialize { .. }
-        | Constraint::Preserve { .. }
-        | Constraint::ResourceCapacity { .. }
-        | Constraint::RunningCapacity { .. }
-        | Constraint::MaxOnline { .. }
-        | Constraint::Overbook { .. }
-        | Constraint::Online { .. }
-        | Constraint::Offline { .. }
-        | Constraint::Running { .. }
-        | Constraint::Sleeping { .. }
-        | Constraint::Ready { .. }
-        | Constraint::Killed { .. } => false,
+    match separation_of(constraint) {
+        None => false,
+        Some(separation) => is_separated(&separation, v),
     }
 }
 
@@ -170,30 +180,10 @@ fn named_on(
     requires machine { v.0 < machine_count p.now.given }
     ensures { IfSome result (λ w. (w.0 < machine_count p.now.given) × IsPair p.now.given (sure p.now.given (seen view.now.region.now view.now.lens) t) constraint.now v.0 w.0 n.0) }
 {
-    match constraint {
-        Constraint::Spread { machines, .. } => {
-            member_on(p, view, constraint, machines.items(), v, n, t)
-        }
-        Constraint::Split { parts, .. } => part_on(p, view, constraint, parts.items(), v, n, t),
-        Constraint::Lonely { .. }
-        | Constraint::Ban { .. }
-        | Constraint::Fence { .. }
-        | Constraint::Gather { .. }
-        | Constraint::Among { .. }
-        | Constraint::Root { .. }
-        | Constraint::Precedence { .. }
-        | Constraint::Serialize { .. }
-        | Constraint::Preserve { .. }
-        | Constraint::ResourceCapacity { .. }
-        | Constraint::RunningCapacity { .. }
-        | Constraint::MaxOnline { .. }
-        | Constraint::Overbook { .. }
-        | Constraint::Online { .. }
-        | Constraint::Offline { .. }
-        | Constraint::Running { .. }
-        | Constraint::Sleeping { .. }
-        | Constraint::Ready { .. }
-        | Constraint::Killed { .. } => None,
+    match separation_of(constraint)? {
+        Separation::Each(machines) => member_on(p, view, constraint, machines.items(), v, n, t),
+        Separation::Between(parts) => part_on(p, view, constraint, parts.items(), v, n, t),
+        Separation::FromOthers(_) => None,
     }
 }
 

@@ -1,18 +1,19 @@
 //! Cuts that are worth a try after one was found of a machine that is kept apart from another one.
 ghost use Rattle.std.specs.Prelude.{◌≡◌, ◌<◌, length, nat_lt, true};
 ghost use Rattle.std.specs.List.{list_all};
-ghost use Rattle.catalogue.specs.Faults.{is_rule};
-ghost use Rattle.catalogue.specs.Instance.{inventory_of};
+ghost use Rattle.catalogue.specs.Faults.{are_below};
 ghost use Rattle.slices.specs.Elements.{machine_count};
+ghost use Rattle.slices.specs.Forms.{separated, separation_seen};
 ghost use Rattle.relax.specs.Areas.{IsSized};
 
-use catalogue::{Constraint, Problem, Vms};
+use crate::pairs::separation_of;
+use catalogue::{Problem, Vms};
 use cluster::{Element, Instant, NodeId, Place, VmId};
 use domains::{Change, Part, Region, Side};
 use base::Memory;
 use reasons::Reason;
-use rule_constraint::machines::has;
 use rule_frame::suggestion::Suggestion;
+use slices::form::Separation;
 
 // a machine that is on a node at an instant, and the number of a constraint that keeps others off it
 #[derive(Clone, Copy)]
@@ -103,7 +104,7 @@ fn suggest_parts(
 {
     for i in 0..parts.len() {
         let machines = parts[i].items();
-        if !has(machines, stay.machine) {
+        if !parts[i].has(stay.machine) {
             suggest_each(p, g, machines, stay, them)?;
         }
     }
@@ -114,7 +115,7 @@ fn suggest_parts(
 fn suggest_strangers(
     p: &Problem,
     g: &Region,
-    machines: &[VmId],
+    machines: &Vms,
     stay: Stay,
     them: &mut Vec<Suggestion>,
 ) -> Result<(), Memory>
@@ -122,64 +123,33 @@ fn suggest_strangers(
 {
     for i in 0..p.cluster().machines().len() {
         let v = VmId(i as u32);
-        if !has(machines, v) {
+        if !machines.has(v) {
             suggest_of(p, g, v, stay, them)?;
         }
     }
     Ok(())
 }
 
-// of the members where a machine outside them is on the node, and of all others where a member is
-fn suggest_lonely(
-    p: &Problem,
-    g: &Region,
-    machines: &[VmId],
-    stay: Stay,
-    them: &mut Vec<Suggestion>,
-) -> Result<(), Memory>
-    requires region { IsSized p.now.given g.now }
-    requires machines { list_all (λ x. nat_lt x.0 (machine_count p.now.given)) machines.now ≡ true }
-{
-    if has(machines, stay.machine) {
-        suggest_strangers(p, g, machines, stay, them)
-    } else {
-        suggest_each(p, g, machines, stay, them)
-    }
-}
-
-// of each machine that a constraint keeps apart from the one on the node
+// of each machine that is kept apart from the one on the node: where members are kept apart from all others, these where a
+// member is on the node, and the members where another one is
 fn suggest_apart(
     p: &Problem,
     g: &Region,
-    constraint: &Constraint,
+    separation: &Separation,
     stay: Stay,
     them: &mut Vec<Suggestion>,
 ) -> Result<(), Memory>
     requires region { IsSized p.now.given g.now }
-    requires rule { is_rule (inventory_of p.now.given) constraint.now ≡ true }
+    requires machines { are_below (machine_count p.now.given) (separated (separation_seen separation.now)) ≡ true }
 {
-    match constraint {
-        Constraint::Spread { machines, .. } => suggest_each(p, g, machines.items(), stay, them),
-        Constraint::Split { parts, .. } => suggest_parts(p, g, parts.items(), stay, them),
-        Constraint::Lonely { machines, .. } => suggest_lonely(p, g, machines.items(), stay, them),
-        Constraint::Ban { .. }
-        | Constraint::Fence { .. }
-        | Constraint::Gather { .. }
-        | Constraint::Among { .. }
-        | Constraint::Root { .. }
-        | Constraint::Precedence { .. }
-        | Constraint::Serialize { .. }
-        | Constraint::Preserve { .. }
-        | Constraint::ResourceCapacity { .. }
-        | Constraint::RunningCapacity { .. }
-        | Constraint::MaxOnline { .. }
-        | Constraint::Overbook { .. }
-        | Constraint::Online { .. }
-        | Constraint::Offline { .. }
-        | Constraint::Running { .. }
-        | Constraint::Sleeping { .. }
-        | Constraint::Ready { .. }
-        | Constraint::Killed { .. } => Ok(()),
+    match separation {
+        Separation::Each(machines) => suggest_each(p, g, machines.items(), stay, them),
+        Separation::Between(parts) => suggest_parts(p, g, parts.items(), stay, them),
+        Separation::FromOthers(machines) => if machines.has(stay.machine) {
+            suggest_strangers(p, g, machines, stay, them)
+        } else {
+            suggest_each(p, g, machines.items(), stay, them)
+        },
     }
 }
 
@@ -195,8 +165,11 @@ pub(crate) fn suggest_pairs(
     requires region { IsSized p.now.given g.now }
     requires constraint { c < length p.now.given.constraints }
 {
-    match stay_of(c, found) {
+    let Some(stay) = stay_of(c, found) else {
+        return Ok(());
+    };
+    match separation_of(&p.constraints()[c as usize]) {
         None => Ok(()),
-        Some(stay) => suggest_apart(p, g, &p.constraints()[c as usize], stay, them),
+        Some(separation) => suggest_apart(p, g, &separation, stay, them),
     }
 }

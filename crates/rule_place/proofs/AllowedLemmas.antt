@@ -8,13 +8,14 @@ use Rattle.cluster.specs.declared.choices.Place.{Place}
 use Rattle.cluster.specs.declared.choices.Place.TheVariants.{Nowhere, At}
 use Rattle.cluster.specs.declared.ids.Element.{Element}
 use Rattle.cluster.specs.declared.ids.VmId.{VmId}
-use Rattle.cluster.specs.declared.sets.NodeSet.{NodeSet}
 use Rattle.catalogue.specs.declared.constraint.Constraint.{Constraint}
-use Rattle.catalogue.specs.declared.constraint.Constraint.TheVariants.{Ban, Fence, Root}
-use Rattle.catalogue.specs.Instance.{Instance}
+use Rattle.catalogue.specs.Faults.{are_below, is_rule}
+use Rattle.catalogue.specs.Instance.{Instance, inventory_of}
 use Rattle.catalogue.specs.Kinds.{is_continuous}
 use Rattle.slices.specs.declared.slice.Weight.TheVariants.{Presence}
-use Rattle.slices.specs.Elements.{state_of, vm}
+use Rattle.slices.specs.Elements.{machine_count, state_of, vm}
+use Rattle.slices.specs.Forms.{Allowed, Places, form_of}
+use Rattle.slices.proofs.Public.{sound_form}
 use Rattle.slices.specs.Holds.{ForbidsPlace, IsMember}
 use Rattle.slices.specs.Snapshots.{present_at}
 use Rattle.slices.specs.Stages.{Nodes, one}
@@ -29,11 +30,10 @@ use Rattle.reasons.proofs.Public.{end_is_choice, ends_of_rows, some_end}
 use Rattle.relax.specs.Areas.{hosted_in}
 use Rattle.closing.specs.Kinds.{rule_watch}
 use Rattle.closing.specs.Looks.{IsClean}
-use Rattle.constraint_kinds.specs.Given.{reason_kind}
-use Rattle.constraint_kinds.proofs.Public.{place_of}
+use Rattle.rule_constraint.specs.Given.{reason_kind}
 use Rattle.profiles.specs.Standing.Standings.{has_come, leave_of, never}
 use Rattle.rule_place.specs.Allowed.{IsAllowed, IsDue, IsOffHost, MayGo}
-use Rattle.rule_constraint.proofs.Public.{own_present, same_present, vm_or}
+use Rattle.rule_constraint.proofs.Public.{of_kind, own_present, same_present, vm_or}
 use Rattle.rule_place.proofs.ShutdownLemmas.{holds_none}
 
 -- ---- the host
@@ -91,15 +91,6 @@ is_allowed p s k v d rows short is some same climbs may host = record {
 
 -- ---- the constraint
 
--- a constraint that forbids places to these machines
-abbrev HasMembers : Constraint → List VmId → Type 0
-HasMembers k vs = ((ns : NodeSet) × (always : Bool) × (k ≡ Ban vs ns always)) ⊎ (((ns : NodeSet) × (always : Bool) × (k ≡ Fence vs ns always)) ⊎ (k ≡ Root vs))
-
-of-members : (p : Instance) (k : Constraint) (vs : List VmId) → HasMembers k vs → (reason_kind k ≡ Some PlaceKind) × ((v n : ℕ) → ForbidsPlace p k v n → IsMember vs v)
-of-members p k vs (inl (ns, always, is)) = rw is (refl, λ v n h. h.0)
-of-members p k vs (inr (inl (ns, always, is))) = rw is (refl, λ v n h. h.0)
-of-members p k vs (inr (inr is)) = rw is (refl, λ v n h. h.0)
-
 module _ (p : Instance) (s : Sets) (k : Constraint) where
   surely-off : (v n t : ℕ) → IsDue p k t → IsAllowed p s k v → ForbidsPlace p k v n → IsTrue ((sure p s t).present v (one n)) → ⊥
   unfolding sure
@@ -116,11 +107,15 @@ module _ (p : Instance) (s : Sets) (k : Constraint) where
 
   place-clean : reason_kind k ≡ Some PlaceKind → ((v n : ℕ) → ForbidsPlace p k v n → IsAllowed p s k v) → IsClean (rule_watch p k) p s
   place-clean is allowed t l = record {
-    base = λ x. let h = place_of p (sure p s t) k is x.1 in surely-off h.0 h.1 t (l, x.0) (allowed h.0 h.1 h.4.forbidden) h.4.forbidden h.4.present;
+    base = λ x. let h = of_kind p (sure p s t) PlaceKind k is x.1 in surely-off h.0 h.1 t (l, x.0) (allowed h.0 h.1 h.4.forbidden) h.4.forbidden h.4.present;
     ends = λ e c there end x.
-        let h = place_of p (sure p (setting e c s) t) k is x.1 in
+        let h = of_kind p (sure p (setting e c s) t) PlaceKind k is x.1 in
         off-with h.0 h.1 t e c (l, x.0) (allowed h.0 h.1 h.4.forbidden) h.4.forbidden end h.4.present;
   }
 
-  pub allowed_clean : (vs given : List VmId) → HasMembers k vs → given ≡ vs → ((v : ℕ) → IsMember given v → IsAllowed p s k v) → IsClean (rule_watch p k) p s
-  allowed_clean vs given is same each = let of = of-members p k vs is in place-clean of.0 (λ v n h. each v (rw same (of.1 v n h)))
+  pub allowed_clean : (vs : List VmId) (places : Places) → form_of k ≡ Allowed vs places → ((v : ℕ) → IsMember vs v → IsAllowed p s k v) → IsClean (rule_watch p k) p s
+  allowed_clean vs places is each = place-clean (rw is refl) (λ v n h. each v (rw is at h).0)
+
+-- the members are listed of a constraint without a fault
+pub allowed_listed : (p : Instance) (k : Constraint) (vs : List VmId) (places : Places) → form_of k ≡ Allowed vs places → is_rule (inventory_of p) k ≡ true → are_below (machine_count p) vs ≡ true
+allowed_listed p k vs places is rule = rw is at (sound_form p k rule).listed

@@ -14,42 +14,21 @@ ghost use Rattle.closing.specs.Looks.{IsClean};
 ghost use Rattle.rule_place.specs.Allowed.{IsAllowed, IsOffHost, MayGo};
 
 use crate::leaving::leaves_by;
+use crate::places::limits_of;
 use catalogue::{Constraint, Problem};
 use cluster::{Element, NodeId, Place, VmId};
 use domains::{Domain, Region, Row};
 use rule_constraint::machines::host;
-use profiles::standing::leaves::runs_on;
+use slices::form::is_off_limits;
 
 // whether a constraint lets its member not be on a node
 fn forbids(p: &Problem, constraint: &Constraint, v: VmId, n: NodeId) -> bool
     requires { v.0 < machine_count p.now.given }
     ensures { result ≡ false → ¬ ForbidsPlace p.now.given constraint.now v.0 n.0 }
 {
-    match constraint {
-        Constraint::Ban { nodes, .. } => nodes.has(n),
-        Constraint::Fence { nodes, .. } => !nodes.has(n),
-        Constraint::Root { .. } => match runs_on(p, v) {
-            None => false,
-            Some(h) => h.0 != n.0,
-        },
-        Constraint::Spread { .. }
-        | Constraint::Gather { .. }
-        | Constraint::Lonely { .. }
-        | Constraint::Among { .. }
-        | Constraint::Split { .. }
-        | Constraint::Precedence { .. }
-        | Constraint::Serialize { .. }
-        | Constraint::Preserve { .. }
-        | Constraint::ResourceCapacity { .. }
-        | Constraint::RunningCapacity { .. }
-        | Constraint::MaxOnline { .. }
-        | Constraint::Overbook { .. }
-        | Constraint::Online { .. }
-        | Constraint::Offline { .. }
-        | Constraint::Running { .. }
-        | Constraint::Sleeping { .. }
-        | Constraint::Ready { .. }
-        | Constraint::Killed { .. } => false,
+    match limits_of(constraint) {
+        None => false,
+        Some((_, places)) => is_off_limits(p, &places, v, n),
     }
 }
 
@@ -126,27 +105,8 @@ pub fn is_kept(p: &Problem, g: &Region, constraint: &Constraint) -> bool
     requires rule { is_rule (inventory_of p.now.given) constraint.now ≡ true }
     ensures { IsTrue result → IsClean (rule_watch p.now.given constraint.now) p.now.given (sets g.now) }
 {
-    match constraint {
-        Constraint::Ban { machines, .. }
-        | Constraint::Fence { machines, .. }
-        | Constraint::Root { machines } => are_allowed(p, g, constraint, machines.items()),
-        Constraint::Spread { .. }
-        | Constraint::Gather { .. }
-        | Constraint::Lonely { .. }
-        | Constraint::Among { .. }
-        | Constraint::Split { .. }
-        | Constraint::Precedence { .. }
-        | Constraint::Serialize { .. }
-        | Constraint::Preserve { .. }
-        | Constraint::ResourceCapacity { .. }
-        | Constraint::RunningCapacity { .. }
-        | Constraint::MaxOnline { .. }
-        | Constraint::Overbook { .. }
-        | Constraint::Online { .. }
-        | Constraint::Offline { .. }
-        | Constraint::Running { .. }
-        | Constraint::Sleeping { .. }
-        | Constraint::Ready { .. }
-        | Constraint::Killed { .. } => false,
+    match limits_of(constraint) {
+        None => false,
+        Some((machines, _)) => are_allowed(p, g, constraint, machines.items()),
     }
 }

@@ -2,6 +2,7 @@
 ghost use Rattle.std.specs.Prelude.{◌≡◌, ℕ, ◌<◌, ◌≤◌, false, length, IfNone, IfSome, IsTrue};
 ghost use Rattle.catalogue.specs.Instance.{Instance};
 ghost use Rattle.slices.specs.Elements.{machine_count, node_count};
+ghost use Rattle.slices.specs.Forms.{Allowed, form_of as the_form_of, places_seen};
 ghost use Rattle.slices.specs.Holds.{ForbidsPlace};
 ghost use Rattle.domains.specs.Views.{seen};
 ghost use Rattle.reasons.specs.Reasons.{Applies, IsPlace, IsUnusable};
@@ -11,39 +12,39 @@ ghost use Rattle.closing.specs.Kinds.{HasPlace, IsNeeded, usable_watch};
 ghost use Rattle.closing.specs.Looks.{broken_at};
 ghost use Rattle.prop_core.specs.Propagators.{FailHolds};
 
-use catalogue::{Constraint, Problem};
+use catalogue::{Constraint, Problem, Vms};
 use cluster::{Choice, Element, Instant, NodeId, VmId};
 use domains::{Lens, View};
 use reasons::Reason;
 use relax::elements::{is_place, is_unusable};
-use rule_constraint::machines::{has, likely_node};
+use rule_constraint::machines::likely_node;
+use slices::Form;
+use slices::form::{Places, form_of};
+
+/// The members of a constraint that lets them be on some nodes alone, and where they may be.
+pub fn limits_of(constraint: &Constraint) -> Option<(&Vms, Places<'_>)>
+    ensures none { IfNone result ((p : Instance) (v n : ℕ) → ¬ ForbidsPlace p constraint.now v n) }
+    ensures some { IfSome result (λ x. the_form_of constraint.now ≡ Allowed x.0.now (places_seen x.1)) }
+{
+    match form_of(constraint) {
+        Form::Allowed(machines, places) => Some((machines, places)),
+        Form::Apart(_)
+        | Form::Together(..)
+        | Form::Ordered(..)
+        | Form::InTurn(_)
+        | Form::Bounded(..)
+        | Form::Powered(..)
+        | Form::Settled => None,
+    }
+}
 
 // whether a constraint may keep a machine off nodes
 fn keeps_off(constraint: &Constraint, v: VmId) -> bool
     ensures { result ≡ false → (p : Instance) (n : ℕ) → ¬ ForbidsPlace p constraint.now v.0 n }
 {
-    match constraint {
-        Constraint::Ban { machines, .. }
-        | Constraint::Fence { machines, .. }
-        | Constraint::Root { machines } => has(machines.items(), v),
-        Constraint::Spread { .. }
-        | Constraint::Gather { .. }
-        | Constraint::Lonely { .. }
-        | Constraint::Among { .. }
-        | Constraint::Split { .. }
-        | Constraint::Precedence { .. }
-        | Constraint::Serialize { .. }
-        | Constraint::Preserve { .. }
-        | Constraint::ResourceCapacity { .. }
-        | Constraint::RunningCapacity { .. }
-        | Constraint::MaxOnline { .. }
-        | Constraint::Overbook { .. }
-        | Constraint::Online { .. }
-        | Constraint::Offline { .. }
-        | Constraint::Running { .. }
-        | Constraint::Sleeping { .. }
-        | Constraint::Ready { .. }
-        | Constraint::Killed { .. } => false,
+    match limits_of(constraint) {
+        None => false,
+        Some((machines, _)) => machines.has(v),
     }
 }
 

@@ -5,12 +5,11 @@ use Rattle.cluster.specs.Limits.{max_amount}
 use Rattle.cluster.specs.Sets.{has_node}
 use Rattle.cluster.specs.declared.choices.Choice.{Choice}
 use Rattle.catalogue.specs.declared.constraint.Constraint.{Constraint}
-use Rattle.catalogue.specs.declared.constraint.Constraint.TheVariants.{ResourceCapacity, RunningCapacity}
 use Rattle.catalogue.specs.Instance.{Instance}
 use Rattle.base.specs.Sums.{sum_to}
 use Rattle.slices.specs.declared.slice.Weight.{Weight}
-use Rattle.slices.specs.declared.slice.Weight.TheVariants.{Amount, Presence}
 use Rattle.slices.specs.Elements.{machine_count, state_of, vm}
+use Rattle.slices.specs.Forms.{Form, Apart, Allowed, Together, Ordered, InTurn, Bounded, Powered, Settled, form_of}
 use Rattle.slices.specs.Snapshots.{held_at}
 use Rattle.slices.specs.Stages.{Nodes}
 use Rattle.domains.specs.Sets.{Sets}
@@ -25,15 +24,20 @@ use Rattle.profiles.specs.Standing.Standings.{base}
 use Rattle.rule_setload.specs.declared.bounds.Bound.{Bound}
 use Rattle.rule_setload.specs.declared.stayers.Stayers.{Stayers}
 
--- what a constraint bounds, if it bounds what machines hold
-abbrev pub bound_of : Constraint → Option Bound
-bound_of (ResourceCapacity ns r amount always) = Some (record { weight = Amount r; nodes = ns; amount = amount })
-bound_of (RunningCapacity ns amount always) = Some (record { weight = Presence; nodes = ns; amount = amount })
-bound_of k = None
+-- what a form bounds, if it bounds what machines hold
+abbrev pub bound_of : Form → Option Bound
+bound_of (Apart separation) = None
+bound_of (Allowed vs places) = None
+bound_of (Together vs groups) = None
+bound_of (Ordered before after) = None
+bound_of (InTurn vs) = None
+bound_of (Bounded weight ns amount) = Some (record { weight = weight; nodes = ns; amount = amount })
+bound_of (Powered ns amount) = None
+bound_of Settled = None
 
 abbrev pub bound_in : Option Constraint → Option Bound
 bound_in None = None
-bound_in (Some k) = bound_of k
+bound_in (Some k) = bound_of (form_of k)
 
 -- up to the horizon what all machines surely hold on the set is no more than the amount, nor is it with one of them set to an end of its choices
 pub record StaysIn (p : Instance) (s : Sets) (w : Weight) (set : Nodes) (amount : ℕ) : Type 0 where

@@ -2,12 +2,14 @@
 ghost use Rattle.std.specs.Prelude.{◌≡◌, IfSome, true};
 ghost use Rattle.catalogue.specs.Faults.{is_rule};
 ghost use Rattle.catalogue.specs.Instance.{inventory_of};
-ghost use Rattle.relax.specs.Areas.{IsWeight};
+ghost use Rattle.slices.specs.Forms.{form_of as the_form_of};
+ghost use Rattle.slices.specs.Snapshots.{IsWeight};
 ghost use Rattle.rule_setload.specs.Amounts.{bound_of as the_bound_of};
 
 use catalogue::{Constraint, Problem};
 use cluster::NodeSet;
-use slices::Weight;
+use slices::form::form_of;
+use slices::{Form, Weight};
 
 /// An amount, and what is no more than it: what all machines hold on the nodes of a set.
 #[derive(Clone, Copy)]
@@ -20,43 +22,21 @@ pub struct Bound {
 /// What a constraint bounds, if it bounds what machines hold.
 pub fn bound_of(_p: &Problem, constraint: &Constraint) -> Option<Bound>
     requires rule { is_rule (inventory_of _p.now.given) constraint.now ≡ true }
-    ensures bound { result ≡ the_bound_of constraint.now }
+    ensures bound { result ≡ the_bound_of (the_form_of constraint.now) }
     ensures weight { IfSome result (λ b. IsWeight _p.now.given b.weight) }
 {
-    match constraint {
-        Constraint::ResourceCapacity {
-            nodes,
-            resource,
+    match form_of(constraint) {
+        Form::Bounded(weight, nodes, amount) => Some(Bound {
+            weight,
+            nodes: *nodes,
             amount,
-            ..
-        } => Some(Bound {
-            weight: Weight::Amount(*resource),
-            nodes: *nodes,
-            amount: *amount,
         }),
-        Constraint::RunningCapacity { nodes, amount, .. } => Some(Bound {
-            weight: Weight::Presence,
-            nodes: *nodes,
-            amount: *amount,
-        }),
-        Constraint::Spread { .. }
-        | Constraint::Ban { .. }
-        | Constraint::Fence { .. }
-        | Constraint::Gather { .. }
-        | Constraint::Lonely { .. }
-        | Constraint::Among { .. }
-        | Constraint::Split { .. }
-        | Constraint::Root { .. }
-        | Constraint::Precedence { .. }
-        | Constraint::Serialize { .. }
-        | Constraint::Preserve { .. }
-        | Constraint::MaxOnline { .. }
-        | Constraint::Overbook { .. }
-        | Constraint::Online { .. }
-        | Constraint::Offline { .. }
-        | Constraint::Running { .. }
-        | Constraint::Sleeping { .. }
-        | Constraint::Ready { .. }
-        | Constraint::Killed { .. } => None,
+        Form::Apart(_)
+        | Form::Allowed(..)
+        | Form::Together(..)
+        | Form::Ordered(..)
+        | Form::InTurn(_)
+        | Form::Powered(..)
+        | Form::Settled => None,
     }
 }

@@ -5,11 +5,12 @@ ghost use Rattle.rule_setload.specs.Covers.{set_kinds};
 use crate::amounts::{AmountKeeper, AmountWatcher};
 use catalogue::Problem;
 use cluster::Instant;
-use constraint_kinds::reason_kind;
 use domains::View;
 use reasons::{Reason, ReasonKind};
 use rule_constraint::watcher::Kinds;
 use rule_frame::rule::Rule;
+use slices::Form;
+use slices::form::form_of;
 
 /// Amounts on the nodes of a set: `resourceCapacity`, `runningCapacity`, `maxOnline`.
 #[derive(Clone, Copy, Default)]
@@ -24,20 +25,15 @@ impl Kinds for Sets {
 
     // it is broken by an amount, and has no witness
     fn reason(&self, p: &Problem, _view: &View, c: u32, t: Instant) -> Reason {
-        match reason_kind(&p.constraints()[c as usize]) {
-            Some(ReasonKind::SetLoad) => Reason::SetLoad(c, t),
-            Some(ReasonKind::Power) => Reason::Power(c, t),
-            Some(
-                ReasonKind::Empty
-                | ReasonKind::Bound
-                | ReasonKind::Load
-                | ReasonKind::Pair
-                | ReasonKind::Place
-                | ReasonKind::Group
-                | ReasonKind::Usable
-                | ReasonKind::Hall,
-            )
-            | None => unreachable!(),
+        match form_of(&p.constraints()[c as usize]) {
+            Form::Bounded(..) => Reason::SetLoad(c, t),
+            Form::Powered(..) => Reason::Power(c, t),
+            Form::Apart(_)
+            | Form::Allowed(..)
+            | Form::Together(..)
+            | Form::Ordered(..)
+            | Form::InTurn(_)
+            | Form::Settled => unreachable!(),
         }
     }
 

@@ -5,6 +5,7 @@ ghost use Rattle.cluster.specs.Sets.{has_node};
 ghost use Rattle.catalogue.specs.Faults.{is_rule};
 ghost use Rattle.catalogue.specs.Instance.{inventory_of};
 ghost use Rattle.slices.specs.Elements.{machine_count};
+ghost use Rattle.slices.specs.Forms.{form_of};
 ghost use Rattle.relax.specs.Areas.{IsWeight};
 ghost use Rattle.closing.specs.Most.{unit_of};
 ghost use Rattle.rule_setload.specs.Amounts.{AreAllStayers, AreStayersOf, AreStayersTo, bound_of as the_bound_of, stay_of};
@@ -85,7 +86,7 @@ fn all_of(p: &Problem, bound: &Bound) -> Stayers
 // for what a constraint bounds, if it bounds something
 fn stayers_of(p: &Problem, constraint: &Constraint) -> Stayers
     requires rule { is_rule (inventory_of p.now.given) constraint.now ≡ true }
-    ensures { AreStayersOf p.now.given (the_bound_of constraint.now) result }
+    ensures { AreStayersOf p.now.given (the_bound_of (form_of constraint.now)) result }
 {
     match bound_of(p, constraint) {
         None => Stayers { total: 0, most: 0 },

@@ -1,2 +1,0 @@
-pub mod Public
-mod KindLemmas

@@ -1,0 +1,15 @@
+use Rattle.std.proofs.Common.{◌∙◌}
+use Rattle.catalogue.proofs.Public.{below_parts}
+use Rattle.slices.specs.Elements.{machine_count}
+use Rattle.domains.specs.Sets.{sets}
+use Rattle.rule_pair.proofs.ApartLemmas.{between_clear, each_clear, on_clear}
+use Rattle.rule_pair.proofs.clear.all_alone.Goals as goal
+
+pub parts_alone-requires-clause-machines : goal.parts_alone-requires-clause-machines
+parts_alone-requires-clause-machines c = rw c.items-in-Between.ensures (below_parts (machine_count c.args.p.now.given) c.in-Between.parts.now ∙ (rw c.in-Between.is at c.requires.machines))
+
+pub returns-in-Each : goal.returns-in-Each
+returns-in-Each c = rw c.in-Each.is (on_clear c.each_alone.result _ _ (each_clear c.args.p.now.given (sets c.args.g.now) c.in-Each.machines.now) (rw c.items.ensures at c.each_alone.ensures))
+
+pub returns-in-Between : goal.returns-in-Between
+returns-in-Between c = rw c.in-Between.is (on_clear c.parts_alone.result _ _ (between_clear c.args.p.now.given (sets c.args.g.now) c.in-Between.parts.now) (rw c.items-in-Between.ensures at c.parts_alone.ensures))
