@@ -60,6 +60,13 @@ row_is_end P d rows i c same climbs h end = end-of_row P d i c (rw same at climb
 pub idle_is_end : (P : Choice → Type 0) (d : DomainView) (rows : List Row) → rows ≡ d.rows → Climbs 0 rows → d.idle ≡ true → P Idle → IsEndThat P (choices d) Idle
 idle_is_end P d rows same climbs idle passes = record { is_end = (ends_of_rows d (rw same at climbs) Idle).1 idle; passes = passes }
 
+-- some row's first start is a choice
+pub row_choice_at : (d : DomainView) (rows : List Row) (k : ℕ) → rows ≡ d.rows → Climbs 0 rows → k < length rows → Contains (choices d) (Act (slice_index_or rows k no_row).place (slice_index_or rows k no_row).lo)
+row_choice_at d rows k same climbs h = rw same (at-row (rw same at climbs) (rw same at h))
+  where
+    at-row : Climbs 0 d.rows → k < length d.rows → Contains (choices d) (Act (row_at d k).place (row_at d k).lo)
+    at-row climbs h = end_is_choice (choices d) (Act (row_at d k).place (row_at d k).lo) ((ends_of_rows d climbs (Act (row_at d k).place (row_at d k).lo)).1 (k, h, refl, inl refl))
+
 -- ---- at one place
 
 abbrev at-place : Place → Choice → Bool

@@ -33,7 +33,7 @@ use Rattle.domains.proofs.Public.{least_of_each}
 use Rattle.reasons.specs.Closed.{IsEnd}
 use Rattle.reasons.specs.Regions.{row_at}
 use Rattle.reasons.specs.Sure.{sure}
-use Rattle.reasons.proofs.Public.{end_is_choice, ends_of_rows}
+use Rattle.reasons.proofs.Public.{ends_of_rows}
 use Rattle.relax.specs.Areas.{goes_in, hosted_in}
 use Rattle.closing.specs.Most.{AreWithin, IsMostOf, IsMostSure, StaysWithin, if_so, unit_of}
 use Rattle.closing.specs.Parts.{IsSpared}
@@ -183,13 +183,6 @@ stay_most p v w set s d rows h seen same climbs none idle = record { each = λ t
     by : (t : ℕ) (c : Choice) → IsEnd (choices d) c → held_at p v w set t c ≤ h
     by t Idle end = idle t
     by t (Act q start) end = let r = (ends_of_rows d (rw same at climbs) (Act q start)).0 end in absurd (omega (arith, r.1, rw same at none))
-
--- some row's first start is a choice
-pub row_choice_at : (d : DomainView) (rows : List Row) (k : ℕ) → rows ≡ d.rows → Climbs 0 rows → k < length rows → Contains (choices d) (Act (slice_index_or rows k no_row).place (slice_index_or rows k no_row).lo)
-row_choice_at d rows k same climbs h = rw same (at-row (rw same at climbs) (rw same at h))
-  where
-    at-row : Climbs 0 d.rows → k < length d.rows → Contains (choices d) (Act (row_at d k).place (row_at d k).lo)
-    at-row climbs h = end_is_choice (choices d) (Act (row_at d k).place (row_at d k).lo) ((ends_of_rows d climbs (Act (row_at d k).place (row_at d k).lo)).1 (k, h, refl, inl refl))
 
 -- what is surely held is no more than what is held under one choice
 pub most_of_one : (p : Instance) (s : Sets) (w : Weight) (set : Nodes) (v most : ℕ) (c : Choice) → Contains (s (vm v)) c → ((t : ℕ) → held_at p v w set t c ≤ most) → IsMostSure p s w set v most

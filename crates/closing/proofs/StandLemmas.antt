@@ -1,10 +1,9 @@
 -- Where a machine stands, by one of its choices.
-use Rattle.std.proofs.Common.{◌≡◌, inl, ℕ, ◌<◌, Bool, true, false, ◌&&◌, ◌||◌, ◌==◌, List, [], length, slice_index_or, Option, Some, None, is_some, IsTrue, refl, sym, ap, ◌∙◌, arith}
+use Rattle.std.proofs.Common.{◌≡◌, ℕ, ◌<◌, Bool, true, false, ◌&&◌, ◌||◌, ◌==◌, List, [], Option, Some, None, is_some, IsTrue, refl, sym, ap, ◌∙◌, arith}
 use Rattle.std.specs.List.{Contains}
 use Rattle.std.proofs.lemmas.Bool.{eq-eqb, false≢true, or_left, or_right}
 use Rattle.std.proofs.lemmas.Bool.Decides.{nat_tests}
 use Rattle.cluster.specs.declared.choices.Choice.{Choice}
-use Rattle.cluster.specs.declared.choices.Choice.TheVariants.{Act}
 use Rattle.cluster.specs.declared.choices.Place.TheVariants.{At}
 use Rattle.cluster.specs.declared.ids.NodeId.{NodeId}
 use Rattle.catalogue.specs.Instance.{Instance}
@@ -12,13 +11,9 @@ use Rattle.slices.specs.declared.slice.Weight.TheVariants.{Presence}
 use Rattle.slices.specs.Elements.{state_of, vm}
 use Rattle.slices.specs.Snapshots.{present_at}
 use Rattle.slices.specs.Stages.{one}
-use Rattle.domains.specs.Choices.{DomainView, Climbs, choices, no_row}
-use Rattle.domains.specs.declared.parts.Row.{Row}
 use Rattle.domains.specs.Sets.{Sets, surely}
 use Rattle.domains.proofs.Public.{surely_each}
-use Rattle.reasons.specs.Regions.{row_at}
 use Rattle.reasons.specs.Sure.{sure}
-use Rattle.reasons.proofs.Public.{end_is_choice, ends_of_rows}
 use Rattle.reasons.specs.Closed.{IsEnd}
 use Rattle.relax.specs.Areas.{goes_in, hosted_in}
 use Rattle.relax.proofs.Public.{away}
@@ -27,17 +22,6 @@ use Rattle.closing.specs.Parts.{FailAtEnds, IsEndThat, PassOnlyAt}
 use Rattle.closing.specs.declared.base.stands.Stands.{Stands}
 use Rattle.closing.specs.declared.base.stands.Stands.TheVariants.{On}
 use Rattle.closing.specs.Stands.{AreWithin, IsOn, IsWithin, has_node_of, is_node}
-
--- the first start of the first row is a choice
-first-choice : (d : DomainView) → Climbs 0 d.rows → 0 < length d.rows → Contains (choices d) (Act (row_at d 0).place (row_at d 0).lo)
-first-choice d climbs h = end_is_choice (choices d) (Act (row_at d 0).place (row_at d 0).lo) ((ends_of_rows d climbs (Act (row_at d 0).place (row_at d 0).lo)).1 (0, h, refl, inl refl))
-
-pub row_choice : (d : DomainView) (rows : List Row) → rows ≡ d.rows → Climbs 0 rows → 0 < length rows → Contains (choices d) (Act (slice_index_or rows 0 no_row).place (slice_index_or rows 0 no_row).lo)
-row_choice d rows same climbs h = rw same (first-choice d (rw same at climbs) (rw same at h))
-
--- and an end
-pub row_end : (d : DomainView) (rows : List Row) → rows ≡ d.rows → Climbs 0 rows → 0 < length rows → (c : Choice) × IsEnd (choices d) c
-row_end d rows same climbs h = (Act (row_at d 0).place (row_at d 0).lo, (ends_of_rows d (rw same at climbs) (Act (row_at d 0).place (row_at d 0).lo)).1 (0, rw same at h, refl, inl refl))
 
 -- ---- who has no choice stands everywhere; else where one choice has it, and all others
 

@@ -21,15 +21,15 @@ use cluster::{Instant, NodeId};
 use domains::Region;
 use relax::Area;
 
-/// One thing that can be broken.
+// one thing that can be broken
 trait Watched {
-    /// What of the problem a look needs.
+    // what of the problem a look needs
     ghost ready: { Self → Instance → Type 0 };
 
-    /// When it is broken, and what it looks at.
+    // when it is broken, and what it looks at
     ghost watch: { Self → Instance → Watch };
 
-    /// A look at one instant.
+    // a look at one instant
     fn found(&self, p: &Problem, g: &Region, t: Instant) -> Look
         requires region { IsSized p.now.given g.now }
         requires ready { ready self.now p.now.given }
@@ -37,7 +37,7 @@ trait Watched {
         ensures { IsFound (broken_at (watch self.now p.now.given) p.now.given t) p.now.given (sets g.now) t result };
 }
 
-/// The load of one node.
+// the load of one node
 #[derive(Clone, Copy)]
 struct NodeLoad(NodeId);
 
@@ -51,7 +51,7 @@ impl Watched for NodeLoad {
     }
 }
 
-/// The load of all nodes together.
+// the load of all nodes together
 #[derive(Clone, Copy)]
 struct TotalLoad;
 
@@ -65,7 +65,7 @@ impl Watched for TotalLoad {
     }
 }
 
-/// Whether one node is usable where it is needed.
+// whether one node is usable where it is needed
 #[derive(Clone, Copy)]
 struct NodeUsable(NodeId);
 
@@ -79,7 +79,7 @@ impl Watched for NodeUsable {
     }
 }
 
-/// One constraint, by its number.
+// one constraint, by its number
 #[derive(Clone, Copy)]
 struct OneConstraint(u32);
 

@@ -2,19 +2,29 @@
 ghost use Rattle.std.specs.Prelude.{◌≡◌, ◌<◌};
 ghost use Rattle.slices.specs.Elements.{machine_count, state_of};
 ghost use Rattle.slices.specs.Stages.{one};
-ghost use Rattle.relax.specs.Areas.{hosted_in};
+ghost use Rattle.relax.specs.Areas.{hosted_in, nodes_of};
 
 use catalogue::problem::Problem;
-use cluster::{NodeId, State, VmId};
+use cluster::ids::{NodeId, VmId};
+use cluster::states::State;
+use relax::area::{Area, has};
 
-// whether a node is the host of a state
-fn is_host_in(state: State, n: NodeId) -> bool
-    ensures { result ≡ hosted_in state (one n.0) }
+// whether a machine in a state has its host in an area
+fn is_hosted_in(p: &Problem, state: State, area: &Area) -> bool
+    ensures { result ≡ hosted_in state (nodes_of p.now.given area.now) }
 {
     match state {
-        State::Running(h) | State::Sleeping(h) => h.0 == n.0,
+        State::Running(h) | State::Sleeping(h) => has(p, area, h),
         State::Init | State::Ready | State::Gone => false,
     }
+}
+
+/// Whether a machine has its host in an area.
+pub fn is_hosted(p: &Problem, v: VmId, area: &Area) -> bool
+    requires { v.0 < machine_count p.now.given }
+    ensures { result ≡ hosted_in (state_of p.now.given v.0) (nodes_of p.now.given area.now) }
+{
+    is_hosted_in(p, p.cluster().machines()[v.0 as usize].state, area)
 }
 
 /// Whether a node is the host of a machine.
@@ -22,5 +32,5 @@ pub fn is_host(p: &Problem, v: VmId, n: NodeId) -> bool
     requires { v.0 < machine_count p.now.given }
     ensures { result ≡ hosted_in (state_of p.now.given v.0) (one n.0) }
 {
-    is_host_in(p.cluster().machines()[v.0 as usize].state, n)
+    is_hosted(p, v, &Area::One(n))
 }

@@ -4,18 +4,21 @@ ghost use Rattle.std.specs.List.{Contains};
 ghost use Rattle.cluster.specs.Limits.{max_amount};
 ghost use Rattle.cluster.specs.declared.choices.Choice.{Choice as AnyChoice};
 ghost use Rattle.catalogue.specs.Instance.{IsElement};
-ghost use Rattle.slices.specs.Elements.{machine_count, state_of, vm};
+ghost use Rattle.slices.specs.Elements.{machine_count, vm};
 ghost use Rattle.slices.specs.Snapshots.{held_at};
 ghost use Rattle.domains.specs.Choices.{choices, no_row};
 ghost use Rattle.domains.specs.Sets.{sets};
-ghost use Rattle.relax.specs.Areas.{IsSized, IsWeight, goes_in, hosted_in, nodes_of};
+ghost use Rattle.relax.specs.Areas.{IsSized, IsWeight, goes_in, nodes_of};
 ghost use Rattle.closing.specs.Most.{IsMostOf, IsMostSure, if_so, unit_of};
 
+use crate::base::hosts::is_hosted;
 use catalogue::problem::Problem;
-use cluster::{Choice, Element, Place, State, VmId};
-use domains::{Domain, Region, Row};
-use relax::Area;
-use relax::area::has;
+use cluster::choices::{Choice, Place};
+use cluster::ids::{Element, VmId};
+use domains::domain::Domain;
+use domains::parts::Row;
+use domains::region::Region;
+use relax::area::{Area, has};
 use relax::measures::held;
 use slices::Weight;
 
@@ -31,24 +34,6 @@ pub fn unit(p: &Problem, v: VmId, weight: Weight) -> u64
         Weight::Presence => 1,
         Weight::Image => 1,
     }
-}
-
-// whether a machine in a state has its host in an area
-fn is_hosted_in(p: &Problem, state: State, area: &Area) -> bool
-    ensures { result ≡ hosted_in state (nodes_of p.now.given area.now) }
-{
-    match state {
-        State::Running(h) | State::Sleeping(h) => has(p, area, h),
-        State::Init | State::Ready | State::Gone => false,
-    }
-}
-
-/// Whether a machine has its host in an area.
-pub fn is_hosted(p: &Problem, v: VmId, area: &Area) -> bool
-    requires { v.0 < machine_count p.now.given }
-    ensures { result ≡ hosted_in (state_of p.now.given v.0) (nodes_of p.now.given area.now) }
-{
-    is_hosted_in(p, p.cluster().machines()[v.0 as usize].state, area)
 }
 
 // whether a place is in an area

@@ -1,45 +1,29 @@
 //! Whether machines keep apart, told by where each stands: this is quick where nothing is found.
 ghost use Rattle.std.specs.Prelude.{◌≡◌, ◌≢◌, ℕ, ◌<◌, nat_lt, true, IsTrue, length, slice_index_or, []};
 ghost use Rattle.std.specs.List.{list_all};
-ghost use Rattle.cluster.specs.declared.choices.Choice.{Choice as AnyChoice};
 ghost use Rattle.slices.specs.Elements.{machine_count};
 ghost use Rattle.slices.specs.Holds.{IsMember};
 ghost use Rattle.slices.specs.Stages.{one};
-ghost use Rattle.domains.specs.Choices.{Climbs, choices};
 ghost use Rattle.domains.specs.Sets.{sets};
-ghost use Rattle.reasons.specs.Closed.{IsEnd};
 ghost use Rattle.reasons.specs.Sure.{sure};
 ghost use Rattle.relax.specs.Areas.{IsSized};
 ghost use Rattle.closing.specs.Stands.{AreApart, StaysClear, has_node_of};
 
 use crate::base::stands::{Stands, end_beside, standing};
-use catalogue::{Problem, Vms};
-use cluster::{Element, Instant, VmId};
-use domains::{Domain, Region};
-
-// whether a domain has a choice, and so an end
-#[tactic(auto, using(relax::proofs::Public::idle_in, crate::proofs::StandLemmas::row_end))]
-fn has_end(domain: &Domain) -> bool
-    ensures { IsTrue result → (c : AnyChoice) × IsEnd (choices domain.now) c }
-{
-    if domain.idle() {
-        return true;
-    }
-    match domain.rows() {
-        [] => false,
-        [_, ..] => true,
-    }
-}
+use catalogue::lists::Vms;
+use catalogue::problem::Problem;
+use cluster::choices::Instant;
+use cluster::ids::{Element, VmId};
+use domains::region::Region;
 
 // whether a machine has a choice, and is under no end of its choices on a node where another one stands
-#[tactic(auto, using(crate::proofs::ApartLemmas::clear_by))]
 fn stays_clear(p: &Problem, g: &Region, v: VmId, stands: Stands, w: VmId, t: Instant) -> bool
     requires region { IsSized p.now.given g.now }
     requires other { w.0 < machine_count p.now.given }
     requires stands { (n : ℕ) → has_node_of stands n ≡ (sure p.now.given (sets g.now) t).present v.0 (one n) }
     ensures { IsTrue result → StaysClear p.now.given (sets g.now) t v.0 w.0 }
 {
-    if !has_end(g.domain(Element::Vm(w))) {
+    if g.domain(Element::Vm(w)).is_empty() {
         return false;
     }
     match end_beside(p, g, w, stands, t) {

@@ -1,4 +1,4 @@
-use Rattle.closing.proofs.MostLemmas.{row_choice_at}
+use Rattle.closing.proofs.EndLemmas.{row_choice_at}
 use Rattle.closing.proofs.base.most.outer_choice.Goals as goal
 
 pub returns-in-len1-up-clause-some : goal.returns-in-len1-up-clause-some
