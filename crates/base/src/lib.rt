@@ -6,4 +6,4 @@
 
 pub mod memory;
 
-pub use memory::Memory;
+pub use base::memory::Memory;

@@ -8,13 +8,13 @@ use crate::status::Status;
 use base::Memory;
 use branching::brancher::Brancher;
 use branching::stay_first::StayFirst;
+use plan_io::{Desk, Sink, Source};
+use prop_core::propagator::Propagator;
 use rule_group::rule::GroupRule;
+use rule_load::rule::load_rule;
 use rule_pair::rule::PairRule;
 use rule_place::rule::{ForbiddenRule, PlaceRule};
 use rule_setload::rule::SetRule;
-use plan_io::{Desk, Sink, Source};
-use prop_core::propagator::Propagator;
-use rule_load::rule::load_rule;
 use std::alloc::Global;
 
 /// Runs with the five rules, forbidden places before all else, and a brancher, where there is memory for the rules.

@@ -4,6 +4,7 @@ pub mod Rows
 pub mod Kept
 pub mod Undo
 pub mod Sets
+pub mod SetsBefore
 pub mod Sizes
 pub mod Views
 pub mod Measures

@@ -11,6 +11,7 @@ use Rattle.catalogue.specs.Instance.{Instance}
 use Rattle.slices.specs.Elements.{machine_count, vm}
 use Rattle.domains.specs.Choices.{DomainView, choices, row_choices}
 use Rattle.domains.specs.Sets.{Sets, same_element}
+use Rattle.domains.specs.SetsBefore.{putting}
 use Rattle.domains.proofs.Public.{contains_here}
 use Rattle.profiles.specs.Near.{AreMachines}
 use Rattle.profiles.specs.Movers.{AreMovers, IsGrown, IsListedOrStays, IsToldOf}
@@ -64,7 +65,7 @@ all_told p s xs are told = record { machines = are; others = λ v low out. (told
 
 -- after a change of element x, which had other choices
 pub movers_told : (p : Instance) (s : Sets) (x : Element) (cs : List Choice) (xs ys : List ℕ) (count : ℕ) → machine_count p ≡ count →
-    AreMovers p (λ e. cond (same_element e x) cs (s e)) xs → IsGrown count xs ys → IsToldOf s x ys → AreMovers p s ys
+    AreMovers p (putting x cs s) xs → IsGrown count xs ys → IsToldOf s x ys → AreMovers p s ys
 movers_told p s (Node n) cs xs ys count same was grown told = record {
   machines = grown.machines p same was.machines;
   others = λ v low out. was.others v low (λ old. out (grown.kept v old));

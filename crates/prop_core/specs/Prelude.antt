@@ -11,5 +11,5 @@ pub use Rattle.reasons.specs.declared.reason.Reason.{Reason}
 pub use Rattle.reasons.specs.declared.reason.ReasonKind.{ReasonKind}
 pub use Rattle.prop_core.specs.Levels.{AllFollow, AtMarks, Follows, IsTrailOf}
 pub use Rattle.prop_core.specs.Lists.{AllRight, BackSame, Covered, given_sum, is_covered, MarkedSame, Pairs, PostedSame, Rise, SameCover, steps_shown, ToldSame, TopsAgree}
-pub use Rattle.prop_core.specs.Propagators.{AllQuiet, counted, CutHolds, IsAsked, IsNarrowed, IsRegionOf, IsRight, IsStandard, KeepsBelow, Meaning, most, SameRule, sets_before, TopAgrees}
+pub use Rattle.prop_core.specs.Propagators.{AllQuiet, counted, CutHolds, IsAsked, IsNarrowed, IsRegionOf, IsRight, IsStandard, KeepsBelow, Meaning, most, SameRule, TopAgrees}
 pub use Rattle.prop_core.specs.declared.propagator.Answer.TheVariants.{Quiet}

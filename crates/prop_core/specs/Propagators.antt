@@ -7,6 +7,11 @@ use Rattle.cluster.specs.declared.ids.Element.{Element}
 use Rattle.domains.specs.declared.parts.Change.{Change}
 use Rattle.domains.specs.declared.parts.Part.{Part}
 use Rattle.domains.specs.declared.undo.Before.{Before}
+use Rattle.domains.specs.Choices.{DomainView, choices}
+use Rattle.domains.specs.Parts.{in_part, on_side}
+use Rattle.domains.specs.Sets.{RegionView, Sets, domain_at, keeping, same_element, sets}
+use Rattle.domains.specs.SetsBefore.{sets_before}
+use Rattle.domains.specs.Undo.{domain_before}
 use Rattle.reasons.specs.declared.reason.Reason.{Reason}
 use Rattle.reasons.specs.declared.reason.ReasonKind.{ReasonKind}
 use Rattle.reasons.specs.declared.reason.Reason.TheVariants as reason
@@ -38,14 +43,6 @@ most = 2 ^ 64 - 1
 pub record IsRegionOf (p : Instance) (g : RegionView) : Type 0 where
   pub sized : IsSized p g
   pub legal : AreLegal p (sets g)
-
--- the element x has these choices, the others keep theirs
-abbrev pub putting : Element → List Choice → Sets → Sets
-putting x cs s e = if same_element e x then cs else s e
-
--- the sets before a change of x, of which is told what the domain of x was
-abbrev pub sets_before : RegionView → Element → Before → DomainView → Sets
-sets_before g x before kept = putting x (choices (domain_before before kept (domain_at g x))) (sets g)
 
 -- the change has narrowed its element, which is one of the instance, from legal choices to what it has in the region
 pub record IsNarrowed (p : Instance) (g : RegionView) (change : Change) (before : Before) (kept : DomainView) : Type 0 where

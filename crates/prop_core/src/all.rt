@@ -1,7 +1,9 @@
 //! Calls on all propagators of a list, one after the other.
-ghost use Rattle.std.specs.Prelude.{All};
-ghost use Rattle.base.specs.Prelude.{◌<◌, OnOk};
-ghost use Rattle.prop_core.specs.Prelude.{BackSame, IsNarrowed, IsRegionOf, MarkedSame, most, Pairs, PostedSame, SameRule, sets, sets_before, ToldSame, TopsAgree};
+ghost use Rattle.std.specs.Prelude.{◌<◌, OnOk, All};
+ghost use Rattle.domains.specs.Sets.{sets};
+ghost use Rattle.prop_core.specs.Lists.{BackSame, MarkedSame, Pairs, PostedSame, ToldSame, TopsAgree};
+ghost use Rattle.domains.specs.SetsBefore.{sets_before};
+ghost use Rattle.prop_core.specs.Propagators.{IsNarrowed, IsRegionOf, SameRule, most};
 
 use crate::propagator::Propagator;
 use base::Memory;

@@ -1,7 +1,8 @@
 //! The trait of propagators.
 ghost use Rattle.std.specs.Prelude.{◌≡◌, ◌<◌, OnOk, OnErr, IfOk, MatchResult};
 ghost use Rattle.domains.specs.Sets.{sets};
-ghost use Rattle.prop_core.specs.Propagators.{IsAsked, IsBack, IsMarked, IsNarrowed, IsPosted, IsRegionOf, IsRight, IsTold, IsUnchanged, Meaning, SameRule, TopAgrees, counted, most, sets_before};
+ghost use Rattle.domains.specs.SetsBefore.{sets_before};
+ghost use Rattle.prop_core.specs.Propagators.{IsAsked, IsBack, IsMarked, IsNarrowed, IsPosted, IsRegionOf, IsRight, IsTold, IsUnchanged, Meaning, SameRule, TopAgrees, counted, most};
 
 use base::memory::Memory;
 use catalogue::Problem;

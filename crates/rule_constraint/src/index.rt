@@ -10,10 +10,10 @@ ghost use Rattle.rule_frame.specs.Changes.{IsDisturbed};
 ghost use Rattle.slices.specs.Holds.{IsInPart, IsMember};
 ghost use Rattle.rule_constraint.specs.Indexes.{AreLooking, AreMarked, IsAdded, IsIndexOf, IsPut};
 
+use base::Memory;
 use catalogue::{Constraint, Problem, Vms};
 use cluster::{Element, NodeId, NodeSet, VmId};
 use domains::{Before, Change, Domain, Region};
-use base::Memory;
 use profiles::number_lists::NumberLists;
 use rule_frame::keeper::Keeper;
 use rule_frame::marks::Marks;

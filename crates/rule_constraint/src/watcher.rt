@@ -8,12 +8,12 @@ ghost use Rattle.rule_constraint.specs.Quiet.{kinds_are_quiet, watches_are_local
 
 use crate::index::{ConstraintIndex, mark_looking};
 use crate::kinds::reason_kind;
+use base::Memory;
 use catalogue::Problem;
 use closing::look::Look;
 use closing::watch::look_at_constraint;
 use cluster::{Element, Instant};
 use domains::{Before, Change, Domain, Part, Region, View};
-use base::Memory;
 use reasons::{Reason, ReasonKind};
 use relax::refutes::refutes_inside;
 use rule_frame::marks::Marks;

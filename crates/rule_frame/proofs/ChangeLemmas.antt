@@ -12,7 +12,7 @@ use Rattle.reasons.specs.Closed.{IsEnd}
 use Rattle.reasons.specs.Sure.{sure}
 use Rattle.closing.specs.Looks.{IsClean, broken_at}
 use Rattle.closing.specs.Watches.{IsLocal, IsPartWithin, IsUnseen, Scope, Watch}
-use Rattle.prop_core.specs.Propagators.{putting}
+use Rattle.domains.specs.SetsBefore.{putting}
 use Rattle.rule_frame.specs.Changes.{IsLess, IsStill}
 use Rattle.rule_frame.specs.Laws.{StillClean, UnseenStill}
 

@@ -5,7 +5,7 @@ use Rattle.cluster.specs.declared.ids.Element.{Element}
 use Rattle.catalogue.specs.Instance.{Instance, IsElement}
 use Rattle.domains.specs.Sets.{Sets}
 use Rattle.closing.specs.Watches.{IsLocal, Watch}
-use Rattle.prop_core.specs.Propagators.{putting}
+use Rattle.domains.specs.SetsBefore.{putting}
 use Rattle.rule_frame.specs.Changes.{AreClean, IsDisturbed, IsKept}
 use Rattle.rule_frame.specs.Levels.{Levels}
 use Rattle.rule_frame.proofs.ChangeLemmas.{still_clean}

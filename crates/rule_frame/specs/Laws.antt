@@ -6,8 +6,10 @@ use Rattle.catalogue.specs.Instance.{Instance, IsElement}
 use Rattle.domains.specs.Sets.{Sets}
 use Rattle.closing.specs.Watches.{IsLocal, IsUnseen, Scope, Watch}
 use Rattle.closing.specs.Looks.{IsClean}
-use Rattle.prop_core.specs.Propagators.{putting}
-use Rattle.rule_frame.specs.Changes.{IsStill}
+use Rattle.domains.specs.SetsBefore.{putting}
+use Rattle.rule_frame.specs.Changes.{IsDisturbed, IsStill}
+use Rattle.rule_frame.specs.Indexes.{AreLooking}
+use Rattle.rule_frame.specs.Levels.{Levels}
 
 -- a clean watch stays clean where a change does not weigh on it
 abbrev pub StillClean : Type 1

@@ -1,7 +1,8 @@
 //! What is kept beside a rule, with levels.
 ghost use Rattle.std.specs.Prelude.{◌≡◌, ◌<◌, OnErr, OnOk};
 ghost use Rattle.domains.specs.Sets.{sets};
-ghost use Rattle.prop_core.specs.Propagators.{IsNarrowed, IsRegionOf, most, sets_before};
+ghost use Rattle.domains.specs.SetsBefore.{sets_before};
+ghost use Rattle.prop_core.specs.Propagators.{IsNarrowed, IsRegionOf, most};
 ghost use Rattle.rule_frame.specs.Caches.{Cache, IsCacheBack, IsCacheFor, IsCacheMarked, IsCachePosted, IsCacheSame, IsCacheTold};
 
 use base::memory::Memory;

@@ -22,7 +22,8 @@ use Rattle.profiles.specs.Near.{IsNear, IsPut, list_at}
 use Rattle.profiles.proofs.Public.{level_below, level_top, near_put}
 use Rattle.profiles.specs.Movers.{AreMovers, IsGrown}
 use Rattle.profiles.proofs.Public.{movers_grown}
-use Rattle.prop_core.specs.Propagators.{IsNarrowed, sets_before}
+use Rattle.domains.specs.SetsBefore.{sets_before}
+use Rattle.prop_core.specs.Propagators.{IsNarrowed}
 use Rattle.rule_frame.specs.Caches.{IsCacheTold}
 use Rattle.profiles.specs.declared.standing.numbers.Arrival.{Arrival}
 use Rattle.profiles.specs.declared.standing.numbers.Standing.{Standing}

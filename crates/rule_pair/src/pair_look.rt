@@ -15,8 +15,8 @@ use closing::look::Look;
 use closing::watch::look_at_constraint;
 use cluster::{Choice, Element, NodeId, Place};
 use domains::{Domain, Lens, Region, View};
-use profiles::standing::pairs::is_pair;
 use profiles::host::is_host;
+use profiles::standing::pairs::is_pair;
 
 // whether a place is a node
 fn is_at(place: Place, n: NodeId) -> bool {

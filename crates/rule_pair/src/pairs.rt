@@ -13,12 +13,12 @@ ghost use Rattle.prop_core.specs.Propagators.{FailHolds};
 use catalogue::{Constraint, Problem, Vms};
 use cluster::{Choice, Element, Instant, NodeId, VmId};
 use domains::{Lens, View};
+use profiles::standing::pairs::is_pair;
+use profiles::standing::stays::surely_at;
 use reasons::Reason;
 use rule_constraint::machines::likely_node;
 use slices::Form;
 use slices::form::{Separation, form_of};
-use profiles::standing::pairs::is_pair;
-use profiles::standing::stays::surely_at;
 
 /// How a constraint keeps machines apart, if it does.
 pub fn separation_of(constraint: &Constraint) -> Option<Separation<'_>>

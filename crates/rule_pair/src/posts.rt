@@ -13,8 +13,8 @@ use crate::stays::leave_or_later;
 use catalogue::Problem;
 use cluster::{Element, Instant, NodeId, VmId};
 use domains::{Domain, Region};
-use rule_constraint::machines::host;
 use profiles::standing::numbers::{Arrival, Standing, standing_of};
+use rule_constraint::machines::host;
 
 /// A node, and the last instant at which a machine may surely be there.
 #[derive(Clone, Copy)]

@@ -7,10 +7,10 @@ ghost use Rattle.slices.specs.Forms.{separated, separation_seen};
 ghost use Rattle.relax.specs.Areas.{IsSized};
 
 use crate::pairs::separation_of;
+use base::Memory;
 use catalogue::{Problem, Vms};
 use cluster::{Element, Instant, NodeId, Place, VmId};
 use domains::{Change, Part, Region, Side};
-use base::Memory;
 use reasons::Reason;
 use rule_frame::suggestion::Suggestion;
 use slices::form::Separation;

@@ -9,8 +9,8 @@ ghost use Rattle.profiles.specs.Standing.Standings.{leave_of};
 
 use catalogue::Problem;
 use cluster::{Choice, Element, Instant, VmId};
-use domains::{Domain, Row};
 use domains::measure::Measure;
+use domains::{Domain, Row};
 use profiles::standing::leaves::{Leaves, leaves_of};
 use profiles::standing::numbers::Leaving;
 

@@ -14,12 +14,12 @@ ghost use Rattle.rule_place.specs.Shutdowns.{IsShutdown, LetsGo};
 use crate::leaving::leaves_by;
 use catalogue::Problem;
 use cluster::{Choice, Element, Instant, NodeId, Place, VmId};
-use domains::{Change, Domain, Part, Region, Row, Side};
 use domains::measure::Measure;
-use slices::choice::usable;
+use domains::{Change, Domain, Part, Region, Row, Side};
+use profiles::host::is_host;
 use profiles::standing::leaves::leaves_of;
 use profiles::standing::numbers::Leaving;
-use profiles::host::is_host;
+use slices::choice::usable;
 
 /// The first and the last start of a node that shuts down.
 #[derive(Clone, Copy)]

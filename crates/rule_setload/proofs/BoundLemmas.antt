@@ -27,7 +27,7 @@ use Rattle.closing.specs.Watches.{Watch}
 use Rattle.rule_constraint.specs.Given.{reason_kind}
 use Rattle.rule_constraint.proofs.Public.{of_kind}
 use Rattle.reasons.specs.declared.reason.ReasonKind.TheVariants.{SetLoad}
-use Rattle.prop_core.specs.Propagators.{sets_before}
+use Rattle.domains.specs.SetsBefore.{sets_before}
 use Rattle.rule_frame.specs.Caches.{IsCacheTold}
 use Rattle.rule_constraint.specs.Indexes.{Lists}
 use Rattle.profiles.specs.Movers.{IsGrown, IsToldOf}

@@ -11,12 +11,12 @@ ghost use Rattle.closing.specs.Most.{unit_of};
 ghost use Rattle.rule_setload.specs.Amounts.{AreAllStayers, AreStayersOf, AreStayersTo, bound_of as the_bound_of, stay_of};
 
 use crate::bounds::{Bound, bound_of};
+use base::Memory;
 use catalogue::{Constraint, Problem};
 use cluster::VmId;
-use base::Memory;
+use profiles::standing::uses::base;
 use rule_constraint::machines::host;
 use slices::Weight;
-use profiles::standing::uses::base;
 use std::alloc::Global;
 
 /// What machines have on the nodes of a bound at present, and the most that one of them brings.

@@ -23,7 +23,8 @@ use Rattle.relax.specs.Areas.{hosted_in}
 use Rattle.reasons.specs.Sure.{sure}
 use Rattle.profiles.specs.Standing.Laws.{BeforeLaw, FewerLaw, GrowLaw, KeptLaw, LoadLaw, PresencesLaw, PresentLaw}
 use Rattle.profiles.specs.Standing.Standings.{base, gain, has_come, have_come, kept_use, leave_of, never}
-use Rattle.profiles.specs.Standing.Tables.{no_standing, sets_before}
+use Rattle.domains.specs.SetsBefore.{sets_before}
+use Rattle.profiles.specs.Standing.Tables.{no_standing}
 use Rattle.profiles.proofs.StandingLemmas.Choices.{apart, held_one}
 use Rattle.profiles.proofs.StandingLemmas.Lists.{in_parts, least_in_parts, least_same, positive_each}
 

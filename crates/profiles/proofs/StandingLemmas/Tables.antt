@@ -10,7 +10,8 @@ use Rattle.slices.specs.Elements.{machine_count, vm}
 use Rattle.domains.specs.Sets.{Sets}
 use Rattle.profiles.specs.declared.standing.numbers.Standing.{Standing}
 use Rattle.profiles.specs.Standing.Standings.{IsStanding}
-use Rattle.profiles.specs.Standing.Tables.{AreStanding, AreStandingUpTo, no_standing, putting}
+use Rattle.domains.specs.SetsBefore.{putting}
+use Rattle.profiles.specs.Standing.Tables.{AreStanding, AreStandingUpTo, no_standing}
 
 -- what is there already changes nothing
 pub set_same : (top : List Standing) (v : ℕ) (k d : Standing) → k ≡ slice_index_or top v d → slice_set top v k ≡ top

@@ -18,7 +18,8 @@ use Rattle.domains.specs.Undo.{domain_before}
 use Rattle.reasons.specs.Sure.{sure}
 use Rattle.profiles.specs.declared.standing.numbers.Standing.{Standing}
 use Rattle.profiles.specs.Standing.Standings.{IsStanding, comes_by, kept_use, never}
-use Rattle.profiles.specs.Standing.Tables.{AreStanding, no_standing, sets_before}
+use Rattle.domains.specs.SetsBefore.{sets_before}
+use Rattle.profiles.specs.Standing.Tables.{AreStanding, no_standing}
 
 -- the least that is held over the choices: amounts, presences and images, whatever the machine's state
 abbrev pub KeptLaw : Type 0

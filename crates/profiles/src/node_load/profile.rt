@@ -10,7 +10,7 @@ ghost use Rattle.domains.specs.Undo.{domain_before};
 ghost use Rattle.reasons.specs.Sure.{sure};
 ghost use Rattle.relax.specs.Areas.{IsSized};
 ghost use Rattle.profiles.specs.Levels.{IsBack, marked};
-ghost use Rattle.profiles.specs.Standing.Tables.{sets_before};
+ghost use Rattle.domains.specs.SetsBefore.{sets_before};
 ghost use Rattle.profiles.specs.NodeLoad.{IsProfile};
 
 use crate::node_load::share::{Share, shares_of, total_use};

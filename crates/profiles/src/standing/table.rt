@@ -7,7 +7,8 @@ ghost use Rattle.domains.specs.Sets.{domain_at, sets};
 ghost use Rattle.domains.specs.Undo.{domain_before};
 ghost use Rattle.relax.specs.Areas.{IsSized};
 ghost use Rattle.profiles.specs.Levels.{IsBack, marked};
-ghost use Rattle.profiles.specs.Standing.Tables.{AreStanding, no_standing, sets_before};
+ghost use Rattle.domains.specs.SetsBefore.{sets_before};
+ghost use Rattle.profiles.specs.Standing.Tables.{AreStanding, no_standing};
 
 use crate::levels::Levelled;
 use crate::standing::numbers::{Standing, is_same, standing_after, standing_of};

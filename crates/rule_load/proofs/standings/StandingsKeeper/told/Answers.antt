@@ -7,7 +7,7 @@ use Rattle.domains.specs.Sets.{domain_at, sets}
 use Rattle.domains.specs.Undo.{domain_before}
 use Rattle.domains.proofs.Public.{filter_is_fewer}
 use Rattle.profiles.proofs.Public.{movers_told}
-use Rattle.prop_core.specs.Propagators.{sets_before}
+use Rattle.domains.specs.SetsBefore.{sets_before}
 use Rattle.rule_load.proofs.KeptLemmas.{cache_told, come_told, kept_fewer}
 use Rattle.rule_load.proofs.standings.StandingsKeeper.told.Goals as goal
 
