@@ -6,4 +6,4 @@
 
 pub mod memory;
 
-pub use base::memory::Memory;
+pub use memory::Memory;

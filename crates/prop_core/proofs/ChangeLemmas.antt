@@ -4,11 +4,7 @@ use Rattle.base.proofs.Public.{◌≡◌, Bool, true, false, cond, List, length,
 use Rattle.prop_core.specs.Prelude.{AllFollow, AreFewer, AreLegal, Before, Change, Choice, choices, domain_at, domain_before, DomainView, Element, Instance, IsElement, IsNarrowed, IsRegionOf, keeping, Marked, Meaning, Node, on_side, RegionView, same_element, Sets, sets, TopsAgree, Vm}
 use Rattle.domains.proofs.Public.{filter_is_fewer, same_is}
 use Rattle.relax.proofs.Public.{legal_stays}
-use Rattle.trail.specs.Logs.{Marked}
 use Rattle.domains.specs.SetsBefore.{sets_before}
-use Rattle.prop_core.specs.Propagators.{IsNarrowed, IsRegionOf, Meaning}
-use Rattle.prop_core.specs.Lists.{TopsAgree}
-use Rattle.prop_core.specs.Levels.{AllFollow}
 use Rattle.prop_core.proofs.LevelLemmas.{tops}
 
 self : (x : Element) → same_element x x ≡ true

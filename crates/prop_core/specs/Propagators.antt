@@ -7,11 +7,7 @@ use Rattle.cluster.specs.declared.ids.Element.{Element}
 use Rattle.domains.specs.declared.parts.Change.{Change}
 use Rattle.domains.specs.declared.parts.Part.{Part}
 use Rattle.domains.specs.declared.undo.Before.{Before}
-use Rattle.domains.specs.Choices.{DomainView, choices}
-use Rattle.domains.specs.Parts.{in_part, on_side}
-use Rattle.domains.specs.Sets.{RegionView, Sets, domain_at, keeping, same_element, sets}
 use Rattle.domains.specs.SetsBefore.{sets_before}
-use Rattle.domains.specs.Undo.{domain_before}
 use Rattle.reasons.specs.declared.reason.Reason.{Reason}
 use Rattle.reasons.specs.declared.reason.ReasonKind.{ReasonKind}
 use Rattle.reasons.specs.declared.reason.Reason.TheVariants as reason
