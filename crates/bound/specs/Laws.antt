@@ -1,5 +1,5 @@
 -- Laws of the sum of least ends, for those who keep one beside a region that is changed.
-use Rattle.base.specs.Prelude.{◌≡◌, ◌≢◌, ℕ, ◌≤◌, Bool, length}
+use Rattle.std.specs.Prelude.{◌≡◌, ◌≢◌, ℕ, ◌≤◌, Bool, length}
 use Rattle.relax.specs.Prelude.{AreFewer, AreLegal, choices, domain_at, DomainView, HasElement, Instance, IsElement, IsInstance, IsSized, keeping, least_cost, max_cost, RegionView, Sets, sets, with_domain}
 use Rattle.cluster.specs.declared.choices.Choice.{Choice}
 use Rattle.cluster.specs.declared.ids.Element.{Element}

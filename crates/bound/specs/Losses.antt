@@ -1,5 +1,6 @@
 -- The least value before choices were lost.
-use Rattle.base.specs.Prelude.{ℕ, List, Option, unwrap_or, lowest}
+use Rattle.std.specs.Prelude.{ℕ, List, Option, unwrap_or}
+use Rattle.base.specs.Least.{lowest}
 use Rattle.cluster.specs.declared.choices.Choice.{Choice}
 use Rattle.domains.specs.Measures.{lower_option}
 

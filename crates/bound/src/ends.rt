@@ -1,6 +1,5 @@
 //! The least end of one element, and what a change of its domain makes of a sum of least ends.
-ghost use Rattle.std.specs.Prelude.{filter};
-ghost use Rattle.base.specs.Prelude.{◌≡◌, ◌+◌, ◌≤◌, max};
+ghost use Rattle.std.specs.Prelude.{filter, ◌≡◌, ◌+◌, ◌≤◌, max};
 ghost use Rattle.relax.specs.Prelude.{AreFewer, choices, domain_before, end_of, IsElement, least, lost_choices, lowest as lowest_of, max_cost, stays};
 ghost use Rattle.bound.specs.Losses.{least_with};
 

@@ -1,5 +1,5 @@
 //! The running sum.
-ghost use Rattle.base.specs.Prelude.{◌≡◌, ◌<◌, ◌∷◌, [], OnErr, OnOk, IfOk, length};
+ghost use Rattle.std.specs.Prelude.{◌≡◌, ◌<◌, ◌∷◌, [], OnErr, OnOk, IfOk, length};
 ghost use Rattle.relax.specs.Prelude.{AreFewer, AreLegal, choices, domain_at, domain_before, IsElement, IsSized, least_cost as least_cost_of, sets, with_domain};
 
 use crate::ends::after_change;

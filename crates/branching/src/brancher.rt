@@ -1,5 +1,5 @@
 //! What a search asks where to split.
-ghost use Rattle.base.specs.Prelude.{◌≡◌};
+ghost use Rattle.std.specs.Prelude.{◌≡◌};
 ghost use Rattle.branching.specs.Prelude.{AreLegal, HaveChoices, IsFixed, IsPlanOf, IsSized, IsSplit, sets};
 
 use catalogue::problem::Problem;

@@ -1,5 +1,5 @@
 //! When the rows of an element end first.
-ghost use Rattle.base.specs.Prelude.{◌≡◌, ◌<◌, length};
+ghost use Rattle.std.specs.Prelude.{◌≡◌, ◌<◌, length};
 ghost use Rattle.branching.specs.Prelude.{Act, end_of, IsElement};
 
 use catalogue::problem::Problem;

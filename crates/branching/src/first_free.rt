@@ -1,5 +1,5 @@
 //! The first element that is not fixed, by half a row.
-ghost use Rattle.base.specs.Prelude.{◌≡◌};
+ghost use Rattle.std.specs.Prelude.{◌≡◌};
 ghost use Rattle.branching.specs.Prelude.{AreLegal, domain_at, HaveChoices, IsFirstFree, IsFirstUnfixed, IsFixed, IsSized, IsSplit, sets};
 
 use crate::brancher::Brancher;

@@ -1,5 +1,5 @@
 //! What a known plan forces: a choice of which the other side fails by its cost.
-ghost use Rattle.base.specs.Prelude.{IfSome};
+ghost use Rattle.std.specs.Prelude.{IfSome};
 ghost use Rattle.branching.specs.Prelude.{IsElement, IsSized, IsUnfixed};
 
 use crate::ends::{first_end, soonest};

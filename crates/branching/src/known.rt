@@ -1,5 +1,5 @@
 //! What `StayFirst` works out once for a problem.
-ghost use Rattle.base.specs.Prelude.{◌<◌, ◌≤◌, length};
+ghost use Rattle.std.specs.Prelude.{◌<◌, ◌≤◌, length};
 ghost use Rattle.branching.specs.Prelude.{IsElement, max_capacity};
 
 use crate::ends::first_end;

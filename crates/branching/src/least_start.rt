@@ -1,5 +1,5 @@
 //! The first element that is not fixed, by its earliest choice.
-ghost use Rattle.base.specs.Prelude.{◌≡◌};
+ghost use Rattle.std.specs.Prelude.{◌≡◌};
 ghost use Rattle.branching.specs.Prelude.{AreLegal, domain_at, HaveChoices, IsFirstUnfixed, IsFixed, IsLeastStart, IsSized, IsSplit, sets};
 
 use crate::brancher::Brancher;

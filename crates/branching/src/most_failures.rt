@@ -1,5 +1,5 @@
 //! The element of which most failures were reported.
-ghost use Rattle.base.specs.Prelude.{◌≡◌, IfOk, IfSome, IfNone, length, slice_index_or};
+ghost use Rattle.std.specs.Prelude.{◌≡◌, IfOk, IfSome, IfNone, length, slice_index_or};
 ghost use Rattle.relax.specs.Prelude.{AreLegal, domain_at, HasElement, HaveChoices, IsFixed, IsSized, machine_count, node_count, sets};
 ghost use Rattle.branching.specs.Better.{IsBetter};
 ghost use Rattle.branching.specs.Elements.{HasMostFailures, IsUnfixed};

@@ -1,5 +1,5 @@
 //! Which of the elements that are not fixed is taken, for each reason to take one.
-ghost use Rattle.base.specs.Prelude.{IfSome};
+ghost use Rattle.std.specs.Prelude.{IfSome};
 ghost use Rattle.branching.specs.Prelude.{IsElement, IsSized, IsUnfixed};
 
 use crate::ends::{first_end, soonest};

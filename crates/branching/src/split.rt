@@ -1,5 +1,5 @@
 //! Parts of one domain with two choices at least.
-ghost use Rattle.base.specs.Prelude.{◌≡◌, ◌<◌, ◌≤◌, length};
+ghost use Rattle.std.specs.Prelude.{◌≡◌, ◌<◌, ◌≤◌, length};
 ghost use Rattle.branching.specs.Prelude.{IsElement, IsFirstFree, IsLeastStart, IsOpen, row_of, Splits, StartsFirst};
 
 use crate::ends::soonest;

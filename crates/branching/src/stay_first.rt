@@ -1,5 +1,5 @@
 //! Those that may stay are fixed first, and whole places before starts.
-ghost use Rattle.base.specs.Prelude.{◌≡◌};
+ghost use Rattle.std.specs.Prelude.{◌≡◌};
 ghost use Rattle.branching.specs.Prelude.{AreLegal, HaveChoices, IsFixed, IsSized, IsSplit, IsUnfixed, sets};
 
 use crate::brancher::Brancher;

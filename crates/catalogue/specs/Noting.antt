@@ -1,4 +1,4 @@
-use Rattle.base.specs.Prelude.{◌≡◌, ℕ, ◌<◌, length}
+use Rattle.std.specs.Prelude.{◌≡◌, ℕ, ◌<◌, length}
 use Rattle.cluster.specs.Prelude.{Inventory, max_resources}
 use Rattle.catalogue.specs.declared.constraint.Constraint.{Constraint}
 use Rattle.catalogue.specs.declared.tables.Tables.{Tables}

@@ -1,5 +1,6 @@
 -- Machines that stand twice are found by the set of those that stood so far.
-use Rattle.base.specs.Prelude.{Bool, List, not, ◌&&◌, list_all}
+use Rattle.std.specs.Prelude.{Bool, List, not, ◌&&◌}
+use Rattle.std.specs.List.{list_all}
 use Rattle.cluster.specs.declared.ids.VmId.{VmId}
 use Rattle.cluster.specs.declared.sets.MachineSet.{MachineSet}
 use Rattle.cluster.specs.Sets.{has_machine}

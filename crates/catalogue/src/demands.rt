@@ -1,5 +1,5 @@
 //! The table of the amounts that are to be preserved, one for each machine and resource.
-ghost use Rattle.base.specs.Prelude.{◌≡◌, ℕ, ◌<◌, ◌&&◌, ◌==◌, length, max, true, if◌then◌else◌, slice_index, OnOk, OnErr};
+ghost use Rattle.std.specs.Prelude.{◌≡◌, ℕ, ◌<◌, ◌&&◌, ◌==◌, length, max, true, if◌then◌else◌, slice_index, OnOk, OnErr};
 ghost use Rattle.catalogue.specs.Prelude.{are_below, cell, HasRows, is_member, max_resources, preserved_with};
 ghost use Rattle.catalogue.specs.declared.constraint.Constraint.TheVariants.{Preserve};
 

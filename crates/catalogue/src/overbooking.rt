@@ -1,5 +1,5 @@
 //! The table of the limits that overbooking sets, one for each node and resource.
-ghost use Rattle.base.specs.Prelude.{◌≡◌, ℕ, ◌<◌, ◌≤◌, ◌&&◌, ◌==◌, ◌*◌, ◌/◌, length, None, Some, slice_index_or, if◌then◌else◌, OnOk, OnErr};
+ghost use Rattle.std.specs.Prelude.{◌≡◌, ℕ, ◌<◌, ◌≤◌, ◌&&◌, ◌==◌, ◌*◌, ◌/◌, length, None, Some, slice_index_or, if◌then◌else◌, OnOk, OnErr};
 ghost use Rattle.catalogue.specs.Prelude.{has_node, HasRows, lesser_of, limit_cell, limit_with, max_amount, max_resources, max_scale, written_of};
 ghost use Rattle.catalogue.specs.declared.constraint.Constraint.TheVariants.{Overbook};
 

@@ -1,5 +1,5 @@
 //! What the constraints say of each element, kept ready.
-ghost use Rattle.base.specs.Prelude.{◌≡◌, ◌<◌, ℕ, [], length, true, OnOk, OnErr};
+ghost use Rattle.std.specs.Prelude.{◌≡◌, ◌<◌, ℕ, [], length, true, OnOk, OnErr};
 ghost use Rattle.catalogue.specs.Prelude.{are_machines, has_node, HaveRows, is_member, is_rule, Notes, SameRows, wish_cell, wish_where};
 
 use crate::constraint::Constraint;

@@ -1,5 +1,6 @@
 //! Whether a machine stands twice, by the set of those that stood so far.
-ghost use Rattle.base.specs.Prelude.{◌≡◌, true, List, ◌++◌, ◌&&◌, list_all};
+ghost use Rattle.std.specs.Prelude.{◌≡◌, true, List, ◌++◌, ◌&&◌};
+ghost use Rattle.std.specs.List.{list_all};
 ghost use Rattle.catalogue.specs.Prelude.{all_of, are_below, are_new, differ, max_machines, VmId};
 
 use crate::lists::Vms;

@@ -1,5 +1,5 @@
 //! The tables of what is wanted of each machine and each node.
-ghost use Rattle.base.specs.Prelude.{◌≡◌, ℕ, ◌<◌, ◌≤◌, length, true, OnOk, OnErr};
+ghost use Rattle.std.specs.Prelude.{◌≡◌, ℕ, ◌<◌, ◌≤◌, length, true, OnOk, OnErr};
 ghost use Rattle.catalogue.specs.Prelude.{are_below, has_node, HasRows, is_member, max_nodes, wish_cell, wish_where, wish_with};
 
 use crate::targets::{Target, Wish};

@@ -1,5 +1,6 @@
 -- What is proved of a certificate that is written from a tree: the check accepts it.
-use Rattle.base.specs.Prelude.{◌≡◌, ℕ, ◌<◌, ◌^◌, Bool, true, List, Option, Result, Ok, Err, All}
+use Rattle.std.specs.Prelude.{◌≡◌, ℕ, ◌<◌, ◌^◌, Bool, true, List, Option, Result, Ok, Err}
+use Rattle.std.specs.List.{All}
 use Rattle.cert_read.specs.Prelude.{certificate_text, Choices, decisions, HasPart, Instance, IsCertificate, IsHandedIn, IsInstance, IsLean, IsOutside, least_of, start_sets, steps_of, Tree}
 use Rattle.trees.specs.declared.steps.Goal.{Goal}
 use Rattle.trees.specs.declared.steps.Step.{Step}

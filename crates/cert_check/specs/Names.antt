@@ -1,5 +1,5 @@
 -- Which step of a problem the text of a step names, if it names one.
-use Rattle.base.specs.Prelude.{ℕ, zero, suc, List, [], ◌∷◌, length, min, nat_lt, Option, Some, None, if◌then◌else◌}
+use Rattle.std.specs.Prelude.{ℕ, zero, suc, List, [], ◌∷◌, length, min, nat_lt, Option, Some, None, if◌then◌else◌}
 use Rattle.cert_read.specs.Prelude.{element_named, has_node, Instance, inventory_of, no_nodes, node_count, resource_named, with_node, Word}
 use Rattle.cluster.specs.declared.choices.Place.{Place}
 use Rattle.cluster.specs.declared.choices.Place.TheVariants.{Nowhere, At}

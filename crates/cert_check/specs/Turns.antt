@@ -1,5 +1,5 @@
 -- Helping only: what one line changes, and what is known between two lines.
-use Rattle.base.specs.Prelude.{◌≡◌, ℕ, ◌≤◌, Bool, false, List, [], ◌∷◌, ◌++◌, length, Option, Some, Result, Ok, Err, MatchOption}
+use Rattle.std.specs.Prelude.{◌≡◌, ℕ, ◌≤◌, Bool, false, List, [], ◌∷◌, ◌++◌, length, Option, Some, Result, Ok, Err, MatchOption}
 use Rattle.cert_model.specs.Prelude.{Instance, IsProof, Kept, least_along, shown, Stands}
 use Rattle.trees.specs.declared.steps.Goal.{Goal}
 use Rattle.trees.specs.declared.steps.Step.{Step}

@@ -1,5 +1,5 @@
 -- The verdict on a certificate: its lines are taken in order, and the first that decides gives it.
-use Rattle.base.specs.Prelude.{◌≡◌, ◌⊎◌, ℕ, Bool, List, [], ◌∷◌, map, Option, Some, None, Result, Ok, Err}
+use Rattle.std.specs.Prelude.{◌≡◌, ◌⊎◌, ℕ, Bool, List, [], ◌∷◌, map, Option, Some, None, Result, Ok, Err}
 use Rattle.cert_read.specs.Prelude.{CountsLine, Faults, start, turn}
 use Rattle.cert_model.specs.Prelude.{bound_of, Choices, GoalHolds, Instance, IsEndWhy, IsHandedIn, IsProof, IsRefused, IsValid, LeadsTo, least_along, Sets, shown}
 use Rattle.trees.specs.declared.steps.Goal.{Goal}

@@ -1,5 +1,6 @@
 //! The check of a certificate.
-ghost use Rattle.base.specs.Prelude.{◌≡◌, false, IfOk, IfSome, IsTrue, option_copied};
+ghost use Rattle.std.specs.Prelude.{◌≡◌, false, IfOk, IfSome, IsTrue};
+ghost use Rattle.std.specs.Option.{option_copied};
 ghost use Rattle.cert_check.specs.Prelude.{bytes_of, CheckGives, choices_handed, CountsCheck, IsFit, IsHandedIn, IsPlanOf, IsSound};
 
 use crate::lines::check_lines;

@@ -1,5 +1,6 @@
 //! The lines of a certificate, one after another, up to the one that decides.
-ghost use Rattle.base.specs.Prelude.{◌≡◌, ◌<◌, ◌^◌, ℕ, Bool, List, true, IfOk, IfSome, IsTrue, Ok, Option as AnyOption, option_copied};
+ghost use Rattle.std.specs.Prelude.{◌≡◌, ◌<◌, ◌^◌, ℕ, Bool, List, true, IfOk, IfSome, IsTrue, Ok, Option as AnyOption};
+ghost use Rattle.std.specs.Option.{option_copied};
 ghost use Rattle.cert_check.specs.Prelude.{bound_of, bytes_of, choices_handed, Concludes, CountsCheck, End, Instance, IsGoing, IsPlanOf, IsUnderway, Position, StandsIn, turn as read_at, TurnGives};
 
 use crate::take::take;

@@ -1,5 +1,5 @@
 //! Which step of a problem the text of a step names.
-ghost use Rattle.base.specs.Prelude.{◌≡◌, ◌<◌, IfSome};
+ghost use Rattle.std.specs.Prelude.{◌≡◌, ◌<◌, IfSome};
 ghost use Rattle.cert_check.specs.Prelude.{as_instant as the_instant, first_nodes, named_constraint, named_element, named_hall, named_load, named_machine, named_node, named_nodes, named_pair, named_part, named_place, named_reason, named_resource, named_stay, named_step, named_use, no_nodes, node_added, node_count, nodes_added};
 
 use catalogue::problem::Problem;

@@ -1,5 +1,5 @@
 //! One step of a certificate, taken by its names.
-ghost use Rattle.base.specs.Prelude.{◌≡◌, IfOk, OnErr};
+ghost use Rattle.std.specs.Prelude.{◌≡◌, IfOk, OnErr};
 ghost use Rattle.cert_check.specs.Prelude.{IsStanding, IsUnchanged, named_step, TextAnswers};
 
 use crate::named::step_of;

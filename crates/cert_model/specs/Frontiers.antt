@@ -1,5 +1,5 @@
 -- Helping only: what the code keeps of the regions that are open.
-use Rattle.base.specs.Prelude.{◌≡◌, ℕ, List, [], ◌∷◌, ◌++◌, length, map, reverse}
+use Rattle.std.specs.Prelude.{◌≡◌, ℕ, List, [], ◌∷◌, ◌++◌, length, map, reverse}
 use Rattle.bound.specs.Prelude.{IsOneOf, RegionView, Sets, sets}
 use Rattle.cert_model.specs.declared.frontier.Due.{Due}
 use Rattle.cert_model.specs.declared.frontier.Due.TheVariants.{Nothing, Whole, Outside}

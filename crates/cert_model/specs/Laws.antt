@@ -1,5 +1,5 @@
 -- What a walk that ends well says of all plans of the instance.
-use Rattle.base.specs.Prelude.{◌≡◌, Bool, List, Option}
+use Rattle.std.specs.Prelude.{◌≡◌, Bool, List, Option}
 use Rattle.trees.specs.Prelude.{bound_of, Choices, GoalHolds, Instance, IsHandedIn, IsInstance, shown}
 use Rattle.trees.specs.declared.steps.Goal.{Goal}
 use Rattle.trees.specs.declared.steps.Step.{Step}

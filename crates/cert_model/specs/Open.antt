@@ -1,5 +1,5 @@
 -- The regions that are open, as they are kept: one region, the regions at the decisions before, and their outer sides.
-use Rattle.base.specs.Prelude.{ℕ, List, [], ◌∷◌}
+use Rattle.std.specs.Prelude.{ℕ, List, [], ◌∷◌}
 use Rattle.trees.specs.Prelude.{outside, RegionView, Sets, sets}
 use Rattle.cert_model.specs.declared.frontier.Due.{Due}
 use Rattle.cert_model.specs.declared.frontier.Due.TheVariants.{Nothing, Whole, Outside}

@@ -1,5 +1,5 @@
 -- What a walk over the steps of a certificate keeps, and what its answers mean.
-use Rattle.base.specs.Prelude.{◌≡◌, ◌≢◌, ◌⊎◌, ℕ, ◌+◌, ◌<◌, ◌^◌, Bool, true, List, [], ◌∷◌, ◌++◌, length, map, Option, Some, None, MatchOption}
+use Rattle.std.specs.Prelude.{◌≡◌, ◌≢◌, ◌⊎◌, ℕ, ◌+◌, ◌<◌, ◌^◌, Bool, true, List, [], ◌∷◌, ◌++◌, length, map, Option, Some, None, MatchOption}
 use Rattle.trees.specs.Prelude.{Choices, choices_of, decisions, gathered_along, inside, Instance, IsElement, IsLean, IsPlanLeaf, IsSplit, Leads, LeanAt, least_cost, left_set, lower_of, lowest, machine_count, node_count, plan_costs, PlanChoices, Proves, Refutes, RegionView, Sets, sets, shown, start_sets, StepHolds, steps_of, Tree}
 use Rattle.trees.specs.declared.steps.Goal.{Goal as TreeGoal}
 use Rattle.trees.specs.declared.steps.Step.{Step}

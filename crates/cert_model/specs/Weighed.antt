@@ -1,5 +1,5 @@
 -- Helping only: what some of the machines before a number use.
-use Rattle.base.specs.Prelude.{ℕ, ◌*◌, ◌≤◌}
+use Rattle.std.specs.Prelude.{ℕ, ◌*◌, ◌≤◌}
 use Rattle.bound.specs.Prelude.{Instance, machine_count, max_held, Nodes, Snapshot, sum_to}
 use Rattle.slices.specs.declared.slice.Weight.TheVariants.{Amount}
 use Rattle.cert_model.specs.declared.weighed.Weighed.{Weighed}

@@ -1,6 +1,5 @@
 //! What a step claims of the region that is due, tried in order.
-ghost use Rattle.std.specs.Prelude.{filter};
-ghost use Rattle.base.specs.Prelude.{◌≡◌, ◌↔◌, [], false, IfOk, IfSome, IsTrue};
+ghost use Rattle.std.specs.Prelude.{filter, ◌≡◌, ◌↔◌, [], false, IfOk, IfSome, IsTrue};
 ghost use Rattle.cert_model.specs.Prelude.{AreLegal, HasElement, inside, IsElement, IsFault, IsPlanLeaf, IsSized, IsSplit, least_cost, on_side, PartHolds, PlanHolds, ReasonHolds, Refutes, seen, sets, StepHolds};
 
 use crate::ends::sum_seen;

@@ -1,5 +1,6 @@
 //! What is counted of steps: decisions, the cheapest plan, and the least of what is left.
-ghost use Rattle.base.specs.Prelude.{◌≡◌, ◌↔◌, ℕ, ◌+◌, ◌<◌, ◌^◌, ◌++◌, ◌∷◌, [], List, IsTrue, lower as the_lower, lowest};
+ghost use Rattle.std.specs.Prelude.{◌≡◌, ◌↔◌, ℕ, ◌+◌, ◌<◌, ◌^◌, ◌++◌, ◌∷◌, [], List, IsTrue};
+ghost use Rattle.base.specs.Least.{lower as the_lower, lowest};
 ghost use Rattle.cert_model.specs.Prelude.{decisions, goal_of, left_set, lower_of, plan_costs, Sets, Step as AnyStep};
 
 use trees::steps::{Goal, Step};

@@ -1,5 +1,5 @@
 //! The sum of the least ends of a region, kept from step to step.
-ghost use Rattle.base.specs.Prelude.{◌≡◌, ◌≤◌};
+ghost use Rattle.std.specs.Prelude.{◌≡◌, ◌≤◌};
 ghost use Rattle.cert_model.specs.Prelude.{AreLegal, end_of, inside, IsElement, IsSized, keeping, least_cost as least_cost_of, lowest, max_cost, on_side, outside, seen, sets};
 
 use bound::ends::after_loss;

@@ -1,5 +1,5 @@
 //! What is open: one region that is changed and undone, and the outer sides of the decisions in it.
-ghost use Rattle.base.specs.Prelude.{◌≡◌, ◌∷◌, [], OnOk, OnErr, length};
+ghost use Rattle.std.specs.Prelude.{◌≡◌, ◌∷◌, [], OnOk, OnErr, length};
 ghost use Rattle.cert_model.specs.Prelude.{AreSame, AreSameSize, HasElement, inside, IsEntered, IsKept, later_sets, later_sums, open_sets, open_sums, outside, sets};
 
 use crate::nearby::Nearby;

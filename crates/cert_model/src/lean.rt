@@ -1,5 +1,5 @@
 //! Whether a step is lean.
-ghost use Rattle.base.specs.Prelude.{◌≡◌, ◌↔◌, ◌<◌, false, List, IfSome, IsTrue};
+ghost use Rattle.std.specs.Prelude.{◌≡◌, ◌↔◌, ◌<◌, false, List, IfSome, IsTrue};
 ghost use Rattle.cert_model.specs.Prelude.{IsSized, IsUndecided, LeanAt, least_cost, lowest, plan_costs, sets, Step as AnyStep};
 
 use catalogue::problem::Problem;

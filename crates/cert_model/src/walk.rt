@@ -1,5 +1,7 @@
 //! The walk.
-ghost use Rattle.base.specs.Prelude.{◌≡◌, ◌++◌, [], List, map, IfOk, IfSome, OnErr, OnOk, option_copied, lowest};
+ghost use Rattle.std.specs.Prelude.{◌≡◌, ◌++◌, [], List, map, IfOk, IfSome, OnErr, OnOk};
+ghost use Rattle.std.specs.Option.{option_copied};
+ghost use Rattle.base.specs.Least.{lowest};
 ghost use Rattle.trees.specs.Prelude.{bound_of, children, Instance, IsPlanOf, least_cost, plan_costs, sets};
 ghost use Rattle.trees.specs.declared.steps.Step.{Step as AnyStep};
 ghost use Rattle.relax.specs.Areas.{AreLegal, IsSized};

@@ -1,5 +1,5 @@
 //! Whether a reason is seen to refute: some machines alone use too much of the nodes of a set, or two are on a node.
-ghost use Rattle.base.specs.Prelude.{◌≡◌, ℕ, ◌<◌, length, IsTrue, Option as AnyOption};
+ghost use Rattle.std.specs.Prelude.{◌≡◌, ℕ, ◌<◌, length, IsTrue, Option as AnyOption};
 ghost use Rattle.cert_model.specs.Prelude.{has_node, IsOverload, IsSized, IsWeighed, machine_count, nodes_of, Refutes, seen, sure};
 
 use crate::nearby::Nearby;

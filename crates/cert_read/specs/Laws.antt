@@ -1,5 +1,5 @@
 -- What is proved of certificates that were written: they are read back.
-use Rattle.base.specs.Prelude.{◌≡◌, ℕ, List, [], ◌∷◌, Ok}
+use Rattle.std.specs.Prelude.{◌≡◌, ℕ, List, [], ◌∷◌, Ok}
 use Rattle.cert_text.specs.Prelude.{certificate_text, HasStep, Instance, IsGoal, IsInstance, step_text}
 use Rattle.trees.specs.declared.steps.Goal.{Goal}
 use Rattle.trees.specs.declared.steps.Step.{Step}

@@ -1,5 +1,6 @@
 -- What a reader is to contracts, and what its calls answer.
-use Rattle.base.specs.Prelude.{◌≡◌, ℕ, ◌<◌, ◌≤◌, true, false, List, [], drop, Result, Ok, Err, StartsWith}
+use Rattle.std.specs.Prelude.{◌≡◌, ℕ, ◌<◌, ◌≤◌, true, false, List, [], drop, Result, Ok, Err}
+use Rattle.std.specs.Io.{StartsWith}
 use Rattle.plan_io.specs.Causes.{Rose}
 use Rattle.cert_read.specs.Lines.{start}
 use Rattle.cert_read.specs.declared.line.Line.{Line}

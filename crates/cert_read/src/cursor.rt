@@ -1,5 +1,8 @@
 //! A position in a file, with the bytes from there on that were read already.
-ghost use Rattle.base.specs.Prelude.{◌≡◌, ◌+◌, ◌<◌, ◌≤◌, ◌^◌, ◌==◌, [], true, IsTrue, IfErr, IfOk, OnOk, OnErr, length, drop, take, StartsWith, position, bytes_eq};
+ghost use Rattle.std.specs.Prelude.{◌≡◌, ◌+◌, ◌<◌, ◌≤◌, ◌^◌, ◌==◌, [], true, IsTrue, IfErr, IfOk, OnOk, OnErr, length, drop, take};
+ghost use Rattle.std.specs.Io.{StartsWith};
+ghost use Rattle.std.specs.List.{position};
+ghost use Rattle.std.specs.Str.{bytes_eq};
 ghost use Rattle.plan_io.specs.Files.{bytes_of};
 ghost use Rattle.cert_text.specs.Texts.{header, max_line};
 ghost use Rattle.cert_read.specs.Lines.{as_line, bytes_before_newline, end_at, first_line_at, is_end, line_at, line_bytes, position_after, start, text_at};

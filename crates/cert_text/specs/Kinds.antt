@@ -1,5 +1,7 @@
 -- The first words of lines, parts, reasons and goals.
-use Rattle.base.specs.Prelude.{ℕ, List, codes, Option, find, bytes_eq}
+use Rattle.std.specs.Prelude.{ℕ, List, codes, Option}
+use Rattle.std.specs.List.{find}
+use Rattle.std.specs.Str.{bytes_eq}
 use Rattle.reasons.specs.declared.reason.ReasonKind.{ReasonKind}
 use Rattle.reasons.specs.declared.reason.ReasonKind.TheVariants.{Empty, Bound, Load, Pair, Place, Group, SetLoad, Power, Usable, Hall}
 use Rattle.cert_text.specs.declared.kinds.LineKind.{LineKind}

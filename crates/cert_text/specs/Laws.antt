@@ -1,5 +1,6 @@
 -- What is proved of lines.
-use Rattle.base.specs.Prelude.{◌≡◌, ℕ, ◌≤◌, List, length, Some, Contains}
+use Rattle.std.specs.Prelude.{◌≡◌, ℕ, ◌≤◌, List, length, Some}
+use Rattle.std.specs.List.{Contains}
 use Rattle.catalogue.specs.Instance.{Instance, IsInstance}
 use Rattle.trees.specs.declared.steps.Goal.{Goal}
 use Rattle.trees.specs.declared.steps.Step.{Step}

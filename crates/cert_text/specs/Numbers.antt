@@ -1,5 +1,8 @@
 -- The reading of a number: digits without a leading zero, below 2^64.
-use Rattle.base.specs.Prelude.{ℕ, ◌&&◌, ◌||◌, ◌==◌, ◌^◌, Bool, not, length, nat_lt, slice_index, Option, Some, None, if◌then◌else◌, is_ascii_digit, list_all, digits_value}
+use Rattle.std.specs.Prelude.{ℕ, ◌&&◌, ◌||◌, ◌==◌, ◌^◌, Bool, not, length, nat_lt, slice_index, Option, Some, None, if◌then◌else◌}
+use Rattle.std.specs.Char.{is_ascii_digit}
+use Rattle.std.specs.List.{list_all}
+use Rattle.std.specs.Str.Parse.{digits_value}
 use Rattle.cert_text.specs.Kinds.{Word}
 
 -- at least one digit, and digits alone; the first is not 0, unless it is the only one

@@ -1,5 +1,6 @@
 -- Helping only: words that each stand after a blank.
-use Rattle.base.specs.Prelude.{ℕ, List, [], ◌∷◌, if◌then◌else◌, flat_map}
+use Rattle.std.specs.Prelude.{ℕ, List, [], ◌∷◌, if◌then◌else◌}
+use Rattle.std.specs.List.{flat_map}
 use Rattle.trees.specs.Prelude.{has_node, Instance, node}
 use Rattle.cluster.specs.declared.sets.NodeSet.{NodeSet}
 use Rattle.cert_text.specs.Kinds.{Word}

@@ -1,5 +1,6 @@
 -- Which lines the steps of a problem are.
-use Rattle.base.specs.Prelude.{ℕ, ◌<◌, ◌^◌, Bool, List, [], ◌++◌, length, map, slice_index_or, Option, Some, None, codes, if◌then◌else◌, filter, flat_map, list_all, range_with_len}
+use Rattle.std.specs.Prelude.{ℕ, ◌<◌, ◌^◌, Bool, List, [], ◌++◌, length, map, slice_index_or, Option, Some, None, codes, if◌then◌else◌}
+use Rattle.std.specs.List.{filter, flat_map, list_all, range_with_len}
 use Rattle.trees.specs.Prelude.{AreListed, has_node, Instance, inventory_of, IsElement, machine_count, name_of, node, node_count}
 use Rattle.cluster.specs.declared.choices.Place.{Place}
 use Rattle.cluster.specs.declared.choices.Place.TheVariants.{Nowhere, At}

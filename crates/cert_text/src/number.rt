@@ -1,5 +1,7 @@
 //! Numbers in texts: decimal, without a leading zero, below 2^64.
-ghost use Rattle.base.specs.Prelude.{◌≡◌, IsTrue, list_all, is_ascii_digit};
+ghost use Rattle.std.specs.Prelude.{◌≡◌, IsTrue};
+ghost use Rattle.std.specs.Char.{is_ascii_digit};
+ghost use Rattle.std.specs.List.{list_all};
 ghost use Rattle.cert_text.specs.Numbers.{is_numeral, number_of};
 
 fn are_digits(word: &[u8]) -> bool

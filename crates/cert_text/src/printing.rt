@@ -1,5 +1,6 @@
 //! Lines of steps and goals, put together in a buffer that is kept from line to line.
-ghost use Rattle.base.specs.Prelude.{◌≡◌, ◌<◌, ◌≤◌, ℕ, false, [], ◌∷◌, ◌++◌, IsTrue, OnOk, length, string_bytes, decimal};
+ghost use Rattle.std.specs.Prelude.{◌≡◌, ◌<◌, ◌≤◌, ℕ, false, [], ◌∷◌, ◌++◌, IsTrue, OnOk, length, string_bytes};
+ghost use Rattle.std.specs.Fmt.{decimal};
 ghost use Rattle.cert_text.specs.Prelude.{all_spaced, AreListed, element_name, end_line, goal_words, has_all, has_node, HasPart, HasPlace, HasReason, HasStep, IsElement, joined, machine_count, node_count, node_names, nodes_text, nodes_words, part_text, part_words, place_name, place_word, reason_text, reason_words, resource_name, spaced, step_line, step_text, step_words};
 
 use crate::kinds::{GoalKind, LineKind, PartKind, reason_word};

@@ -1,5 +1,6 @@
 //! A certificate that is being written.
-ghost use Rattle.base.specs.Prelude.{◌≡◌, ◌⊎◌, ◌++◌, Some, None, IsTrue, IfOk, OnOk, OnErr, StartsWith};
+ghost use Rattle.std.specs.Prelude.{◌≡◌, ◌⊎◌, ◌++◌, Some, None, IsTrue, IfOk, OnOk, OnErr};
+ghost use Rattle.std.specs.Io.{StartsWith};
 ghost use Rattle.plan_io.specs.Prelude.{bytes_of, CountsWrites, IsCut, OthersStay};
 ghost use Rattle.cert_text.specs.Spelling.{HasStep, end_line, header_line, step_line};
 

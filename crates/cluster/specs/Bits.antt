@@ -6,7 +6,9 @@ use Rattle.std.proofs.lemmas.Bool.{cases_lt}
 use Rattle.std.proofs.lemmas.List.{length-set, length-replicate, get_or_past}
 use Rattle.std.proofs.lemmas.List.Elements.{All-set, All-replicate}
 use Rattle.std.proofs.lemmas.Nat.{or_lt}
-use Rattle.base.specs.Prelude.{◌≡◌, ℕ, ◌^◌, ◌<◌, ◌/◌, ◌%◌, ◌==◌, Bool, List, length, replicate, slice_index, slice_set, bit_or, bit_at, All}
+use Rattle.std.specs.Prelude.{◌≡◌, ℕ, ◌^◌, ◌<◌, ◌/◌, ◌%◌, ◌==◌, Bool, List, length, replicate, slice_index, slice_set, bit_or}
+use Rattle.std.specs.Int.{bit_at}
+use Rattle.std.specs.List.{All}
 
 -- whether the words keep the number
 abbrev pub has_bit : List ℕ → ℕ → Bool

@@ -1,5 +1,7 @@
 -- The ten kinds of actions: their order and their words.
-use Rattle.base.specs.Prelude.{ℕ, List, [], ◌∷◌, Option, codes, option_and_then, slice_get, slice_index_or, position, bytes_eq}
+use Rattle.std.specs.Prelude.{ℕ, List, [], ◌∷◌, Option, codes, option_and_then, slice_get, slice_index_or}
+use Rattle.std.specs.List.{position}
+use Rattle.std.specs.Str.{bytes_eq}
 use Rattle.cluster.specs.declared.kinds.Kind.{Kind}
 use Rattle.cluster.specs.declared.kinds.Kind.TheVariants.{Forge, Boot, Shutdown, Suspend, Resume, Migrate, Allocate, Kill, NodeBoot, NodeShutdown}
 

@@ -1,5 +1,6 @@
 -- What is cited together of this crate and of those below it, passed on from one place. Declares nothing.
-pub use Rattle.base.specs.Prelude.{least, lower, lowest, product_to, sum_to}
+pub use Rattle.base.specs.Least.{least, lower, lowest}
+pub use Rattle.base.specs.Sums.{product_to, sum_to}
 pub use Rattle.cluster.specs.Bits.{has_bit, HasNoBit, IsBits, IsBits-with_bit, IsBits-zero, IsFirstBit, with_bit}
 pub use Rattle.cluster.specs.Elements.{element_at, element_count, element_number}
 pub use Rattle.cluster.specs.Inventory.{amounts_fit, are_distinct, base_fault, duration_fits, element_named, element_of_places, has_places, host_is_online, Inventory, is_online, is_taken, IsInventory, IsListed, machine_fault, machine_fits, machine_own_fits, name_of, names_of, names_of_machines, names_of_nodes, node_fault, node_fits, node_own_fits, own_fits, resource_fits, resource_named, SoundInventory}

@@ -1,5 +1,6 @@
 //! Tests of amounts and durations, in a cluster of so many resources.
-ghost use Rattle.base.specs.Prelude.{◌≡◌, ◌≤◌, length, is_none, nat_le, ◌==◌, list_all};
+ghost use Rattle.std.specs.Prelude.{◌≡◌, ◌≤◌, length, is_none, nat_le, ◌==◌};
+ghost use Rattle.std.specs.List.{list_all};
 ghost use Rattle.cluster.specs.Prelude.{amounts_fit, duration_fits, kind_count, machine_fits, machine_own_fits, max_amount, max_resources, node_fits, node_own_fits, own_fits};
 
 use crate::durations::Duration;

@@ -1,6 +1,8 @@
 //! Clusters: what was added to them, each refusal, and how names find elements.
 ghost use Rattle.std.proofs.Props.{props};
-ghost use Rattle.base.specs.Prelude.{◌≡◌, ◌++◌, ◌∷◌, [], ◌<◌, ◌≤◌, length, IfOk, IfErr, OnOk, OnErr, unwrap_or, map, IsTrue, IsNone, IsOk, IfSome, true, position, list_any, All, bytes_eq};
+ghost use Rattle.std.specs.Prelude.{◌≡◌, ◌++◌, ◌∷◌, [], ◌<◌, ◌≤◌, length, IfOk, IfErr, OnOk, OnErr, unwrap_or, map, IsTrue, IsNone, IsOk, IfSome, true};
+ghost use Rattle.std.specs.List.{position, list_any, All};
+ghost use Rattle.std.specs.Str.{bytes_eq};
 ghost use Rattle.cluster.specs.Names.{is_name};
 ghost use Rattle.cluster.specs.Inventory.{IsInventory, IsListed, element_named, name_of, resource_named, are_distinct, base_fault, node_fault, machine_fault, host_is_online, has_places};
 ghost use Rattle.cluster.specs.Elements.{element_at, element_count, element_number};

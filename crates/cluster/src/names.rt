@@ -1,5 +1,6 @@
 //! Names of elements and resources.
-ghost use Rattle.base.specs.Prelude.{◌≡◌, IsTrue, IfOk, IfErr, OnOk, string_bytes, if◌then◌else◌, list_all};
+ghost use Rattle.std.specs.Prelude.{◌≡◌, IsTrue, IfOk, IfErr, OnOk, string_bytes, if◌then◌else◌};
+ghost use Rattle.std.specs.List.{list_all};
 ghost use Rattle.cluster.specs.Names.{is_name, starts_name, goes_on_name};
 
 use crate::limits::MAX_NAME_BYTES;

@@ -1,5 +1,7 @@
 //! Tables of words, such as `KIND_WORDS`: a word is read as the first place that has it, and printed as the entry at a place.
-ghost use Rattle.base.specs.Prelude.{◌≡◌, ◌<◌, [], length, map, slice_index_or, position, bytes_eq};
+ghost use Rattle.std.specs.Prelude.{◌≡◌, ◌<◌, [], length, map, slice_index_or};
+ghost use Rattle.std.specs.List.{position};
+ghost use Rattle.std.specs.Str.{bytes_eq};
 
 /// The word at a place of the table.
 pub fn word_at(words: &[&'static str], place: usize) -> &'static str

@@ -1,5 +1,7 @@
 -- What the types of this crate keep true of their fields.
-use Rattle.base.specs.Prelude.{◌≡◌, ◌<◌, ◌≤◌, ℕ, ◌+◌, ◌/◌, ◌^◌, ◌==◌, min, true, false, List, length, slice_index, slice_index_or, if◌then◌else◌, All, sum_to}
+use Rattle.std.specs.Prelude.{◌≡◌, ◌<◌, ◌≤◌, ℕ, ◌+◌, ◌/◌, ◌^◌, ◌==◌, min, true, false, List, length, slice_index, slice_index_or, if◌then◌else◌}
+use Rattle.std.specs.List.{All}
+use Rattle.base.specs.Sums.{sum_to}
 use Rattle.domains.specs.declared.parts.Row.{Row}
 use Rattle.domains.specs.Choices.{DomainView, Climbs, is_one, staying}
 

@@ -1,6 +1,7 @@
 -- Laws of sets of choices: parts, plans in a region, sizes, and what holds of each choice.
-use Rattle.std.specs.Prelude.{filter}
-use Rattle.base.specs.Prelude.{◌≡◌, ◌≢◌, ◌<◌, ◌≤◌, ◌+◌, ◌==◌, ◌⊎◌, ℕ, Bool, true, false, nat_lt, List, [], length, Option, Some, None, if◌then◌else◌, Contains, lowest, least}
+use Rattle.std.specs.Prelude.{filter, ◌≡◌, ◌≢◌, ◌<◌, ◌≤◌, ◌+◌, ◌==◌, ◌⊎◌, ℕ, Bool, true, false, nat_lt, List, [], length, Option, Some, None, if◌then◌else◌}
+use Rattle.std.specs.List.{Contains}
+use Rattle.base.specs.Least.{lowest, least}
 use Rattle.cluster.specs.declared.ids.Element.{Element}
 use Rattle.cluster.specs.declared.choices.Choice.{Choice}
 use Rattle.domains.specs.declared.parts.Part.{Part}

@@ -1,5 +1,6 @@
 -- What the code says of least values.
-use Rattle.base.specs.Prelude.{ℕ, Option, Some, None, lower}
+use Rattle.std.specs.Prelude.{ℕ, Option, Some, None}
+use Rattle.base.specs.Least.{lower}
 
 -- the lower of two values, as far as they are there
 abbrev pub lower_option : Option ℕ → Option ℕ → Option ℕ

@@ -1,5 +1,6 @@
 -- How large a region is.
-use Rattle.base.specs.Prelude.{ℕ, ◌+◌, ◌*◌, ◌<◌, length, sum_to, product_to}
+use Rattle.std.specs.Prelude.{ℕ, ◌+◌, ◌*◌, ◌<◌, length}
+use Rattle.base.specs.Sums.{sum_to, product_to}
 use Rattle.cluster.specs.declared.ids.Element.{Element}
 use Rattle.cluster.specs.declared.ids.Element.TheVariants.{Vm, Node}
 use Rattle.domains.specs.Sets.{Sets}

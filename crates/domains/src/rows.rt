@@ -1,6 +1,5 @@
 //! One row and a part; the row at a place.
-ghost use Rattle.std.specs.Prelude.{filter};
-ghost use Rattle.base.specs.Prelude.{◌≡◌, ℕ, ◌+◌, ◌<◌, ◌≤◌, Bool, List, [], ◌∷◌, IfSome, IfOk, IfErr, nat_le, ◌&&◌, length, slice_get, slice_index_or, IsTrue};
+ghost use Rattle.std.specs.Prelude.{filter, ◌≡◌, ℕ, ◌+◌, ◌<◌, ◌≤◌, Bool, List, [], ◌∷◌, IfSome, IfOk, IfErr, nat_le, ◌&&◌, length, slice_get, slice_index_or, IsTrue};
 ghost use Rattle.domains.specs.Prelude.{Choice as AnyChoice, Climbs, in_part, IsFound, IsGap, IsPartAt, IsRowAt, KeepsBetween, option_choices, out_of_part, place_index, row_choices, same_place};
 
 use crate::parts::{Part, Row};

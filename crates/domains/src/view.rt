@@ -1,6 +1,5 @@
 //! A region seen as it is, on one side of a part, or with one element set to one choice; nothing is copied.
-ghost use Rattle.std.specs.Prelude.{filter};
-ghost use Rattle.base.specs.Prelude.{◌≡◌, ◌<◌, ◌≤◌, IfSome, length, slice_index_or};
+ghost use Rattle.std.specs.Prelude.{filter, ◌≡◌, ◌<◌, ◌≤◌, IfSome, length, slice_index_or};
 ghost use Rattle.domains.specs.Prelude.{domain_at, HasElement, idle_seen, lowest as lowest_of, RegionView, same_element, seen, sets, shows, sight_at, sight_of};
 
 use crate::measure::{Measure, lowest};

@@ -1,5 +1,5 @@
 -- What the calls of a monitor answer.
-use Rattle.base.specs.Prelude.{◌≡◌, ◌≢◌, ◌⊎◌, ◌<◌, IsTrue, Result, Ok, Err}
+use Rattle.std.specs.Prelude.{◌≡◌, ◌≢◌, ◌⊎◌, ◌<◌, IsTrue, Result, Ok, Err}
 use Rattle.judge.specs.Prelude.{Choices, element_number, Instance, inventory_of, IsElement}
 use Rattle.cluster.specs.declared.ids.Element.{Element}
 use Rattle.executor.specs.declared.phase.Phase.{Phase}

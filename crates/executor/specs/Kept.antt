@@ -1,5 +1,5 @@
 -- What a monitor keeps.
-use Rattle.base.specs.Prelude.{◌≡◌, length}
+use Rattle.std.specs.Prelude.{◌≡◌, length}
 use Rattle.judge.specs.Prelude.{choices_of, element_count, inventory_of, IsPlanOf, IsValid}
 use Rattle.executor.specs.declared.monitor.Monitor.TheInside.{Inside}
 use Rattle.executor.specs.Steps.{IsExecution}

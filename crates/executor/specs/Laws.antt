@@ -1,5 +1,5 @@
 -- The laws of executions.
-use Rattle.base.specs.Prelude.{◌≡◌, ◌≢◌, List, false}
+use Rattle.std.specs.Prelude.{◌≡◌, ◌≢◌, List, false}
 use Rattle.judge.specs.Prelude.{Choices, choices_of, InRange, Instance, IsInstance, IsPlanOf, IsValid, Keeps, PlanChoices, snapshot, snapshot_at}
 use Rattle.cluster.specs.declared.ids.Element.{Element}
 use Rattle.slices.specs.declared.rule.Rule.{Rule}

@@ -1,5 +1,5 @@
 -- How far each action is, and the stages that this makes.
-use Rattle.base.specs.Prelude.{◌≡◌, ◌≢◌, ◌⊎◌, ℕ, ◌+◌, true, false, nat_lt, if◌then◌else◌, List, slice_index_or}
+use Rattle.std.specs.Prelude.{◌≡◌, ◌≢◌, ◌⊎◌, ℕ, ◌+◌, true, false, nat_lt, if◌then◌else◌, List, slice_index_or}
 use Rattle.judge.specs.Prelude.{Choices, Instance, machine_count}
 use Rattle.cluster.specs.declared.choices.Choice.{Choice}
 use Rattle.cluster.specs.declared.choices.Choice.TheVariants.{Idle, Act}

@@ -1,5 +1,6 @@
 -- Executions: which action waits for which, and what each event does.
-use Rattle.base.specs.Prelude.{◌≡◌, ◌≢◌, ◌↔◌, ℕ, Bool, false, nat_le, List, [], ◌∷◌, IsNone, IsTrue, option_map_or}
+use Rattle.std.specs.Prelude.{◌≡◌, ◌≢◌, ◌↔◌, ℕ, Bool, false, nat_le, List, [], ◌∷◌, IsNone, IsTrue}
+use Rattle.std.specs.Option.{option_map_or}
 use Rattle.judge.specs.Prelude.{Choices, end_of, Instance, start_of}
 use Rattle.cluster.specs.declared.choices.Choice.{Choice}
 use Rattle.cluster.specs.declared.choices.Choice.TheVariants.{Idle, Act}

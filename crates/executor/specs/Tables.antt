@@ -1,5 +1,5 @@
 -- The tables of a monitor, by the numbers of elements: how far each action is, and when it starts and ends in the plan.
-use Rattle.base.specs.Prelude.{◌≡◌, ℕ, ◌<◌, ◌≤◌, Bool, true, false, not, ◌&&◌, min, nat_le, nat_lt, if◌then◌else◌, List, length, slice_index_or, Option, Some, None, IfSome, IsTrue}
+use Rattle.std.specs.Prelude.{◌≡◌, ℕ, ◌<◌, ◌≤◌, Bool, true, false, not, ◌&&◌, min, nat_le, nat_lt, if◌then◌else◌, List, length, slice_index_or, Option, Some, None, IfSome, IsTrue}
 use Rattle.judge.specs.Prelude.{Choices, element_at, element_count, end_of, Instance, inventory_of}
 use Rattle.cluster.specs.declared.choices.Choice.{Choice}
 use Rattle.cluster.specs.declared.choices.Choice.TheVariants.{Idle, Act}

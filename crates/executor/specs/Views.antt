@@ -1,5 +1,5 @@
 -- What contracts see of a monitor.
-use Rattle.base.specs.Prelude.{◌≡◌, List, Result, Ok, Err}
+use Rattle.std.specs.Prelude.{◌≡◌, List, Result, Ok, Err}
 use Rattle.judge.specs.Prelude.{choices_of, IsFirstBroken, IsPlanOf, IsValid, PlanChoices, SoundInstance}
 use Rattle.cluster.specs.declared.ids.Element.{Element}
 use Rattle.executor.specs.declared.phase.NewFault.{NewFault}

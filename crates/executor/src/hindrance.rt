@@ -1,5 +1,5 @@
 //! What hinders an action from starting, and which one may start.
-ghost use Rattle.base.specs.Prelude.{◌≡◌, ◌↔◌, length, IsSome, IsTrue, MatchOption};
+ghost use Rattle.std.specs.Prelude.{◌≡◌, ◌↔◌, length, IsSome, IsTrue, MatchOption};
 ghost use Rattle.executor.specs.Prelude.{AllEnded, AreTimes, choices_of, Element as AnElement, element_count, inventory_of, IsAtTheEnd, IsElement, IsExecution, IsFirst, IsHindrance, IsIdle, IsPlanOf, MayStart, phases_in};
 ghost use Rattle.executor.specs.declared.phase.Phase.TheVariants as Phase;
 

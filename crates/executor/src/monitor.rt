@@ -1,5 +1,5 @@
 //! The monitor of an execution.
-ghost use Rattle.base.specs.Prelude.{◌≡◌, ◌↔◌, IsSome, IsTrue, MatchOption};
+ghost use Rattle.std.specs.Prelude.{◌≡◌, ◌↔◌, IsSome, IsTrue, MatchOption};
 ghost use Rattle.judge.specs.Prelude.{choices_of, IsElement, IsPlanOf};
 ghost use Rattle.cluster.specs.declared.ids.Element.{Element as AnElement};
 ghost use Rattle.executor.specs.Answers.{IsFirst, StartGives, StopGives};

@@ -1,5 +1,5 @@
 //! The table of phases, by the numbers of elements.
-ghost use Rattle.base.specs.Prelude.{◌≡◌, ◌↔◌, ◌⊎◌, ℕ, ◌<◌, length, IfOk, IsTrue};
+ghost use Rattle.std.specs.Prelude.{◌≡◌, ◌↔◌, ◌⊎◌, ℕ, ◌<◌, length, IfOk, IsTrue};
 ghost use Rattle.executor.specs.Prelude.{choices_of, element_at, element_count, first_phase, inventory_of, IsElement, IsFirstPlace, IsPlanOf, Moves, phase_at, phases_in};
 ghost use Rattle.executor.specs.declared.phase.Phase.TheVariants as Phase;
 

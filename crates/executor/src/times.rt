@@ -1,5 +1,5 @@
 //! When actions start and end in a plan, and which waits for which, by the numbers of elements.
-ghost use Rattle.base.specs.Prelude.{◌≡◌, ◌↔◌, ◌<◌, length, IfOk, IsTrue};
+ghost use Rattle.std.specs.Prelude.{◌≡◌, ◌↔◌, ◌<◌, length, IfOk, IsTrue};
 ghost use Rattle.executor.specs.Prelude.{AreTimes, choices_of, is_ended, is_open_at, IsElement, IsFirstPlace, IsLeastOpenEnd, IsPlanOf, IsReadyAt, lesser, open_end, starts_before, times_of, waits_at};
 
 use crate::phase::Phase;

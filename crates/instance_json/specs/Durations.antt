@@ -1,5 +1,7 @@
 -- Durations.
-use Rattle.base.specs.Prelude.{ℕ, Bool, true, List, map, replicate, ◌==◌, ◌&&◌, nat_lt, nat_le, Option, Some, None, unwrap_or, Ok, Err, codes, if◌then◌else◌, list_any, list_all, bytes_eq}
+use Rattle.std.specs.Prelude.{ℕ, Bool, true, List, map, replicate, ◌==◌, ◌&&◌, nat_lt, nat_le, Option, Some, None, unwrap_or, Ok, Err, codes, if◌then◌else◌}
+use Rattle.std.specs.List.{list_any, list_all}
+use Rattle.std.specs.Str.{bytes_eq}
 use Rattle.json_walk.specs.Prelude.{as_walk, fault_at, key_path, keys_of, map_walk, number_field, object_of, only_keys, optional_by, optional_number, wants, ◌>>=◌, ◌>>◌}
 use Rattle.catalogue.specs.Prelude.{kind_count, kind_number, kind_word, kinds, machine_kind_count, max_duration}
 use Rattle.json_walk.specs.declared.fault.FaultKind.TheVariants.{Missing, Unknown}

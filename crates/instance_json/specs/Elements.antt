@@ -1,5 +1,7 @@
 -- Nodes and machines.
-use Rattle.base.specs.Prelude.{ℕ, ◌-◌, List, [], ◌∷◌, ◌++◌, length, map, replicate, true, nat_le, Ok, codes, list_any, list_all, bytes_eq}
+use Rattle.std.specs.Prelude.{ℕ, ◌-◌, List, [], ◌∷◌, ◌++◌, length, map, replicate, true, nat_le, Ok, codes}
+use Rattle.std.specs.List.{list_any, list_all}
+use Rattle.std.specs.Str.{bytes_eq}
 use Rattle.json_walk.specs.Prelude.{as_walk, each, field_by, item_path, keys_of, list_of, map_walk, object_of, only_keys, optional_by, optional_flag, optional_number, wants, word_field, ◌>>=◌, ◌>>◌}
 use Rattle.catalogue.specs.Prelude.{Inventory, is_online, max_amount, max_machines, max_nodes, max_resources, state_words}
 use Rattle.cluster.specs.declared.ids.NodeId.{NodeId}

@@ -1,5 +1,6 @@
 -- Helping only: what is read of durations is within the limits of a cluster.
-use Rattle.base.specs.Prelude.{ℕ, Bool, List, Option, is_none, if◌then◌else◌, list_all}
+use Rattle.std.specs.Prelude.{ℕ, Bool, List, Option, is_none, if◌then◌else◌}
+use Rattle.std.specs.List.{list_all}
 use Rattle.cluster.specs.declared.durations.Duration.{Duration}
 use Rattle.cluster.specs.declared.kinds.Kind.{Kind}
 use Rattle.cluster.specs.Inventory.{own_fits, machine_own_fits, node_own_fits}

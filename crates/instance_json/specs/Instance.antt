@@ -1,5 +1,6 @@
 -- The instance that bytes have, or their first fault.
-use Rattle.base.specs.Prelude.{ℕ, List, [], length, map, nat_le, Ok, codes, ok_or}
+use Rattle.std.specs.Prelude.{ℕ, List, [], length, map, nat_le, Ok, codes}
+use Rattle.std.specs.Option.{ok_or}
 use Rattle.json_walk.specs.Prelude.{field_by, json_of, number_field, only_keys, root, wants, ◌>>=◌, ◌>>◌}
 use Rattle.catalogue.specs.Prelude.{Instance, Inventory, max_horizon}
 use Rattle.json_walk.specs.declared.reading.TheConstants.{MAX_TEXT_BYTES}

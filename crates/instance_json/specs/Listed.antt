@@ -1,5 +1,5 @@
 -- Helping only: the machines of lists that are read one after the other, and their marks.
-use Rattle.base.specs.Prelude.{◌≡◌, ℕ, true, List, ◌++◌}
+use Rattle.std.specs.Prelude.{◌≡◌, ℕ, true, List, ◌++◌}
 use Rattle.catalogue.specs.Prelude.{all_of, differ, has_machine, is_member}
 use Rattle.cluster.specs.declared.ids.VmId.{VmId}
 use Rattle.cluster.specs.declared.sets.MachineSet.{MachineSet}

@@ -1,5 +1,5 @@
 -- Lists of names, and lists of such lists.
-use Rattle.base.specs.Prelude.{ℕ, List, [], ◌∷◌, ◌++◌, length, not, nat_lt, nat_le, Ok}
+use Rattle.std.specs.Prelude.{ℕ, List, [], ◌∷◌, ◌++◌, length, not, nat_lt, nat_le, Ok}
 use Rattle.json_walk.specs.Prelude.{as_walk, each, fault_at, item_path, list_of, wants, ◌>>=◌, ◌>>◌}
 use Rattle.catalogue.specs.Prelude.{all_of, has_node, Inventory, is_member, max_groups, max_parts, no_nodes, with_node}
 use Rattle.json_walk.specs.declared.fault.FaultKind.TheVariants.{OutOfRange}

@@ -1,5 +1,8 @@
 -- Names, and what they name.
-use Rattle.base.specs.Prelude.{ℕ, List, [], ◌∷◌, ◌++◌, length, not, nat_le, Option, Some, None, Ok, ok_or, list_any, position, bytes_eq}
+use Rattle.std.specs.Prelude.{ℕ, List, [], ◌∷◌, ◌++◌, length, not, nat_le, Option, Some, None, Ok}
+use Rattle.std.specs.List.{list_any, position}
+use Rattle.std.specs.Option.{ok_or}
+use Rattle.std.specs.Str.{bytes_eq}
 use Rattle.json_walk.specs.Prelude.{as_walk, each, fault_at, item_path, list_of, text_of, wants, ◌>>=◌, ◌>>◌}
 use Rattle.catalogue.specs.Prelude.{element_named, Inventory, is_name, is_taken, max_resources}
 use Rattle.json_walk.specs.declared.fault.FaultKind.TheVariants.{OutOfRange}

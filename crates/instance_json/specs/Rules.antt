@@ -1,5 +1,5 @@
 -- Constraints.
-use Rattle.base.specs.Prelude.{ℕ, Bool, false, not, ◌==◌, List, [], ◌∷◌, ◌++◌, length, map, nat_le, Ok, codes}
+use Rattle.std.specs.Prelude.{ℕ, Bool, false, not, ◌==◌, List, [], ◌∷◌, ◌++◌, length, map, nat_le, Ok, codes}
 use Rattle.json_walk.specs.Prelude.{as_walk, each, field_by, item_path, key_path, list_of, number_field, only_keys, optional_flag, wants, word_field, ◌>>=◌, ◌>>◌}
 use Rattle.catalogue.specs.Prelude.{constraint_words, Instance, Inventory, inventory_of, max_amount, max_constraints, max_scale}
 use Rattle.cluster.specs.declared.ids.VmId.{VmId}

@@ -1,6 +1,9 @@
 //! Amounts of the resources.
 
-ghost use Rattle.base.specs.Prelude.{◌≡◌, ◌≤◌, IfOk, length, nat_le, string_bytes, true, list_any, list_all, bytes_eq, keys as map_keys};
+ghost use Rattle.std.specs.Prelude.{◌≡◌, ◌≤◌, IfOk, length, nat_le, string_bytes, true};
+ghost use Rattle.std.specs.BTreeMap.{keys as map_keys};
+ghost use Rattle.std.specs.List.{list_any, list_all};
+ghost use Rattle.std.specs.Str.{bytes_eq};
 ghost use Rattle.instance_json.specs.Prelude.{amounts_fit, amounts_from, amounts_in, Field, Gives, instance_fault_of, max_amount, max_resources, optional_number, path_of, resource_amounts};
 ghost use Rattle.serde_json.specs.View.{view};
 

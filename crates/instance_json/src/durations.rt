@@ -1,6 +1,8 @@
 //! Durations.
 
-ghost use Rattle.base.specs.Prelude.{◌≡◌, ◌≤◌, ◌&&◌, None, IfOk, codes, length, map, string_bytes, true, unwrap_or, list_all, keys as map_keys};
+ghost use Rattle.std.specs.Prelude.{◌≡◌, ◌≤◌, ◌&&◌, None, IfOk, codes, length, map, string_bytes, true, unwrap_or};
+ghost use Rattle.std.specs.BTreeMap.{keys as map_keys};
+ghost use Rattle.std.specs.List.{list_all};
 ghost use Rattle.instance_json.specs.Prelude.{base_durations, duration_by_kind, duration_fits, duration_from, durations_from, given_duration, Gives, has_kind, instance_fault_of, is_kind_key, key_path, kind_fits, kinds, map_walk, max_resources, one_instant, optional_by, own_durations, own_fits, owner_fits, path_of, resource_fits, unit_from};
 ghost use Rattle.serde_json.specs.Find.{get};
 ghost use Rattle.serde_json.specs.View.{view};

@@ -1,6 +1,6 @@
 //! The fields of constraints.
 
-ghost use Rattle.base.specs.Prelude.{◌≡◌, ◌<◌, IfOk, codes, length, nat_le, true};
+ghost use Rattle.std.specs.Prelude.{◌≡◌, ◌<◌, IfOk, codes, length, nat_le, true};
 ghost use Rattle.instance_json.specs.Prelude.{among_from, are_machines, are_nodes, both_fields, differ, Field, field_by, flagged_machines_fields, Gives, instance_fault_of, is_resource, is_rule, listed_machine, listed_resource, machines_fields, max_amount, node_count_fields, nodes_fields, overbook_from, path_of, precedence_from, preserve_from, resource_capacity_from, split_from};
 ghost use Rattle.serde_json.specs.View.{view};
 

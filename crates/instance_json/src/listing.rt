@@ -1,6 +1,6 @@
 //! The machines of lists that are read one after the other, each of which may stand once.
 
-ghost use Rattle.base.specs.Prelude.{◌≡◌, ◌<◌, ◌++◌, ◌∷◌, [], OnOk, false, true};
+ghost use Rattle.std.specs.Prelude.{◌≡◌, ◌<◌, ◌++◌, ◌∷◌, [], OnOk, false, true};
 ghost use Rattle.catalogue.specs.Prelude.{all_of, differ, is_member, max_machines};
 ghost use Rattle.instance_json.specs.Listed.{listed_machines};
 

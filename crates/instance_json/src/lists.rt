@@ -1,6 +1,7 @@
 //! Lists of machines and of nodes, and lists of such lists.
 
-ghost use Rattle.base.specs.Prelude.{◌≡◌, ◌<◌, ◌+◌, [], IfOk, OnOk, codes, length, map, nat_lt, nat_le, true, list_all};
+ghost use Rattle.std.specs.Prelude.{◌≡◌, ◌<◌, ◌+◌, [], IfOk, OnOk, codes, length, map, nat_lt, nat_le, true};
+ghost use Rattle.std.specs.List.{list_all};
 ghost use Rattle.instance_json.specs.Prelude.{all_of, are_machines, are_nodes, differ, each, Field, field_by, Gives, group_step, groups_from, instance_fault_of, machine_item, machine_list, machines_after, max_groups, max_parts, no_nodes, node_item, node_set, part_step, parts_from, path_of};
 ghost use Rattle.serde_json.specs.View.{view};
 

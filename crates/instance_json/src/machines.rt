@@ -1,6 +1,6 @@
 //! Machines.
 
-ghost use Rattle.base.specs.Prelude.{◌≡◌, ◌<◌, ◌≤◌, ◌+◌, ◌++◌, ◌∷◌, [], IfOk, OnOk, codes, length, map, true, false};
+ghost use Rattle.std.specs.Prelude.{◌≡◌, ◌<◌, ◌≤◌, ◌+◌, ◌++◌, ◌∷◌, [], IfOk, OnOk, codes, length, map, true, false};
 ghost use Rattle.instance_json.specs.Prelude.{each, Field, field_by, Gives, host_from, host_is_online, instance_fault_of, is_online, is_taken, machine_fits, machine_from, machine_keys, machine_step, machines_from, max_machines, only_keys, path_of, state_by, state_from, state_words, word_field};
 ghost use Rattle.serde_json.specs.View.{view};
 

@@ -1,6 +1,8 @@
 //! Names, and what they name.
 
-ghost use Rattle.base.specs.Prelude.{◌≡◌, ◌<◌, ◌≤◌, ◌+◌, [], length, map, true, false, IfOk, OnOk, list_any, position, bytes_eq};
+ghost use Rattle.std.specs.Prelude.{◌≡◌, ◌<◌, ◌≤◌, ◌+◌, [], length, map, true, false, IfOk, OnOk};
+ghost use Rattle.std.specs.List.{list_any, position};
+ghost use Rattle.std.specs.Str.{bytes_eq};
 ghost use Rattle.instance_json.specs.Prelude.{are_distinct, each, Gives, instance_fault_of, is_name, is_taken, listed_machine, listed_node, listed_resource, max_resources, name_from, new_name_from, path_of, resource_step, resources_from};
 ghost use Rattle.serde_json.specs.View.{view};
 

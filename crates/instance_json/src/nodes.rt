@@ -1,6 +1,6 @@
 //! Nodes.
 
-ghost use Rattle.base.specs.Prelude.{◌≡◌, ◌<◌, ◌≤◌, ◌+◌, ◌++◌, ◌∷◌, [], IfOk, OnOk, codes, length, map, true, false};
+ghost use Rattle.std.specs.Prelude.{◌≡◌, ◌<◌, ◌≤◌, ◌+◌, ◌++◌, ◌∷◌, [], IfOk, OnOk, codes, length, map, true, false};
 ghost use Rattle.instance_json.specs.Prelude.{each, Field, field_by, Gives, instance_fault_of, is_taken, max_nodes, new_name_from, node_fits, node_from, node_step, nodes_from, path_of};
 ghost use Rattle.serde_json.specs.View.{view};
 

@@ -1,6 +1,8 @@
 //! The whole instance.
 
-ghost use Rattle.base.specs.Prelude.{◌≡◌, ◌≤◌, [], IfOk, codes, length, true, list_all, ok_or};
+ghost use Rattle.std.specs.Prelude.{◌≡◌, ◌≤◌, [], IfOk, codes, length, true};
+ghost use Rattle.std.specs.List.{list_all};
+ghost use Rattle.std.specs.Option.{ok_or};
 ghost use Rattle.instance_json.specs.Prelude.{are_distinct, base_from, constraints_from, duration_fits, Field, field_by, Gives, instance_fault_of, instance_of, inventory_from, json_of, max_resources, NotJson, path_of, problem_from, walk};
 ghost use Rattle.serde_json.specs.View.{view};
 

@@ -1,6 +1,6 @@
 //! Constraints.
 
-ghost use Rattle.base.specs.Prelude.{◌≡◌, ◌<◌, ◌≤◌, ◌+◌, ◌++◌, ◌∷◌, [], IfOk, OnOk, Some, codes, length, map, slice_get, true};
+ghost use Rattle.std.specs.Prelude.{◌≡◌, ◌<◌, ◌≤◌, ◌+◌, ◌++◌, ◌∷◌, [], IfOk, OnOk, Some, codes, length, map, slice_get, true};
 ghost use Rattle.instance_json.specs.Prelude.{constraint_by, constraint_from, constraint_step, constraint_words, constraints_from, each, fault_of, Field, Gives, instance_fault_of, inventory_of, is_rule, max_constraints, path_of, word_field, word_field_of};
 ghost use Rattle.serde_json.specs.View.{view};
 

@@ -1,5 +1,5 @@
 -- Helping only: a generated problem as it is built up.
-use Rattle.base.specs.Prelude.{◌≡◌, ℕ, ◌+◌, ◌≤◌, List, [], ◌∷◌, ◌++◌, length, map, codes}
+use Rattle.std.specs.Prelude.{◌≡◌, ℕ, ◌+◌, ◌≤◌, List, [], ◌∷◌, ◌++◌, length, map, codes}
 use Rattle.instance_json.specs.Prelude.{Instance, Inventory, kinds, max_constraints}
 use Rattle.catalogue.specs.declared.constraint.Constraint.{Constraint}
 use Rattle.instance_make.specs.Generated.{node_total, machine_total, from, generated_duration, generated_node, generated_machine}

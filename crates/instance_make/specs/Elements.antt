@@ -1,5 +1,6 @@
 -- Nodes and machines as objects.
-use Rattle.base.specs.Prelude.{ℕ, List, [], length, Option, Some, None, is_some, option_map, slice_index, slice_index_or, codes, if◌then◌else◌, list_any, range_with_len}
+use Rattle.std.specs.Prelude.{ℕ, List, [], length, Option, Some, None, is_some, option_map, slice_index, slice_index_or, codes, if◌then◌else◌}
+use Rattle.std.specs.List.{list_any, range_with_len}
 use Rattle.instance_json.specs.Prelude.{Inventory, kind_number, kind_word, kinds, name_of, state_word}
 use Rattle.cluster.specs.declared.ids.Element.TheVariants.{Vm, Node as NodeElement}
 use Rattle.cluster.specs.declared.ids.NodeId.{NodeId}

@@ -1,5 +1,6 @@
 -- The plan that empties the node of a generated problem, and what it proves.
-use Rattle.base.specs.Prelude.{ℕ, ◌+◌, ◌*◌, ◌/◌, ◌%◌, ◌==◌, max, if◌then◌else◌, fold}
+use Rattle.std.specs.Prelude.{ℕ, ◌+◌, ◌*◌, ◌/◌, ◌%◌, ◌==◌, max, if◌then◌else◌}
+use Rattle.std.specs.List.{fold}
 use Rattle.slices.specs.Prelude.{Choices, end_of, IsInfeasible, IsPlan, IsValid, vm}
 use Rattle.cluster.specs.declared.choices.Choice.{Choice}
 use Rattle.cluster.specs.declared.choices.Choice.TheVariants.{Idle, Act}

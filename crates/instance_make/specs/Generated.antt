@@ -1,5 +1,7 @@
 -- The problem that is generated from a seed: 40 nodes with five machines each, of which one node is to be emptied and shut down.
-use Rattle.base.specs.Prelude.{ℕ, ◌+◌, ◌*◌, ◌/◌, ◌%◌, ◌==◌, true, false, not, List, [], ◌∷◌, ◌++◌, map, replicate, Some, None, codes, filter, fold, range_with_len, decimal}
+use Rattle.std.specs.Prelude.{ℕ, ◌+◌, ◌*◌, ◌/◌, ◌%◌, ◌==◌, true, false, not, List, [], ◌∷◌, ◌++◌, map, replicate, Some, None, codes}
+use Rattle.std.specs.Fmt.{decimal}
+use Rattle.std.specs.List.{filter, fold, range_with_len}
 use Rattle.instance_json.specs.Prelude.{Instance, kinds, no_durations, no_nodes, one_instant, with_node}
 use Rattle.cluster.specs.declared.durations.Duration.{Duration}
 use Rattle.cluster.specs.declared.ids.VmId.{VmId}

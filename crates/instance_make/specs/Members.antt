@@ -1,5 +1,6 @@
 -- Objects whose keys are not the same for each value.
-use Rattle.base.specs.Prelude.{ℕ, List, Option, Some, None, fold}
+use Rattle.std.specs.Prelude.{ℕ, List, Option, Some, None}
+use Rattle.std.specs.List.{fold}
 use Rattle.serde_json.specs.Data.{Data, Members, no_members, put}
 
 -- the members, with one more where it is there

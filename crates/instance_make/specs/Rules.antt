@@ -1,5 +1,6 @@
 -- Constraints as objects.
-use Rattle.base.specs.Prelude.{ℕ, Bool, List, length, map, codes, filter, range_with_len}
+use Rattle.std.specs.Prelude.{ℕ, Bool, List, length, map, codes}
+use Rattle.std.specs.List.{filter, range_with_len}
 use Rattle.instance_json.specs.Prelude.{constraint_word, has_node, Inventory}
 use Rattle.cluster.specs.declared.ids.VmId.{VmId}
 use Rattle.cluster.specs.declared.sets.NodeSet.{NodeSet}

@@ -1,6 +1,7 @@
 //! Amounts and durations as objects.
 
-ghost use Rattle.base.specs.Prelude.{◌≡◌, Some, None, IfOk, OnOk, codes, map, is_some, option_map, list_any};
+ghost use Rattle.std.specs.Prelude.{◌≡◌, Some, None, IfOk, OnOk, codes, map, is_some, option_map};
+ghost use Rattle.std.specs.List.{list_any};
 ghost use Rattle.instance_make.specs.Prelude.{amounts_data, duration_data, duration_of_kind, durations_data, kind_word, members, own_data, put_if};
 ghost use Rattle.serde_json.specs.View.{view};
 ghost use Rattle.serde_json.specs.Find.{get_member};

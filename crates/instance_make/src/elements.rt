@@ -1,6 +1,6 @@
 //! Nodes and machines as objects.
 
-ghost use Rattle.base.specs.Prelude.{◌≡◌, None, IfOk, OnOk, codes};
+ghost use Rattle.std.specs.Prelude.{◌≡◌, None, IfOk, OnOk, codes};
 ghost use Rattle.instance_make.specs.Prelude.{host_data, machine_data, members, node_data, put_if};
 ghost use Rattle.serde_json.specs.View.{view};
 ghost use Rattle.serde_json.specs.Find.{get_member};

@@ -1,6 +1,7 @@
 //! The cluster of a generated problem: 40 nodes with five machines each.
 
-ghost use Rattle.base.specs.Prelude.{◌≡◌, ◌+◌, ◌∷◌, ◌++◌, ◌<◌, [], None, IfOk, OnOk, map, true, decimal};
+ghost use Rattle.std.specs.Prelude.{◌≡◌, ◌+◌, ◌∷◌, ◌++◌, ◌<◌, [], None, IfOk, OnOk, map, true};
+ghost use Rattle.std.specs.Fmt.{decimal};
 ghost use Rattle.instance_make.specs.Prelude.{amounts, cpu_of, generated_duration, generated_machine, generated_node, generated_resources, is_name, kinds, machine_fault, machine_total, machines_to, mem_of, node_fault, node_total, nodes_to};
 
 use base::memory::Memory;

@@ -1,6 +1,7 @@
 //! The problem that is generated from a seed: its cluster, and what is wanted of it.
 
-ghost use Rattle.base.specs.Prelude.{◌≡◌, ◌==◌, ◌∷◌, ◌<◌, ◌≤◌, ◌+◌, [], None, IfOk, OnOk, map, not, true, false, fold, filter};
+ghost use Rattle.std.specs.Prelude.{◌≡◌, ◌==◌, ◌∷◌, ◌<◌, ◌≤◌, ◌+◌, [], None, IfOk, OnOk, map, not, true, false};
+ghost use Rattle.std.specs.List.{fold, filter};
 ghost use Rattle.instance_make.specs.Prelude.{emptied, from, generated, HasRoom, IsInfeasible, machine_total, node_total, others, rule_fault, set_of, spread_of, vms, with_more, with_node};
 ghost use Rattle.catalogue.specs.declared.constraint.Constraint.TheVariants as constraint;
 

@@ -1,6 +1,7 @@
 //! Lists of names, and lists of such lists.
 
-ghost use Rattle.base.specs.Prelude.{◌≡◌, ◌<◌, ◌++◌, ◌∷◌, [], IfOk, OnOk, map, filter};
+ghost use Rattle.std.specs.Prelude.{◌≡◌, ◌<◌, ◌++◌, ◌∷◌, [], IfOk, OnOk, map};
+ghost use Rattle.std.specs.List.{filter};
 ghost use Rattle.instance_make.specs.Prelude.{groups_list, has_node, items, machines_list, max_nodes, node_name_at, nodes_list, parts_list};
 ghost use Rattle.serde_json.specs.View.{view};
 

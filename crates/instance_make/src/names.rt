@@ -1,6 +1,6 @@
 //! Names of machines, nodes and resources. The name of one that is not listed is empty.
 
-ghost use Rattle.base.specs.Prelude.{◌≡◌, [], IfOk, slice_index_or};
+ghost use Rattle.std.specs.Prelude.{◌≡◌, [], IfOk, slice_index_or};
 ghost use Rattle.instance_make.specs.Prelude.{machine_name, name_of, Node as NodeElement, node_name, resource_name, Vm};
 ghost use Rattle.serde_json.specs.View.{view};
 

@@ -1,6 +1,6 @@
 //! From a problem to its text.
 
-ghost use Rattle.base.specs.Prelude.{◌≡◌, ◌≤◌, Ok, IfOk, length, map};
+ghost use Rattle.std.specs.Prelude.{◌≡◌, ◌≤◌, Ok, IfOk, length, map};
 ghost use Rattle.instance_make.specs.Prelude.{constraint_data, instance_data, instance_of, instance_text, list_data, machine_data, MAX_TEXT_BYTES, node_data};
 ghost use Rattle.serde_json.specs.Data.{string};
 ghost use Rattle.serde_json.specs.View.{view};

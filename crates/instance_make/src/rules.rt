@@ -1,6 +1,6 @@
 //! Constraints as objects: one function for each set of fields, by the word of the kind.
 
-ghost use Rattle.base.specs.Prelude.{◌≡◌, IfOk};
+ghost use Rattle.std.specs.Prelude.{◌≡◌, IfOk};
 ghost use Rattle.instance_make.specs.Rules.{machines_object, flagged_machines_object, both_object, among_object, split_object, precedence_object, preserve_object, resource_capacity_object, node_count_object, overbook_object, nodes_object, object_by, constraint_data};
 ghost use Rattle.serde_json.specs.View.{view};
 

@@ -1,5 +1,6 @@
 -- Which bytes have a value.
-use Rattle.base.specs.Prelude.{ℕ, List, Option, Some, None, if◌then◌else◌, is_utf8}
+use Rattle.std.specs.Prelude.{ℕ, List, Option, Some, None, if◌then◌else◌}
+use Rattle.std.specs.Str.{is_utf8}
 use Rattle.serde_json.specs.Data.{Data}
 use Rattle.serde_json.specs.Read.{read}
 use Rattle.json_walk.specs.declared.fault.JsonFault.{JsonFault}

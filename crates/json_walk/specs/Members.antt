@@ -1,6 +1,7 @@
 -- Members of an object by a reader's own tests. A reader counts the faults of this crate among its own: `field` makes one of
 -- them of each.
-use Rattle.base.specs.Prelude.{ℕ, Bool, List, [], ◌∷◌, Result, Ok, Err, slice_get, ok_or}
+use Rattle.std.specs.Prelude.{ℕ, Bool, List, [], ◌∷◌, Result, Ok, Err, slice_get}
+use Rattle.std.specs.Option.{ok_or}
 use Rattle.serde_json.specs.Data.{Data}
 use Rattle.serde_json.specs.Find.{get}
 use Rattle.json_walk.specs.declared.fault.FaultKind.TheVariants.{Unknown}

@@ -1,6 +1,9 @@
 //! The tests of a value at a lent path, each with its first fault.
 
-ghost use Rattle.base.specs.Prelude.{◌≡◌, ◌≤◌, IfOk, IfSome, map, string_bytes, list_any, list_all, bytes_eq, keys as map_keys};
+ghost use Rattle.std.specs.Prelude.{◌≡◌, ◌≤◌, IfOk, IfSome, map, string_bytes};
+ghost use Rattle.std.specs.BTreeMap.{keys as map_keys};
+ghost use Rattle.std.specs.List.{list_any, list_all};
+ghost use Rattle.std.specs.Str.{bytes_eq};
 ghost use Rattle.json_walk.specs.Prelude.{fault_at, fault_of, field_of, flag_of, Gives, list_of, number_of, object_of, only_of, path_of, text_of};
 ghost use Rattle.serde_json.specs.View.{view, members_view};
 

@@ -1,6 +1,6 @@
 //! Members of one kind, and members that may be absent.
 
-ghost use Rattle.base.specs.Prelude.{◌≡◌, ◌≤◌, IfOk, map};
+ghost use Rattle.std.specs.Prelude.{◌≡◌, ◌≤◌, IfOk, map};
 ghost use Rattle.json_walk.specs.Prelude.{fault_of, flag_of, Gives, key_path, list_field_of, number_field_of, number_of, optional, path_of, text_field_of};
 ghost use Rattle.serde_json.specs.Find.{get};
 ghost use Rattle.serde_json.specs.View.{view};

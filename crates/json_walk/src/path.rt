@@ -14,7 +14,8 @@ pub struct PathText {
 }
 
 impl Model for PathText {
-    ghost use Rattle.base.specs.Prelude.{ℕ, List, string_bytes, option_map_or};
+    ghost use Rattle.std.specs.Prelude.{ℕ, List, string_bytes};
+    ghost use Rattle.std.specs.Option.{option_map_or};
     ghost use Rattle.json_walk.specs.Path.{root};
 
     ghost Value = { List ℕ };

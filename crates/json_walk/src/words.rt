@@ -1,6 +1,8 @@
 //! Words of a table.
 
-ghost use Rattle.base.specs.Prelude.{◌≡◌, ◌<◌, IfOk, IfSome, length, map, position, bytes_eq};
+ghost use Rattle.std.specs.Prelude.{◌≡◌, ◌<◌, IfOk, IfSome, length, map};
+ghost use Rattle.std.specs.List.{position};
+ghost use Rattle.std.specs.Str.{bytes_eq};
 ghost use Rattle.json_walk.specs.Prelude.{fault_of, Gives, path_of, word_field_of, word_of};
 ghost use Rattle.serde_json.specs.View.{view};
 

@@ -1,5 +1,5 @@
 -- Loads that fit, and machines on usable nodes.
-use Rattle.base.specs.Prelude.{◌≡◌, ℕ, ◌<◌, ◌≤◌, Bool, false, List, length, slice_index_or, IsTrue}
+use Rattle.std.specs.Prelude.{◌≡◌, ℕ, ◌<◌, ◌≤◌, Bool, false, List, length, slice_index_or, IsTrue}
 use Rattle.placement_rules.specs.Prelude.{capacity_of, Instance, load, machine_count, node_count, one, Snapshot, stands_on}
 
 -- ---- loads

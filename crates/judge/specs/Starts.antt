@@ -1,5 +1,6 @@
 -- The next start after an instant.
-use Rattle.base.specs.Prelude.{◌≡◌, ◌⊎◌, ℕ, ◌<◌, ◌≤◌, List, Some, IsTrue, ForSome}
+use Rattle.std.specs.Prelude.{◌≡◌, ◌⊎◌, ℕ, ◌<◌, ◌≤◌, List, Some, IsTrue}
+use Rattle.std.specs.Option.{ForSome}
 use Rattle.placement_rules.specs.Prelude.{Choices, Form, form_matters, Instance, IsElement, IsInPart, start_of}
 use Rattle.cluster.specs.declared.choices.Choice.{Choice}
 use Rattle.cluster.specs.declared.ids.Element.{Element}

@@ -1,5 +1,5 @@
 -- The search for the least broken instant.
-use Rattle.base.specs.Prelude.{ℕ, ◌+◌, ◌<◌, ◌≤◌, ◌==◌, length, slice_get, IsTrue}
+use Rattle.std.specs.Prelude.{ℕ, ◌+◌, ◌<◌, ◌≤◌, ◌==◌, length, slice_get, IsTrue}
 use Rattle.placement_rules.specs.Prelude.{applies, Choices, continuous_at, HoldsAt, Instance, KeepsAllAt, snapshot_at}
 use Rattle.judge.specs.Standing.{Stands}
 

@@ -1,5 +1,5 @@
 -- Where a machine stands that holds something.
-use Rattle.base.specs.Prelude.{ℕ, Bool, ◌||◌, nat_lt}
+use Rattle.std.specs.Prelude.{ℕ, Bool, ◌||◌, nat_lt}
 use Rattle.placement_rules.specs.Prelude.{image_in, is_in, one}
 use Rattle.slices.specs.declared.holding.Holding.{Holding}
 

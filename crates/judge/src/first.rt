@@ -1,5 +1,5 @@
 //! The first broken rule at an instant, by a plain search in the order of the rules.
-ghost use Rattle.base.specs.Prelude.{◌≡◌, ◌↔◌, ◌==◌, ◌<◌, false, length, nat_lt, slice_index_or, IsTrue, MatchOption};
+ghost use Rattle.std.specs.Prelude.{◌≡◌, ◌↔◌, ◌==◌, ◌<◌, false, length, nat_lt, slice_index_or, IsTrue, MatchOption};
 ghost use Rattle.judge.specs.Prelude.{applies, AreUsable, AreUsableNodes, choices_of, ConstraintsHold, HoldsAt, image_in, is_in, is_where, IsFirstAway, IsFirstOff, IsFirstRule, IsFirstUnmet, IsMetAt, IsPlanOf, KeepsAllAt, machine_count, max_nodes, one, snapshot_at, StandsUsably};
 
 use crate::standing::{first_over, loads_at, machines_of, nodes_of, usable_nodes};

@@ -2,7 +2,7 @@
 //!
 //! Between the starts of the elements that a rule speaks of, there is only less for it to bear. So
 //! these starts are gone over in order, each once, until the rule is broken.
-ghost use Rattle.base.specs.Prelude.{◌≡◌, ℕ, ◌<◌, ◌≤◌, false, length, slice_get};
+ghost use Rattle.std.specs.Prelude.{◌≡◌, ℕ, ◌<◌, ◌≤◌, false, length, slice_get};
 ghost use Rattle.judge.specs.Prelude.{choices_of, continuous_at, IsContinuous, IsLower, IsMetBefore, IsPlanOf, IsSuspect, KeepsAllAt, StandsBefore};
 
 use crate::next::{next_start, next_that_matters};

@@ -1,5 +1,5 @@
 //! A table of the loads of all nodes.
-ghost use Rattle.base.specs.Prelude.{◌≡◌, ℕ, ◌+◌, ◌*◌, ◌<◌, ◌≤◌, length, slice_index, slice_index_or};
+ghost use Rattle.std.specs.Prelude.{◌≡◌, ℕ, ◌+◌, ◌*◌, ◌<◌, ◌≤◌, length, slice_index, slice_index_or};
 ghost use Rattle.judge.specs.Prelude.{Amount, amount_in, cell, IsElement, IsHeldWithin, max_amount, max_nodes, one, weight_of};
 
 use catalogue::problem::Problem;

@@ -1,5 +1,6 @@
 //! The next start after an instant: of all elements, or of those alone that matter to a form.
-ghost use Rattle.base.specs.Prelude.{◌≡◌, ◌+◌, ◌<◌, ◌≤◌, true, length, nat_lt, IsTrue, list_all};
+ghost use Rattle.std.specs.Prelude.{◌≡◌, ◌+◌, ◌<◌, ◌≤◌, true, length, nat_lt, IsTrue};
+ghost use Rattle.std.specs.List.{list_all};
 ghost use Rattle.judge.specs.Prelude.{Apart, AreMachines, AreNodes, choices_of, form_seen, has_node, IsElement, IsInSome, IsMember, IsNext, IsPlanOf, IsSound, machine_count, Matters, node, node_count, separated, separation_seen};
 
 use crate::standing::{machines_of, nodes_of};

@@ -1,5 +1,5 @@
 //! Whether all loads fit and all machines stand on usable nodes, at one instant.
-ghost use Rattle.base.specs.Prelude.{◌≡◌, ◌↔◌, ◌<◌, ℕ, false, slice_index_or, nat_lt, IsTrue, MatchOption, length};
+ghost use Rattle.std.specs.Prelude.{◌≡◌, ◌↔◌, ◌<◌, ℕ, false, slice_index_or, nat_lt, IsTrue, MatchOption, length};
 ghost use Rattle.judge.specs.Prelude.{AreUsable, AreUsableNodes, cell, choices_of, image_in, is_in, is_where, IsFirstIn, IsFirstOver, IsHeldWithin, IsNodeWithin, IsPlanOf, load, loads_of, LoadsFit, machine_count, max_nodes, node_count, NodeFits, one, snapshot_at, Stands};
 
 use crate::loads::{Loads, add_both, no_loads};

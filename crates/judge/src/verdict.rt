@@ -1,5 +1,5 @@
 //! The verdict on a plan.
-ghost use Rattle.base.specs.Prelude.{◌↔◌, IsNone, IfSome};
+ghost use Rattle.std.specs.Prelude.{◌↔◌, IsNone, IfSome};
 ghost use Rattle.judge.specs.Prelude.{choices_of, IsFirstBroken, IsPlanOf, IsValid};
 
 use crate::first::first_broken_rule;

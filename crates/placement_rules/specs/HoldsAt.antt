@@ -1,5 +1,6 @@
 -- When a constraint holds of a plan at an instant.
-use Rattle.base.specs.Prelude.{ℕ, slice_get, ForSome}
+use Rattle.std.specs.Prelude.{ℕ, slice_get}
+use Rattle.std.specs.Option.{ForSome}
 use Rattle.slices.specs.Prelude.{Choices, Holds, Instance, snapshot_at}
 
 -- the constraint of a number holds of what is where at an instant

@@ -1,5 +1,5 @@
 -- Labels of machines, noted on the nodes on which they are present.
-use Rattle.base.specs.Prelude.{◌≡◌, ◌⊎◌, ◌≢◌, ℕ, ◌<◌, Bool, false, ◌||◌, ◌&&◌, nat_lt, List, [], Option, Some, None, slice_index_or, IsTrue}
+use Rattle.std.specs.Prelude.{◌≡◌, ◌⊎◌, ◌≢◌, ℕ, ◌<◌, Bool, false, ◌||◌, ◌&&◌, nat_lt, List, [], Option, Some, None, slice_index_or, IsTrue}
 use Rattle.slices.specs.Prelude.{is_in, is_member, max_nodes, one, Snapshot}
 use Rattle.cluster.specs.declared.ids.VmId.{VmId}
 use Rattle.slices.specs.declared.holding.Holding.{Holding}

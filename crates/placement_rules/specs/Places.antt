@@ -1,5 +1,5 @@
 -- Where single machines are allowed, and where machines are present.
-use Rattle.base.specs.Prelude.{◌≡◌, ℕ, ◌<◌, false, List, IsTrue}
+use Rattle.std.specs.Prelude.{◌≡◌, ℕ, ◌<◌, false, List, IsTrue}
 use Rattle.slices.specs.Prelude.{has_node, Instance, IsMember, IsOffLimits, node_count, one, Places, Snapshot}
 use Rattle.cluster.specs.declared.ids.VmId.{VmId}
 use Rattle.cluster.specs.declared.sets.NodeSet.{NodeSet}

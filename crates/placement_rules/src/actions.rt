@@ -1,5 +1,6 @@
 //! Which actions may overlap.
-ghost use Rattle.base.specs.Prelude.{◌≡◌, ◌↔◌, ◌<◌, false, true, nat_lt, IfSome, IsTrue, list_all};
+ghost use Rattle.std.specs.Prelude.{◌≡◌, ◌↔◌, ◌<◌, false, true, nat_lt, IfSome, IsTrue};
+ghost use Rattle.std.specs.List.{list_all};
 ghost use Rattle.placement_rules.specs.Prelude.{Acting, choices_of, IsPlanOf, machine_count, snapshot_at, Started, TakeTurns, Unended};
 
 use catalogue::problem::Problem;

@@ -1,5 +1,6 @@
 //! Which machines share a node.
-ghost use Rattle.base.specs.Prelude.{◌≡◌, ◌↔◌, ◌⊎◌, ◌≢◌, ℕ, ◌+◌, ◌<◌, ◌≤◌, false, true, Some, None, nat_lt, length, if◌then◌else◌, IsTrue, slice_index_or, list_all};
+ghost use Rattle.std.specs.Prelude.{◌≡◌, ◌↔◌, ◌⊎◌, ◌≢◌, ℕ, ◌+◌, ◌<◌, ◌≤◌, false, true, Some, None, nat_lt, length, if◌then◌else◌, IsTrue, slice_index_or};
+ghost use Rattle.std.specs.List.{list_all};
 ghost use Rattle.placement_rules.specs.Prelude.{AreApart, AreNoted, Between, choices_of, Each, FromOthers, has_machine, is_in, is_member, IsClaim, IsHeldWithin, IsPlanOf, label_on, machine_count, max_nodes, one, separated, separation_seen, snapshot_at, split_labels};
 
 use crate::counts::machines_of;

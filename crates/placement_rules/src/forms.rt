@@ -1,5 +1,5 @@
 //! Whether a constraint holds of a plan at an instant, by its form.
-ghost use Rattle.base.specs.Prelude.{◌↔◌, ◌<◌, length, IsTrue};
+ghost use Rattle.std.specs.Prelude.{◌↔◌, ◌<◌, length, IsTrue};
 ghost use Rattle.placement_rules.specs.Prelude.{choices_of, form_seen, HoldsAt, IsKept, IsPlanOf, IsSound, snapshot_at};
 
 use crate::actions::{is_in_order, take_turns};

@@ -1,5 +1,6 @@
 //! Where the machines of a list are all together.
-ghost use Rattle.base.specs.Prelude.{◌≡◌, ◌↔◌, ◌<◌, ◌≤◌, ◌||◌, ℕ, false, true, nat_lt, Any, IsTrue, MatchOption, list_all};
+ghost use Rattle.std.specs.Prelude.{◌≡◌, ◌↔◌, ◌<◌, ◌≤◌, ◌||◌, ℕ, false, true, nat_lt, Any, IsTrue, MatchOption};
+ghost use Rattle.std.specs.List.{list_all};
 ghost use Rattle.placement_rules.specs.Prelude.{AreGrouped, AreReached, choices_of, group_sets, groups_seen, has_node, is_in, IsHeldWithin, IsPlanOf, machine_count, max_nodes, one, snapshot_at};
 
 use crate::counts::nodes_of;

@@ -1,5 +1,6 @@
 //! Where single machines are allowed.
-ghost use Rattle.base.specs.Prelude.{◌≡◌, ◌↔◌, ◌<◌, ℕ, false, true, nat_lt, IsTrue, list_all};
+ghost use Rattle.std.specs.Prelude.{◌≡◌, ◌↔◌, ◌<◌, ℕ, false, true, nat_lt, IsTrue};
+ghost use Rattle.std.specs.List.{list_all};
 ghost use Rattle.placement_rules.specs.Prelude.{AreAllowed, choices_of, is_in, IsAllowed, IsHeldWithin, IsOffLimits, IsPlanOf, machine_count, node_count, one, places_seen, snapshot_at};
 
 use catalogue::problem::Problem;

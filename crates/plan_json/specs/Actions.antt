@@ -1,5 +1,6 @@
 -- One action of a plan.
-use Rattle.base.specs.Prelude.{map, Option, Some, None, Ok, codes, ok_or}
+use Rattle.std.specs.Prelude.{map, Option, Some, None, Ok, codes}
+use Rattle.std.specs.Option.{ok_or}
 use Rattle.json_text.specs.Prelude.{as_walk, fault_at, field_by, number_field, only_keys, optional_by, text_of, wants, ◌>>=◌, ◌>>◌}
 use Rattle.slices.specs.Prelude.{element_named, Inventory, is_name, kind_of_word, max_horizon}
 use Rattle.json_walk.specs.declared.fault.FaultKind.TheVariants.{OutOfRange, Unknown}

@@ -1,5 +1,6 @@
 -- Helping only: which elements the actions that were read are of.
-use Rattle.base.specs.Prelude.{◌≡◌, ◌<◌, ℕ, true, Bool, List, [], ◌∷◌, is_none, is_some, ◌&&◌, IsTrue, All}
+use Rattle.std.specs.Prelude.{◌≡◌, ◌<◌, ℕ, true, Bool, List, [], ◌∷◌, is_none, is_some, ◌&&◌, IsTrue}
+use Rattle.std.specs.List.{All}
 use Rattle.slices.specs.Prelude.{has_machine, has_node, Instance, is_legal, IsElement, max_machines, max_nodes}
 use Rattle.cluster.specs.declared.ids.Element.{Element}
 use Rattle.cluster.specs.declared.ids.Element.TheVariants.{Vm, Node}

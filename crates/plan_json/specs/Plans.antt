@@ -1,5 +1,7 @@
 -- The plan that bytes have for a problem, or their first fault.
-use Rattle.base.specs.Prelude.{ℕ, ◌+◌, List, [], ◌∷◌, ◌++◌, length, map, nat_le, ◌==◌, ◌&&◌, Bool, true, false, not, Option, Some, None, is_some, is_none, option_map, slice_index_or, Ok, Err, codes, if◌then◌else◌, find, range_with_len, ok_or, option_map_or}
+use Rattle.std.specs.Prelude.{ℕ, ◌+◌, List, [], ◌∷◌, ◌++◌, length, map, nat_le, ◌==◌, ◌&&◌, Bool, true, false, not, Option, Some, None, is_some, is_none, option_map, slice_index_or, Ok, Err, codes, if◌then◌else◌}
+use Rattle.std.specs.List.{find, range_with_len}
+use Rattle.std.specs.Option.{ok_or, option_map_or}
 use Rattle.json_text.specs.Prelude.{as_walk, each, fault_at, field_by, item_path, json_of, key_path, list_of, only_keys, root, wants, ◌>>=◌, ◌>>◌}
 use Rattle.slices.specs.Prelude.{element_at, element_count, Instance, inventory_of, is_legal, kind_number, kind_of, max_machines, max_nodes, parted, PlanChoices}
 use Rattle.json_walk.specs.declared.fault.FaultKind.TheVariants.{OutOfRange}

@@ -1,6 +1,6 @@
 //! The actions of a plan, one after the other.
 
-ghost use Rattle.base.specs.Prelude.{◌≡◌, [], IfOk, OnOk, map};
+ghost use Rattle.std.specs.Prelude.{◌≡◌, [], IfOk, OnOk, map};
 ghost use Rattle.plan_json.specs.Prelude.{action_step, actions_from, AreActions, as_choice, each, Gives, is_kind, is_legal_action, IsElement, path_of, plan_fault_of};
 ghost use Rattle.serde_json.specs.View.{view};
 

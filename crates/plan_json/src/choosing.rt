@@ -1,6 +1,6 @@
 //! From actions to a choice for each element.
 
-ghost use Rattle.base.specs.Prelude.{◌≡◌, IfOk, length, replicate, slice_set};
+ghost use Rattle.std.specs.Prelude.{◌≡◌, IfOk, length, replicate, slice_set};
 ghost use Rattle.plan_json.specs.Prelude.{AreActions, as_choice, choices_for, element_count, element_number, first_to_act, inventory_of, is_idle, IsElement};
 
 use crate::actions::as_choice;

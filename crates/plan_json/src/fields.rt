@@ -1,6 +1,6 @@
 //! The fields of one action.
 
-ghost use Rattle.base.specs.Prelude.{IfOk, codes};
+ghost use Rattle.std.specs.Prelude.{IfOk, codes};
 ghost use Rattle.plan_json.specs.Prelude.{action_from, Field, field_by, Gives, IsListed, kind_from, listed_element, listed_place, Nowhere, optional_by, path_of, plan_fault_of};
 ghost use Rattle.serde_json.specs.View.{view};
 

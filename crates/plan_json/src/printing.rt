@@ -1,6 +1,7 @@
 //! From a plan to its text.
 
-ghost use Rattle.base.specs.Prelude.{◌≡◌, ◌++◌, IfOk, IfSome, OnOk, option_copied};
+ghost use Rattle.std.specs.Prelude.{◌≡◌, ◌++◌, IfOk, IfSome, OnOk};
+ghost use Rattle.std.specs.Option.{option_copied};
 ghost use Rattle.plan_json.specs.Prelude.{action_data, actions_data, choice_data, IsElement, IsPlanOf, items, name_data, plan_data, plan_of, plan_text, word_at};
 ghost use Rattle.serde_json.specs.View.{view};
 

@@ -1,6 +1,7 @@
 //! From bytes to a plan.
 
-ghost use Rattle.base.specs.Prelude.{IfOk, IfSome, codes, ok_or};
+ghost use Rattle.std.specs.Prelude.{IfOk, IfSome, codes};
+ghost use Rattle.std.specs.Option.{ok_or};
 ghost use Rattle.plan_json.specs.Prelude.{actions_from, AreActions, Field, field_by, Gives, IsPlanOf, json_of, NotJson, plan_fault_of, plan_of, plan_or_none, plan_with, root, walk};
 ghost use Rattle.serde_json.specs.View.{view};
 

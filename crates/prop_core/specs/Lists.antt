@@ -1,6 +1,6 @@
 -- Lists of propagators; `m` gives what each means.
-use Rattle.std.specs.Prelude.{All, sum_by}
-use Rattle.base.specs.Prelude.{◌≡◌, ℕ, ◌+◌, ◌<◌, ◌≤◌, Bool, List, length, slice_index_or, Result, Ok, Err, IsTrue, list_any}
+use Rattle.std.specs.Prelude.{All, sum_by, ◌≡◌, ℕ, ◌+◌, ◌<◌, ◌≤◌, Bool, List, length, slice_index_or, Result, Ok, Err, IsTrue}
+use Rattle.std.specs.List.{list_any}
 use Rattle.relax.specs.Prelude.{Instance, Sets}
 use Rattle.base.specs.declared.memory.Memory.{Memory}
 use Rattle.reasons.specs.declared.reason.ReasonKind.{ReasonKind}

@@ -1,6 +1,6 @@
 -- What a propagator means, and what each of its calls leaves.
-use Rattle.std.specs.Prelude.{filter}
-use Rattle.base.specs.Prelude.{◌≡◌, ℕ, ◌+◌, ◌<◌, ◌^◌, ◌-◌, Bool, true, min, max, List, IsTrue, None, if◌then◌else◌, Contains}
+use Rattle.std.specs.Prelude.{filter, ◌≡◌, ℕ, ◌+◌, ◌<◌, ◌^◌, ◌-◌, Bool, true, min, max, List, IsTrue, None, if◌then◌else◌}
+use Rattle.std.specs.List.{Contains}
 use Rattle.relax.specs.Prelude.{AreLegal, choices, domain_at, domain_before, DomainView, in_part, Instance, IsElement, IsQuietKind, IsSized, keeping, on_side, Refutes, RegionView, same_element, Sets, sets}
 use Rattle.cluster.specs.declared.choices.Choice.{Choice}
 use Rattle.cluster.specs.declared.ids.Element.{Element}

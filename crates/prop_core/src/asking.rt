@@ -1,5 +1,5 @@
 //! Asking the propagators of a list, one after the other.
-ghost use Rattle.base.specs.Prelude.{◌≡◌, IfOk, MatchResult};
+ghost use Rattle.std.specs.Prelude.{◌≡◌, IfOk, MatchResult};
 ghost use Rattle.prop_core.specs.Prelude.{AllRight, counted, Covered, HaveChoices, IsAsked, IsClosed, IsRegionOf, IsRight, Pairs, Rise, sets, steps_shown, TopAgrees, TopsAgree};
 
 use crate::propagator::{Answer, Propagator};

@@ -1,5 +1,7 @@
 -- Closed regions: no standard reason refutes them with an element set to an end of its choices.
-use Rattle.base.specs.Prelude.{◌≢◌, ◌⊎◌, ℕ, ◌<◌, ◌≤◌, Bool, ◌||◌, ◌==◌, nat_lt, List, [], length, IsTrue, slice_get, Contains, ForSome}
+use Rattle.std.specs.Prelude.{◌≢◌, ◌⊎◌, ℕ, ◌<◌, ◌≤◌, Bool, ◌||◌, ◌==◌, nat_lt, List, [], length, IsTrue, slice_get}
+use Rattle.std.specs.List.{Contains}
+use Rattle.std.specs.Option.{ForSome}
 use Rattle.slices.specs.Prelude.{Instance, is_continuous, IsElement, machine_count, node_count, Nodes, one, Snapshot}
 use Rattle.cluster.specs.declared.choices.Choice.{Choice}
 use Rattle.cluster.specs.declared.choices.Choice.TheVariants.{Idle, Act}

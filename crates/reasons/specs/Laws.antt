@@ -1,6 +1,5 @@
 -- Helping only: what refutations and closing say of plans.
-use Rattle.std.specs.Prelude.{IsSomeAnd}
-use Rattle.base.specs.Prelude.{◌≡◌, ◌≢◌, ◌⊎◌, ◌↔◌, ℕ, ◌<◌, ◌≤◌, Bool, Option, IsTrue}
+use Rattle.std.specs.Prelude.{IsSomeAnd, ◌≡◌, ◌≢◌, ◌⊎◌, ◌↔◌, ℕ, ◌<◌, ◌≤◌, Bool, Option, IsTrue}
 use Rattle.domains.specs.Prelude.{AreFewer, IsIn, IsOnly, Sets}
 use Rattle.slices.specs.Prelude.{Choices, cost_of, has_node, Instance, IsInstance, IsPartOf, IsValid, machine_count, Nodes, one, Snapshot}
 use Rattle.cluster.specs.declared.ids.Element.{Element}

@@ -1,5 +1,5 @@
 -- Helping only: at which instants what is sure in a region can grow.
-use Rattle.base.specs.Prelude.{◌≡◌, ◌⊎◌, ◌↔◌, ℕ, ◌≤◌, ◌==◌, [], ◌∷◌, Some}
+use Rattle.std.specs.Prelude.{◌≡◌, ◌⊎◌, ◌↔◌, ℕ, ◌≤◌, ◌==◌, [], ◌∷◌, Some}
 use Rattle.slices.specs.Prelude.{Instance, IsElement, start_of}
 use Rattle.cluster.specs.declared.choices.Choice.{Choice}
 use Rattle.cluster.specs.declared.choices.Choice.TheVariants.{Idle}

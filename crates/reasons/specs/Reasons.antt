@@ -1,6 +1,5 @@
 -- The ten reasons that refute a region, as conditions on what is sure in it.
-use Rattle.std.specs.Prelude.{filter, All, IsSomeAnd}
-use Rattle.base.specs.Prelude.{◌≡◌, ◌≢◌, ℕ, ◌<◌, ◌≤◌, ◌||◌, ◌==◌, false, not, List, [], length, IsTrue, Option, slice_get, if◌then◌else◌}
+use Rattle.std.specs.Prelude.{filter, All, IsSomeAnd, ◌≡◌, ◌≢◌, ℕ, ◌<◌, ◌≤◌, ◌||◌, ◌==◌, false, not, List, [], length, IsTrue, Option, slice_get, if◌then◌else◌}
 use Rattle.slices.specs.Prelude.{Allowed, Apart, Between, Bounded, Each, ForbidsPair, ForbidsPlace, Form, form_of, FromOthers, group_sets, has_node, Instance, InTurn, is_continuous, IsElement, IsMember, IsWithin, load, machine_count, node_count, Nodes, one, Ordered, Powered, powered_nodes, room, Separation, Settled, Snapshot, stands_on, sum_to, Together, total}
 use Rattle.cluster.specs.declared.ids.VmId.{VmId}
 use Rattle.cluster.specs.declared.sets.NodeSet.{NodeSet}

@@ -1,5 +1,6 @@
 -- Helping only: the start region, and the ends and turns of a region by its rows.
-use Rattle.base.specs.Prelude.{◌≡◌, ◌⊎◌, ◌↔◌, ℕ, ◌<◌, true, length, slice_index_or, IsTrue, Contains}
+use Rattle.std.specs.Prelude.{◌≡◌, ◌⊎◌, ◌↔◌, ℕ, ◌<◌, true, length, slice_index_or, IsTrue}
+use Rattle.std.specs.List.{Contains}
 use Rattle.domains.specs.Prelude.{choices, Climbs, domain_at, DomainView, HasElement, IsIn, no_row, RegionView, sets}
 use Rattle.slices.specs.Prelude.{Choices, cost_of, Instance, is_legal, IsElement, IsPlan, IsValid, machine_count, node_count}
 use Rattle.cluster.specs.declared.choices.Choice.{Choice}

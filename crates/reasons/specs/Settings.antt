@@ -1,5 +1,6 @@
 -- Helping only: what changes in what is sure where one element has another set of choices, or is set to one choice.
-use Rattle.base.specs.Prelude.{◌≡◌, ◌≢◌, ℕ, ◌+◌, ◌<◌, List, [], if◌then◌else◌, Contains}
+use Rattle.std.specs.Prelude.{◌≡◌, ◌≢◌, ℕ, ◌+◌, ◌<◌, List, [], if◌then◌else◌}
+use Rattle.std.specs.List.{Contains}
 use Rattle.slices.specs.Prelude.{action_at, capacity_of, held_at, Instance, IsPartOf, machine_count, node, node_count, Nodes, powered_at, powered_nodes, present_at, room, Snapshot, total, usable_at, vm}
 use Rattle.cluster.specs.declared.choices.Choice.{Choice}
 use Rattle.cluster.specs.declared.ids.Element.{Element}

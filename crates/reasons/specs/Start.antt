@@ -1,6 +1,6 @@
 -- The start region: all legal choices of each element.
-use Rattle.std.specs.Prelude.{filter}
-use Rattle.base.specs.Prelude.{◌+◌, Bool, nat_lt, List, [], ◌∷◌, map, if◌then◌else◌, flat_map, range_with_len}
+use Rattle.std.specs.Prelude.{filter, ◌+◌, Bool, nat_lt, List, [], ◌∷◌, map, if◌then◌else◌}
+use Rattle.std.specs.List.{flat_map, range_with_len}
 use Rattle.domains.specs.Prelude.{Sets, starts_from}
 use Rattle.slices.specs.Prelude.{Choices, Instance, is_legal, machine_count, node_count}
 use Rattle.cluster.specs.declared.choices.Choice.{Choice}

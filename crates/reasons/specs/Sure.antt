@@ -1,5 +1,5 @@
 -- What is sure in a region at an instant.
-use Rattle.base.specs.Prelude.{ℕ, ◌+◌}
+use Rattle.std.specs.Prelude.{ℕ, ◌+◌}
 use Rattle.slices.specs.Prelude.{action_at, end_of, held_at, Instance, least, machine_count, node, node_count, powered_at, present_at, Snapshot, sum_to, usable_at, vm}
 use Rattle.domains.specs.Sets.{Sets, surely, may}
 

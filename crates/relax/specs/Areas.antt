@@ -1,5 +1,6 @@
 -- Sets of nodes as they are asked for, and what may be asked.
-use Rattle.base.specs.Prelude.{◌≡◌, Bool, false, not, length, IsTrue, Option, Some, None, Contains}
+use Rattle.std.specs.Prelude.{◌≡◌, Bool, false, not, length, IsTrue, Option, Some, None}
+use Rattle.std.specs.List.{Contains}
 use Rattle.reasons.specs.Prelude.{all_nodes, has_node, host_of, Instance, is_legal, IsElement, machine_count, node_count, Nodes, one, RegionView, Sets}
 use Rattle.cluster.specs.declared.choices.Choice.{Choice}
 use Rattle.cluster.specs.declared.choices.Choice.TheVariants.{Idle, Act}

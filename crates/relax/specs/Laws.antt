@@ -1,5 +1,5 @@
 -- Helping only: regions whose choices are all legal.
-use Rattle.base.specs.Prelude.{Bool}
+use Rattle.std.specs.Prelude.{Bool}
 use Rattle.reasons.specs.Prelude.{Instance, keeping, Sets}
 use Rattle.cluster.specs.declared.choices.Choice.{Choice}
 use Rattle.cluster.specs.declared.ids.Element.{Element}

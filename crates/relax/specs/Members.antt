@@ -1,5 +1,5 @@
 -- Members of a list that are somewhere.
-use Rattle.base.specs.Prelude.{◌≡◌, ℕ, false, List, IsTrue}
+use Rattle.std.specs.Prelude.{◌≡◌, ℕ, false, List, IsTrue}
 use Rattle.reasons.specs.Prelude.{IsMember, Nodes, Snapshot}
 use Rattle.cluster.specs.declared.ids.VmId.{VmId}
 

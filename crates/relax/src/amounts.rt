@@ -1,6 +1,6 @@
 //! Reasons of sums: more of something than there may be.
-ghost use Rattle.std.specs.Prelude.{filter, IsSomeAnd};
-ghost use Rattle.base.specs.Prelude.{◌≡◌, ◌↔◌, ℕ, ◌<◌, ◌≤◌, true, length, nat_lt, IsTrue, IfSome, list_all};
+ghost use Rattle.std.specs.Prelude.{filter, IsSomeAnd, ◌≡◌, ◌↔◌, ℕ, ◌<◌, ◌≤◌, true, length, nat_lt, IsTrue, IfSome};
+ghost use Rattle.std.specs.List.{list_all};
 ghost use Rattle.relax.specs.Prelude.{ExceedsSeparated, has_node, inventory_of, is_rule, IsHall, IsOverload, IsPower, IsSetLoad, IsSized, least_cost as the_least_cost, machine_count, max_nodes, nodes_in as the_nodes_in, nodes_of, seen, separated, separation_seen, sure};
 
 use crate::area::{Area, area_of};

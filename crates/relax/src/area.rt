@@ -1,5 +1,5 @@
 //! Sets of nodes as looks ask for them.
-ghost use Rattle.base.specs.Prelude.{◌≡◌, ◌↔◌, ℕ, ◌<◌, ◌≤◌, IfSome, IsTrue};
+ghost use Rattle.std.specs.Prelude.{◌≡◌, ◌↔◌, ℕ, ◌<◌, ◌≤◌, IfSome, IsTrue};
 ghost use Rattle.relax.specs.Prelude.{has_node, IsElement, max_nodes, node_count, nodes_of, one};
 
 use catalogue::problem::Problem;

@@ -1,5 +1,5 @@
 //! Reasons of one or two elements: a machine where it must not be, two that must not be together.
-ghost use Rattle.base.specs.Prelude.{◌≡◌, ◌<◌, false, IsTrue};
+ghost use Rattle.std.specs.Prelude.{◌≡◌, ◌<◌, false, IsTrue};
 ghost use Rattle.relax.specs.Prelude.{IsElement, IsPair, IsPlace, IsSized, IsUnusable, machine_count, seen, sure};
 
 use crate::area::Area;

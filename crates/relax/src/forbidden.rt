@@ -1,5 +1,5 @@
 //! Which pairs of machines and which places a constraint forbids.
-ghost use Rattle.base.specs.Prelude.{◌≡◌, ◌≢◌, ◌↔◌, ℕ, ◌<◌, false, IsTrue};
+ghost use Rattle.std.specs.Prelude.{◌≡◌, ◌≢◌, ◌↔◌, ℕ, ◌<◌, false, IsTrue};
 ghost use Rattle.relax.specs.Prelude.{ForbidsPair, ForbidsPlace, IsInPart, machine_count, Separates, separation_seen};
 
 use catalogue::constraint::Constraint;

@@ -1,6 +1,6 @@
 //! Reasons of whole constraints: members that no group has all of, and actions that may not overlap.
-ghost use Rattle.std.specs.Prelude.{All};
-ghost use Rattle.base.specs.Prelude.{◌≡◌, ◌≢◌, ◌↔◌, ℕ, ◌<◌, false, true, [], map, nat_lt, IfSome, IfNone, IsTrue, slice_index_or, length, list_all, range_with_len};
+ghost use Rattle.std.specs.Prelude.{All, ◌≡◌, ◌≢◌, ◌↔◌, ℕ, ◌<◌, false, true, [], map, nat_lt, IfSome, IfNone, IsTrue, slice_index_or, length};
+ghost use Rattle.std.specs.List.{list_all, range_with_len};
 ghost use Rattle.relax.specs.Prelude.{Acting, AreAllOut, AreBothActing, AreScattered, has_node, HasOutside, inventory_of, is_rule, IsElement, IsGroup, IsMember, IsOneIn, IsSized, machine_count, node_count, nodes_of, one, seen, Started, sure, Unended};
 
 use crate::area::{Area, node_total};

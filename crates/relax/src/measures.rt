@@ -1,5 +1,5 @@
 //! What can be asked of one choice, as measures: over the starts at one place each is least at the first or the last.
-ghost use Rattle.base.specs.Prelude.{◌≡◌, ◌≤◌, ◌+◌, ◌^◌, ℕ, max, false};
+ghost use Rattle.std.specs.Prelude.{◌≡◌, ◌≤◌, ◌+◌, ◌^◌, ℕ, max, false};
 ghost use Rattle.reasons.specs.Prelude.{action_count, amount_in, count_in, end_of, held_at, image_in, IsElement, max_action, max_amount, node, powered_count, state_of, unusable_count, vm};
 ghost use Rattle.slices.specs.declared.slice.Weight.{Weight as AnyWeight};
 ghost use Rattle.slices.specs.declared.slice.Weight.TheVariants.{Amount as AmountOf};

@@ -1,5 +1,5 @@
 //! Whether all that a reason names is there.
-ghost use Rattle.base.specs.Prelude.{◌≡◌, ◌↔◌, ℕ, ◌<◌, ◌≤◌, false, length, IsTrue};
+ghost use Rattle.std.specs.Prelude.{◌≡◌, ◌↔◌, ℕ, ◌<◌, ◌≤◌, false, length, IsTrue};
 ghost use Rattle.relax.specs.Prelude.{AreListed, has_node, IsElement, IsNamed, machine_count, max_nodes, node_count};
 
 use crate::area::is_node;

@@ -1,5 +1,6 @@
 //! The load and the room of one node. Of most machines it is told at once that they surely have nothing there.
-ghost use Rattle.base.specs.Prelude.{◌≡◌, ◌≢◌, ℕ, ◌<◌, ◌≤◌, false, length, IfSome, IsTrue, Contains};
+ghost use Rattle.std.specs.Prelude.{◌≡◌, ◌≢◌, ℕ, ◌<◌, ◌≤◌, false, length, IfSome, IsTrue};
+ghost use Rattle.std.specs.List.{Contains};
 ghost use Rattle.relax.specs.Prelude.{Choice as AnyChoice, choices, Climbs, goes_in, has_node, held_at, hosted_in, IsElement, IsSized, least, load as load_of, machine_count, node_count, one, RegionView, room as room_of, seen, sets, sure, vm, Weight as AnyWeight};
 
 use crate::area::{Area, is_node};

@@ -1,5 +1,5 @@
 //! The plan of a region that is fixed.
-ghost use Rattle.base.specs.Prelude.{◌≡◌, ℕ, ◌<◌, ◌∷◌, [], length, slice_index_or, IfOk};
+ghost use Rattle.std.specs.Prelude.{◌≡◌, ℕ, ◌<◌, ◌∷◌, [], length, slice_index_or, IfOk};
 ghost use Rattle.relax.specs.Prelude.{AreLegal, choices_of, element_at, element_count, HasElement, inventory_of, IsFixed, IsOnly, IsPlanOf, IsSized, sets};
 
 use base::memory::Memory;

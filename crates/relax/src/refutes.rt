@@ -1,5 +1,5 @@
 //! Whether a reason refutes a region.
-ghost use Rattle.base.specs.Prelude.{◌≡◌, ◌<◌, false, length, IfSome, IsTrue};
+ghost use Rattle.std.specs.Prelude.{◌≡◌, ◌<◌, false, length, IfSome, IsTrue};
 ghost use Rattle.relax.specs.Prelude.{Applies, has_node, in_part, IsElement, IsGroup, IsHall, IsNamed, IsPair, IsPlace, IsPower, IsSetLoad, IsSized, keeping, least_cost, Refutes, Says, seen, sets, sure};
 
 use crate::amounts::{is_bounded, is_hall, is_overload, is_power, is_set_load};

@@ -1,6 +1,5 @@
 //! The region of all legal choices.
-ghost use Rattle.std.specs.Prelude.{filter};
-ghost use Rattle.base.specs.Prelude.{◌≡◌, ℕ, ◌+◌, ◌-◌, ◌++◌, ◌<◌, ◌≤◌, length, slice_index_or, IfOk, IfSome, OnOk};
+ghost use Rattle.std.specs.Prelude.{filter, ◌≡◌, ℕ, ◌+◌, ◌-◌, ◌++◌, ◌<◌, ◌≤◌, length, slice_index_or, IfOk, IfSome, OnOk};
 ghost use Rattle.relax.specs.Prelude.{AreLegal, choices, ComesAfter, Element as AnyElement, is_legal as the_is_legal, IsElement, IsRowAt, IsSized, machine_count, node, node_count, option_choices, rows_of, sets, start_sets, starts_from, staying, vm};
 
 use crate::area::node_total;

@@ -1,5 +1,6 @@
 //! What is sure in what is seen of a region.
-ghost use Rattle.base.specs.Prelude.{◌≡◌, ℕ, ◌≤◌, ◌↔◌, ◌<◌, false, [], nat_lt, length, slice_index_or, IsTrue, Option as AnyOption, Contains};
+ghost use Rattle.std.specs.Prelude.{◌≡◌, ℕ, ◌≤◌, ◌↔◌, ◌<◌, false, [], nat_lt, length, slice_index_or, IsTrue, Option as AnyOption};
+ghost use Rattle.std.specs.List.{Contains};
 ghost use Rattle.relax.specs.Prelude.{Choice as AnyChoice, choices, Climbs, end_of, goes_in as the_goes_in, HasElement, held_at, Image as ImageOf, is_above_none, is_nought, IsElement, IsSized, IsWeight, least, lowest as lowest_of, max_held, no_row, nodes_of, seen, sure, vm, Weight as AnyWeight};
 
 use crate::area::Area;

@@ -1,5 +1,5 @@
 //! Sums over what is sure in what is seen of a region.
-ghost use Rattle.base.specs.Prelude.{◌≡◌, ◌≤◌, ◌<◌, ◌*◌, ◌^◌, length, if◌then◌else◌};
+ghost use Rattle.std.specs.Prelude.{◌≡◌, ◌≤◌, ◌<◌, ◌*◌, ◌^◌, length, if◌then◌else◌};
 ghost use Rattle.relax.specs.Prelude.{capacity_of, end_of, IsElement, IsSized, IsWeight, least, least_cost as least_cost_of, load as load_of, machine_count, max_capacity, max_machines, max_nodes, node, node_count, nodes_of, powered_nodes as powered_nodes_of, presences as presences_of, room as room_of, seen, sum_to, sure, total as total_of, vm};
 
 use crate::area::{Area, has};

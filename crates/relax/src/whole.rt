@@ -1,5 +1,5 @@
 //! What is sure in a region as it is.
-ghost use Rattle.base.specs.Prelude.{◌≡◌, ◌<◌, length};
+ghost use Rattle.std.specs.Prelude.{◌≡◌, ◌<◌, length};
 ghost use Rattle.relax.specs.Prelude.{Amount, AreLegal, end_of, has_node, IsElement, IsSized, lowest as lowest_of, one, sets, sure};
 
 use crate::area::Area;

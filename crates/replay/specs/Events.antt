@@ -1,5 +1,6 @@
 -- The instants at which something happens.
-use Rattle.base.specs.Prelude.{ℕ, ◌+◌, Bool, false, ◌||◌, ◌==◌, List, filter, list_any, range_with_len}
+use Rattle.std.specs.Prelude.{ℕ, ◌+◌, Bool, false, ◌||◌, ◌==◌, List}
+use Rattle.std.specs.List.{filter, list_any, range_with_len}
 use Rattle.judge.specs.Prelude.{Choices, element_at, element_count, end_of, Instance, inventory_of}
 use Rattle.cluster.specs.declared.choices.Choice.{Choice}
 use Rattle.cluster.specs.declared.choices.Choice.TheVariants.{Idle, Act}

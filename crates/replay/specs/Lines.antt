@@ -1,5 +1,7 @@
 -- The lines of a report.
-use Rattle.base.specs.Prelude.{ℕ, List, [], ◌++◌, length, slice_index_or, Option, Some, None, codes, decimal, flat_map, range_with_len}
+use Rattle.std.specs.Prelude.{ℕ, List, [], ◌++◌, length, slice_index_or, Option, Some, None, codes}
+use Rattle.std.specs.Fmt.{decimal}
+use Rattle.std.specs.List.{flat_map, range_with_len}
 use Rattle.judge.specs.Prelude.{Choices, cost_of, Instance, inventory_of, Loads, loads_of, name_of, node, node_count, snapshot_at, vm}
 use Rattle.cluster.specs.declared.ids.Element.{Element}
 use Rattle.slices.specs.declared.rule.Broken.{Broken}

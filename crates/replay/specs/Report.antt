@@ -1,5 +1,7 @@
 -- The report on a plan.
-use Rattle.base.specs.Prelude.{◌↔◌, ℕ, List, ◌++◌, Option, IsNone, IfSome, StartsWith, flat_map}
+use Rattle.std.specs.Prelude.{◌↔◌, ℕ, List, ◌++◌, Option, IsNone, IfSome}
+use Rattle.std.specs.Io.{StartsWith}
+use Rattle.std.specs.List.{flat_map}
 use Rattle.judge.specs.Prelude.{Choices, Instance, IsFirstBroken, IsValid}
 use Rattle.slices.specs.declared.rule.Broken.{Broken}
 use Rattle.replay.specs.Events.{events}

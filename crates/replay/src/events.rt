@@ -1,5 +1,5 @@
 //! The instants at which something happens: 0, each start and each end of an action, and the horizon.
-ghost use Rattle.base.specs.Prelude.{◌≡◌, ◌+◌, ◌||◌, ℕ, false, length, slice_index_or, IfOk};
+ghost use Rattle.std.specs.Prelude.{◌≡◌, ◌+◌, ◌||◌, ℕ, false, length, slice_index_or, IfOk};
 ghost use Rattle.replay.specs.Prelude.{choices_of, element_count, events, inventory_of, is_event, IsElement, IsPlanOf, turns, turns_below};
 
 use base::memory::Memory;

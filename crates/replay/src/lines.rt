@@ -1,5 +1,5 @@
 //! The lines of a report.
-ghost use Rattle.base.specs.Prelude.{◌≡◌, ◌++◌, ◌<◌, length, IfOk, IfSome, OnOk, string_bytes};
+ghost use Rattle.std.specs.Prelude.{◌≡◌, ◌++◌, ◌<◌, length, IfOk, IfSome, OnOk, string_bytes};
 ghost use Rattle.replay.specs.Prelude.{at_line, broken_line, cell, choices_of, InRange, IsPlanOf, loads_text, node_count, node_text, nodes_text, resource_name, rule_text, verdict_line};
 
 use base::memory::Memory;

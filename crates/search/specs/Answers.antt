@@ -1,6 +1,5 @@
 -- What a search answers, and the tree that shows it.
-use Rattle.std.specs.Prelude.{All}
-use Rattle.base.specs.Prelude.{◌≡◌, ℕ, ◌+◌, ◌<◌, ◌≤◌, Option, Some, None, IfSome}
+use Rattle.std.specs.Prelude.{All, ◌≡◌, ℕ, ◌+◌, ◌<◌, ◌≤◌, Option, Some, None, IfSome}
 use Rattle.cert_write.specs.Prelude.{Choices, choices_of, cost_of, decisions, HasStep, Instance, IsCertificate, IsInfeasible, IsLean, IsOptimal, IsPlanOf, IsValid, least_of, machine_count, node_count, NoneUndercuts, PlanChoices, size, start_sets, steps_of, Tree, WasSearched}
 use Rattle.trees.specs.declared.steps.Goal.{Goal}
 use Rattle.trees.specs.declared.steps.Goal.TheVariants as goal

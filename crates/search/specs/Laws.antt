@@ -1,5 +1,5 @@
 -- What follows of the tree that a search shows.
-use Rattle.base.specs.Prelude.{ℕ, IfSome}
+use Rattle.std.specs.Prelude.{ℕ, IfSome}
 use Rattle.cert_write.specs.Prelude.{Instance, IsInstance, IsPlanOf, Tree}
 use Rattle.search.specs.declared.found.Found.{Found}
 use Rattle.search.specs.Answers.{IsTreeOf, IsTrueOf, plan_in}

@@ -1,5 +1,5 @@
 -- Staying: the plan in which nothing is done, where it is one and valid.
-use Rattle.base.specs.Prelude.{◌≡◌, ℕ, List, [], ◌∷◌, ◌++◌, Option, Some, Bool, IsTrue}
+use Rattle.std.specs.Prelude.{◌≡◌, ℕ, List, [], ◌∷◌, ◌++◌, Option, Some, Bool, IsTrue}
 use Rattle.cert_write.specs.Prelude.{Choices, choices_of, end_line, Instance, IsPlan, IsValid, PlanChoices}
 use Rattle.cluster.specs.declared.choices.Choice.TheVariants.{Idle}
 use Rattle.cluster.specs.declared.ids.Element.{Element}

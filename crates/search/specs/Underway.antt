@@ -1,6 +1,5 @@
 -- A search that is under way: the steps so far, what is open, and what is kept beside them.
-use Rattle.std.specs.Prelude.{All}
-use Rattle.base.specs.Prelude.{◌≡◌, ℕ, ◌≤◌, true, List, [], ◌∷◌, Option, Some, None, IfSome}
+use Rattle.std.specs.Prelude.{All, ◌≡◌, ℕ, ◌≤◌, true, List, [], ◌∷◌, Option, Some, None, IfSome}
 use Rattle.cert_write.specs.Prelude.{choices_of, cost_of, decisions, FoundAt, gathered_along, has_left, HasStep, Instance, IsPlanFound, IsPlanOf, Leads, least_cost, left_set, lower, lowest, plan_costs, plan_set, PlanChoices, Sets, start_sets}
 use Rattle.trees.specs.declared.steps.Step.{Step}
 use Rattle.search.specs.declared.counts.Best.{Best}

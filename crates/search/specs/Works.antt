@@ -1,6 +1,5 @@
 -- What the parts of a search do to its steps, to the file and to the propagators.
-use Rattle.std.specs.Prelude.{All}
-use Rattle.base.specs.Prelude.{◌≡◌, ℕ, ◌+◌, ◌<◌, ◌≤◌, List, [], ◌∷◌, ◌++◌, map, reverse, Option, Some, None, Bool, true, false, IfSome, IsTrue}
+use Rattle.std.specs.Prelude.{All, ◌≡◌, ℕ, ◌+◌, ◌<◌, ◌≤◌, List, [], ◌∷◌, ◌++◌, map, reverse, Option, Some, None, Bool, true, false, IfSome, IsTrue}
 use Rattle.prop_core.specs.Prelude.{given_sum, IsTrailOf, Marked, Meaning, most, Rise}
 use Rattle.cert_write.specs.Prelude.{end_line, HaveChoices, inside, Instance, IsClosed, IsFixed, IsSplit, least_cost, outside, RegionView, Sets, sets, steps_of, Tree}
 use Rattle.cluster.specs.declared.ids.Element.{Element}

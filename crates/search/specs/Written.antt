@@ -1,5 +1,7 @@
 -- What a search leaves in the file of its certificate.
-use Rattle.base.specs.Prelude.{◌≡◌, ℕ, ◌+◌, List, [], ◌∷◌, ◌++◌, Option, Bool, true, false, IsTrue, StartsWith, flat_map}
+use Rattle.std.specs.Prelude.{◌≡◌, ℕ, ◌+◌, List, [], ◌∷◌, ◌++◌, Option, Bool, true, false, IsTrue}
+use Rattle.std.specs.Io.{StartsWith}
+use Rattle.std.specs.List.{flat_map}
 use Rattle.cert_write.specs.Prelude.{end_line, Files, Instance, OthersStay, step_line}
 use Rattle.cluster.specs.declared.ids.Element.{Element}
 use Rattle.domains.specs.declared.parts.Part.{Part}

@@ -1,5 +1,5 @@
 //! One region on a trail, with the sum of its least ends.
-ghost use Rattle.base.specs.Prelude.{◌≡◌, ◌∷◌, ◌<◌, ◌-◌, ◌^◌, [], IfOk, OnOk, length};
+ghost use Rattle.std.specs.Prelude.{◌≡◌, ◌∷◌, ◌<◌, ◌-◌, ◌^◌, [], IfOk, OnOk, length};
 ghost use Rattle.search.specs.Prelude.{domain_at, domain_before, Element as AnyElement, IsElement, IsGround, IsRegionOf, keeping, most, on_side, sets};
 
 use base::memory::Memory;

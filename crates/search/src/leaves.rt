@@ -1,5 +1,5 @@
 //! What is written at a closed region: a leaf, or a split.
-ghost use Rattle.base.specs.Prelude.{◌≡◌, ℕ, ◌+◌, ◌<◌, ◌^◌, IfOk, OnOk, IsTrue, Some};
+ghost use Rattle.std.specs.Prelude.{◌≡◌, ℕ, ◌+◌, ◌<◌, ◌^◌, IfOk, OnOk, IsTrue, Some};
 ghost use Rattle.search.specs.Prelude.{AllFollow, bytes_of, CountsWrites, IsClear, IsFixed, IsGround, IsKept, IsSettled, LeavesLines, lower as the_lower, Pairs, SameRule, sets, Splits};
 
 use crate::counts::{Best, Counts};

@@ -1,5 +1,5 @@
 //! Each change, mark and return goes to the region, to the sum of its least ends and to every propagator.
-ghost use Rattle.base.specs.Prelude.{◌≡◌, ◌∷◌, ◌<◌, OnOk, length};
+ghost use Rattle.std.specs.Prelude.{◌≡◌, ◌∷◌, ◌<◌, OnOk, length};
 ghost use Rattle.search.specs.Prelude.{AllFollow, Element as AnyElement, IsElement, IsGround, keeping, on_side, Pairs, SameRule, sets};
 
 use crate::ground::Ground;

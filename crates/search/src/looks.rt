@@ -1,5 +1,6 @@
 //! Closing a region: propagators are asked until none of them objects, or until it is refuted.
-ghost use Rattle.base.specs.Prelude.{◌≡◌, ℕ, ◌<◌, ◌≤◌, ◌++◌, ◌∷◌, [], false, true, IfOk, OnOk, IfSome, IsTrue, Option, Some, IsSomeAnd};
+ghost use Rattle.std.specs.Prelude.{◌≡◌, ℕ, ◌<◌, ◌≤◌, ◌++◌, ◌∷◌, [], false, true, IfOk, OnOk, IfSome, IsTrue, Option, Some};
+ghost use Rattle.std.specs.Option.{IsSomeAnd};
 ghost use Rattle.search.specs.Prelude.{AllFollow, bytes_of, choice_count, cost_kept, CountsWrites, Covered, cut_steps, CutHolds, Element as AnyElement, Fail as FailStep, HasReason, HaveChoices, IsClear, IsElement, IsGround, IsKept, least_cost, LeavesLines, lines, machine_count, node_count, open_after, outside, Pairs, SameCover, SameRule, sets, step_line, still_open, Works};
 
 use crate::counts::Counts;

@@ -1,5 +1,5 @@
 //! The whole search.
-ghost use Rattle.base.specs.Prelude.{◌≡◌, ◌∷◌, [], Some, IfOk, IfSome, IsTrue, MatchOption};
+ghost use Rattle.std.specs.Prelude.{◌≡◌, ◌∷◌, [], Some, IfOk, IfSome, IsTrue, MatchOption};
 ghost use Rattle.search.specs.Prelude.{bytes_of, CountsWrites, Covered, found_of, goal_in, Goes, HaveChoices, IsElement, IsKept, IsPlanOf, IsShown, IsSized, IsStayed, IsTrueOf, LeavesLines, LeavesText, MayStay, none_yet, Pairs, plan_in, SameCover, sets, start_sets};
 
 use crate::counts::Counts;

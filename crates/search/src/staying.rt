@@ -1,5 +1,5 @@
 //! Staying as all is, where that is a valid plan.
-ghost use Rattle.base.specs.Prelude.{◌≡◌, ◌↔◌, None, Some, IfOk, IfSome, IsTrue};
+ghost use Rattle.std.specs.Prelude.{◌≡◌, ◌↔◌, None, Some, IfOk, IfSome, IsTrue};
 ghost use Rattle.search.specs.Prelude.{bytes_of, choices_of, CountsWrites, IsKept, IsPlanOf, IsStayed, IsStayingPlan, IsValid, LeavesText, MayStay};
 
 use crate::found::Found;

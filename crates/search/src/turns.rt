@@ -1,5 +1,5 @@
 //! The loop over the regions: the one at hand, and the outer sides that wait.
-ghost use Rattle.base.specs.Prelude.{◌≡◌, ℕ, ◌+◌, ◌*◌, ◌-◌, ◌<◌, ◌∷◌, [], true, IfOk, MatchOption, OnOk, IsTrue, Some, reverse, vec_len};
+ghost use Rattle.std.specs.Prelude.{◌≡◌, ℕ, ◌+◌, ◌*◌, ◌-◌, ◌<◌, ◌∷◌, [], true, IfOk, MatchOption, OnOk, IsTrue, Some, reverse, vec_len};
 ghost use Rattle.search.specs.Prelude.{AllFollow, ArePaired, bytes_of, CountsWrites, Covered, Goes, HaveChoices, IsElement, IsGround, IsKept, IsSized, IsTurned, IsVisited, LeavesLines, Pairs, SameCover, sets};
 
 use crate::counts::Counts;

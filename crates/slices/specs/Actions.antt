@@ -1,5 +1,7 @@
 -- The action that brings an element to what is wanted of it, how long it lasts, and which choices are legal.
-use Rattle.base.specs.Prelude.{ℕ, ◌+◌, ◌*◌, Bool, true, false, not, ◌&&◌, ◌==◌, nat_le, length, Option, Some, None, is_some, unwrap_or, slice_get, slice_index_or, if◌then◌else◌, list_any, range_with_len, option_map_or}
+use Rattle.std.specs.Prelude.{ℕ, ◌+◌, ◌*◌, Bool, true, false, not, ◌&&◌, ◌==◌, nat_le, length, Option, Some, None, is_some, unwrap_or, slice_get, slice_index_or, if◌then◌else◌}
+use Rattle.std.specs.List.{list_any, range_with_len}
+use Rattle.std.specs.Option.{option_map_or}
 use Rattle.catalogue.specs.Prelude.{demand_of, Instance, is_online, kind_number, use_of, wanted_of, written_of}
 use Rattle.cluster.specs.declared.choices.Choice.{Choice}
 use Rattle.cluster.specs.declared.choices.Choice.TheVariants.{Idle, Act}

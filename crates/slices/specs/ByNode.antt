@@ -1,5 +1,6 @@
 -- Helping only: laws of what a machine holds, by the nodes of a set, and how much it is at most.
-use Rattle.base.specs.Prelude.{◌≡◌, ℕ, ◌<◌, ◌≤◌, false, if◌then◌else◌, IsTrue, sum_to}
+use Rattle.std.specs.Prelude.{◌≡◌, ℕ, ◌<◌, ◌≤◌, false, if◌then◌else◌, IsTrue}
+use Rattle.base.specs.Sums.{sum_to}
 use Rattle.cluster.specs.declared.choices.Choice.{Choice}
 use Rattle.catalogue.specs.Instance.{Instance, IsInstance}
 use Rattle.slices.specs.declared.slice.Weight.{Weight}

@@ -1,5 +1,6 @@
 -- The cost of a plan, and the best plan.
-use Rattle.base.specs.Prelude.{ℕ, ◌+◌, ◌≤◌, sum_to}
+use Rattle.std.specs.Prelude.{ℕ, ◌+◌, ◌≤◌}
+use Rattle.base.specs.Sums.{sum_to}
 use Rattle.catalogue.specs.Instance.{Instance}
 use Rattle.slices.specs.Elements.{machine_count, node_count, vm, node}
 use Rattle.slices.specs.Actions.{end_of}

@@ -1,5 +1,5 @@
 -- Helping only: what may be taken away from a snapshot so that a constraint still holds.
-use Rattle.base.specs.Prelude.{ℕ, ◌<◌, ◌≤◌, List, IsTrue}
+use Rattle.std.specs.Prelude.{ℕ, ◌<◌, ◌≤◌, List, IsTrue}
 use Rattle.catalogue.specs.Prelude.{has_node, Instance}
 use Rattle.cluster.specs.declared.ids.VmId.{VmId}
 use Rattle.catalogue.specs.declared.constraint.Constraint.{Constraint}

@@ -1,6 +1,6 @@
 -- The form of a constraint: what it asks of what is where. All that holds of constraints, and all that looks at them, goes by the few
 -- forms; the table below is the one place that says which kind has which.
-use Rattle.base.specs.Prelude.{◌≡◌, ℕ, List, [], ◌∷◌, length, nat_lt, true}
+use Rattle.std.specs.Prelude.{◌≡◌, ℕ, List, [], ◌∷◌, length, nat_lt, true}
 use Rattle.catalogue.specs.Prelude.{all_of, are_below, differ, Instance, inventory_of, is_rule}
 use Rattle.cluster.specs.declared.ids.VmId.{VmId}
 use Rattle.cluster.specs.declared.sets.NodeSet.{NodeSet}

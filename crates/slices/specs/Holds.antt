@@ -1,5 +1,6 @@
 -- When a constraint holds, by its form.
-use Rattle.base.specs.Prelude.{◌≡◌, ◌≢◌, ◌⊎◌, ℕ, ◌<◌, ◌≤◌, Bool, false, not, ◌==◌, List, [], map, Any, slice_index_or, IsTrue, range_with_len}
+use Rattle.std.specs.Prelude.{◌≡◌, ◌≢◌, ◌⊎◌, ℕ, ◌<◌, ◌≤◌, Bool, false, not, ◌==◌, List, [], map, Any, slice_index_or, IsTrue}
+use Rattle.std.specs.List.{range_with_len}
 use Rattle.catalogue.specs.Prelude.{has_node, Instance, is_member}
 use Rattle.cluster.specs.declared.states.State.{State}
 use Rattle.cluster.specs.declared.states.State.TheVariants.{Init, Ready as IsReady, Running as Runs, Sleeping as Sleeps, Gone}

@@ -1,5 +1,5 @@
 -- Helping only: laws of legal choices.
-use Rattle.base.specs.Prelude.{◌≡◌, ℕ, ◌+◌, ◌<◌, ◌≤◌, List, length, slice_index_or, IsTrue}
+use Rattle.std.specs.Prelude.{◌≡◌, ℕ, ◌+◌, ◌<◌, ◌≤◌, List, length, slice_index_or, IsTrue}
 use Rattle.catalogue.specs.Prelude.{element_at, element_count, Instance, inventory_of, IsInstance}
 use Rattle.cluster.specs.declared.choices.Choice.{Choice}
 use Rattle.cluster.specs.declared.choices.Choice.TheVariants.{Idle, Act}

@@ -1,5 +1,6 @@
 -- Valid plans, and the first broken rule.
-use Rattle.base.specs.Prelude.{◌≡◌, ◌⊎◌, ℕ, ◌<◌, ◌≤◌, Bool, ◌||◌, ◌==◌, length, slice_get, IsTrue, ForSome}
+use Rattle.std.specs.Prelude.{◌≡◌, ◌⊎◌, ℕ, ◌<◌, ◌≤◌, Bool, ◌||◌, ◌==◌, length, slice_get, IsTrue}
+use Rattle.std.specs.Option.{ForSome}
 use Rattle.catalogue.specs.Prelude.{capacity_of, continuous_at, Instance}
 use Rattle.slices.specs.declared.rule.Broken.{Broken}
 use Rattle.slices.specs.declared.rule.Rule.{Rule}

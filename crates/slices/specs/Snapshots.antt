@@ -1,5 +1,6 @@
 -- What is where at one moment.
-use Rattle.base.specs.Prelude.{ℕ, ◌+◌, ◌<◌, Bool, ◌||◌, length, nat_lt, if◌then◌else◌, sum_to}
+use Rattle.std.specs.Prelude.{ℕ, ◌+◌, ◌<◌, Bool, ◌||◌, length, nat_lt, if◌then◌else◌}
+use Rattle.base.specs.Sums.{sum_to}
 use Rattle.catalogue.specs.Prelude.{capacity_of, Instance, is_online}
 use Rattle.cluster.specs.declared.choices.Choice.{Choice}
 use Rattle.cluster.specs.declared.ids.Element.{Element}

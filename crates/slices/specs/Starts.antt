@@ -1,5 +1,6 @@
 -- Helping only: laws of starts: between starts there is only less, so what was kept stays kept.
-use Rattle.base.specs.Prelude.{◌≡◌, ◌⊎◌, ℕ, ◌<◌, ◌≤◌, Bool, true, false, ◌==◌, Option, Some, None, IsTrue, ForSome}
+use Rattle.std.specs.Prelude.{◌≡◌, ◌⊎◌, ℕ, ◌<◌, ◌≤◌, Bool, true, false, ◌==◌, Option, Some, None, IsTrue}
+use Rattle.std.specs.Option.{ForSome}
 use Rattle.catalogue.specs.Prelude.{all_of, has_node, Instance, is_member, IsElement}
 use Rattle.cluster.specs.declared.choices.Choice.{Choice}
 use Rattle.cluster.specs.declared.choices.Choice.TheVariants.{Idle, Act}

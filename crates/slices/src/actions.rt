@@ -1,5 +1,5 @@
 //! Which action an element takes, how long it lasts, and which choices are legal.
-ghost use Rattle.base.specs.Prelude.{◌≡◌, ◌<◌, ◌≤◌, Bool, length, unwrap_or, IsTrue, IfSome};
+ghost use Rattle.std.specs.Prelude.{◌≡◌, ◌<◌, ◌≤◌, Bool, length, unwrap_or, IsTrue, IfSome};
 ghost use Rattle.slices.specs.Prelude.{amount_at, choice_duration, common_of, demand_of, differs_in, duration_amount, duration_of, end_of, end_wish, is_legal, is_raised, IsElement, kind_duration, kind_of, machine_kind, max_action, max_amount, max_resources, may_idle, may_machine_idle, may_node_idle, node_kind, own_of, stage_at, stage_from, start_of, state_of, use_of, wanted_of, wanted_state};
 ghost use Rattle.cluster.proofs.Public.{IsDuration};
 

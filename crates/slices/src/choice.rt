@@ -1,6 +1,6 @@
 //! What one element has under a choice: the slices of a machine, what it holds at an instant and
 //! how far its action is; whether a node is usable and powered.
-ghost use Rattle.base.specs.Prelude.{◌≡◌};
+ghost use Rattle.std.specs.Prelude.{◌≡◌};
 ghost use Rattle.slices.specs.Prelude.{action_at, IsElement, IsHoldingAt, powered_at, powered_of, progress_of, slices_of, usable_at, usable_of};
 
 use crate::actions::{kind_of, stage, stage_by};

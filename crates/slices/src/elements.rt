@@ -1,5 +1,5 @@
 //! What is asked of one element of a problem.
-ghost use Rattle.base.specs.Prelude.{◌≡◌, ◌↔◌, IsTrue};
+ghost use Rattle.std.specs.Prelude.{◌≡◌, ◌↔◌, IsTrue};
 ghost use Rattle.slices.specs.Prelude.{is_online, is_place, IsElement, state_of};
 
 use catalogue::problem::Problem;

@@ -1,5 +1,5 @@
 //! The form of a constraint: what it asks of what is where, whatever its kind.
-ghost use Rattle.base.specs.Prelude.{◌≡◌, ◌↔◌, ◌<◌, true, IsTrue};
+ghost use Rattle.std.specs.Prelude.{◌≡◌, ◌↔◌, ◌<◌, true, IsTrue};
 ghost use Rattle.slices.specs.Prelude.{form_of as the_form_of, form_seen, Instance, inventory_of, is_rule, IsOffLimits, IsSound, machine_count, places_seen, runs_elsewhere as the_runs_elsewhere};
 
 use crate::elements::state_of;

@@ -1,5 +1,5 @@
 //! What a machine holds at one moment: at most two nodes, and its image.
-ghost use Rattle.base.specs.Prelude.{◌≡◌, ◌<◌, ◌≤◌, length};
+ghost use Rattle.std.specs.Prelude.{◌≡◌, ◌<◌, ◌≤◌, length};
 ghost use Rattle.slices.specs.Prelude.{Amount, held_of, holding_of, IsElement, max_amount, node_of, weight_of, with_raise};
 
 use crate::actions::usage;

@@ -1,5 +1,5 @@
 //! What is where at an instant of a plan.
-ghost use Rattle.base.specs.Prelude.{◌≡◌, ◌≤◌, ◌<◌, length, nat_lt};
+ghost use Rattle.std.specs.Prelude.{◌≡◌, ◌≤◌, ◌<◌, length, nat_lt};
 ghost use Rattle.slices.specs.Prelude.{amount_in, choices_of, Image, image_in, is_in, IsElement, IsHoldingOf, IsPlanOf, load, max_amount, max_load, node_count, one, snapshot_at};
 
 use crate::choice;

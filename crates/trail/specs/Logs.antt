@@ -1,5 +1,5 @@
 -- What a trail is: the region now, and the region at each mark that stands, the newest first.
-use Rattle.base.specs.Prelude.{◌≡◌, ℕ, List, [], ◌∷◌, ◌++◌, length, reverse}
+use Rattle.std.specs.Prelude.{◌≡◌, ℕ, List, [], ◌∷◌, ◌++◌, length, reverse}
 use Rattle.domains.specs.Prelude.{CanRestore, domain_at, HasElement, RegionView, restored, with_domain}
 use Rattle.trail.specs.declared.log.Entry.{Entry}
 use Rattle.trail.specs.declared.log.Entry.TheVariants.{Mark, Whole, Lost}

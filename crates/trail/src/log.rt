@@ -1,5 +1,5 @@
 //! What is kept of one change, and how it is undone.
-ghost use Rattle.base.specs.Prelude.{◌≡◌, ◌++◌, ◌∷◌, [], OnOk, OnErr, IfOk, length};
+ghost use Rattle.std.specs.Prelude.{◌≡◌, ◌++◌, ◌∷◌, [], OnOk, OnErr, IfOk, length};
 ghost use Rattle.domains.specs.Prelude.{domain_at, HasElement, in_part, keeping, out_of_part, restored, sets};
 ghost use Rattle.cluster.specs.declared.ids.Element.{Element as AnyElement};
 ghost use Rattle.trail.specs.Logs.{undone, CanUndo, HasKept};

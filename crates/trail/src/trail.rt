@@ -1,5 +1,5 @@
 //! The trail.
-ghost use Rattle.base.specs.Prelude.{◌≡◌, ◌<◌, ◌∷◌, [], OnOk, OnErr, IfOk, length};
+ghost use Rattle.std.specs.Prelude.{◌≡◌, ◌<◌, ◌∷◌, [], OnOk, OnErr, IfOk, length};
 ghost use Rattle.domains.specs.Prelude.{domain_at, domain_before, HasElement, keeping, on_side, out_of_part, restored, sets};
 ghost use Rattle.cluster.specs.declared.ids.Element.{Element as AnyElement};
 ghost use Rattle.trail.specs.Logs.{Marked};

@@ -1,5 +1,6 @@
 -- Laws of transcripts.
-use Rattle.base.specs.Prelude.{◌≡◌, ℕ, List, Err, StartsWith}
+use Rattle.std.specs.Prelude.{◌≡◌, ℕ, List, Err}
+use Rattle.std.specs.Io.{StartsWith}
 use Rattle.executor.specs.Prelude.{Choices, choices_of, Instance, IsExecution, IsInstance, IsPlanOf, IsSafe, IsValid, PlanChoices}
 use Rattle.transcript.specs.declared.conclusion.Conclusion.{Conclusion}
 use Rattle.transcript.specs.declared.conclusion.ExecuteFault.{ExecuteFault}

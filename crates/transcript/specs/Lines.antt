@@ -1,5 +1,6 @@
 -- The lines of a transcript: those of starts, which are written, and those of events, which are read.
-use Rattle.base.specs.Prelude.{◌≡◌, ℕ, ◌+◌, ◌<◌, ◌≤◌, List, [], ◌∷◌, ◌++◌, length, IsTrue, codes, Contains}
+use Rattle.std.specs.Prelude.{◌≡◌, ℕ, ◌+◌, ◌<◌, ◌≤◌, List, [], ◌∷◌, ◌++◌, length, IsTrue, codes}
+use Rattle.std.specs.List.{Contains}
 use Rattle.executor.specs.Prelude.{Instance, inventory_of, is_name, name_of}
 use Rattle.cluster.specs.declared.ids.Element.{Element}
 use Rattle.transcript.specs.declared.conclusion.EventFault.{EventFault}

@@ -1,5 +1,6 @@
 -- What the parts of a run give. What is said of bytes is said only of sources and sinks that tell them.
-use Rattle.base.specs.Prelude.{◌≡◌, ◌≢◌, ℕ, ◌+◌, List, ◌++◌, Bool, true, false, IsTrue, Option, Some, None, Result, Ok, Err, StartsWith}
+use Rattle.std.specs.Prelude.{◌≡◌, ◌≢◌, ℕ, ◌+◌, List, ◌++◌, Bool, true, false, IsTrue, Option, Some, None, Result, Ok, Err}
+use Rattle.std.specs.Io.{StartsWith}
 use Rattle.executor.specs.Prelude.{Choices, element_named, End as AnEnd, Instance, inventory_of, IsElement, IsFirst, IsFirstBroken, IsStep, IsValid, MayStart, Moves, Phases, Start}
 use Rattle.plan_io.specs.declared.faults.OutFault.{OutFault}
 use Rattle.cluster.specs.declared.ids.Element.{Element}

@@ -1,5 +1,6 @@
 -- The transcript of an execution: which lines are written, which bytes are taken, and how it ends.
-use Rattle.base.specs.Prelude.{◌≡◌, ◌≢◌, ◌⊎◌, ℕ, zero, suc, ◌+◌, List, [], ◌++◌, Some, None, Result, Ok, Err, StartsWith}
+use Rattle.std.specs.Prelude.{◌≡◌, ◌≢◌, ◌⊎◌, ℕ, zero, suc, ◌+◌, List, [], ◌++◌, Some, None, Result, Ok, Err}
+use Rattle.std.specs.Io.{StartsWith}
 use Rattle.executor.specs.Prelude.{AllEnded, Choices, element_named, End as AnEnd, first_phases, Instance, inventory_of, IsFirst, IsFirstBroken, IsStep, IsValid, MayStart, Phases, Start}
 use Rattle.cluster.specs.declared.ids.Element.{Element}
 use Rattle.executor.specs.declared.phase.Phase.TheVariants.{Running}

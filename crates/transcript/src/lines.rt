@@ -1,5 +1,5 @@
 //! Event lines, which are read byte by byte.
-ghost use Rattle.base.specs.Prelude.{◌≡◌, [], ◌∷◌, ℕ, List, IsTrue, IfOk, OnErr, MatchOption};
+ghost use Rattle.std.specs.Prelude.{◌≡◌, [], ◌∷◌, ℕ, List, IsTrue, IfOk, OnErr, MatchOption};
 ghost use Rattle.transcript.specs.Prelude.{CountsReads, EventKind as AnEventKind, IsEvent, LineGives, ReadCauses};
 
 use crate::conclusion::ExecuteFault;

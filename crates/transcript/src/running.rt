@@ -1,5 +1,6 @@
 //! The run of a plan: starts are written to a sink, and event lines are read from a source.
-ghost use Rattle.base.specs.Prelude.{◌≡◌, IsTrue, IfOk, IfErr, StartsWith};
+ghost use Rattle.std.specs.Prelude.{◌≡◌, IsTrue, IfOk, IfErr};
+ghost use Rattle.std.specs.Io.{StartsWith};
 ghost use Rattle.transcript.specs.Prelude.{choices_of, EventGives, ExecuteGives, IsDue, IsElement, IsJudged, IsOfRunning, IsPlanOf, IsSameWork, NamesListed, phases_of, point, ReadCauses, RunGives, start_line, StartGives, StaysIfNotValid, TakeGives, WriteCauses};
 
 use crate::conclusion::{Conclusion, EventFault, ExecuteFault};

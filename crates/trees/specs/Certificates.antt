@@ -1,6 +1,5 @@
 -- Certificates: trees over all legal choices, for a plan or for none, and what their goals say.
-use Rattle.std.specs.Prelude.{IsSomeAnd}
-use Rattle.base.specs.Prelude.{◌≡◌, ℕ, ◌≤◌, Option, Some, None}
+use Rattle.std.specs.Prelude.{IsSomeAnd, ◌≡◌, ℕ, ◌≤◌, Option, Some, None}
 use Rattle.reasons.specs.Prelude.{Choices, cost_of, Instance, IsInfeasible, IsOptimal, IsPlan, IsValid, start_sets}
 use Rattle.trees.specs.declared.steps.Goal.{Goal}
 use Rattle.trees.specs.declared.steps.Goal.TheVariants.{Optimal, Infeasible, Undecided}

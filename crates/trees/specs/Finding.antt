@@ -1,5 +1,5 @@
 -- Helping only: what a search knows of its steps before it knows the cost of its plan, and what follows at the end.
-use Rattle.base.specs.Prelude.{◌≡◌, ◌≢◌, ℕ, ◌≤◌, List, [], ◌∷◌, Option, Some, None}
+use Rattle.std.specs.Prelude.{◌≡◌, ◌≢◌, ℕ, ◌≤◌, List, [], ◌∷◌, Option, Some, None}
 use Rattle.reasons.specs.Prelude.{Instance, least_cost, Refutes, Sets}
 use Rattle.cluster.specs.declared.ids.Element.{Element}
 use Rattle.domains.specs.declared.parts.Part.{Part}

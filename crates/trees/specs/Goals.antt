@@ -1,5 +1,6 @@
 -- The goal that a tree shows, and the cost that no valid plan undercuts where sets are left.
-use Rattle.base.specs.Prelude.{ℕ, ◌+◌, Bool, true, false, List, [], ◌∷◌, Option, Some, None, lower, lowest}
+use Rattle.std.specs.Prelude.{ℕ, ◌+◌, Bool, true, false, List, [], ◌∷◌, Option, Some, None}
+use Rattle.base.specs.Least.{lower, lowest}
 use Rattle.reasons.specs.Prelude.{Instance, least_cost, Sets}
 use Rattle.trees.specs.declared.steps.Step.{Step}
 use Rattle.trees.specs.declared.steps.Step.TheVariants.{Decide, Cut, Fail, Plan, Left}

@@ -1,6 +1,5 @@
 -- Helping only: what trees say of plans, and how large they are.
-use Rattle.std.specs.Prelude.{IsSomeAnd}
-use Rattle.base.specs.Prelude.{◌≡◌, ◌⊎◌, ℕ, ◌+◌, ◌≤◌, max, Bool, true, false, List, [], ◌∷◌, Option, Some, is_some}
+use Rattle.std.specs.Prelude.{IsSomeAnd, ◌≡◌, ◌⊎◌, ℕ, ◌+◌, ◌≤◌, max, Bool, true, false, List, [], ◌∷◌, Option, Some, is_some}
 use Rattle.reasons.specs.Prelude.{Choices, cost_of, Excludes, Instance, IsIn, IsInstance, IsPlan, IsValid, machine_count, node_count, Sets, size, start_sets}
 use Rattle.trees.specs.declared.steps.Goal.{Goal}
 use Rattle.trees.specs.Trees.{Tree, steps_of}

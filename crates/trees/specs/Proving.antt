@@ -1,6 +1,5 @@
 -- What a tree proves of the sets of choices that it is over.
-use Rattle.std.specs.Prelude.{filter, IsSomeAnd}
-use Rattle.base.specs.Prelude.{◌≡◌, ◌≢◌, ℕ, ◌≤◌, [], Option}
+use Rattle.std.specs.Prelude.{filter, IsSomeAnd, ◌≡◌, ◌≢◌, ℕ, ◌≤◌, [], Option}
 use Rattle.reasons.specs.Prelude.{Choices, cost_of, in_part, Instance, IsElement, IsOnly, IsValid, out_of_part, Refutes, Sets}
 use Rattle.cluster.specs.declared.ids.Element.{Element}
 use Rattle.domains.specs.declared.parts.Part.{Part}

@@ -1,5 +1,5 @@
 -- Trees as a search leaves them: what is decided is closed, and plans that were met come first.
-use Rattle.base.specs.Prelude.{◌≡◌, ◌≢◌, ◌⊎◌, ℕ, ◌<◌, ◌≤◌, List, [], ◌∷◌, length, Option, Some, None}
+use Rattle.std.specs.Prelude.{◌≡◌, ◌≢◌, ◌⊎◌, ℕ, ◌<◌, ◌≤◌, List, [], ◌∷◌, length, Option, Some, None}
 use Rattle.reasons.specs.Prelude.{Choices, Instance, IsClosed, IsElement, IsOnly, IsValid, least_cost, Sets}
 use Rattle.cluster.specs.declared.choices.Choice.TheVariants.{Idle}
 use Rattle.cluster.specs.declared.ids.Element.{Element}

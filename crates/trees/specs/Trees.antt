@@ -1,5 +1,5 @@
 -- Certificate trees: their steps in order, and what is open after each.
-use Rattle.base.specs.Prelude.{◌≡◌, ℕ, List, [], ◌∷◌, ◌++◌}
+use Rattle.std.specs.Prelude.{◌≡◌, ℕ, List, [], ◌∷◌, ◌++◌}
 use Rattle.reasons.specs.Prelude.{in_part, keeping, out_of_part, Sets}
 use Rattle.cluster.specs.declared.ids.Element.{Element}
 use Rattle.domains.specs.declared.parts.Part.{Part}
