@@ -9,6 +9,7 @@ ghost use Rattle.profiles.specs.NodeLoad.{AreShares, AreSmall, IsShare, IsSmall,
 use crate::host::is_host;
 use crate::standing::numbers::Standing;
 use crate::standing::uses::{base, comes_by, gain};
+use base::Memory;
 use catalogue::Problem;
 use cluster::{Element, Instant, NodeId, VmId};
 use slices::Weight;
