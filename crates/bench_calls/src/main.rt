@@ -3,7 +3,7 @@
 
 ghost use Rattle.relax.specs.Areas.{IsSized};
 
-use catalogue::problem::Problem;
+use catalogue::Problem;
 use closing::closed::closed;
 use cluster::{NodeId, NodeSet, VmId};
 use domains::Region;

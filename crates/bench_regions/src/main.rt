@@ -5,7 +5,7 @@
 ghost use Rattle.std.specs.Prelude.{◌≡◌, ◌<◌, ◌≤◌, ◌^◌, IfOk, OnOk, length};
 ghost use Rattle.trail.specs.Logs.{Marked};
 
-use base::memory::Memory;
+use base::Memory;
 use cluster::{Element, NodeId, Place, VmId};
 use domains::{Change, Domain, Part, Region, Row, Side};
 use std::alloc::Global;

@@ -3,7 +3,7 @@ ghost use Rattle.std.specs.Prelude.{filter, ◌≡◌, ◌+◌, ◌≤◌, max};
 ghost use Rattle.relax.specs.Prelude.{AreFewer, choices, domain_before, end_of, IsElement, least, lost_choices, lowest as lowest_of, max_cost, stays};
 ghost use Rattle.bound.specs.Losses.{least_with};
 
-use catalogue::problem::Problem;
+use catalogue::Problem;
 use cluster::{Choice, Element};
 use domains::measure::{Measure, lowest, lowest_lost};
 use domains::undo::Lost;

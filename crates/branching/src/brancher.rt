@@ -2,7 +2,7 @@
 ghost use Rattle.std.specs.Prelude.{◌≡◌};
 ghost use Rattle.branching.specs.Prelude.{AreLegal, HaveChoices, IsFixed, IsPlanOf, IsSized, IsSplit, sets};
 
-use catalogue::problem::Problem;
+use catalogue::Problem;
 use cluster::Element;
 use domains::{Part, Region};
 use reasons::Reason;

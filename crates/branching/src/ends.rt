@@ -2,7 +2,7 @@
 ghost use Rattle.std.specs.Prelude.{◌≡◌, ◌<◌, length};
 ghost use Rattle.branching.specs.Prelude.{Act, end_of, IsElement};
 
-use catalogue::problem::Problem;
+use catalogue::Problem;
 use cluster::{Choice, Element};
 use domains::Row;
 use relax::measures::end;

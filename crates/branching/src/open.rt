@@ -2,7 +2,7 @@
 ghost use Rattle.std.specs.Prelude.{◌≡◌};
 ghost use Rattle.domains.specs.Sets.{IsFixed, IsFirstUnfixed};
 
-use cluster::ids::Element;
+use cluster::Element;
 use domains::Region;
 
 /// The first element that is not fixed.

@@ -1,19 +1,11 @@
-//! The planner for virtual machine reconfiguration, from the words of the command line to the files
-//! that it writes. `run::run` is the top call, and says what the program promises.
+//! The planner for virtual machine reconfiguration. `commands::run::run` does what the words of the command line ask
+//! for, and says what the program promises.
 #![tactic(auto)]
 
-mod commands;
-mod fault;
-mod inputs;
-mod laws;
-mod rules;
-mod run;
-mod status;
-mod words;
-
+use commands::run::run;
+use commands::status::Status;
 use plan_io::{FileDesk, StdSink, StdSource};
-use rules::run_by_rules;
-use status::Status;
+use rule_solver::RuleSolver;
 use std::process::ExitCode;
 use std::{env, io};
 
@@ -37,9 +29,6 @@ fn main(rt: HostRuntime) -> ExitCode {
     let mut desk = FileDesk::new(&rt, alloc);
     let mut input = StdSource::new(rt.stdin());
     let mut out = StdSink::new(io::writer(&rt));
-    let status = run_by_rules(alloc, &words, &mut desk, &mut input, &mut out);
+    let status = run(alloc, &words, &mut desk, &mut input, &mut out, &RuleSolver);
     ExitCode::from(status.code())
 }
-
-#[cfg(test)]
-mod tests;

@@ -3,7 +3,7 @@ ghost use Rattle.std.specs.Prelude.{◌≡◌, ℕ, ◌<◌, ◌&&◌, ◌==◌,
 ghost use Rattle.catalogue.specs.Prelude.{are_below, cell, HasRows, is_member, max_resources, preserved_with};
 ghost use Rattle.catalogue.specs.declared.constraint.Constraint.TheVariants.{Preserve};
 
-use base::memory::Memory;
+use base::Memory;
 use cluster::VmId;
 use cluster::limits::MAX_RESOURCES;
 

@@ -1,7 +1,7 @@
 //! The lists of constraints: machines, sets of nodes, and parts of machines.
 ghost use Rattle.std.specs.Prelude.{◌≡◌, IfOk};
 
-use base::memory::Memory;
+use base::Memory;
 use cluster::{NodeSet, VmId};
 use std::alloc::Global;
 use std::marker::Model;

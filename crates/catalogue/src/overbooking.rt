@@ -3,7 +3,7 @@ ghost use Rattle.std.specs.Prelude.{◌≡◌, ℕ, ◌<◌, ◌≤◌, ◌&&◌
 ghost use Rattle.catalogue.specs.Prelude.{has_node, HasRows, lesser_of, limit_cell, limit_with, max_amount, max_resources, max_scale, written_of};
 ghost use Rattle.catalogue.specs.declared.constraint.Constraint.TheVariants.{Overbook};
 
-use base::memory::Memory;
+use base::Memory;
 use cluster::limits::MAX_RESOURCES;
 use cluster::{Cluster, NodeId, NodeSet};
 

@@ -2,7 +2,7 @@
 ghost use Rattle.std.specs.Prelude.{◌≡◌, ◌<◌, IfSome};
 ghost use Rattle.cert_check.specs.Prelude.{as_instant as the_instant, first_nodes, named_constraint, named_element, named_hall, named_load, named_machine, named_node, named_nodes, named_pair, named_part, named_place, named_reason, named_resource, named_stay, named_step, named_use, no_nodes, node_added, node_count, nodes_added};
 
-use catalogue::problem::Problem;
+use catalogue::Problem;
 use cert_text::text::{NodesText, PartText, ReasonText, StepText};
 use cluster::{Element, Instant, Name, NodeId, NodeSet, Place, VmId};
 use domains::Part;

@@ -1,7 +1,7 @@
 //! What a check answers.
 ghost use Rattle.std.specs.Prelude.{◌≡◌};
 
-use base::memory::Memory;
+use base::Memory;
 use cert_model::why::Why;
 use cert_read::LineFault;
 use trees::Goal;

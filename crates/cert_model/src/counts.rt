@@ -3,7 +3,7 @@ ghost use Rattle.std.specs.Prelude.{◌≡◌, ◌↔◌, ℕ, ◌+◌, ◌<◌,
 ghost use Rattle.base.specs.Least.{lower as the_lower, lowest};
 ghost use Rattle.cert_model.specs.Prelude.{decisions, goal_of, left_set, lower_of, plan_costs, Sets, Step as AnyStep};
 
-use trees::steps::{Goal, Step};
+use trees::{Goal, Step};
 
 /// How many decisions there are with a step.
 pub fn counted(count: u64, step: &Step) -> u64

@@ -2,7 +2,7 @@
 ghost use Rattle.std.specs.Prelude.{◌≡◌, ◌↔◌, ◌<◌, false, List, IfSome, IsTrue};
 ghost use Rattle.cert_model.specs.Prelude.{IsSized, IsUndecided, LeanAt, least_cost, lowest, plan_costs, sets, Step as AnyStep};
 
-use catalogue::problem::Problem;
+use catalogue::Problem;
 use closing::closed::closed;
 use domains::Region;
 use trees::Step;

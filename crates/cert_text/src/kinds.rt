@@ -2,7 +2,7 @@
 ghost use Rattle.std.specs.Prelude.{◌≡◌};
 ghost use Rattle.cert_text.specs.Kinds.{goal_word, line_word, named, part_word, reason_word};
 
-use reasons::reason::ReasonKind;
+use reasons::ReasonKind;
 
 /// What a line after the header begins with.
 #[derive(Clone, Copy, Debug, PartialEq, Eq)]

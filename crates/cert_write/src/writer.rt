@@ -4,7 +4,7 @@ ghost use Rattle.std.specs.Io.{StartsWith};
 ghost use Rattle.plan_io.specs.Prelude.{bytes_of, CountsWrites, IsCut, OthersStay};
 ghost use Rattle.cert_text.specs.Spelling.{HasStep, end_line, header_line, step_line};
 
-use catalogue::problem::Problem;
+use catalogue::Problem;
 use cert_text::printing::{HEADER_LINE, push_end_line, push_step_line};
 use plan_io::{Desk, OutFault, write_whole};
 use std::alloc::Global;

@@ -1,6 +1,5 @@
 //! What several tests stand on.
-use catalogue::constraint::Constraint;
-use catalogue::{Problem, Vms};
+use catalogue::{Constraint, Problem, Vms};
 use cluster::{Cluster, Duration, Machine, Name, Node, State, VmId};
 use std::alloc::Global;
 use std::test::Fail;

@@ -2,7 +2,7 @@
 
 ghost use Rattle.std.specs.Prelude.{◌≡◌, ◌++◌, IfOk, codes, string_bytes};
 
-use base::memory::Memory;
+use base::Memory;
 use json_walk::{Fault, PathText, WalkFault};
 use std::alloc::{AllocFailed, Global};
 

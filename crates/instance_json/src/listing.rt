@@ -4,7 +4,7 @@ ghost use Rattle.std.specs.Prelude.{◌≡◌, ◌<◌, ◌++◌, ◌∷◌, [],
 ghost use Rattle.catalogue.specs.Prelude.{all_of, differ, is_member, max_machines};
 ghost use Rattle.instance_json.specs.Listed.{listed_machines};
 
-use base::memory::Memory;
+use base::Memory;
 use catalogue::Vms;
 use catalogue::lists::Parts;
 use cluster::{MachineSet, VmId};

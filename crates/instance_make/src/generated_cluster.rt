@@ -4,7 +4,7 @@ ghost use Rattle.std.specs.Prelude.{◌≡◌, ◌+◌, ◌∷◌, ◌++◌, ◌
 ghost use Rattle.std.specs.Fmt.{decimal};
 ghost use Rattle.instance_make.specs.Prelude.{amounts, cpu_of, generated_duration, generated_machine, generated_node, generated_resources, is_name, kinds, machine_fault, machine_total, machines_to, mem_of, node_fault, node_total, nodes_to};
 
-use base::memory::Memory;
+use base::Memory;
 use cluster::inventory::AddFault;
 use cluster::kinds::KIND_COUNT;
 use cluster::limits::MAX_RESOURCES;

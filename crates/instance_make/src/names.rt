@@ -4,7 +4,7 @@ ghost use Rattle.std.specs.Prelude.{◌≡◌, [], IfOk, slice_index_or};
 ghost use Rattle.instance_make.specs.Prelude.{machine_name, name_of, Node as NodeElement, node_name, resource_name, Vm};
 ghost use Rattle.serde_json.specs.View.{view};
 
-use base::memory::Memory;
+use base::Memory;
 use cluster::{Cluster, Name, NodeId, VmId};
 use json_text::word;
 use serde_json::Value;

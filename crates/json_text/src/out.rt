@@ -5,7 +5,7 @@ ghost use Rattle.serde_json.specs.Data.{object, array, number as number_data, un
 ghost use Rattle.serde_json.specs.Find.{get_member};
 ghost use Rattle.serde_json.specs.View.{view, items_of};
 
-use base::memory::Memory;
+use base::Memory;
 use serde_json::{Map, Value};
 use std::alloc::Global;
 

@@ -7,7 +7,7 @@ ghost use Rattle.serde_json.specs.View.{view};
 ghost use Rattle.serde_json.specs.Written.{has_float, compact_text};
 ghost use Rattle.json_walk.specs.Json.{json_of};
 
-use base::memory::Memory;
+use base::Memory;
 use serde_json::Value;
 use std::alloc::Global;
 

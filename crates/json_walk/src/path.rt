@@ -2,7 +2,7 @@
 
 ghost use Rattle.std.specs.Prelude.{◌≡◌, IfOk};
 
-use base::memory::Memory;
+use base::Memory;
 use std::alloc::Global;
 use std::marker::Model;
 

@@ -2,7 +2,7 @@
 ghost use Rattle.std.specs.Prelude.{◌≡◌, ℕ, ◌+◌, ◌*◌, ◌<◌, ◌≤◌, length, slice_index, slice_index_or};
 ghost use Rattle.judge.specs.Prelude.{Amount, amount_in, cell, IsElement, IsHeldWithin, max_amount, max_nodes, one, weight_of};
 
-use catalogue::problem::Problem;
+use catalogue::Problem;
 use cluster::limits::{MAX_NODES, MAX_RESOURCES};
 use cluster::{Element, VmId};
 use slices::holding::{Held, Holding, amount};

@@ -4,7 +4,7 @@ ghost use Rattle.std.specs.Prelude.{◌≡◌, false, IfOk};
 ghost use Rattle.serde_json.specs.View.{view};
 ghost use Rattle.serde_json.specs.Written.{has_float};
 
-use base::memory::Memory;
+use base::Memory;
 use json_text::{ListOut, ObjectOut, flag, number, print, word};
 use json_walk::{JsonFault, read_value};
 use serde_json::Value;

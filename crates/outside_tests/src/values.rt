@@ -1,6 +1,6 @@
 //! Texts from outside, with the line that each gives.
 
-use base::memory::Memory;
+use base::Memory;
 use json_walk::{
     JsonFault, Keys, PathRef, PathText, WalkFault, field, field_at, flag, flag_at, list,
     list_field, number, number_field, object_at, only, only_at, optional_flag, optional_number,

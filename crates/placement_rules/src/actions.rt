@@ -3,7 +3,7 @@ ghost use Rattle.std.specs.Prelude.{◌≡◌, ◌↔◌, ◌<◌, false, true, 
 ghost use Rattle.std.specs.List.{list_all};
 ghost use Rattle.placement_rules.specs.Prelude.{Acting, choices_of, IsPlanOf, machine_count, snapshot_at, Started, TakeTurns, Unended};
 
-use catalogue::problem::Problem;
+use catalogue::Problem;
 use cluster::{Instant, VmId};
 use slices::Plan;
 use slices::snapshot::action_at;

@@ -2,7 +2,7 @@
 ghost use Rattle.std.specs.Prelude.{◌≡◌, ◌≤◌, ◌<◌, length};
 ghost use Rattle.placement_rules.specs.Prelude.{amount_in, choices_of, count_in, has_node, image_in as the_image_in, IsPlanOf, IsWeightFit, machine_count, max_amount, max_held, node_count, powered_nodes, snapshot_at, total};
 
-use catalogue::problem::Problem;
+use catalogue::Problem;
 use cluster::{Instant, NodeId, NodeSet, VmId};
 use slices::holding::{Held, amount};
 use slices::snapshot::{holding_at, powered};

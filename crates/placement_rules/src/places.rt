@@ -3,7 +3,7 @@ ghost use Rattle.std.specs.Prelude.{◌≡◌, ◌↔◌, ◌<◌, ℕ, false, t
 ghost use Rattle.std.specs.List.{list_all};
 ghost use Rattle.placement_rules.specs.Prelude.{AreAllowed, choices_of, is_in, IsAllowed, IsHeldWithin, IsOffLimits, IsPlanOf, machine_count, node_count, one, places_seen, snapshot_at};
 
-use catalogue::problem::Problem;
+use catalogue::Problem;
 use cluster::{Instant, VmId};
 use slices::Plan;
 use slices::form::{Places, is_off_limits};

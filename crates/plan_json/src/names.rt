@@ -3,8 +3,7 @@
 ghost use Rattle.std.specs.Prelude.{◌≡◌, ◌↔◌, IsTrue};
 ghost use Rattle.cluster.specs.Inventory.{IsListed, name_of};
 
-use cluster::Cluster;
-use cluster::ids::Element;
+use cluster::{Cluster, Element};
 
 fn is_listed(cluster: &Cluster, e: Element) -> bool
     ensures { IsTrue result ↔ IsListed cluster.now.given e }

@@ -6,7 +6,7 @@ ghost use Rattle.slices.specs.Stages.{one};
 ghost use Rattle.relax.specs.Areas.{hosted_in};
 ghost use Rattle.profiles.specs.Hosts.{HostIs};
 
-use catalogue::problem::Problem;
+use catalogue::Problem;
 use cluster::{Element, NodeId, State, VmId};
 
 // the host of a machine in a state

@@ -2,7 +2,7 @@
 ghost use Rattle.std.specs.Prelude.{◌≡◌, ◌<◌, [], ◌∷◌, ◌++◌, length, OnOk, OnErr, slice_set};
 ghost use Rattle.profiles.specs.Levels.{IsBack, marked};
 
-use base::memory::Memory;
+use base::Memory;
 use std::alloc::Global;
 use std::marker::Model;
 

@@ -8,7 +8,7 @@ ghost use Rattle.domains.specs.Sets.{sets};
 ghost use Rattle.relax.specs.Areas.{IsSized};
 ghost use Rattle.profiles.specs.Movers.{AreMovers, IsGrown, IsListedOrStays, IsToldOf};
 
-use base::memory::Memory;
+use base::Memory;
 use catalogue::Problem;
 use cluster::{Element, VmId};
 use domains::Region;

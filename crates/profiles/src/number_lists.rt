@@ -1,7 +1,7 @@
 //! Lists of numbers, one for each of some things.
 ghost use Rattle.std.specs.Prelude.{◌≡◌, ◌<◌, [], ◌∷◌, ◌++◌, length, IfOk, OnOk, replicate, slice_index_or, slice_set};
 
-use base::memory::Memory;
+use base::Memory;
 use std::alloc::Global;
 use std::marker::Model;
 

@@ -9,7 +9,7 @@ ghost use Rattle.domains.specs.Views.{seen};
 ghost use Rattle.reasons.specs.Sure.{sure};
 ghost use Rattle.relax.specs.Areas.{IsSized};
 
-use catalogue::problem::Problem;
+use catalogue::Problem;
 use cluster::{Element, Instant, NodeId, VmId};
 use domains::view::has_idle;
 use domains::{Lens, View};

@@ -4,7 +4,7 @@ ghost use Rattle.domains.specs.Sets.{sets};
 ghost use Rattle.domains.specs.SetsBefore.{sets_before};
 ghost use Rattle.prop_core.specs.Propagators.{IsAsked, IsBack, IsMarked, IsNarrowed, IsPosted, IsRegionOf, IsRight, IsTold, IsUnchanged, Meaning, SameRule, TopAgrees, counted, most};
 
-use base::memory::Memory;
+use base::Memory;
 use catalogue::Problem;
 use cluster::Element;
 use domains::{Before, Change, Domain, Part, Region};

@@ -1,6 +1,5 @@
 //! What several tests stand on.
-use cluster::durations::Duration;
-use cluster::{Cluster, Machine, Name, Node, NodeId, State};
+use cluster::{Cluster, Duration, Machine, Name, Node, NodeId, State};
 use std::alloc::Global;
 use std::test::Fail;
 

@@ -2,8 +2,7 @@
 ghost use Rattle.std.specs.Prelude.{◌≡◌, ◌<◌, ◌≤◌, ℕ, min, IfOk, length, [], ◌∷◌};
 ghost use Rattle.region_tests.specs.Starts.{start_of};
 
-use cluster::choices::{Choice, Instant, Place};
-use cluster::{Element, NodeId, VmId};
+use cluster::{Choice, Element, Instant, NodeId, Place, VmId};
 use domains::measure::{Measure, lowest_lost};
 use domains::undo::Lost;
 use domains::view::lowest_seen;

@@ -1,8 +1,7 @@
 //! Marks in one another, with a change of each sort, and back.
 ghost use Rattle.std.specs.Prelude.{◌≡◌, ◌<◌, [], ◌∷◌, IfOk, OnOk, length};
 
-use cluster::choices::{Instant, Place};
-use cluster::{Element, NodeId, VmId};
+use cluster::{Element, Instant, NodeId, Place, VmId};
 use domains::undo::Lost;
 use domains::{Before, Change, Domain, Part, Region, Row, Side};
 use std::alloc::Global;

@@ -2,7 +2,7 @@
 ghost use Rattle.std.specs.Prelude.{◌≡◌, ◌↔◌, ℕ, ◌<◌, ◌≤◌, IfSome, IsTrue};
 ghost use Rattle.relax.specs.Prelude.{has_node, IsElement, max_nodes, node_count, nodes_of, one};
 
-use catalogue::problem::Problem;
+use catalogue::Problem;
 use cluster::{Element, NodeId, NodeSet};
 
 /// Nodes: one, all of the problem, those of a set, or those that are not one or not in a set.

@@ -2,8 +2,7 @@
 ghost use Rattle.std.specs.Prelude.{◌≡◌, ◌≢◌, ◌↔◌, ℕ, ◌<◌, false, IsTrue};
 ghost use Rattle.relax.specs.Prelude.{ForbidsPair, ForbidsPlace, IsInPart, machine_count, Separates, separation_seen};
 
-use catalogue::constraint::Constraint;
-use catalogue::{Problem, Vms};
+use catalogue::{Constraint, Problem, Vms};
 use cluster::{NodeId, VmId};
 use slices::Form;
 use slices::form::{Separation, form_of, is_off_limits};

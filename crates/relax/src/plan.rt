@@ -2,7 +2,7 @@
 ghost use Rattle.std.specs.Prelude.{◌≡◌, ℕ, ◌<◌, ◌∷◌, [], length, slice_index_or, IfOk};
 ghost use Rattle.relax.specs.Prelude.{AreLegal, choices_of, element_at, element_count, HasElement, inventory_of, IsFixed, IsOnly, IsPlanOf, IsSized, sets};
 
-use base::memory::Memory;
+use base::Memory;
 use catalogue::Problem;
 use cluster::{Choice, Element};
 use domains::Region;

@@ -2,7 +2,7 @@
 ghost use Rattle.std.specs.Prelude.{◌≡◌, ◌+◌, ◌||◌, ℕ, false, length, slice_index_or, IfOk};
 ghost use Rattle.replay.specs.Prelude.{choices_of, element_count, events, inventory_of, is_event, IsElement, IsPlanOf, turns, turns_below};
 
-use base::memory::Memory;
+use base::Memory;
 use catalogue::Problem;
 use cluster::{Choice, Element, Instant};
 use slices::Plan;

@@ -2,7 +2,7 @@
 ghost use Rattle.std.specs.Prelude.{◌≡◌, ◌++◌, ◌<◌, length, IfOk, IfSome, OnOk, string_bytes};
 ghost use Rattle.replay.specs.Prelude.{at_line, broken_line, cell, choices_of, InRange, IsPlanOf, loads_text, node_count, node_text, nodes_text, resource_name, rule_text, verdict_line};
 
-use base::memory::Memory;
+use base::Memory;
 use catalogue::Problem;
 use cluster::{Element, Instant, NodeId};
 use judge::{Broken, Loads, Rule, loads_at};

@@ -5,7 +5,7 @@ ghost use Rattle.domains.specs.SetsBefore.{sets_before};
 ghost use Rattle.prop_core.specs.Propagators.{IsNarrowed, IsRegionOf, most};
 ghost use Rattle.rule_frame.specs.Caches.{Cache, IsCacheBack, IsCacheFor, IsCacheMarked, IsCachePosted, IsCacheSame, IsCacheTold};
 
-use base::memory::Memory;
+use base::Memory;
 use catalogue::Problem;
 use domains::{Before, Change, Domain, Region};
 

@@ -1,7 +1,7 @@
 //! Marks on watches, with levels.
 ghost use Rattle.std.specs.Prelude.{◌≡◌, ℕ, ◌<◌, [], ◌∷◌, ◌++◌, length, OnOk, OnErr, true, false, replicate, slice_index_or, slice_set};
 
-use base::memory::Memory;
+use base::Memory;
 use std::alloc::Global;
 use std::marker::Model;
 

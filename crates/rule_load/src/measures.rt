@@ -6,7 +6,7 @@ ghost use Rattle.profiles.specs.Standing.Leaves.{AreLeaves};
 ghost use Rattle.rule_load.specs.Parts.{left_over, usable_count};
 ghost use Rattle.rule_load.specs.Totals.{hurry_count};
 
-use catalogue::problem::Problem;
+use catalogue::Problem;
 use cluster::{Choice, Instant, NodeId};
 use domains::measure::Measure;
 use profiles::standing::numbers::{Leaving, NEVER};

@@ -8,7 +8,7 @@ ghost use Rattle.reasons.specs.Closed.{all_nodes};
 ghost use Rattle.reasons.specs.Reasons.{AreListed};
 ghost use Rattle.rule_load.specs.Watched.{nodes_at};
 
-use catalogue::problem::Problem;
+use catalogue::Problem;
 use cluster::{NodeId, NodeSet};
 
 /// How many nodes there are.

@@ -2,7 +2,7 @@
 ghost use Rattle.std.specs.Prelude.{◌≡◌, ◌∷◌, ◌<◌, ◌-◌, ◌^◌, [], IfOk, OnOk, length};
 ghost use Rattle.search.specs.Prelude.{domain_at, domain_before, Element as AnyElement, IsElement, IsGround, IsRegionOf, keeping, most, on_side, sets};
 
-use base::memory::Memory;
+use base::Memory;
 use bound::lower_bound::LowerBound;
 use catalogue::Problem;
 use domains::{Before, Change, Domain, Region};

@@ -2,7 +2,7 @@
 ghost use Rattle.std.specs.Prelude.{◌≡◌, ◌↔◌, IsTrue};
 ghost use Rattle.slices.specs.Prelude.{is_online, is_place, IsElement, state_of};
 
-use catalogue::problem::Problem;
+use catalogue::Problem;
 use cluster::{Element, NodeId, Place, State, VmId};
 
 /// Whether an element is one of the problem.

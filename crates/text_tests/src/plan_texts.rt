@@ -1,5 +1,5 @@
 //! Texts of plans for one small problem, with the line that each gives.
-use base::memory::Memory;
+use base::Memory;
 use catalogue::{Constraint, Problem, Vms};
 use cluster::{Cluster, Duration, Machine, Name, Node, NodeId, State, VmId};
 use plan_json::{print_plan, read_plan};

@@ -4,7 +4,7 @@ ghost use Rattle.domains.specs.Prelude.{domain_at, HasElement, in_part, keeping,
 ghost use Rattle.cluster.specs.declared.ids.Element.{Element as AnyElement};
 ghost use Rattle.trail.specs.Logs.{undone, CanUndo, HasKept};
 
-use base::memory::Memory;
+use base::Memory;
 use cluster::Element;
 use domains::undo::Lost;
 use domains::{Domain, Part, Region};

@@ -4,7 +4,7 @@ ghost use Rattle.transcript.specs.Lines.{fault_text};
 ghost use Rattle.transcript.specs.declared.conclusion.ExecuteFault.TheVariants as faults;
 ghost use Rattle.transcript.specs.Parts.{out_fault};
 
-use cluster::ids::Element;
+use cluster::Element;
 use plan_io::OutFault;
 use slices::rule::Broken;
 

@@ -2,7 +2,7 @@
 ghost use Rattle.std.specs.Prelude.{◌≡◌, length};
 ghost use Rattle.slices.specs.Elements.{machine_count, node_count};
 
-use catalogue::problem::Problem;
+use catalogue::Problem;
 
 /// How many machines a problem has.
 pub fn machines_of(p: &Problem) -> usize

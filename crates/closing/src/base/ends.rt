@@ -4,7 +4,7 @@ ghost use Rattle.cluster.specs.declared.choices.Choice.{Choice as AnyChoice};
 ghost use Rattle.domains.specs.Choices.{choices};
 ghost use Rattle.closing.specs.Parts.{FailAtEnds, FailAtRow, IsEndThat, IsRowEndThat, PassOnlyAt};
 
-use cluster::choices::{Choice, Instant, Place};
+use cluster::{Choice, Instant, Place};
 use domains::{Domain, Part, Row};
 
 /// A test of single choices.

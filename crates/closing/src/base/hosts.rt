@@ -4,10 +4,10 @@ ghost use Rattle.slices.specs.Elements.{machine_count, state_of};
 ghost use Rattle.slices.specs.Stages.{one};
 ghost use Rattle.relax.specs.Areas.{hosted_in, nodes_of};
 
-use catalogue::problem::Problem;
-use cluster::ids::{NodeId, VmId};
-use cluster::states::State;
-use relax::area::{Area, has};
+use catalogue::Problem;
+use cluster::{NodeId, State, VmId};
+use relax::Area;
+use relax::area::has;
 
 // whether a machine in a state has its host in an area
 fn is_hosted_in(p: &Problem, state: State, area: &Area) -> bool

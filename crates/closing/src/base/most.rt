@@ -12,13 +12,11 @@ ghost use Rattle.relax.specs.Areas.{IsSized, IsWeight, goes_in, nodes_of};
 ghost use Rattle.closing.specs.Most.{IsMostOf, IsMostSure, if_so, unit_of};
 
 use crate::base::hosts::is_hosted;
-use catalogue::problem::Problem;
-use cluster::choices::{Choice, Place};
-use cluster::ids::{Element, VmId};
-use domains::domain::Domain;
-use domains::parts::Row;
-use domains::region::Region;
-use relax::area::{Area, has};
+use catalogue::Problem;
+use cluster::{Choice, Element, Place, VmId};
+use domains::{Domain, Region, Row};
+use relax::Area;
+use relax::area::has;
 use relax::measures::held;
 use slices::Weight;
 

@@ -10,11 +10,9 @@ ghost use Rattle.relax.specs.Areas.{IsSized};
 ghost use Rattle.closing.specs.Stands.{AreApart, StaysClear, has_node_of};
 
 use crate::base::stands::{Stands, end_beside, standing};
-use catalogue::lists::Vms;
-use catalogue::problem::Problem;
-use cluster::choices::Instant;
-use cluster::ids::{Element, VmId};
-use domains::region::Region;
+use catalogue::{Problem, Vms};
+use cluster::{Element, Instant, VmId};
+use domains::Region;
 
 // whether a machine has a choice, and is under no end of its choices on a node where another one stands
 fn stays_clear(p: &Problem, g: &Region, v: VmId, stands: Stands, w: VmId, t: Instant) -> bool

@@ -6,7 +6,7 @@ ghost use Rattle.slices.specs.Holds.{runs_elsewhere};
 ghost use Rattle.profiles.specs.Standing.Leaves.{AreLeaves};
 ghost use Rattle.profiles.specs.Standing.Standings.{leave_of};
 
-use catalogue::problem::Problem;
+use catalogue::Problem;
 use cluster::{Choice, Element, Kind, NodeId, Place, State, VmId};
 use slices::actions::{duration, kind_of};
 

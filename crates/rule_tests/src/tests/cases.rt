@@ -1,7 +1,6 @@
 //! Instances with changes, and the region that was worked out by hand: the domain of each machine and of each node, with
 //! each row of starts as `PLACE:FIRST-LAST`.
-use cluster::choices::Place;
-use cluster::{Element, NodeId, VmId};
+use cluster::{Element, NodeId, Place, VmId};
 use domains::{Change, Part, Side};
 
 /// An instance, changes of its start region, and what is left of that where all rules are quiet.

@@ -1,7 +1,7 @@
 //! A region as text: the domains of the machines, and then of the nodes.
 ghost use Rattle.relax.specs.Areas.{IsSized};
 
-use catalogue::problem::Problem;
+use catalogue::Problem;
 use cluster::Place;
 use domains::{Domain, Region, Row};
 use std::alloc::Global;

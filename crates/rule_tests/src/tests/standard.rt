@@ -1,5 +1,5 @@
 //! The standard reasons of a problem, each of them: at each instant, of each node, machine and constraint.
-use base::memory::Memory;
+use base::Memory;
 use catalogue::Problem;
 use cluster::{Instant, NodeId, NodeSet, VmId};
 use reasons::Reason;

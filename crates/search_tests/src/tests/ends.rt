@@ -5,7 +5,7 @@ ghost use Rattle.domains.specs.Sets.{sets};
 ghost use Rattle.prop_core.specs.Propagators.{CutHolds, IsRegionOf, IsRight, MayAnswer, counted};
 ghost use Rattle.prop_core.specs.Tests.{keeps_nothing};
 
-use base::memory::Memory;
+use base::Memory;
 use catalogue::Problem;
 use closing::closed::closed;
 use cluster::{Element, NodeId, NodeSet, VmId};

@@ -1,7 +1,0 @@
-use Rattle.std.proofs.Common.{refl}
-use Rattle.btrplan.proofs.Covering.{six_boxes}
-use Rattle.btrplan.proofs.rules.run_boxed.Goals as goal
-
-pub run-requires-clause-covered : goal.run-requires-clause-covered
-run-requires-clause-covered g c = six_boxes _ _ _ _ _ _ _ _ _ _ _ _ _ _ _ _ _ _ _ _ c.new-rules.ensures.items c.in_ok-push.ensures.items c.in_ok-push-2.ensures.items c.in_ok-push-3.ensures.items c.in_ok-push-4.ensures.items c.in_ok-push-5.ensures.items c.in_ok-push-6.ensures.items
-    (c.into_dyn_box.ensures.0, λ y. refl) (c.into_dyn_box-in_ok-new-2.ensures.0, λ y. refl) (c.into_dyn_box-in_ok-new-3.ensures.0, λ y. refl) (c.into_dyn_box-in_ok-new-4.ensures.0, λ y. refl) (c.into_dyn_box-in_ok-new-5.ensures.0, λ y. refl) (c.into_dyn_box-in_ok-new-6.ensures.0, λ y. refl)

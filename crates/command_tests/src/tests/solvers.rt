@@ -1,0 +1,44 @@
+//! The solvers of the tests.
+use branching::brancher::Brancher;
+use branching::least_start::LeastStart;
+use catalogue::Problem;
+use commands::solver::Solver;
+use plan_io::{Desk, OutFault};
+use rule_solver::certify_by_rules;
+use search::Found;
+use std::alloc::Global;
+
+/// Searches by the rules of the program and the brancher that takes the least start.
+pub struct ByLeastStart;
+
+impl Solver for ByLeastStart {
+    #[tactic(auto, using(commands::proofs::Public::untouched))]
+    fn certify<D: Desk>(
+        &self,
+        alloc: Global,
+        desk: &mut D,
+        p: &Problem,
+        budget: u64,
+        certificate: &str,
+    ) -> Result<Found, OutFault> {
+        let mut brancher: Box<dyn Brancher> = Box::new(alloc, LeastStart)?;
+        certify_by_rules(alloc, desk, p, budget, &mut brancher, certificate)
+    }
+}
+
+/// Has no memory for a search. A command that does not search ends with it as with any other solver.
+pub struct NoMemory;
+
+impl Solver for NoMemory {
+    #[tactic(auto, using(commands::proofs::Public::untouched))]
+    fn certify<D: Desk>(
+        &self,
+        _alloc: Global,
+        _desk: &mut D,
+        _p: &Problem,
+        _budget: u64,
+        _certificate: &str,
+    ) -> Result<Found, OutFault> {
+        Err(OutFault::Memory)
+    }
+}

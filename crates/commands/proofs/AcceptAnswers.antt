@@ -1,0 +1,90 @@
+-- `check` says yes to the files that `plan` writes.
+use Rattle.std.proofs.Common.{◌≡◌, ◌≢◌, ◌∙◌, ℕ, ◌<◌, ◌^◌, Bool, List, Option, Some, None, Result, Ok, Err, sym, ap, subst, refl, arith}
+use Rattle.plan_io.specs.Files.{Files, bytes_of}
+use Rattle.catalogue.specs.Instance.{Instance}
+use Rattle.slices.specs.Plans.{Choices, PlanChoices}
+use Rattle.trees.specs.declared.steps.Goal.{Goal}
+use Rattle.plan_json.specs.Plans.{plan_of}
+use Rattle.trees.specs.Certificates.{IsCertificate, IsHandedIn, least_of}
+use Rattle.cert_read.specs.declared.line.LineFault.TheVariants.{NotALine, TooLong, Short, ReadFault, Memory as NoRoom}
+use Rattle.cert_model.specs.Walks.{choices_handed}
+use Rattle.cert_check.specs.Laws.{IsAccepted, IsYesUnlessOutside}
+use Rattle.cert_check.specs.declared.verdict.CheckFault.{CheckFault}
+use Rattle.cert_check.specs.declared.verdict.CheckFault.TheVariants.{Line, Memory}
+use Rattle.cert_check.specs.declared.verdict.Verdict.{Verdict}
+use Rattle.cert_check.specs.declared.verdict.Verdict.TheVariants.{Yes, No}
+use Rattle.cert_check.proofs.Public.{certificate_is_accepted, is_writable}
+use Rattle.search.specs.declared.found.Found.{Found}
+use Rattle.search.specs.declared.found.Found.TheVariants.{Optimal, Infeasible, Undecided}
+use Rattle.search.specs.Answers.{IsTrueOf, choices_in, goal_in, least_in, plan_in}
+use Rattle.commands.specs.Answer.{AnswersBy, Outside, Says}
+use Rattle.commands.specs.Checking.{Checks, IsChecked, SaysGiven, verdict_line}
+use Rattle.commands.specs.Planning.{IsWritten}
+use Rattle.commands.specs.Commands.{IsAnswer}
+use Rattle.commands.specs.Inputs.Instance.{instance_in, reading_of}
+use Rattle.commands.specs.Inputs.Plan.{any_plan_in, any_plan_lined, any_plan_reading_of}
+use Rattle.commands.specs.Laws.{AreAccepted, PlannedIsChecked, WrittenIsAccepted, yes_to}
+use Rattle.commands.specs.declared.status.Status.{Status}
+use Rattle.commands.specs.declared.status.Status.TheVariants as status
+
+-- ---- the plan
+
+same_choices : (plan : Option PlanChoices) → choices_in plan ≡ choices_handed plan
+same_choices None = refl
+same_choices (Some plan) = refl
+
+-- the plan that is answered, if one is, is a valid plan
+handed_in : (p : Instance) (budget : ℕ) (found : Found) → IsTrueOf p budget found → IsHandedIn p (choices_handed (plan_in found))
+handed_in p budget (Optimal plan) is = (is.0.legal, is.1.valid)
+handed_in p budget Infeasible is = tt
+handed_in p budget (Undecided None least) is = tt
+handed_in p budget (Undecided (Some plan) least) is = (is.best_is.whole.legal, is.best_is.valid)
+
+plan_read_back : (p : Instance) (files : Files) (plan_file : List ℕ) (plan : Option PlanChoices) → plan_of p (bytes_of (files plan_file)) ≡ Ok plan → any_plan_in p files plan_file ≡ Ok (choices_handed plan)
+unfolding any_plan_reading_of
+plan_read_back p files plan_file plan reads = ap (any_plan_lined p) reads
+
+-- ---- the certificate
+
+pub written_is_accepted : WrittenIsAccepted
+written_is_accepted plan_file certificate budget few p before after found is = record {
+  plan = plan_read_back p after plan_file (plan_in found) is.plan_reads;
+  accepted = λ strict.
+      let tree = is.certified.tree in
+      let shown = is.certified.tree_is in
+      let handed = handed_in p budget found is.true_of in
+      let same = same_choices (plan_in found) in
+      let yes = certificate_is_accepted p is.problem (choices_handed (plan_in found)) handed (goal_in p budget found) tree (subst (λ plan. IsCertificate p plan (goal_in p budget found) tree) same shown.certificate)
+      (is_writable p tree shown.writable (omega (arith, few, shown.within))) strict (λ _. shown.lean) in
+      let least : least_of p (choices_handed (plan_in found)) tree ≡ least_in found = ap (λ plan. least_of p plan tree) (sym same) ∙ sym shown.least in
+      subst (λ low. IsAccepted p (choices_handed (plan_in found)) strict (bytes_of (after certificate)) (goal_in p budget found) low) least
+      (subst (λ file. IsAccepted p (choices_handed (plan_in found)) strict file (goal_in p budget found) (least_of p (choices_handed (plan_in found)) tree)) (sym (ap bytes_of is.certified.whole)) yes);
+}
+
+-- ---- what `check` says
+
+yes_is_said : (goal : Goal) (least : Option ℕ) (given : Result Verdict CheckFault) (before after : Outside) (result : Status) → IsYesUnlessOutside goal least given → SaysGiven given before after result → Says (verdict_line (Yes goal least)) status.Good before after result
+yes_is_said goal least (Ok (Yes shown low)) before after result is says =
+    subst (λ g. Says (verdict_line (Yes g least)) status.Good before after result) is.0 (subst (λ l. Says (verdict_line (Yes shown l)) status.Good before after result) is.1 says)
+yes_is_said goal least (Ok (No line why)) before after result is says = absurd is
+yes_is_said goal least (Err (Line (NotALine n))) before after result is says = absurd is
+yes_is_said goal least (Err (Line (TooLong n))) before after result is says = absurd is
+yes_is_said goal least (Err (Line Short)) before after result is says = absurd is
+yes_is_said goal least (Err (Line ReadFault)) before after result is says = absurd says
+yes_is_said goal least (Err (Line NoRoom)) before after result is says = absurd says
+yes_is_said goal least (Err Memory) before after result is says = absurd says
+
+checked_is_yes : (plan_file certificate : List ℕ) (budget : ℕ) (p : Instance) (found : Found) (strict : Bool) (before after : Outside) (result : Status) → AreAccepted plan_file certificate budget p found before.files → IsChecked plan_file certificate strict p before after result →
+    Says (verdict_line (yes_to p budget found)) status.Good before after result
+checked_is_yes plan_file certificate budget p found strict before after result are checked =
+    let checks : Checks p certificate strict (choices_handed (plan_in found)) before after result = subst (λ reading. AnswersBy (Checks p certificate strict) reading before after result) are.plan checked in
+    yes_is_said (goal_in p budget found) (least_in found) checks.given before after result ((are.accepted strict).alone checks.given checks.gives) checks.says
+
+pub planned_is_checked : PlannedIsChecked
+unfolding IsAnswer
+planned_is_checked instance plan_file certificate budget few not_plan not_certificate p before between said read planned start after source strict result files answer =
+    let are : AreAccepted plan_file certificate budget p planned.found start.files =
+    subst (AreAccepted plan_file certificate budget p planned.found) (sym files) (written_is_accepted plan_file certificate budget few p before.files between.files planned.found planned.written) in
+    let kept : start.files instance ≡ before.files instance = ap (λ (fs : Files). fs instance) files ∙ planned.written.others instance not_plan not_certificate in
+    let read_again : instance_in start.files instance ≡ Ok p = ap (λ file. reading_of (bytes_of file)) kept ∙ read in
+    checked_is_yes plan_file certificate budget p planned.found strict start after result are (subst (λ reading. AnswersBy (IsChecked plan_file certificate strict) reading start after result) read_again answer)

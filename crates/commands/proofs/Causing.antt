@@ -1,0 +1,73 @@
+-- The causes of a status, from those of how the command ended.
+use Rattle.std.proofs.Common.{◌≡◌, ◌⊎◌, ℕ, Result, Err, inl, inr, refl, subst}
+use Rattle.plan_io.specs.Causes.{Rose}
+use Rattle.commands.specs.Causes.{Counts, counts, Causes, CommandCauses, NothingFailed, PartCauses}
+use Rattle.commands.specs.Endings.{IsAnswered}
+use Rattle.commands.specs.declared.status.Status.{Status}
+use Rattle.commands.specs.declared.status.Status.TheVariants as status
+use Rattle.commands.specs.declared.fault.Fault.{Fault}
+use Rattle.commands.specs.declared.fault.Fault.TheVariants as fault
+use Rattle.commands.specs.declared.fault.Ending.{Ending}
+
+-- where no read and no write failed before, and the last line is printed
+pub causes_of_line : (before : Counts) (reads source writes sink now : ℕ) (ended : Result Ending Fault) (result : Status)
+    → ¬ (ended ≡ Err fault.ReadFault) → ¬ (ended ≡ Err fault.WriteFault) → ¬ (result ≡ status.ReadFault)
+    → (result ≡ status.WriteFault → Rose sink now) → (now ≡ sink) ⊎ (result ≡ status.WriteFault)
+    → CommandCauses before (counts reads source writes sink) ended → Causes before (counts reads source writes now) result
+causes_of_line before reads source writes sink now ended result read write no_read failed kept causes = record {
+  read = λ h. absurd (no_read h);
+  write = λ h. inr (subst (λ n. Rose n now) (unless causes.sink) (failed h));
+  reads = inl (elim causes.reads [ inl e ↦ e | inr e ↦ absurd (read e) ]);
+  source = inl (elim causes.source [ inl e ↦ e | inr e ↦ absurd (read e) ]);
+  writes = inl (unless causes.writes);
+  sink = elim kept [ inl e ↦ inl (subst (λ n. now ≡ n) (unless causes.sink) e) | inr e ↦ inr e ];
+}
+  where
+    unless : {a b : ℕ} → (a ≡ b) ⊎ (ended ≡ Err fault.WriteFault) → a ≡ b
+    unless (inl e) = e
+    unless (inr e) = absurd (write e)
+
+-- where nothing is printed any more
+pub causes_as_they_were : (before after : Counts) (ended : Result Ending Fault) (result : Status)
+    → (result ≡ status.ReadFault → ended ≡ Err fault.ReadFault) → (ended ≡ Err fault.ReadFault → result ≡ status.ReadFault)
+    → (result ≡ status.WriteFault → ended ≡ Err fault.WriteFault) → (ended ≡ Err fault.WriteFault → result ≡ status.WriteFault)
+    → CommandCauses before after ended → Causes before after result
+causes_as_they_were before after ended result read read_told write write_told causes = record {
+  read = λ h. causes.read (read h);
+  write = λ h. causes.write (write h);
+  reads = of_read causes.reads;
+  source = of_read causes.source;
+  writes = of_write causes.writes;
+  sink = of_write causes.sink;
+}
+  where
+    of_read : {P : Type 0} → P ⊎ (ended ≡ Err fault.ReadFault) → P ⊎ (result ≡ status.ReadFault)
+    of_read (inl h) = inl h
+    of_read (inr e) = inr (read_told e)
+
+    of_write : {P : Type 0} → P ⊎ (ended ≡ Err fault.WriteFault) → P ⊎ (result ≡ status.WriteFault)
+    of_write (inl h) = inl h
+    of_write (inr e) = inr (write_told e)
+
+-- where the desk did not fail, and what is left only reads the source and writes to the sink
+pub causes_of_rest : (before reads source sink kept source_now writes_now sink_now : ℕ) (ended : Result Ending Fault) → reads ≡ before → writes_now ≡ kept
+    → PartCauses source source_now sink sink_now ended → CommandCauses (counts before source kept sink) (counts reads source_now writes_now sink_now) ended
+causes_of_rest before reads source sink kept source_now writes_now sink_now ended same same_writes causes = record {
+  read = λ h. inr (causes.read h);
+  write = λ h. inr (causes.write h);
+  reads = inl same;
+  source = causes.reads;
+  writes = inl same_writes;
+  sink = causes.writes;
+}
+
+-- where nothing failed and memory was there, the status stands for an answer
+pub answered : (before after : Counts) (result : Status) → Causes before after result → NothingFailed before after → ¬ (result ≡ status.Memory) → IsAnswered result
+answered before after status.Good causes nothing memory = tt
+answered before after status.Negative causes nothing memory = tt
+answered before after status.Undecided causes nothing memory = tt
+answered before after status.Words causes nothing memory = tt
+answered before after status.Input causes nothing memory = tt
+answered before after status.ReadFault causes nothing memory = elim (causes.read refl) [ inl h ↦ nothing.reads h | inr h ↦ nothing.source h ]
+answered before after status.WriteFault causes nothing memory = elim (causes.write refl) [ inl h ↦ nothing.writes h | inr h ↦ nothing.sink h ]
+answered before after status.Memory causes nothing memory = absurd (memory refl)

@@ -1,0 +1,153 @@
+-- What `check` answers, by the readings of its inputs and what the check gives.
+use Rattle.std.proofs.Common.{◌≡◌, ◌∙◌, ℕ, Bool, List, ◌++◌, Option, Some, codes, Result, Ok, Err, IfOk, IfErr, refl, sym, inl, inr, append_assoc}
+use Rattle.std.specs.Fmt.{decimal}
+use Rattle.catalogue.specs.Instance.{Instance}
+use Rattle.slices.specs.Plans.{Choices}
+use Rattle.plan_io.specs.Files.{Files, bytes_of}
+use Rattle.cert_read.specs.declared.line.LineFault.{LineFault}
+use Rattle.cert_read.specs.declared.line.LineFault.TheVariants as line
+use Rattle.cert_check.specs.declared.verdict.CheckFault.{CheckFault}
+use Rattle.cert_check.specs.declared.verdict.CheckFault.TheVariants as check_fault
+use Rattle.cert_check.specs.declared.verdict.Verdict.{Verdict}
+use Rattle.cert_check.specs.Verdicts.{CheckGives, CountsCheck, IsSound}
+use Rattle.commands.specs.Words.{check}
+use Rattle.commands.specs.Answer.{Outside, outside}
+use Rattle.commands.specs.Causes.{ReadCauses}
+use Rattle.commands.specs.Inputs.Instance.{instance_in}
+use Rattle.commands.specs.Inputs.Plan.{any_plan_in}
+use Rattle.commands.specs.Commands.{IsAnswer}
+use Rattle.commands.specs.Checking.{Checks, IsChecked, IsLineRefusal, SaysGiven, undecided_line, verdict_line, verdict_status, not_a_line, too_long_line, short_line}
+use Rattle.commands.specs.Endings.{Ends, IsLastLine, IsOfReading, IsRefusal}
+use Rattle.commands.specs.declared.fault.Ending.{Ending}
+use Rattle.commands.specs.declared.fault.Fault.{Fault}
+use Rattle.commands.specs.declared.fault.Fault.TheVariants as fault
+use Rattle.commands.specs.declared.status.Status.{Status}
+use Rattle.commands.specs.declared.status.Status.TheVariants as status
+use Rattle.commands.proofs.Ends.{says, answers_well, answers_refused, ends_more}
+use Rattle.commands.proofs.LastLines.{ends_with_line}
+
+-- ---- a verdict
+
+-- the line of a yes with a least cost
+pub with_least : (count least : ℕ) (given : Option ℕ) (line : List ℕ) → given ≡ Some least →
+    line ≡ codes "yes undecided " ++ (decimal count ++ (codes " least " ++ (decimal least ++ codes "\n"))) → line ≡ undecided_line count given
+with_least count least given line is e =
+    let whole : codes "yes undecided " ++ decimal count ++ codes " least " ++ decimal least ++ codes "\n" ≡ codes "yes undecided " ++ (decimal count ++ (codes " least " ++ (decimal least ++ codes "\n"))) =
+    append_assoc (codes "yes undecided " ++ decimal count ++ codes " least ") (decimal least) (codes "\n")
+    ∙ append_assoc (codes "yes undecided " ++ decimal count) (codes " least ") (decimal least ++ codes "\n")
+    ∙ append_assoc (codes "yes undecided ") (decimal count) (codes " least " ++ (decimal least ++ codes "\n")) in
+    rw is (e ∙ sym whole)
+
+-- its line is due
+pub verdict_ends : (p : Instance) (certificate : List ℕ) (strict : Bool) (plan : Option Choices) (before after : Files) (printed : List ℕ) (verdict : Verdict) (ended : Result Ending Fault) →
+    after ≡ before → CheckGives p plan strict (bytes_of (before certificate)) (Ok verdict) → IsSound p plan verdict → IsLastLine ended (verdict_line verdict) (verdict_status verdict) →
+    Ends (Checks p certificate strict plan (outside before printed)) (outside after printed) ended
+verdict_ends p certificate strict plan before after printed verdict ended kept gives sound is =
+    ends_with_line (Checks p certificate strict plan (outside before printed)) (outside after printed) (verdict_line verdict) (verdict_status verdict) ended is
+    (record { given = Ok verdict; gives = gives; sound = sound; says = says (verdict_line verdict) (verdict_status verdict) before after printed kept })
+
+-- it is no fault of the outside
+pub verdict_causes : (before now : ℕ) (said : List ℕ) (status_said : Status) (ended : Result Ending Fault) → now ≡ before → IsLastLine ended said status_said → ReadCauses before now ended
+verdict_causes before now said status_said (Ok ending) kept is = record { failed = λ e. absurd (cc); kept = inl kept }
+verdict_causes before now said status_said (Err fault.Words) kept is = absurd is
+verdict_causes before now said status_said (Err (fault.Input text)) kept is = record { failed = λ e. absurd (cc); kept = inl kept }
+verdict_causes before now said status_said (Err fault.ReadFault) kept is = absurd is
+verdict_causes before now said status_said (Err fault.WriteFault) kept is = absurd is
+verdict_causes before now said status_said (Err fault.Memory) kept is = record { failed = λ e. absurd (cc); kept = inl kept }
+
+pub verdict_kind : (said : List ℕ) (status_said : Status) (ended : Result Ending Fault) → IsLastLine ended said status_said → IfErr ended IsOfReading
+verdict_kind said status_said (Ok ending) is = tt
+verdict_kind said status_said (Err fault.Words) is = absurd is
+verdict_kind said status_said (Err (fault.Input text)) is = tt
+verdict_kind said status_said (Err fault.ReadFault) is = absurd is
+verdict_kind said status_said (Err fault.WriteFault) is = absurd is
+verdict_kind said status_said (Err fault.Memory) is = tt
+
+-- ---- a line that cannot be read
+
+-- the fault of a line is the last line
+refusal_is_last : (f : Fault) (said : List ℕ) → IsRefusal f said → IsLastLine (Err f) said status.Input
+refusal_is_last fault.Words said is = absurd is
+refusal_is_last (fault.Input text) said is = (is, refl)
+refusal_is_last fault.ReadFault said is = absurd is
+refusal_is_last fault.WriteFault said is = absurd is
+refusal_is_last fault.Memory said is = tt
+
+-- it is due
+pub line_ends : (p : Instance) (certificate : List ℕ) (strict : Bool) (plan : Option Choices) (before after : Files) (printed : List ℕ) (what : LineFault) (f : Fault) →
+    after ≡ before → CheckGives p plan strict (bytes_of (before certificate)) (Err (check_fault.Line what)) → IsLineRefusal f what →
+    Ends (Checks p certificate strict plan (outside before printed)) (outside after printed) (Err f)
+unfolding Ends
+line_ends p certificate strict plan before after printed what f kept gives is = by_fault what gives is
+  where
+    checks : (given : Result Verdict CheckFault) (said : List ℕ) → CheckGives p plan strict (bytes_of (before certificate)) given → IfOk given (IsSound p plan)
+        → SaysGiven given (outside before printed) (outside after (printed ++ said)) status.Input → Checks p certificate strict plan (outside before printed) (outside after (printed ++ said)) status.Input
+    checks given said gives sound says = record { given = given; gives = gives; sound = sound; says = says }
+
+    ends : (said : List ℕ) → IsRefusal f said → Checks p certificate strict plan (outside before printed) (outside after (printed ++ said)) status.Input → Ends (Checks p certificate strict plan (outside before printed)) (outside after printed) (Err f)
+    ends said is stands = ends_with_line (Checks p certificate strict plan (outside before printed)) (outside after printed) said status.Input (Err f) (refusal_is_last f said is) stands
+
+    by_fault : (what : LineFault) → CheckGives p plan strict (bytes_of (before certificate)) (Err (check_fault.Line what)) → IsLineRefusal f what → Ends (Checks p certificate strict plan (outside before printed)) (outside after printed) (Err f)
+    by_fault (line.NotALine number) gives is = ends (not_a_line number) is (checks _ _ gives tt (says (not_a_line number) status.Input before after printed kept))
+    by_fault (line.TooLong number) gives is = ends (too_long_line number) is (checks _ _ gives tt (says (too_long_line number) status.Input before after printed kept))
+    by_fault line.Short gives is = ends short_line is (checks _ _ gives tt (says short_line status.Input before after printed kept))
+    by_fault line.ReadFault gives is = rw is tt
+    by_fault line.Memory gives is = rw is tt
+
+-- only a failed read raises the count
+refused_causes : (before now : ℕ) (f : Fault) (said : List ℕ) → now ≡ before → IsRefusal f said → ReadCauses {T = Ending} before now (Err f)
+refused_causes before now f said kept is = verdict_causes before now said status.Input (Err f) kept (refusal_is_last f said is)
+
+pub line_causes : (before now : ℕ) (what : LineFault) (f : Fault) → CountsCheck {A = Verdict} before now (Err (check_fault.Line what)) → IsLineRefusal f what → ReadCauses {T = Ending} before now (Err f)
+line_causes before now (line.NotALine number) f counts is = refused_causes before now f (not_a_line number) counts is
+line_causes before now (line.TooLong number) f counts is = refused_causes before now f (too_long_line number) counts is
+line_causes before now line.Short f counts is = refused_causes before now f short_line counts is
+line_causes before now line.ReadFault f counts is = rw is (record { failed = λ e. counts.1; kept = inr refl })
+line_causes before now line.Memory f counts is = rw is (record { failed = λ e. absurd (cc); kept = inl counts })
+
+refused_kind : (f : Fault) (said : List ℕ) → IsRefusal f said → IsOfReading f
+refused_kind f said is = verdict_kind said status.Input (Err f) (refusal_is_last f said is)
+
+pub line_kind : (what : LineFault) (f : Fault) → IsLineRefusal f what → IsOfReading f
+line_kind (line.NotALine number) f is = refused_kind f (not_a_line number) is
+line_kind (line.TooLong number) f is = refused_kind f (too_long_line number) is
+line_kind line.Short f is = refused_kind f short_line is
+line_kind line.ReadFault f is = rw is tt
+line_kind line.Memory f is = rw is tt
+
+-- ---- by the files
+
+-- the line that refuses the instance
+pub refused_instance : (instance plan_file certificate : List ℕ) (strict : Bool) (source : Option (List ℕ)) (before after : Files) (printed said : List ℕ) → after ≡ before → instance_in before instance ≡ Err said →
+    IsAnswer (Some (check instance plan_file certificate strict)) source (outside before printed) (outside after (printed ++ said)) status.Input
+unfolding IsAnswer
+refused_instance instance plan_file certificate strict source before after printed said kept read =
+    answers_refused (IsChecked plan_file certificate strict) _ said _ _ _ read (says said status.Input before after printed kept)
+
+-- what is answered where the instance has a problem
+pub well : (instance plan_file certificate : List ℕ) (strict : Bool) (source : Option (List ℕ)) (before after : Outside) (p : Instance) (result : Status) → instance_in before.files instance ≡ Ok p → IsChecked plan_file certificate strict p before after result →
+    IsAnswer (Some (check instance plan_file certificate strict)) source before after result
+unfolding IsAnswer
+well instance plan_file certificate strict source before after p result read is = answers_well (IsChecked plan_file certificate strict) _ p _ _ _ read is
+
+-- how the command ends where the instance has a problem
+pub answered : (instance plan_file certificate : List ℕ) (strict : Bool) (source : Option (List ℕ)) (before between after : Files) (printed : List ℕ) (p : Instance) (ended : Result Ending Fault) → between ≡ before → instance_in before instance ≡ Ok p →
+    Ends (IsChecked plan_file certificate strict p (outside between printed)) (outside after printed) ended → Ends (IsAnswer (Some (check instance plan_file certificate strict)) source (outside before printed)) (outside after printed) ended
+answered instance plan_file certificate strict source before between after printed p ended kept read ends =
+    ends_more (IsChecked plan_file certificate strict p (outside before printed)) (IsAnswer (Some (check instance plan_file certificate strict)) source (outside before printed)) (outside after printed) ended
+    (λ last result. well instance plan_file certificate strict source (outside before printed) last p result read) (rw kept at ends)
+
+-- ---- by the problem
+
+-- the line that refuses the plan
+pub refused_plan : (plan_file certificate : List ℕ) (strict : Bool) (before after : Files) (printed said : List ℕ) (p : Instance) → after ≡ before → any_plan_in p before plan_file ≡ Err said →
+    IsChecked plan_file certificate strict p (outside before printed) (outside after (printed ++ said)) status.Input
+refused_plan plan_file certificate strict before after printed said p kept plan_read =
+    answers_refused (Checks p certificate strict) _ said _ _ _ plan_read (says said status.Input before after printed kept)
+
+-- what the check of the certificate gives
+pub checked : (plan_file certificate : List ℕ) (strict : Bool) (before between after : Files) (printed : List ℕ) (p : Instance) (plan : Option Choices) (ended : Result Ending Fault) → between ≡ before → any_plan_in p before plan_file ≡ Ok plan →
+    Ends (Checks p certificate strict plan (outside between printed)) (outside after printed) ended → Ends (IsChecked plan_file certificate strict p (outside before printed)) (outside after printed) ended
+checked plan_file certificate strict before between after printed p plan ended kept read ends =
+    ends_more (Checks p certificate strict plan (outside before printed)) (IsChecked plan_file certificate strict p (outside before printed)) (outside after printed) ended
+    (λ last result is. answers_well (Checks p certificate strict) _ plan _ _ _ read is) (rw kept at ends)

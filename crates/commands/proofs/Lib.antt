@@ -1,0 +1,14 @@
+pub mod Public
+pub mod AcceptAnswers
+pub mod Causing
+pub mod CheckAnswers
+pub mod DemoAnswers
+pub mod Ends
+pub mod ExecuteAnswers
+pub mod GenerateAnswers
+pub mod LastLines
+pub mod Numbers
+pub mod PlanAnswers
+pub mod Printing
+pub mod Readings
+pub mod ReplayAnswers

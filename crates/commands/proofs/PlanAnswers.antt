@@ -1,0 +1,207 @@
+-- What `plan` answers and leaves, by what was found of its problem.
+use Rattle.std.proofs.Common.{◌≡◌, ◌≢◌, ◌⊎◌, ◌∙◌, ◌+◌, ℕ, List, [], ◌++◌, Option, Some, None, Bool, IsTrue, Result, Ok, Err, codes, refl, sym, ap, subst, inl, inr, append_assoc}
+use Rattle.std.specs.Prelude.{IfSome}
+use Rattle.std.specs.Io.{StartsWith}
+use Rattle.std.specs.Fmt.{decimal}
+use Rattle.std.specs.List.{flat_map}
+use Rattle.plan_io.specs.Files.{Files, OthersStay, IsCut, bytes_of}
+use Rattle.base.specs.Sums.{sum_to}
+use Rattle.base.proofs.Prefixes.{longer_text}
+use Rattle.base.proofs.Sums.{sum_to-none}
+use Rattle.cluster.specs.declared.choices.Choice.TheVariants.{Idle}
+use Rattle.cluster.specs.declared.ids.Element.{Element}
+use Rattle.catalogue.specs.Instance.{Instance, IsInstance}
+use Rattle.slices.specs.Actions.{end_of}
+use Rattle.slices.specs.Elements.{machine_count, node, node_count, vm}
+use Rattle.slices.specs.Plans.{IsPlanOf, PlanChoices, choices_of}
+use Rattle.plan_json.specs.Plans.{plan_of}
+use Rattle.plan_json.specs.Print.{plan_text}
+use Rattle.trees.specs.declared.steps.Goal.TheVariants.{Infeasible as NonePlanned}
+use Rattle.trees.specs.Trees.{steps_of}
+use Rattle.cert_text.specs.Spelling.{certificate_text, end_line, header_line, step_line}
+use Rattle.prop_core.specs.Propagators.{Meaning}
+use Rattle.search.specs.declared.found.Found.{Found}
+use Rattle.search.specs.declared.found.Found.TheVariants.{Optimal, Infeasible, Undecided}
+use Rattle.search.specs.Answers.{IsTrueOf, goal_in, plan_in}
+use Rattle.search.specs.Staying.{IsStayed, MayStay}
+use Rattle.search.specs.Works.{IsShown}
+use Rattle.search.specs.Written.{LeavesText}
+use Rattle.commands.specs.Words.{plan}
+use Rattle.commands.specs.Answer.{Outside, outside, LeavesBy}
+use Rattle.commands.specs.Inputs.Instance.{instance_in}
+use Rattle.commands.specs.Commands.{IsAnswer}
+use Rattle.commands.specs.Planning.{IsCertificateCut, IsCertified, IsPlanCut, IsPlanned, IsToStay, IsWritten, LeavesPlanned, RestStays, found_line, found_status, plan_cost, undecided_line}
+use Rattle.commands.specs.Endings.{Ends}
+use Rattle.commands.specs.declared.fault.Ending.{Ending}
+use Rattle.commands.specs.declared.fault.Fault.{Fault}
+use Rattle.commands.specs.declared.status.Status.{Status}
+use Rattle.commands.specs.declared.status.Status.TheVariants as status
+use Rattle.commands.proofs.Ends.{says, answers_well, answers_refused, ends_more}
+
+-- ---- the line
+
+-- the line with the cost of a plan
+pub line_with_best : (cost least : ℕ) (best : Option ℕ) (line : List ℕ) → best ≡ Some cost →
+    line ≡ codes "undecided best " ++ (decimal cost ++ (codes " least " ++ (decimal least ++ codes "\n"))) → line ≡ undecided_line best least
+line_with_best cost least best line is e =
+    let whole : codes "undecided best " ++ decimal cost ++ codes " least " ++ decimal least ++ codes "\n" ≡ codes "undecided best " ++ (decimal cost ++ (codes " least " ++ (decimal least ++ codes "\n"))) =
+    append_assoc (codes "undecided best " ++ decimal cost ++ codes " least ") (decimal least) (codes "\n")
+    ∙ append_assoc (codes "undecided best " ++ decimal cost) (codes " least ") (decimal least ++ codes "\n")
+    ∙ append_assoc (codes "undecided best ") (decimal cost) (codes " least " ++ (decimal least ++ codes "\n")) in
+    rw is (e ∙ sym whole)
+
+-- ---- the certificate
+
+-- what is left where it was not touched
+pub untouched : (p : Instance) (file : Option (List ℕ)) → IsCertificateCut p file file
+untouched p file = record { steps = []; goal = NonePlanned; cut = inl refl }
+
+-- what is left where the header was not written whole
+pub cut_in_header : (p : Instance) (before after : Option (List ℕ)) → IsCut before header_line after → IsCertificateCut p before after
+unfolding certificate_text
+cut_in_header p before after (inl same) = record { steps = []; goal = NonePlanned; cut = inl same }
+cut_in_header p before after (inr cut) = record {
+  steps = [];
+  goal = NonePlanned;
+  cut = inr (longer_text (header_line ++ flat_map (step_line p) []) (end_line NonePlanned) (bytes_of after) (longer_text header_line (flat_map (step_line p) []) (bytes_of after) cut));
+}
+
+-- what is left after the header
+pub cut_in_lines : (p : Instance) (tells : Bool) (before middle after : Option (List ℕ)) → IsTrue tells → middle ≡ Some header_line → LeavesText p tells (bytes_of middle) (bytes_of after) → IsCertificateCut p before after
+unfolding certificate_text
+cut_in_lines p tells before middle after told is left = record {
+  steps = left.some;
+  goal = left.goal;
+  cut = inr (subst (λ (file : Option (List ℕ)). StartsWith (bytes_of file ++ flat_map (step_line p) left.some ++ end_line left.goal) (bytes_of after)) is (left.front told));
+}
+
+-- the whole certificate of what was found
+pub certified : {B : Type 0} (m : B → Meaning) (p : Instance) (budget : ℕ) (tells : Bool) (middle after : Option (List ℕ)) (xs ys : List B) (found : Found) → IsTrue tells → middle ≡ Some header_line →
+    IsShown m p budget tells (bytes_of middle) after xs ys found → IsCertified p budget found after
+unfolding certificate_text
+certified m p budget tells middle after xs ys found told is shown = record {
+  tree = shown.tree;
+  tree_is = shown.tree_is;
+  whole = shown.text told ∙ ap (λ (file : Option (List ℕ)). Some (bytes_of file ++ flat_map (step_line p) (steps_of shown.tree) ++ end_line (goal_in p budget found))) is;
+}
+
+-- ---- the plan
+
+-- a plan that is answered is whole
+pub whole_plan : (p : Instance) (budget : ℕ) (found : Found) → IsTrueOf p budget found → IfSome (plan_in found) (IsPlanOf p)
+whole_plan p budget (Optimal kept) is = is.0
+whole_plan p budget Infeasible is = tt
+whole_plan p budget (Undecided None least) is = tt
+whole_plan p budget (Undecided (Some kept) least) is = is.best_is.whole
+
+-- a plan in which each element is idle costs nothing
+idle_costs_nothing : (p : Instance) (kept : PlanChoices) → ((e : Element) → choices_of kept e ≡ Idle) → plan_cost p kept ≡ 0
+unfolding end_of
+idle_costs_nothing p kept idle = λ i. machines i + nodes i
+  where
+    machines : sum_to (machine_count p) (λ v. end_of p (vm v) (choices_of kept (vm v))) ≡ 0
+    machines = sum_to-none (machine_count p) _ (λ v _. ap (end_of p (vm v)) (idle (vm v)))
+
+    nodes : sum_to (node_count p) (λ n. end_of p (node n) (choices_of kept (node n))) ≡ 0
+    nodes = sum_to-none (node_count p) _ (λ n _. ap (end_of p (node n)) (idle (node n)))
+
+-- the answer where staying is a valid plan
+pub to_stay : (p : Instance) (tells : Bool) (old : List ℕ) (new : Option (List ℕ)) (found : Found) → IsStayed p tells old new found → IsToStay p found
+to_stay p tells old new found is = record {
+  plan = is.plan;
+  found_is = is.found_is;
+  stays = is.stays;
+  costs = idle_costs_nothing p is.plan is.stays.idle;
+}
+
+-- ---- by the problem
+
+rest_of_one : (plan_file certificate : List ℕ) (before after : Files) → OthersStay certificate before after → RestStays plan_file certificate before after
+rest_of_one plan_file certificate before after stay = λ other not_plan not_certificate. stay other not_certificate
+
+rest_of_both : (plan_file certificate : List ℕ) (before between after : Files) → OthersStay certificate before between → OthersStay plan_file between after → RestStays plan_file certificate before after
+rest_of_both plan_file certificate before between after first then = λ other not_plan not_certificate. then other not_plan ∙ first other not_certificate
+
+-- what is left where the certificate is not whole
+pub leaves_certificate : (plan_file certificate : List ℕ) (budget : ℕ) (p : Instance) (before after : Files) → plan_file ≢ certificate → IsCertificateCut p (before certificate) (after certificate) → OthersStay certificate before after →
+    LeavesPlanned plan_file certificate budget p before after
+leaves_certificate plan_file certificate budget p before after apart cut stay = record {
+  certificate_cut = cut;
+  plan_cut = inl (stay plan_file apart);
+  others = rest_of_one plan_file certificate before after stay;
+}
+
+-- what is left where it is
+pub leaves_plan : (plan_file certificate : List ℕ) (budget : ℕ) (p : Instance) (found : Found) (before between after : Files) → plan_file ≢ certificate → IsCertified p budget found (between certificate) →
+    IsCertificateCut p (before certificate) (between certificate) → OthersStay certificate before between → IsCut (between plan_file) (plan_text p (plan_in found)) (after plan_file) → OthersStay plan_file between after →
+    LeavesPlanned plan_file certificate budget p before after
+leaves_plan plan_file certificate budget p found before between after apart whole cut stay plan_cut then = record {
+  certificate_cut = subst (λ (file : Option (List ℕ)). IsCertificateCut p (before certificate) file) (sym kept) cut;
+  plan_cut = by plan_cut;
+  others = rest_of_both plan_file certificate before between after stay then;
+}
+  where
+    kept : after certificate ≡ between certificate
+    kept = then certificate (λ same. apart (sym same))
+
+    by : IsCut (between plan_file) (plan_text p (plan_in found)) (after plan_file) → (after plan_file ≡ before plan_file) ⊎ IsPlanCut p budget (after certificate) (after plan_file)
+    by (inl same) = inl (same ∙ stay plan_file apart)
+    by (inr front) = inr (record { found = found; certified = subst (IsCertified p budget found) (sym kept) whole; cut = front })
+
+-- the answer is written
+pub written : (plan_file certificate : List ℕ) (budget : ℕ) (p : Instance) (found : Found) (before between after : Files) → plan_file ≢ certificate → IsInstance p → IsCertified p budget found (between certificate) →
+    OthersStay certificate before between → IsTrueOf p budget found → (MayStay p → IsToStay p found) → after plan_file ≡ Some (plan_text p (plan_in found)) → plan_of p (plan_text p (plan_in found)) ≡ Ok (plan_in found) → OthersStay plan_file between after →
+    IsWritten plan_file certificate budget p before after found
+written plan_file certificate budget p found before between after apart sound whole stay is stays plan_whole reads then = record {
+  problem = sound;
+  certified = subst (IsCertified p budget found) (sym (then certificate (λ same. apart (sym same)))) whole;
+  true_of = is;
+  stays = stays;
+  plan_whole = plan_whole;
+  plan_reads = rw plan_whole reads;
+  others = rest_of_both plan_file certificate before between after stay then;
+}
+
+-- and said
+pub planned : (plan_file certificate : List ℕ) (budget : ℕ) (p : Instance) (found : Found) (before after : Files) (printed line : List ℕ) (said : Status) → IsWritten plan_file certificate budget p before after found →
+    line ≡ found_line p found → said ≡ found_status found → IsPlanned plan_file certificate budget p (outside before printed) (outside after (printed ++ line)) said
+planned plan_file certificate budget p found before after printed line said is text status_is = record {
+  found = found;
+  written = is;
+  printed = ap (λ l. printed ++ l) text;
+  status = status_is;
+}
+
+-- ---- by the file of the instance
+
+-- the line that refuses the instance
+pub refused_instance : (instance plan_file certificate : List ℕ) (budget : ℕ) (source : Option (List ℕ)) (before after : Files) (printed line : List ℕ) → after ≡ before → instance_in before instance ≡ Err line → IsAnswer (Some (plan instance plan_file certificate budget)) source (outside before printed) (outside after (printed ++ line)) status.Input
+unfolding IsAnswer
+refused_instance instance plan_file certificate budget source before after printed line kept read =
+    answers_refused (IsPlanned plan_file certificate budget) _ line _ _ _ read (says line status.Input before after printed kept)
+
+-- what is answered where the instance has a problem
+pub well : (instance plan_file certificate : List ℕ) (budget : ℕ) (source : Option (List ℕ)) (before after : Outside) (p : Instance) (result : Status) → instance_in before.files instance ≡ Ok p → IsPlanned plan_file certificate budget p before after result → IsAnswer (Some (plan instance plan_file certificate budget)) source before after result
+unfolding IsAnswer
+well instance plan_file certificate budget source before after p result read is = answers_well (IsPlanned plan_file certificate budget) _ p _ _ _ read is
+
+-- how the command ends there
+pub answered : (instance plan_file certificate : List ℕ) (budget : ℕ) (source : Option (List ℕ)) (before between after : Files) (printed : List ℕ) (p : Instance) (ended : Result Ending Fault) → between ≡ before → instance_in before instance ≡ Ok p →
+    Ends (IsPlanned plan_file certificate budget p (outside between printed)) (outside after printed) ended → Ends (IsAnswer (Some (plan instance plan_file certificate budget)) source (outside before printed)) (outside after printed) ended
+answered instance plan_file certificate budget source before between after printed p ended kept read ends =
+    ends_more (IsPlanned plan_file certificate budget p (outside before printed)) (IsAnswer (Some (plan instance plan_file certificate budget)) source (outside before printed)) (outside after printed) ended
+    (λ then result. well instance plan_file certificate budget source (outside before printed) then p result read) (rw kept at ends)
+
+-- what is left where nothing was written
+pub leaves_nothing : (plan_file certificate : List ℕ) (budget : ℕ) (reading : Result Instance (List ℕ)) (before after : Files) → after ≡ before → LeavesBy (LeavesPlanned plan_file certificate budget) reading before after
+leaves_nothing plan_file certificate budget (Ok p) before after same = record {
+  certificate_cut = record { steps = []; goal = NonePlanned; cut = inl (λ i. same i certificate) };
+  plan_cut = inl (λ i. same i plan_file);
+  others = λ other _ _ i. same i other;
+}
+leaves_nothing plan_file certificate budget (Err line) before after same = same
+
+-- what is left where the instance has a problem
+pub leaves_well : (instance plan_file certificate : List ℕ) (budget : ℕ) (before between after : Files) (p : Instance) → between ≡ before → instance_in before instance ≡ Ok p → LeavesPlanned plan_file certificate budget p between after →
+    LeavesBy (LeavesPlanned plan_file certificate budget) (instance_in before instance) before after
+leaves_well instance plan_file certificate budget before between after p kept read leaves = rw read (rw kept at leaves)

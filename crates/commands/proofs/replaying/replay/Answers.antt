@@ -1,0 +1,13 @@
+use Rattle.std.proofs.Common.{◌≡◌, Ok}
+use Rattle.slices.specs.Plans.{choices_of}
+use Rattle.commands.specs.Inputs.Instance.{instance_in}
+use Rattle.commands.specs.Inputs.Plan.{plan_in}
+use Rattle.commands.proofs.ReplayAnswers.{reported, value_is_no_fault}
+use Rattle.commands.proofs.replaying.replay.Goals as goal
+
+pub returns-clause-ends : goal.returns-clause-ends
+returns-clause-ends g c = λ told sink_told source.
+    let problem = c.in_ok-problem.problem.given in
+    let read : instance_in (g.D.Desk.files c.args.desk.now) c.args.instance.now ≡ Ok problem = c.in_ok-problem.ensures.reading told (value_is_no_fault _ _) in
+    let plan_read : plan_in problem (g.D.Desk.files c.problem_at.new.desk) c.args.plan_file.now ≡ Ok (choices_of c.in_ok-plan.plan) = c.in_ok-plan.ensures.reading told (value_is_no_fault _ _) in
+    reported c.args.instance.now c.args.plan_file.now source _ _ _ _ _ problem (choices_of c.in_ok-plan.plan) c.end_report.result (c.in_ok-problem.ensures.files told) (c.in_ok-plan.ensures.files told) read plan_read (c.end_report.ensures.ends sink_told (g.D.Desk.files c.args.desk.now))

@@ -1,0 +1,108 @@
+-- What each command answers and leaves: a line for each command in each table, and a room for each below.
+use Rattle.std.specs.Prelude.{◌≡◌, Bool, ℕ, List, Option, Some, None, IsTrue, codes}
+use Rattle.plan_io.specs.Files.{Files}
+use Rattle.commands.specs.Words.{Command, plan, check, replay, execute, generate, demo}
+use Rattle.commands.specs.Inputs.Instance.{instance_in}
+use Rattle.commands.specs.Answer.{Outside, Says, AnswersBy, LeavesBy}
+use Rattle.commands.specs.Planning.{IsPlanned, LeavesPlanned}
+use Rattle.commands.specs.Checking.{IsChecked}
+use Rattle.commands.specs.Replaying.{IsReplayed}
+use Rattle.commands.specs.Executing.{IsExecuted, Starts, Taking, TakesRead}
+use Rattle.commands.specs.Generating.{IsGenerated, LeavesGenerated}
+use Rattle.commands.specs.Demonstrating.{IsDemonstrated, LeavesDemo, demo_certificate, demo_instance, demo_plan}
+use Rattle.commands.specs.declared.status.Status.{Status}
+use Rattle.commands.specs.declared.status.Status.TheVariants as status
+
+-- The desk reads the files that the command reads, and writes those that it creates.
+abbrev pub MayRun : (reads writes : List ℕ → Bool) → Option Command → Type 0
+MayRun reads writes None = Unit {0}
+MayRun reads writes (Some (plan instance plan_file certificate budget)) = IsTrue (reads instance) × IsTrue (writes plan_file) × IsTrue (writes certificate)
+MayRun reads writes (Some (check instance plan_file certificate strict)) = IsTrue (reads instance) × IsTrue (reads plan_file) × IsTrue (reads certificate)
+MayRun reads writes (Some (replay instance plan_file)) = IsTrue (reads instance) × IsTrue (reads plan_file)
+MayRun reads writes (Some (execute instance plan_file)) = IsTrue (reads instance) × IsTrue (reads plan_file)
+MayRun reads writes (Some (generate seed instance)) = IsTrue (writes instance)
+MayRun reads writes (Some (demo seed)) = IsTrue (writes demo_instance) × IsTrue (reads demo_instance) × IsTrue (writes demo_plan) × IsTrue (reads demo_plan) × IsTrue (writes demo_certificate) × IsTrue (reads demo_certificate)
+
+-- The answer to what was asked, from what the source has left and from what stood before.
+unfoldable pub IsAnswer : Option Command → Option (List ℕ) → Outside → Outside → Status → Type 0
+IsAnswer None source before after result = Says (codes "words\n") status.Words before after result
+IsAnswer (Some (plan instance plan_file certificate budget)) source before after result =
+    AnswersBy (IsPlanned plan_file certificate budget) (instance_in before.files instance) before after result
+IsAnswer (Some (check instance plan_file certificate strict)) source before after result =
+    AnswersBy (IsChecked plan_file certificate strict) (instance_in before.files instance) before after result
+IsAnswer (Some (replay instance plan_file)) source before after result =
+    AnswersBy (IsReplayed plan_file) (instance_in before.files instance) before after result
+IsAnswer (Some (execute instance plan_file)) source before after result =
+    AnswersBy (IsExecuted source plan_file) (instance_in before.files instance) before after result
+IsAnswer (Some (generate seed instance)) source before after result = IsGenerated seed instance before after result
+IsAnswer (Some (demo seed)) source before after result = IsDemonstrated seed before after result
+
+-- What a command leaves in the files, however it ends. Words that are no command, and one that only reads, leave all as they were.
+abbrev pub Leaves : Option Command → Files → Files → Type 0
+Leaves None before after = after ≡ before
+Leaves (Some (plan instance plan_file certificate budget)) before after = LeavesBy (LeavesPlanned plan_file certificate budget) (instance_in before instance) before after
+Leaves (Some (check instance plan_file certificate strict)) before after = after ≡ before
+Leaves (Some (replay instance plan_file)) before after = after ≡ before
+Leaves (Some (execute instance plan_file)) before after = after ≡ before
+Leaves (Some (generate seed instance)) before after = LeavesGenerated seed instance before after
+Leaves (Some (demo seed)) before after = LeavesDemo seed before after
+
+-- What a command leaves in the files where a read failed. But for `demo`, which reads what it wrote, none has written before it has read; and of `generate` no read can fail.
+abbrev pub LeavesAtFailedRead : Option Command → Files → Files → Type 0
+LeavesAtFailedRead None before after = after ≡ before
+LeavesAtFailedRead (Some (plan instance plan_file certificate budget)) before after = after ≡ before
+LeavesAtFailedRead (Some (check instance plan_file certificate strict)) before after = after ≡ before
+LeavesAtFailedRead (Some (replay instance plan_file)) before after = after ≡ before
+LeavesAtFailedRead (Some (execute instance plan_file)) before after = after ≡ before
+LeavesAtFailedRead (Some (generate seed instance)) before after = ⊥
+LeavesAtFailedRead (Some (demo seed)) before after = LeavesDemo seed before after
+
+-- Where a command leaves the source as it was. `execute` does so where the files are told and an input is refused, or the plan is not valid.
+abbrev pub KeepsSource : {S : Type 0} → Bool → Files → Option Command → S → S → Type 0
+KeepsSource told files None before after = after ≡ before
+KeepsSource told files (Some (plan instance plan_file certificate budget)) before after = after ≡ before
+KeepsSource told files (Some (check instance plan_file certificate strict)) before after = after ≡ before
+KeepsSource told files (Some (replay instance plan_file)) before after = after ≡ before
+KeepsSource told files (Some (execute instance plan_file)) before after = IsTrue told → ¬ Starts files instance plan_file → after ≡ before
+KeepsSource told files (Some (generate seed instance)) before after = after ≡ before
+KeepsSource told files (Some (demo seed)) before after = after ≡ before
+
+-- What a command takes from a source that tells, by what it prints and its status.
+abbrev pub Takes : Option Command → Taking → Outside → Outside → Status → Type 0
+Takes None taking before after result = Unit {0}
+Takes (Some (plan instance plan_file certificate budget)) taking before after result = Unit {0}
+Takes (Some (check instance plan_file certificate strict)) taking before after result = Unit {0}
+Takes (Some (replay instance plan_file)) taking before after result = Unit {0}
+Takes (Some (execute instance plan_file)) taking before after result = TakesRead instance plan_file taking before after result
+Takes (Some (generate seed instance)) taking before after result = Unit {0}
+Takes (Some (demo seed)) taking before after result = Unit {0}
+
+-- What a command does to the desk's count of failed writes. One that only reads leaves it.
+abbrev pub KeepsDeskWrites : Option Command → ℕ → ℕ → Type 0
+KeepsDeskWrites None before after = after ≡ before
+KeepsDeskWrites (Some (plan instance plan_file certificate budget)) before after = Unit {0}
+KeepsDeskWrites (Some (check instance plan_file certificate strict)) before after = after ≡ before
+KeepsDeskWrites (Some (replay instance plan_file)) before after = after ≡ before
+KeepsDeskWrites (Some (execute instance plan_file)) before after = after ≡ before
+KeepsDeskWrites (Some (generate seed instance)) before after = Unit {0}
+KeepsDeskWrites (Some (demo seed)) before after = Unit {0}
+
+-- What a command does to the desk's count of failed reads. One that only writes leaves it.
+abbrev pub KeepsDeskReads : Option Command → ℕ → ℕ → Type 0
+KeepsDeskReads None before after = after ≡ before
+KeepsDeskReads (Some (plan instance plan_file certificate budget)) before after = Unit {0}
+KeepsDeskReads (Some (check instance plan_file certificate strict)) before after = Unit {0}
+KeepsDeskReads (Some (replay instance plan_file)) before after = Unit {0}
+KeepsDeskReads (Some (execute instance plan_file)) before after = Unit {0}
+KeepsDeskReads (Some (generate seed instance)) before after = after ≡ before
+KeepsDeskReads (Some (demo seed)) before after = Unit {0}
+
+-- The command reads a file or the source, so a read may fail.
+abbrev pub ReadsInput : Option Command → Type 0
+ReadsInput None = ⊥
+ReadsInput (Some (plan instance plan_file certificate budget)) = Unit {0}
+ReadsInput (Some (check instance plan_file certificate strict)) = Unit {0}
+ReadsInput (Some (replay instance plan_file)) = Unit {0}
+ReadsInput (Some (execute instance plan_file)) = Unit {0}
+ReadsInput (Some (generate seed instance)) = ⊥
+ReadsInput (Some (demo seed)) = Unit {0}

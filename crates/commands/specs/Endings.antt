@@ -1,0 +1,126 @@
+-- How a command or a part of it ends, before its last line is printed.
+use Rattle.std.specs.Prelude.{◌≡◌, ◌++◌, ℕ, List, Option, Some, None, Result, Ok, Err, IfSome, codes, option_map, String, string_bytes}
+use Rattle.std.specs.Io.{StartsWith}
+use Rattle.std.specs.declared.alloc.Global.{Global}
+use Rattle.plan_io.specs.declared.faults.OutFault.{OutFault}
+use Rattle.plan_io.specs.declared.faults.OutFault.TheVariants as out
+use Rattle.commands.specs.Answer.{Outside, outside}
+use Rattle.commands.specs.declared.status.Status.{Status}
+use Rattle.commands.specs.declared.status.Status.TheVariants as status
+use Rattle.commands.specs.declared.fault.Fault.{Fault}
+use Rattle.commands.specs.declared.fault.Fault.TheVariants as fault
+use Rattle.commands.specs.declared.fault.Ending.{Ending}
+use Rattle.commands.specs.declared.fault.Outcome.{Outcome}
+use Rattle.commands.specs.declared.fault.Outcome.TheVariants as outcome
+
+abbrev pub outcome_status : Outcome → Status
+outcome_status outcome.Good = status.Good
+outcome_status outcome.Negative = status.Negative
+outcome_status outcome.Undecided = status.Undecided
+
+abbrev pub fault_status : Fault → Status
+fault_status fault.Words = status.Words
+fault_status (fault.Input line) = status.Input
+fault_status fault.ReadFault = status.ReadFault
+fault_status fault.WriteFault = status.WriteFault
+fault_status fault.Memory = status.Memory
+
+-- The line of a fault. One of the outside and want of memory have none.
+abbrev pub line_of : Fault → Option (List ℕ)
+line_of fault.Words = Some (codes "words\n")
+line_of (fault.Input line) = Some (string_bytes line)
+line_of fault.ReadFault = None
+line_of fault.WriteFault = None
+line_of fault.Memory = None
+
+-- What is printed in the end: the last line too, where one is still to be printed.
+abbrev pub printed_with : List ℕ → Option (String Global) → List ℕ
+printed_with printed None = printed
+printed_with printed (Some line) = printed ++ string_bytes line
+
+-- The answer stands as soon as the last line is printed, if there is one.
+unfoldable pub Ends : (Outside → Status → Type 0) → Outside → Result Ending Fault → Type 0
+Ends answer after (Ok ending) = answer (outside after.files (printed_with after.printed ending.line)) (outcome_status ending.outcome)
+Ends answer after (Err f) = IfSome (line_of f) (λ line. answer (outside after.files (after.printed ++ line)) (fault_status f))
+
+-- What is so of the outside and the status, however the writing of this line ends.
+pub record LineEnds (takes : Outside → Status → Type 0) (after : Outside) (line : List ℕ) (said : Status) : Type 0 where
+  pub printed : takes (outside after.files (after.printed ++ line)) said
+  pub failed : (now : List ℕ) → StartsWith now after.printed → StartsWith (after.printed ++ line) now → takes (outside after.files now) status.WriteFault
+  pub memory : (now : List ℕ) → StartsWith now after.printed → StartsWith (after.printed ++ line) now → takes (outside after.files now) status.Memory
+
+-- The same where there may be no line to write.
+abbrev pub LastEnds : (Outside → Status → Type 0) → Outside → Option (List ℕ) → Status → Type 0
+LastEnds takes after None said = takes after said
+LastEnds takes after (Some line) said = LineEnds takes after line said
+
+-- What is so of the outside and the status, however the command ends.
+unfoldable pub EndsAnyhow : (Outside → Status → Type 0) → Outside → Result Ending Fault → Type 0
+EndsAnyhow takes after (Ok ending) = LastEnds takes after (option_map string_bytes ending.line) (outcome_status ending.outcome)
+EndsAnyhow takes after (Err f) = LastEnds takes after (line_of f) (fault_status f)
+
+-- A part that reads an input may fail by the input, by a failed read, or by want of memory.
+abbrev pub IsOfReading : Fault → Type 0
+IsOfReading fault.Words = ⊥
+IsOfReading (fault.Input line) = Unit {0}
+IsOfReading fault.ReadFault = Unit {0}
+IsOfReading fault.WriteFault = ⊥
+IsOfReading fault.Memory = Unit {0}
+
+-- A part that writes may fail by a failed write, or by want of memory.
+abbrev pub IsOfWriting : Fault → Type 0
+IsOfWriting fault.Words = ⊥
+IsOfWriting (fault.Input line) = ⊥
+IsOfWriting fault.ReadFault = ⊥
+IsOfWriting fault.WriteFault = Unit {0}
+IsOfWriting fault.Memory = Unit {0}
+
+-- A part that executes a plan may fail by an event line, by a failed read or write, or by want of memory.
+abbrev pub IsOfExecuting : Fault → Type 0
+IsOfExecuting fault.Words = ⊥
+IsOfExecuting (fault.Input line) = Unit {0}
+IsOfExecuting fault.ReadFault = Unit {0}
+IsOfExecuting fault.WriteFault = Unit {0}
+IsOfExecuting fault.Memory = Unit {0}
+
+-- The fault with this line, unless memory ran out.
+abbrev pub IsRefusal : Fault → List ℕ → Type 0
+IsRefusal fault.Words line = ⊥
+IsRefusal (fault.Input text) line = string_bytes text ≡ line
+IsRefusal fault.ReadFault line = ⊥
+IsRefusal fault.WriteFault line = ⊥
+IsRefusal fault.Memory line = Unit {0}
+
+-- A part ends with this line and status, unless memory ran out.
+abbrev pub IsLastLine : Result Ending Fault → (line : List ℕ) → Status → Type 0
+IsLastLine (Ok ending) line said = (option_map string_bytes ending.line ≡ Some line) × (outcome_status ending.outcome ≡ said)
+IsLastLine (Err fault.Words) line said = ⊥
+IsLastLine (Err (fault.Input text)) line said = (string_bytes text ≡ line) × (said ≡ status.Input)
+IsLastLine (Err fault.ReadFault) line said = ⊥
+IsLastLine (Err fault.WriteFault) line said = ⊥
+IsLastLine (Err fault.Memory) line said = Unit {0}
+
+-- What a part gave is this value, or the line of its fault, unless memory ran out.
+abbrev pub Reads : {X Y : Type 0} → (X → Y) → Result X Fault → Result Y (List ℕ) → Type 0
+Reads view (Ok x) reading = reading ≡ Ok (view x)
+Reads view (Err fault.Words) reading = ⊥
+Reads view (Err (fault.Input line)) reading = reading ≡ Err (string_bytes line)
+Reads view (Err fault.ReadFault) reading = ⊥
+Reads view (Err fault.WriteFault) reading = ⊥
+Reads view (Err fault.Memory) reading = Unit {0}
+
+-- A refused write, as a fault of the command.
+abbrev pub out_fault : OutFault → Fault
+out_fault out.Failed = fault.WriteFault
+out_fault out.Memory = fault.Memory
+
+-- A status that stands for an answer, and not for a fault of the outside or want of memory.
+abbrev pub IsAnswered : Status → Type 0
+IsAnswered status.Good = Unit {0}
+IsAnswered status.Negative = Unit {0}
+IsAnswered status.Undecided = Unit {0}
+IsAnswered status.Words = Unit {0}
+IsAnswered status.Input = Unit {0}
+IsAnswered status.ReadFault = ⊥
+IsAnswered status.WriteFault = ⊥
+IsAnswered status.Memory = ⊥

@@ -1,0 +1,43 @@
+-- What is proved of the files that `plan` writes: `check` says yes to them.
+use Rattle.std.specs.Prelude.{◌≡◌, ◌≢◌, ℕ, ◌<◌, ◌^◌, Bool, List, Option, Some, Ok}
+use Rattle.plan_io.specs.Files.{Files, bytes_of}
+use Rattle.catalogue.specs.Instance.{Instance}
+use Rattle.cert_model.specs.Walks.{choices_handed}
+use Rattle.cert_check.specs.Laws.{IsAccepted}
+use Rattle.cert_check.specs.declared.verdict.Verdict.{Verdict}
+use Rattle.cert_check.specs.declared.verdict.Verdict.TheVariants.{Yes}
+use Rattle.search.specs.declared.found.Found.{Found}
+use Rattle.search.specs.Answers.{goal_in, least_in, plan_in}
+use Rattle.commands.specs.Words.{check}
+use Rattle.commands.specs.Answer.{Outside, Says}
+use Rattle.commands.specs.Inputs.Instance.{instance_in}
+use Rattle.commands.specs.Inputs.Plan.{any_plan_in}
+use Rattle.commands.specs.Commands.{IsAnswer}
+use Rattle.commands.specs.Checking.{verdict_line}
+use Rattle.commands.specs.Planning.{IsPlanned, IsWritten}
+use Rattle.commands.specs.declared.status.Status.{Status}
+use Rattle.commands.specs.declared.status.Status.TheVariants as status
+
+-- The files of an answer, read for its problem: the plan's has the plan that is answered, or none. For it the certificate has the verdict yes,
+-- with the goal and the least of the answer, and no other; strictly or not.
+pub record AreAccepted (plan_file certificate : List ℕ) (budget : ℕ) (p : Instance) (found : Found) (files : Files) : Type 0 where
+  pub plan : any_plan_in p files plan_file ≡ Ok (choices_handed (plan_in found))
+  pub accepted : (strict : Bool) → IsAccepted p (choices_handed (plan_in found)) strict (bytes_of (files certificate)) (goal_in p budget found) (least_in found)
+
+-- So it is of what is written, where the budget, as each that words can say, has 64 bits.
+abbrev pub WrittenIsAccepted : Type 0
+WrittenIsAccepted =
+    (plan_file certificate : List ℕ) (budget : ℕ) → budget < 2 ^ 64 → (p : Instance) (before after : Files) (found : Found) → IsWritten plan_file certificate budget p before after found →
+    AreAccepted plan_file certificate budget p found after
+
+-- The yes to an answer.
+abbrev pub yes_to : Instance → ℕ → Found → Verdict
+yes_to p budget found = Yes (goal_in p budget found) (least_in found)
+
+-- After `plan` of an instance, which is not overwritten, the answer of `check` to the same files is that yes, strictly or not.
+abbrev pub PlannedIsChecked : Type 0
+PlannedIsChecked =
+    (instance plan_file certificate : List ℕ) (budget : ℕ) → budget < 2 ^ 64 → instance ≢ plan_file → instance ≢ certificate →
+    (p : Instance) (before between : Outside) (said : Status) → instance_in before.files instance ≡ Ok p → (planned : IsPlanned plan_file certificate budget p before between said) →
+    (start after : Outside) (source : Option (List ℕ)) (strict : Bool) (result : Status) → start.files ≡ between.files → IsAnswer (Some (check instance plan_file certificate strict)) source start after result →
+    Says (verdict_line (yes_to p budget planned.found)) status.Good start after result

@@ -1,0 +1,16 @@
+pub mod Codes
+pub mod Words
+pub mod Meaning
+pub mod Answer
+pub mod Inputs
+pub mod Planning
+pub mod Checking
+pub mod Replaying
+pub mod Executing
+pub mod Generating
+pub mod Demonstrating
+pub mod Commands
+pub mod Printed
+pub mod Causes
+pub mod Endings
+pub mod Laws

@@ -1,0 +1,22 @@
+-- A command as the program holds it.
+use Rattle.commands.specs.Words.{Command, plan, check, replay, execute, generate, demo}
+use Rattle.commands.specs.declared.words.Command.{Command as Read}
+use Rattle.commands.specs.declared.words.Command.TheVariants.{Plan, Check, Replay, Execute, Generate, Demo}
+use Rattle.std.specs.Prelude.{◌≢◌}
+
+abbrev pub meaning : Read → Command
+meaning (Plan instance plan_file certificate budget) = plan instance.now plan_file.now certificate.now budget
+meaning (Check instance plan_file certificate strict) = check instance.now plan_file.now certificate.now strict
+meaning (Replay instance plan_file) = replay instance.now plan_file.now
+meaning (Execute instance plan_file) = execute instance.now plan_file.now
+meaning (Generate seed instance) = generate seed instance.now
+meaning (Demo seed) = demo seed
+
+-- The files that a command creates are different files.
+abbrev pub HasFilesApart : Command → Type 0
+HasFilesApart (plan instance plan_file certificate budget) = plan_file ≢ certificate
+HasFilesApart (check instance plan_file certificate strict) = Unit {0}
+HasFilesApart (replay instance plan_file) = Unit {0}
+HasFilesApart (execute instance plan_file) = Unit {0}
+HasFilesApart (generate seed instance) = Unit {0}
+HasFilesApart (demo seed) = Unit {0}

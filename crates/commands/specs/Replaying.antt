@@ -1,0 +1,27 @@
+-- What `replay` answers.
+use Rattle.std.specs.Prelude.{◌≡◌, ◌++◌, ℕ, List, Option, Some, None}
+use Rattle.catalogue.specs.Instance.{Instance}
+use Rattle.slices.specs.Plans.{Choices}
+use Rattle.slices.specs.declared.rule.Broken.{Broken}
+use Rattle.replay.specs.Report.{IsVerdict, report_text}
+use Rattle.commands.specs.Answer.{Outside, AnswersBy}
+use Rattle.commands.specs.Inputs.Plan.{plan_in}
+use Rattle.commands.specs.declared.status.Status.{Status}
+use Rattle.commands.specs.declared.status.Status.TheVariants as status
+
+-- The status of a verdict.
+abbrev pub verdict_status : Option Broken → Status
+verdict_status None = status.Good
+verdict_status (Some broken) = status.Negative
+
+-- A plan is replayed: its report with the verdict on it, and no file changes.
+pub record Replays (p : Instance) (plan : Choices) (before after : Outside) (result : Status) : Type 0 where
+  pub answer : Option Broken
+  pub verdict : IsVerdict p plan answer
+  pub printed : after.printed ≡ before.printed ++ report_text p plan answer
+  pub status : result ≡ verdict_status answer
+  pub files : after.files ≡ before.files
+
+-- `replay` of a problem, by the plan that its file holds.
+abbrev pub IsReplayed : (plan_file : List ℕ) → Instance → Outside → Outside → Status → Type 0
+IsReplayed plan_file p before after result = AnswersBy (Replays p) (plan_in p before.files plan_file) before after result

@@ -1,0 +1,55 @@
+-- What the words of the command line ask for.
+use Rattle.std.specs.Prelude.{◌&&◌, ◌==◌, ◌^◌, Bool, true, false, not, ℕ, List, [], ◌∷◌, length, nat_le, nat_lt, Option, Some, None, if◌then◌else◌, map, codes, String, string_bytes, bytes_eq, option_map}
+use Rattle.std.specs.List.{list_all}
+use Rattle.std.specs.Fmt.{decimal}
+use Rattle.std.specs.Str.Parse.{digits_value}
+use Rattle.std.specs.declared.alloc.Global.{Global}
+use Rattle.commands.specs.declared.words.TheConstants.{BUDGET, LONGEST_NAME}
+
+-- A command, with the names of its files, and its seed, its budget of decisions, or whether the check is strict.
+pub data Command : Type 0 where
+  plan : (instance plan_file certificate : List ℕ) (budget : ℕ) → Command
+  check : (instance plan_file certificate : List ℕ) (strict : Bool) → Command
+  replay : (instance plan_file : List ℕ) → Command
+  execute : (instance plan_file : List ℕ) → Command
+  generate : (seed : ℕ) (instance : List ℕ) → Command
+  demo : (seed : ℕ) → Command
+
+-- A file's name has a byte, and no more than the longest.
+abbrev pub is_name : List ℕ → Bool
+is_name word = nat_le 1 (length word) && nat_le (length word) LONGEST_NAME
+
+-- Names of files, no two of them the same.
+abbrev pub are_names : List (List ℕ) → Bool
+are_names [] = true
+are_names (word ∷ words) = is_name word && list_all (λ other. not (bytes_eq word other)) words && are_names words
+
+-- The number whose decimal text the word is, if there is one below 2^64.
+unfoldable pub number_of : List ℕ → Option ℕ
+number_of word = if nat_lt (digits_value 10 word) (2 ^ 64) && bytes_eq word (decimal (digits_value 10 word)) then Some (digits_value 10 word) else None
+
+-- Helping only: a number without a sign before it, and without a zero before another digit.
+abbrev pub is_plain : List ℕ → Bool
+is_plain [] = false
+is_plain (x ∷ []) = not (x == 43)
+is_plain (x ∷ y ∷ rest) = not (x == 43) && not (x == 48)
+
+-- The command that these words are, if any.
+abbrev pub command_of : List (List ℕ) → Option Command
+command_of (word ∷ instance ∷ plan_file ∷ certificate ∷ []) =
+    if bytes_eq word (codes "plan") && are_names (instance ∷ plan_file ∷ certificate ∷ []) then Some (plan instance plan_file certificate BUDGET) else
+    if bytes_eq word (codes "check") && are_names (instance ∷ plan_file ∷ certificate ∷ []) then Some (check instance plan_file certificate false) else None
+command_of (word ∷ instance ∷ plan_file ∷ certificate ∷ last ∷ []) =
+    if bytes_eq word (codes "check") && bytes_eq last (codes "strict") && are_names (instance ∷ plan_file ∷ certificate ∷ []) then Some (check instance plan_file certificate true) else None
+command_of (word ∷ instance ∷ plan_file ∷ certificate ∷ between ∷ number ∷ []) =
+    if bytes_eq word (codes "plan") && bytes_eq between (codes "budget") && are_names (instance ∷ plan_file ∷ certificate ∷ []) then option_map (plan instance plan_file certificate) (number_of number) else None
+command_of (word ∷ first ∷ second ∷ []) =
+    if bytes_eq word (codes "replay") && are_names (first ∷ second ∷ []) then Some (replay first second) else
+    if bytes_eq word (codes "execute") && are_names (first ∷ second ∷ []) then Some (execute first second) else
+    if bytes_eq word (codes "generate") && is_name second then option_map (λ seed. generate seed second) (number_of first) else None
+command_of (word ∷ number ∷ []) = if bytes_eq word (codes "demo") then option_map demo (number_of number) else None
+command_of _ = None
+
+-- The command that the words of the command line ask for.
+abbrev pub asked : List (String Global) → Option Command
+asked words = command_of (map string_bytes words)

@@ -1,0 +1,218 @@
+//! The command `check`.
+
+ghost use Rattle.std.specs.Prelude.{◌≡◌, ◌≢◌, ℕ, List, Option, Some, Err};
+ghost use Rattle.std.specs.Prelude.{IsTrue, IfErr, IfOk, IfSome, string_bytes};
+ghost use Rattle.std.specs.Option.{option_copied};
+ghost use Rattle.slices.specs.Plans.{IsPlanOf};
+ghost use Rattle.cert_model.specs.Walks.{choices_handed};
+ghost use Rattle.commands.specs.Words.{check};
+ghost use Rattle.commands.specs.Answer.{outside};
+ghost use Rattle.commands.specs.Causes.{PartCauses, ReadCauses};
+ghost use Rattle.commands.specs.Commands.{MayRun, IsAnswer};
+ghost use Rattle.commands.specs.Checking.{Checks, IsChecked, IsLineRefusal};
+ghost use Rattle.commands.specs.Checking.{no_line, not_a_line};
+ghost use Rattle.commands.specs.Checking.{too_long_line, undecided_line, verdict_line};
+ghost use Rattle.commands.specs.Checking.{verdict_status, why_text};
+ghost use Rattle.commands.specs.Endings.{Ends, IsLastLine, IsOfReading, IsRefusal, outcome_status};
+
+use crate::fault::{Ending, Fault, Outcome};
+use crate::inputs::instance::problem_at;
+use crate::inputs::plan::any_plan_at;
+use crate::inputs::refusal;
+use base::Memory;
+use catalogue::Problem;
+use cert_check::{CheckFault, Verdict};
+use cert_model::why::Why;
+use cert_read::LineFault;
+use plan_io::Desk;
+use slices::Plan;
+use std::alloc::Global;
+use trees::Goal;
+
+/// Why a line does not hold, in a word.
+fn why_text(why: Why) -> &'static str
+    ensures { result.now ≡ why_text why }
+{
+    match why {
+        Why::Structure => "structure",
+        Why::Name => "name",
+        Why::Part => "part",
+        Why::Reason => "reason",
+        Why::Plan => "plan",
+        Why::Goal => "goal",
+        Why::Lean => "lean",
+    }
+}
+
+/// The line of a yes to what is undecided.
+fn undecided_line(alloc: Global, count: u64, least: Option<u64>) -> Result<String, Memory>
+    ensures { IfOk result (λ line. string_bytes line ≡ undecided_line count least) }
+{
+    match least {
+        None => Ok(format!(in alloc; "yes undecided {count}\n")?),
+        Some(least) => Ok(format!(in alloc; "yes undecided {count} least {least}\n")?),
+    }
+}
+
+/// The line of a no.
+fn no_line(alloc: Global, number: u64, why: Why) -> Result<String, Memory>
+    ensures { IfOk result (λ line. string_bytes line ≡ no_line number why) }
+{
+    let why = why_text(why);
+    Ok(format!(in alloc; "no {number} {why}\n")?)
+}
+
+/// The line of a verdict.
+#[tactic(auto, unfolding(crate::specs::Checking::verdict_line))]
+fn verdict_line(alloc: Global, verdict: Verdict) -> Result<String, Memory>
+    ensures { IfOk result (λ line. string_bytes line ≡ verdict_line verdict) }
+{
+    match verdict {
+        Verdict::Yes {
+            goal: Goal::Optimal(cost),
+            ..
+        } => Ok(format!(in alloc; "yes optimal {cost}\n")?),
+        Verdict::Yes {
+            goal: Goal::Infeasible,
+            ..
+        } => Ok(format!(in alloc; "yes infeasible\n")?),
+        Verdict::Yes {
+            goal: Goal::Undecided(count),
+            least,
+        } => undecided_line(alloc, count, least),
+        Verdict::No { line, why } => no_line(alloc, line, why),
+    }
+}
+
+/// What the command answers by the verdict.
+fn outcome_of(verdict: Verdict) -> Outcome
+    ensures { outcome_status result ≡ verdict_status verdict }
+{
+    match verdict {
+        Verdict::Yes { .. } => Outcome::Good,
+        Verdict::No { .. } => Outcome::Negative,
+    }
+}
+
+/// The last line of a check that has a verdict.
+fn say_verdict(alloc: Global, verdict: Verdict) -> Result<Ending, Fault>
+    ensures { IsLastLine result (verdict_line verdict) (verdict_status verdict) }
+{
+    let line = verdict_line(alloc, verdict)?;
+    Ok(Ending {
+        line: Some(line),
+        outcome: outcome_of(verdict),
+    })
+}
+
+/// The fault of a line that is none of a certificate's.
+fn not_a_line(alloc: Global, number: u64) -> Fault
+    ensures { IsRefusal result (not_a_line number) }
+{
+    match format!(in alloc; "line {number}") {
+        Ok(text) => refusal(alloc, "certificate", &text),
+        Err(_) => Fault::Memory,
+    }
+}
+
+/// The fault of a line with too many bytes.
+fn too_long(alloc: Global, number: u64) -> Fault
+    ensures { IsRefusal result (too_long_line number) }
+{
+    match format!(in alloc; "line {number} too long") {
+        Ok(text) => refusal(alloc, "certificate", &text),
+        Err(_) => Fault::Memory,
+    }
+}
+
+/// The fault of a certificate's line that cannot be read.
+fn refusal_of(alloc: Global, fault: LineFault) -> Fault
+    ensures { IsLineRefusal result fault }
+{
+    match fault {
+        LineFault::NotALine(number) => not_a_line(alloc, number),
+        LineFault::TooLong(number) => too_long(alloc, number),
+        LineFault::Short => refusal(alloc, "certificate", "short"),
+        LineFault::ReadFault => Fault::ReadFault,
+        LineFault::Memory => Fault::Memory,
+    }
+}
+
+/// Checks the certificate in a file, for the plan that is handed in, or for none.
+#[tactic(auto, using(crate::proofs::CheckAnswers::verdict_ends, crate::proofs::CheckAnswers::verdict_causes, crate::proofs::CheckAnswers::verdict_kind, crate::proofs::CheckAnswers::line_ends, crate::proofs::CheckAnswers::line_causes, crate::proofs::CheckAnswers::line_kind), unfolding(crate::specs::Endings::Ends))]
+fn check_certificate<D: Desk>(
+    alloc: Global,
+    desk: &mut D,
+    p: &Problem,
+    plan: Option<&Plan>,
+    certificate: &str,
+    strict: bool,
+) -> Result<Ending, Fault>
+    requires plan { IfSome plan (λ a. IsPlanOf p.now.given a.now) }
+    requires reads { IsTrue (D.reads certificate.now) }
+    ensures ends { let checks = Checks p.now.given certificate.now strict (choices_handed (option_copied plan.entry)) in
+        IsTrue D.tells → (printed : List ℕ)
+        → Ends (checks (outside (D.files desk.old) printed)) (outside (D.files desk.new) printed) result }
+    ensures files { IsTrue D.tells → D.files desk.new ≡ D.files desk.old }
+    ensures causes { ReadCauses (D.read_faults desk.old) (D.read_faults desk.new) result }
+    ensures writes_kept { D.write_faults desk.new ≡ D.write_faults desk.old }
+    ensures kind { IfErr result IsOfReading }
+{
+    match cert_check::check(alloc, p, plan, desk, certificate, strict) {
+        Ok(verdict) => say_verdict(alloc, verdict),
+        Err(CheckFault::Line(fault)) => Err(refusal_of(alloc, fault)),
+        Err(CheckFault::Memory) => Err(Fault::Memory),
+    }
+}
+
+/// Checks the certificate of a plan of a problem, or of none, as a `null` in the plan's file says.
+/// It reads the plan, then the certificate line by line, each only where it is due.
+#[tactic(auto, using(crate::proofs::CheckAnswers::refused_plan), unfolding(crate::specs::Endings::Ends))]
+pub fn check_problem<D: Desk>(
+    alloc: Global,
+    desk: &mut D,
+    p: &Problem,
+    plan_file: &str,
+    certificate: &str,
+    strict: bool,
+) -> Result<Ending, Fault>
+    requires reads_plan { IsTrue (D.reads plan_file.now) }
+    requires reads_certificate { IsTrue (D.reads certificate.now) }
+    ensures ends { let checked = IsChecked plan_file.now certificate.now strict p.now.given in
+        IsTrue D.tells → (printed : List ℕ)
+        → Ends (checked (outside (D.files desk.old) printed)) (outside (D.files desk.new) printed) result }
+    ensures files { IsTrue D.tells → D.files desk.new ≡ D.files desk.old }
+    ensures causes { ReadCauses (D.read_faults desk.old) (D.read_faults desk.new) result }
+    ensures writes_kept { D.write_faults desk.new ≡ D.write_faults desk.old }
+    ensures kind { IfErr result IsOfReading }
+{
+    let plan = any_plan_at(alloc, desk, p, plan_file)?;
+    check_certificate(alloc, desk, p, plan.as_ref(), certificate, strict)
+}
+
+/// Checks the certificate of a plan of an instance, or of none. It reads the instance, and then as
+/// `check_problem` does.
+#[tactic(auto, using(crate::proofs::CheckAnswers::refused_instance), unfolding(crate::specs::Endings::Ends))]
+pub fn check<D: Desk>(
+    alloc: Global,
+    desk: &mut D,
+    instance: &str,
+    plan_file: &str,
+    certificate: &str,
+    strict: bool,
+) -> Result<Ending, Fault>
+    requires names { let command = check instance.now plan_file.now certificate.now strict in
+        MayRun D.reads D.writes (Some command) }
+    ensures ends { let command = check instance.now plan_file.now certificate.now strict in
+        IsTrue D.tells → (source : Option (List ℕ)) (printed : List ℕ)
+        → Ends (IsAnswer (Some command) source (outside (D.files desk.old) printed))
+        (outside (D.files desk.new) printed) result }
+    ensures files { IsTrue D.tells → D.files desk.new ≡ D.files desk.old }
+    ensures causes { PartCauses (D.read_faults desk.old) (D.read_faults desk.new)
+        (D.write_faults desk.old) (D.write_faults desk.new) result }
+    ensures desk_writes { D.write_faults desk.new ≡ D.write_faults desk.old }
+    ensures words { result ≢ Err Fault.Words }
+{
+    let problem = problem_at(alloc, desk, instance)?;
+    check_problem(alloc, desk, &problem, plan_file, certificate, strict)
+}

@@ -1,0 +1,191 @@
+//! The command `demo`.
+
+ghost use Rattle.std.specs.Prelude.{◌≡◌, ◌≢◌, ℕ, false, List, Option, Some, Err};
+ghost use Rattle.std.specs.Prelude.{IsTrue, IfErr, IfOk, IfSome, string_bytes};
+ghost use Rattle.slices.specs.Plans.{IsPlanOf};
+ghost use Rattle.search.specs.declared.found.Found.{Found as AnyFound};
+ghost use Rattle.search.specs.Answers.{plan_in};
+ghost use Rattle.commands.specs.Words.{demo};
+ghost use Rattle.commands.specs.Answer.{Outside, outside};
+ghost use Rattle.commands.specs.Causes.{PartCauses, ReadCauses};
+ghost use Rattle.commands.specs.Commands.{MayRun, IsAnswer, Leaves};
+ghost use Rattle.commands.specs.Checking.{IsChecked};
+ghost use Rattle.commands.specs.Demonstrating.{demo_certificate, demo_line, demo_plan, optimal_line};
+ghost use Rattle.commands.specs.Demonstrating.{IsConcluded, IsPlannedAndChecked};
+ghost use Rattle.commands.specs.Planning.{LeavesPlanned};
+ghost use Rattle.commands.specs.Endings.{Ends, IsOfReading};
+
+use crate::checking::check_problem;
+use crate::fault::{Ending, Fault, Outcome};
+use crate::generating::write_generated;
+use crate::inputs::instance::problem_at;
+use crate::planning::{found_line, outcome_of, write_found};
+use crate::solver::Solver;
+use base::Memory;
+use catalogue::Problem;
+use plan_io::Desk;
+use search::Found;
+use slices::plan::cost;
+use std::alloc::Global;
+
+/// The file of the generated instance.
+const DEMO_INSTANCE: &str = "demo-instance.json";
+
+/// The file of its plan.
+const DEMO_PLAN: &str = "demo-plan.json";
+
+/// The file of the certificate.
+const DEMO_CERTIFICATE: &str = "demo-cert.txt";
+
+/// How many decisions the plan may take.
+pub const DEMO_BUDGET: u64 = 10_000;
+
+/// The line of an optimal plan.
+#[tactic(auto, using(crate::proofs::DemoAnswers::optimal_text))]
+fn optimal_line(alloc: Global, seed: u64, cost: u64) -> Result<String, Memory>
+    ensures { IfOk result (λ line. string_bytes line ≡ optimal_line seed cost) }
+{
+    Ok(format!(in alloc; "demo {seed} optimal {cost} yes\n")?)
+}
+
+/// The line of what was found, once it was checked.
+#[tactic(auto, unfolding(crate::specs::Demonstrating::demo_line))]
+fn demo_line(alloc: Global, p: &Problem, found: &Found, seed: u64) -> Result<String, Memory>
+    requires { IfSome (plan_in found.now) (IsPlanOf p.now.given) }
+    ensures { IfOk result (λ line. string_bytes line ≡ demo_line seed p.now.given found.now) }
+{
+    match found {
+        Found::Optimal(plan) => optimal_line(alloc, seed, cost(p, plan)),
+        Found::Infeasible => found_line(alloc, p, found),
+        Found::Undecided { .. } => Ok(format!(in alloc; "demo {seed} undecided\n")?),
+    }
+}
+
+/// How the demonstration ends, by how the check of what was found ended.
+#[tactic(auto, using(crate::proofs::DemoAnswers::said_yes, crate::proofs::DemoAnswers::said_other, crate::proofs::DemoAnswers::said_fault), unfolding(crate::specs::Endings::Ends))]
+fn conclude(
+    alloc: Global,
+    p: &Problem,
+    found: &Found,
+    seed: u64,
+    checked: Result<Ending, Fault>,
+) -> Result<Ending, Fault>
+    requires plan { IfSome (plan_in found.now) (IsPlanOf p.now.given) }
+    requires kind { IfErr checked IsOfReading }
+    ensures ends { (before after : Outside) → after ≡ before
+        → Ends (IsChecked demo_plan demo_certificate false p.now.given before) after checked
+        → Ends (IsConcluded seed p.now.given found.now before) after result }
+    ensures read { result ≡ Err Fault.ReadFault → checked ≡ Err Fault.ReadFault }
+    ensures unread { checked ≡ Err Fault.ReadFault → result ≡ Err Fault.ReadFault }
+    ensures kind { IfErr result IsOfReading }
+{
+    match checked {
+        Ok(ending) => match ending.outcome {
+            Outcome::Good => {
+                let line = demo_line(alloc, p, found, seed)?;
+                Ok(Ending {
+                    line: Some(line),
+                    outcome: outcome_of(found),
+                })
+            }
+            Outcome::Negative | Outcome::Undecided => Ok(ending),
+        },
+        Err(fault) => Err(fault),
+    }
+}
+
+/// Checks what was found, and says what follows.
+fn check_found<D: Desk>(
+    alloc: Global,
+    desk: &mut D,
+    p: &Problem,
+    found: &Found,
+    seed: u64,
+) -> Result<Ending, Fault>
+    requires plan { IfSome (plan_in found.now) (IsPlanOf p.now.given) }
+    requires reads_plan { IsTrue (D.reads demo_plan) }
+    requires reads_certificate { IsTrue (D.reads demo_certificate) }
+    ensures ends { let concluded = IsConcluded seed p.now.given found.now in
+        IsTrue D.tells → (printed : List ℕ) → Ends (concluded (outside (D.files desk.old) printed))
+        (outside (D.files desk.new) printed) result }
+    ensures files { IsTrue D.tells → D.files desk.new ≡ D.files desk.old }
+    ensures causes { ReadCauses (D.read_faults desk.old) (D.read_faults desk.new) result }
+    ensures writes_kept { D.write_faults desk.new ≡ D.write_faults desk.old }
+    ensures kind { IfErr result IsOfReading }
+{
+    let checked = check_problem(alloc, desk, p, DEMO_PLAN, DEMO_CERTIFICATE, false);
+    conclude(alloc, p, found, seed, checked)
+}
+
+// whether it was found that there is no plan
+fn is_infeasible(found: &Found) -> bool
+    ensures yes { IsTrue result → found.now ≡ AnyFound.Infeasible }
+    ensures no { result ≡ false → found.now ≢ AnyFound.Infeasible }
+{
+    match found {
+        Found::Infeasible => true,
+        Found::Optimal(_) | Found::Undecided { .. } => false,
+    }
+}
+
+/// Plans the problem of a seed, and checks what was found, if it is not that there is no plan.
+#[tactic(auto, using(crate::proofs::DemoAnswers::files_apart, crate::proofs::DemoAnswers::none_there, crate::proofs::DemoAnswers::checked_then, crate::proofs::Ends::refused_write), unfolding(crate::specs::Endings::Ends))]
+fn plan_and_check<D: Desk, S: Solver>(
+    alloc: Global,
+    desk: &mut D,
+    solver: &S,
+    p: &Problem,
+    seed: u64,
+) -> Result<Ending, Fault>
+    requires names { MayRun D.reads D.writes (Some (demo seed)) }
+    ensures ends { let planned = IsPlannedAndChecked seed p.now.given in
+        IsTrue D.tells → (printed : List ℕ) → Ends (planned (outside (D.files desk.old) printed))
+        (outside (D.files desk.new) printed) result }
+    ensures left { let leaves = LeavesPlanned demo_plan demo_certificate DEMO_BUDGET p.now.given in
+        IsTrue D.tells → leaves (D.files desk.old) (D.files desk.new) }
+    ensures causes { PartCauses (D.read_faults desk.old) (D.read_faults desk.new)
+        (D.write_faults desk.old) (D.write_faults desk.new) result }
+    ensures words { result ≢ Err Fault.Words }
+{
+    let found = write_found(
+        alloc,
+        desk,
+        p,
+        DEMO_BUDGET,
+        solver,
+        DEMO_PLAN,
+        DEMO_CERTIFICATE,
+    )?;
+    if is_infeasible(&found) {
+        let line = found_line(alloc, p, &found)?;
+        return Ok(Ending {
+            line: Some(line),
+            outcome: outcome_of(&found),
+        });
+    }
+    check_found(alloc, desk, p, &found, seed)
+}
+
+/// Generates the problem of a seed, plans it, and checks the certificate, over the three files of the
+/// demonstration. The instance is read back from its file, and so are the plan and the certificate.
+#[tactic(auto, using(crate::proofs::DemoAnswers::refused_instance, crate::proofs::DemoAnswers::leaves_generated, crate::proofs::DemoAnswers::leaves_unread, crate::proofs::DemoAnswers::leaves_planned, crate::proofs::Ends::refused_write), unfolding(crate::specs::Endings::Ends))]
+pub fn demo<D: Desk, S: Solver>(
+    alloc: Global,
+    desk: &mut D,
+    solver: &S,
+    seed: u64,
+) -> Result<Ending, Fault>
+    requires names { MayRun D.reads D.writes (Some (demo seed)) }
+    ensures ends { IsTrue D.tells → (source : Option (List ℕ)) (printed : List ℕ)
+        → Ends (IsAnswer (Some (demo seed)) source (outside (D.files desk.old) printed))
+        (outside (D.files desk.new) printed) result }
+    ensures left { IsTrue D.tells
+        → Leaves (Some (demo seed)) (D.files desk.old) (D.files desk.new) }
+    ensures causes { PartCauses (D.read_faults desk.old) (D.read_faults desk.new)
+        (D.write_faults desk.old) (D.write_faults desk.new) result }
+    ensures words { result ≢ Err Fault.Words }
+{
+    write_generated(alloc, desk, seed, DEMO_INSTANCE)?;
+    let problem = problem_at(alloc, desk, DEMO_INSTANCE)?;
+    plan_and_check(alloc, desk, solver, &problem, seed)
+}

@@ -1,0 +1,165 @@
+//! The command `execute`.
+
+ghost use Rattle.std.specs.Prelude.{◌≡◌, ◌≢◌, ◌++◌, Some, Err, IsTrue, IfOk, IfErr, codes, string_bytes};
+ghost use Rattle.std.specs.Fmt.{decimal};
+ghost use Rattle.std.specs.Io.{StartsWith};
+ghost use Rattle.plan_io.specs.Files.{Files};
+ghost use Rattle.slices.specs.Plans.{IsPlanOf, choices_of};
+ghost use Rattle.slices.specs.Rules.{InRange, IsValid};
+ghost use Rattle.replay.specs.Lines.{broken_line};
+ghost use Rattle.transcript.specs.Lines.{fault_text};
+ghost use Rattle.transcript.specs.Parts.{NamesListed};
+ghost use Rattle.commands.specs.Words.{execute};
+ghost use Rattle.commands.specs.Answer.{outside, told};
+ghost use Rattle.commands.specs.Causes.{CommandCauses, PartCauses, counts};
+ghost use Rattle.commands.specs.Commands.{MayRun, IsAnswer, KeepsSource, Takes};
+ghost use Rattle.commands.specs.Executing.{Executes, IsPartOfAnswer, TookBy, conclusion_line};
+ghost use Rattle.commands.specs.Executing.{conclusion_status, events_line, taking};
+ghost use Rattle.commands.specs.Endings.{Ends, EndsAnyhow, IsLastLine, IsOfExecuting, IsRefusal};
+ghost use Rattle.commands.specs.Printed.{PrintsPrefix};
+ghost use Rattle.commands.specs.declared.status.Status.TheVariants as Status;
+
+use crate::fault::{Ending, Fault, Outcome};
+use crate::inputs::instance::problem_at;
+use crate::inputs::plan::plan_at;
+use crate::inputs::refusal;
+use base::Memory;
+use catalogue::Problem;
+use plan_io::{Desk, Sink, Source};
+use replay::broken_line;
+use slices::Plan;
+use slices::rule::Broken;
+use std::alloc::Global;
+use transcript::{Conclusion, EventFault, ExecuteFault};
+
+/// What is wrong with an event line, after its number.
+fn event_text(alloc: Global, number: u32, fault: EventFault) -> Result<String, Memory>
+    ensures { IfOk result (λ text. string_bytes text ≡ decimal number ++ codes " " ++ fault_text fault) }
+{
+    let what = fault.text();
+    Ok(format!(in alloc; "{number} {what}")?)
+}
+
+/// The fault of a refused event line.
+fn refused_event(alloc: Global, number: u32, fault: EventFault) -> Fault
+    ensures { IsRefusal result (events_line (decimal number ++ codes " " ++ fault_text fault)) }
+{
+    match event_text(alloc, number, fault) {
+        Ok(text) => refusal(alloc, "events", &text),
+        Err(Memory) => Fault::Memory,
+    }
+}
+
+/// The last line of an execution.
+#[tactic(auto, unfolding(crate::specs::Executing::conclusion_line))]
+fn conclude(alloc: Global, p: &Problem, conclusion: Conclusion) -> Result<Ending, Fault>
+    requires { NamesListed p.now.given conclusion }
+    ensures { let line = conclusion_line p.now.given conclusion in
+        IsLastLine result line (conclusion_status conclusion) }
+{
+    let (line, outcome) = match conclusion {
+        Conclusion::Done => (format!(in alloc; "done\n")?, Outcome::Good),
+        Conclusion::StoppedFail(e) => (
+            format!(in alloc; "stopped fail {}\n", p.cluster().name(e))?,
+            Outcome::Negative,
+        ),
+        Conclusion::StoppedEnd => (format!(in alloc; "stopped end\n")?, Outcome::Negative),
+        Conclusion::Refused(number, fault) => return Err(refused_event(alloc, number, fault)),
+    };
+    Ok(Ending {
+        line: Some(line),
+        outcome,
+    })
+}
+
+/// The last line of a plan that is not valid.
+fn say_broken(alloc: Global, p: &Problem, broken: Broken) -> Result<Ending, Fault>
+    requires { InRange p.now.given broken.rule }
+    ensures { IsLastLine result (broken_line p.now.given broken) Status.Negative }
+{
+    let line = broken_line(alloc, p, broken)?;
+    Ok(Ending {
+        line: Some(line),
+        outcome: Outcome::Negative,
+    })
+}
+
+/// Executes a plan, and ends with the last line of its transcript.
+#[tactic(auto, unfolding(crate::specs::Endings::Ends))]
+fn end_execution<I: Source, O: Sink>(
+    alloc: Global,
+    p: &Problem,
+    plan: &Plan,
+    input: &mut I,
+    out: &mut O,
+) -> Result<Ending, Fault>
+    requires { IsPlanOf p.now.given plan.now }
+    ensures ends { let source = told I.tells (I.rest input.old) in
+        let executes = Executes source p.now.given (choices_of plan.now) in
+        IsTrue O.tells → (files : Files)
+        → Ends (executes (outside files (O.written out.old))) (outside files (O.written out.new)) result }
+    ensures part { let source = told I.tells (I.rest input.old) in
+        let part = IsPartOfAnswer source p.now.given (choices_of plan.now) in
+        IsTrue O.tells → (files : Files) → part files (O.written out.old) (O.written out.new) }
+    ensures stays { IsTrue O.tells → StartsWith (O.written out.new) (O.written out.old) }
+    ensures took { let taking = taking (I.rest input.old) (I.rest input.new)
+        (I.faults input.old) (I.faults input.new) in
+        let took = TookBy p.now.given (choices_of plan.now) taking (O.written out.old) in
+        IsTrue I.tells → IsTrue O.tells → (files : Files)
+        → EndsAnyhow took (outside files (O.written out.new)) result }
+    ensures source { ¬ IsValid p.now.given (choices_of plan.now) → input.new ≡ input.old }
+    ensures causes { PartCauses (I.faults input.old) (I.faults input.new)
+        (O.faults out.old) (O.faults out.new) result }
+    ensures kind { IfErr result IsOfExecuting }
+{
+    match transcript::execute(alloc, p, plan, input, out) {
+        Ok(conclusion) => conclude(alloc, p, conclusion),
+        Err(ExecuteFault::NotValid(broken)) => say_broken(alloc, p, broken),
+        Err(ExecuteFault::ReadFault) => Err(Fault::ReadFault),
+        Err(ExecuteFault::WriteFault) => Err(Fault::WriteFault),
+        Err(ExecuteFault::Memory) => Err(Fault::Memory),
+    }
+}
+
+/// Executes a plan of an instance: what may start is printed, and event lines are read from the source.
+#[tactic(auto, using(crate::proofs::ExecuteAnswers::refused_instance, crate::proofs::ExecuteAnswers::refused_plan, crate::proofs::ExecuteAnswers::takes_unread, crate::proofs::ExecuteAnswers::no_instance, crate::proofs::ExecuteAnswers::no_plan, crate::proofs::Printing::prints_nothing), unfolding(crate::specs::Endings::Ends))]
+pub fn execute<D: Desk, I: Source, O: Sink>(
+    alloc: Global,
+    desk: &mut D,
+    input: &mut I,
+    out: &mut O,
+    instance: &str,
+    plan_file: &str,
+) -> Result<Ending, Fault>
+    requires names { MayRun D.reads D.writes (Some (execute instance.now plan_file.now)) }
+    ensures ends { let source = told I.tells (I.rest input.old) in
+        let before = outside (D.files desk.old) (O.written out.old) in
+        let after = outside (D.files desk.new) (O.written out.new) in
+        IsTrue D.tells → IsTrue O.tells
+        → Ends (IsAnswer (Some (execute instance.now plan_file.now)) source before) after result }
+    ensures files { IsTrue D.tells → D.files desk.new ≡ D.files desk.old }
+    ensures printed { let source = told I.tells (I.rest input.old) in
+        let before = outside (D.files desk.old) (O.written out.old) in
+        let after = outside (D.files desk.new) (O.written out.new) in
+        IsTrue D.tells → IsTrue O.tells
+        → PrintsPrefix (Some (execute instance.now plan_file.now)) source before after }
+    ensures takes { let taking = taking (I.rest input.old) (I.rest input.new)
+        (I.faults input.old) (I.faults input.new) in
+        let before = outside (D.files desk.old) (O.written out.old) in
+        let after = outside (D.files desk.new) (O.written out.new) in
+        IsTrue D.tells → IsTrue I.tells → IsTrue O.tells
+        → EndsAnyhow (Takes (Some (execute instance.now plan_file.now)) taking before) after result }
+    ensures source { let command = Some (execute instance.now plan_file.now) in
+        KeepsSource D.tells (D.files desk.old) command input.old input.new }
+    ensures causes { let before = counts (D.read_faults desk.old) (I.faults input.old)
+        (D.write_faults desk.old) (O.faults out.old) in
+        let after = counts (D.read_faults desk.new) (I.faults input.new)
+        (D.write_faults desk.new) (O.faults out.new) in
+        CommandCauses before after result }
+    ensures desk_writes { D.write_faults desk.new ≡ D.write_faults desk.old }
+    ensures words { result ≢ Err Fault.Words }
+{
+    let problem = problem_at(alloc, desk, instance)?;
+    let plan = plan_at(alloc, desk, &problem, plan_file)?;
+    end_execution(alloc, &problem, &plan, input, out)
+}

@@ -1,0 +1,84 @@
+//! The command `generate`.
+
+ghost use Rattle.std.specs.Prelude.{◌≡◌, ◌≢◌, ℕ, List, Option, Some, Err};
+ghost use Rattle.std.specs.Prelude.{IsTrue, IfOk, OnOk, string_bytes};
+ghost use Rattle.plan_io.specs.Causes.{CountsWrites};
+ghost use Rattle.instance_make.specs.Generated.{generated};
+ghost use Rattle.instance_make.specs.Text.{instance_text};
+ghost use Rattle.commands.specs.Words.{generate};
+ghost use Rattle.commands.specs.Answer.{outside};
+ghost use Rattle.commands.specs.Causes.{PartCauses};
+ghost use Rattle.commands.specs.Commands.{MayRun, IsAnswer, Leaves};
+ghost use Rattle.commands.specs.Generating.{generated_line, HasGenerated, LeavesGenerated};
+ghost use Rattle.commands.specs.Endings.{Ends};
+
+use crate::fault::{Ending, Fault, Outcome};
+use base::Memory;
+use instance_make::print_instance;
+use plan_io::{Desk, OutFault, write_whole};
+use std::alloc::Global;
+
+/// The line that says what was generated.
+#[tactic(auto, unfolding(crate::specs::Generating::generated_line))]
+fn generated_line(alloc: Global, seed: u64) -> Result<String, Memory>
+    ensures { IfOk result (λ line. string_bytes line ≡ generated_line seed) }
+{
+    Ok(format!(in alloc; "generated {seed}\n")?)
+}
+
+/// The text of the generated problem of a seed.
+fn generated_text(alloc: Global, seed: u64) -> Result<Vec<u8>, Memory>
+    ensures { IfOk result (λ bytes. bytes.items ≡ instance_text (generated seed)) }
+{
+    let problem = instance_make::generate(alloc, seed)?;
+    Ok(print_instance(alloc, &problem)?)
+}
+
+/// Writes the text of the generated problem of a seed.
+#[tactic(auto, using(crate::proofs::GenerateAnswers::has_generated))]
+pub fn write_generated<D: Desk>(
+    alloc: Global,
+    desk: &mut D,
+    seed: u64,
+    instance: &str,
+) -> Result<(), OutFault>
+    requires { IsTrue (D.writes instance.now) }
+    ensures written { IsTrue D.tells
+        → OnOk result (HasGenerated seed instance.now (D.files desk.old) (D.files desk.new)) }
+    ensures cut { IsTrue D.tells
+        → LeavesGenerated seed instance.now (D.files desk.old) (D.files desk.new) }
+    ensures cause { CountsWrites (D.write_faults desk.old) (D.write_faults desk.new) result }
+    ensures reads_kept { D.read_faults desk.new ≡ D.read_faults desk.old }
+{
+    let text = generated_text(alloc, seed)?;
+    write_whole(desk, instance, &text)
+}
+
+/// Generates the problem of a seed, and writes it to a file.
+#[tactic(auto, using(crate::proofs::GenerateAnswers::answered, crate::proofs::Ends::refused_write), unfolding(crate::specs::Endings::Ends))]
+pub fn generate<D: Desk>(
+    alloc: Global,
+    desk: &mut D,
+    seed: u64,
+    instance: &str,
+) -> Result<Ending, Fault>
+    requires names { MayRun D.reads D.writes (Some (generate seed instance.now)) }
+    ensures ends { let command = generate seed instance.now in
+        IsTrue D.tells → (source : Option (List ℕ)) (printed : List ℕ)
+        → Ends (IsAnswer (Some command) source (outside (D.files desk.old) printed))
+        (outside (D.files desk.new) printed) result }
+    ensures left { IsTrue D.tells
+        → Leaves (Some (generate seed instance.now)) (D.files desk.old) (D.files desk.new) }
+    ensures causes { PartCauses (D.read_faults desk.old) (D.read_faults desk.new)
+        (D.write_faults desk.old) (D.write_faults desk.new) result }
+    ensures reads_kept { D.read_faults desk.new ≡ D.read_faults desk.old }
+    ensures no_read { result ≢ Err Fault.ReadFault }
+    ensures words { result ≢ Err Fault.Words }
+{
+    write_generated(alloc, desk, seed, instance)?;
+    let line = generated_line(alloc, seed)?;
+    Ok(Ending {
+        line: Some(line),
+        outcome: Outcome::Good,
+    })
+}

@@ -1,0 +1,14 @@
+//! Laws of the commands: each is the contract of a function that does nothing, and a lemma of the same
+//! name in proofs/Public proves it.
+ghost use Rattle.commands.specs.Laws.{PlannedIsChecked, WrittenIsAccepted};
+
+/// The files that `plan` writes are accepted: the plan's is read back, and the certificate has the
+/// verdict yes for it, strictly or not, and no other.
+pub fn written_is_accepted()
+    ensures { WrittenIsAccepted }
+{}
+
+/// After `plan`, `check` of the same files says yes, strictly or not.
+pub fn planned_is_checked()
+    ensures { PlannedIsChecked }
+{}

@@ -1,0 +1,17 @@
+//! What the words of the command line ask for: `run::run` is the top call, and says what it promises. Each command,
+//! and each input, has a room of its own.
+#![tactic(auto)]
+
+mod checking;
+mod demonstrating;
+mod executing;
+mod fault;
+mod generating;
+mod inputs;
+pub mod laws;
+mod planning;
+mod replaying;
+pub mod run;
+pub mod solver;
+pub mod status;
+mod words;

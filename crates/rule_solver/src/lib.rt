@@ -1,0 +1,77 @@
+//! The solver of the program: the five rules, with forbidden places before all else, and a brancher.
+#![tactic(auto)]
+
+ghost use Rattle.std.specs.Prelude.{◌≡◌, IsTrue, IfOk};
+ghost use Rattle.plan_io.specs.Causes.{CountsWrites};
+ghost use Rattle.plan_io.specs.Files.{OthersStay};
+ghost use Rattle.search.specs.Answers.{IsTrueOf};
+ghost use Rattle.search.specs.Staying.{MayStay};
+ghost use Rattle.commands.specs.Planning.{IsCertificateCut, IsCertified, IsToStay};
+
+use branching::brancher::Brancher;
+use branching::stay_first::StayFirst;
+use catalogue::Problem;
+use commands::solver::{Solver, certify};
+use plan_io::{Desk, OutFault};
+use prop_core::propagator::Propagator;
+use rule_group::rule::GroupRule;
+use rule_load::rule::load_rule;
+use rule_pair::rule::PairRule;
+use rule_place::rule::{ForbiddenRule, PlaceRule};
+use rule_setload::rule::SetRule;
+use search::Found;
+use std::alloc::Global;
+
+/// Searches as a solver does, by the five rules and the brancher that is handed in. `Memory` also where there is no
+/// memory for the rules, and then no file is touched.
+#[tactic(auto, using(commands::proofs::Public::untouched))]
+pub fn certify_by_rules<D: Desk>(
+    alloc: Global,
+    desk: &mut D,
+    p: &Problem,
+    budget: u64,
+    brancher: &mut Box<dyn Brancher>,
+    certificate: &str,
+) -> Result<Found, OutFault>
+    requires writes { IsTrue (D.writes certificate.now) }
+    ensures whole { IsTrue D.tells
+        → IfOk result (λ found. IsCertified p.now.given budget found (D.files desk.new certificate.now)) }
+    ensures cut { IsTrue D.tells
+        → IsCertificateCut p.now.given (D.files desk.old certificate.now) (D.files desk.new certificate.now) }
+    ensures others { IsTrue D.tells
+        → OthersStay certificate.now (D.files desk.old) (D.files desk.new) }
+    ensures true_of { IfOk result (IsTrueOf p.now.given budget) }
+    ensures stays { MayStay p.now.given → IfOk result (IsToStay p.now.given) }
+    ensures cause { CountsWrites (D.write_faults desk.old) (D.write_faults desk.new) result }
+    ensures reads_kept { D.read_faults desk.new ≡ D.read_faults desk.old }
+{
+    let mut rules: Vec<Box<dyn Propagator>> = Vec::new(alloc);
+    // The first that answers ends a round, so those that look at least come first. A place that is forbidden is cut for good,
+    // and then fewer loads are to be looked at.
+    rules.push(Box::new(alloc, ForbiddenRule::new(alloc))?)?;
+    rules.push(Box::new(alloc, load_rule(alloc))?)?;
+    rules.push(Box::new(alloc, PlaceRule::new(alloc))?)?;
+    rules.push(Box::new(alloc, PairRule::new(alloc))?)?;
+    rules.push(Box::new(alloc, SetRule::new(alloc))?)?;
+    rules.push(Box::new(alloc, GroupRule::new(alloc))?)?;
+    certify(alloc, desk, p, budget, &mut rules, brancher, certificate)
+}
+
+/// Searches by the five rules and `StayFirst`.
+#[derive(Clone, Copy, Debug, PartialEq, Eq)]
+pub struct RuleSolver;
+
+impl Solver for RuleSolver {
+    #[tactic(auto, using(commands::proofs::Public::untouched))]
+    fn certify<D: Desk>(
+        &self,
+        alloc: Global,
+        desk: &mut D,
+        p: &Problem,
+        budget: u64,
+        certificate: &str,
+    ) -> Result<Found, OutFault> {
+        let mut brancher: Box<dyn Brancher> = Box::new(alloc, StayFirst::new())?;
+        certify_by_rules(alloc, desk, p, budget, &mut brancher, certificate)
+    }
+}
