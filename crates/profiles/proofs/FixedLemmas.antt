@@ -1,19 +1,16 @@
 -- Hosts, and the most that is used, by lists.
-use Rattle.std.proofs.Common.{◌≡◌, inl, inr, ℕ, ◌+◌, ◌<◌, ◌≤◌, Bool, List, [], ◌∷◌, ◌++◌, Option, Some, None, Vec, get_or, refl, sym, ap, subst, ◌∙◌, arith}
+use Rattle.std.proofs.Common.{◌≡◌, inl, inr, ℕ, ◌+◌, ◌<◌, Bool, List, [], ◌∷◌, ◌++◌, Option, Some, None, Vec, get_or, sym, ap, subst, ◌∙◌, arith}
 use Rattle.std.specs.List.Sorted.{IsNonDecreasingBy, IsPermutation}
 use Rattle.std.specs.declared.alloc.Global.{Global}
 use Rattle.std.proofs.lemmas.Bool.{cases_eq}
 use Rattle.std.proofs.lemmas.List.{get_or-map, length-append, length-map, map-append}
-use Rattle.std.proofs.lemmas.List.Elements.{All-nil, All-push, All-weaker, Contains-append_left, Contains-push}
+use Rattle.std.proofs.lemmas.List.Elements.{All-push, All-weaker, Contains-append_left, Contains-push}
 use Rattle.std.proofs.lemmas.List.Sorted.{All-permutation, Contains-permutation}
 use Rattle.cluster.specs.declared.ids.NodeId.{NodeId}
 use Rattle.catalogue.specs.Instance.{Instance}
-use Rattle.catalogue.specs.Values.{demand_of}
-use Rattle.slices.specs.declared.slice.Weight.TheVariants.{Amount}
 use Rattle.slices.specs.Elements.{machine_count, state_of}
 use Rattle.slices.specs.Stages.{one}
 use Rattle.relax.specs.Areas.{hosted_in}
-use Rattle.profiles.specs.Standing.Standings.{base}
 use Rattle.profiles.proofs.StandingLemmas.Tables.{each_push}
 use Rattle.profiles.specs.declared.fixed.MostUse.{MostUse}
 use Rattle.profiles.specs.Hosts.{HostIs}
@@ -36,11 +33,6 @@ uses_push p n xs x uses is = record {
   each = each_push (λ r m. IsMostUse p r (machine_count p) m) 0 n xs x uses.count uses.each is;
 }
 
-pub most_more : (p : Instance) (r n most new : ℕ) → IsMostUse p r n most → most ≤ new → base p n (Amount r) + demand_of p n r ≤ new → IsMostUse p r (n + 1) new
-most_more p r n most new is less here = record {
-  each = λ v h. elim (cases_eq v n) [ inl same ↦ rw same here | inr other ↦ omega (arith, is.each v (omega (arith, h, other)), less) ];
-}
-
 pub bases_push : (p : Instance) (n : ℕ) (xs : List ℕ) (x : ℕ) → AreTotalBases p n xs → IsTotalBase p n x → AreTotalBases p (n + 1) (xs ++ x ∷ [])
 bases_push p n xs x bases is = record {
   count = omega (arith, length-append xs (x ∷ []), bases.count);
@@ -54,9 +46,6 @@ uses_next p r n xs uses = record {
   each = λ v h. elim (cases_eq v n) [ inl same ↦ rw same (Contains-push xs (most_use p r n)) | inr other ↦ Contains-append_left xs (most_use p r n ∷ []) (most_use p r v) (uses.each v (omega (arith, h, other))) ];
   machines = All-push (λ (x : MostUse). x.machine.0 < n + 1) xs (most_use p r n) (All-weaker (λ (x : MostUse). x.machine.0 < n) (λ (x : MostUse). x.machine.0 < n + 1) (λ x h. omega (arith, h)) xs uses.machines) (omega arith);
 }
-
-pub no_uses : (p : Instance) (r : ℕ) → AreUses p r 0 []
-no_uses p r = record { each = λ v h. absurd (omega (arith, h)); machines = All-nil (λ (x : MostUse). x.machine.0 < 0) }
 
 -- in another order
 pub uses_ordered : (p : Instance) (r : ℕ) (xs ys : List MostUse) → AreUses p r (machine_count p) xs → IsPermutation xs ys → IsNonDecreasingBy (λ (x : MostUse). x.most) ys → IsOrder p r ys
@@ -73,9 +62,6 @@ orders_push p n xs x orders is = rw (map-append (λ (x : Vec MostUse Global). x.
   count = omega (arith, length-append (lists_of xs) (x.items ∷ []), orders.count);
   each = each_push (λ r o. IsOrder p r o) [] n (lists_of xs) x.items orders.count orders.each is;
 })
-
-pub no_orders : (p : Instance) → AreOrders p 0 []
-no_orders p = record { count = refl; each = λ r h. absurd (omega (arith, h)) }
 
 pub order_at : (p : Instance) (n r : ℕ) (xs : List (Vec MostUse Global)) (x : Vec MostUse Global) → r < n → AreOrders p n (lists_of xs) → get_or xs r x ≡ x → IsOrder p r x.items
 order_at p n r xs x low orders is =

@@ -23,10 +23,6 @@ flag_tells xs flags v b are is = let on : b ≡ is_in xs v = is ∙ sym (are.eac
 pub past_tells : (xs : List ℕ) (flags : List Bool) (v : ℕ) → AreFlags xs flags → length flags ≤ v → IsTrue false ↔ Contains xs v
 past_tells xs flags v are past = flag_tells xs flags v false are (sym (get_or_past flags v false past))
 
--- no number, and no flag
-pub no_flags : AreFlags [] []
-no_flags = record { each = λ v. refl }
-
 -- one more of each
 or-false : (a b : Bool) → b ≡ false → (a || b) ≡ a
 or-false true b off = refl

@@ -1,8 +1,6 @@
 -- What is added up is the load of the node.
-use Rattle.std.proofs.Common.{◌≡◌, ℕ, ◌+◌, ◌<◌, Bool, true, false, ◌&&◌, nat_lt, cond, List, [], ◌∷◌, ◌++◌, length, refl, sym, ap, ◌∙◌, arith}
+use Rattle.std.proofs.Common.{◌≡◌, ℕ, ◌+◌, ◌<◌, Bool, true, false, ◌&&◌, nat_lt, cond, refl, sym, ap, ◌∙◌}
 use Rattle.std.specs.Prelude.{slice_index_or}
-use Rattle.std.proofs.lemmas.List.{length-append}
-use Rattle.cluster.specs.Limits.{max_machines}
 use Rattle.catalogue.specs.Instance.{Instance}
 use Rattle.base.specs.Sums.{sum_to}
 use Rattle.base.proofs.Sums.{sum_to-same}
@@ -17,9 +15,8 @@ use Rattle.profiles.specs.declared.standing.numbers.Standing.{Standing}
 use Rattle.profiles.specs.Standing.Standings.{base, comes_by, gain, kept_use, never}
 use Rattle.profiles.specs.Standing.Tables.{no_standing}
 use Rattle.profiles.proofs.StandingLemmas.Laws.{load_law}
-use Rattle.profiles.proofs.StandingLemmas.Tables.{each_push}
 use Rattle.profiles.specs.declared.node_load.share.Share.{Share}
-use Rattle.profiles.specs.NodeLoad.{AreShares, AreSmall, IsProfile, IsShare, IsSmall, ProfileView, no_share, share_use, total_use}
+use Rattle.profiles.specs.NodeLoad.{IsProfile, IsShare, ProfileView, no_share, share_use, total_use}
 
 -- a machine's share is what it surely has
 share-is : (p : Instance) (n r v t : ℕ) (x : Share) (k : Standing) → IsShare p n r v x → kept_use p v (Amount r) n t k ≡ share_use n t x k
@@ -36,22 +33,3 @@ total_is p s x t h is =
     let each : sum_to (machine_count p) (λ v. kept_use p v (Amount x.resource) x.node t (slice_index_or x.table.top v no_standing)) ≡ sum_to (machine_count p) (λ v. share_use x.node t (slice_index_or x.shares v no_share) (slice_index_or x.table.top v no_standing)) =
     sum_to-same (machine_count p) _ _ (λ v l. share-is p x.node x.resource v t (slice_index_or x.shares v no_share) (slice_index_or x.table.top v no_standing) (is.shares.each v l)) in
     sym (here ∙ each ∙ ap (λ m. sum_to m (λ v. share_use x.node t (slice_index_or x.shares v no_share) (slice_index_or x.table.top v no_standing))) (sym is.shares.count))
-
--- ---- one machine more
-
-pub shares_push : (p : Instance) (n r m : ℕ) (xs : List Share) (x : Share) → AreShares p n r m xs → IsShare p n r m x → AreShares p n r (m + 1) (xs ++ x ∷ [])
-shares_push p n r m xs x are is = record {
-  count = omega (arith, length-append xs (x ∷ []), are.count);
-  each = each_push (IsShare p n r) no_share m xs x are.count are.each is;
-}
-
-pub small_push : (m : ℕ) (xs : List Share) (x : Share) → AreSmall xs → length xs ≡ m → m < max_machines → IsSmall x → AreSmall (xs ++ x ∷ [])
-small_push m xs x are count few is =
-    let longer : length (xs ++ x ∷ []) ≡ length xs + 1 = omega (arith, length-append xs (x ∷ [])) in
-    record {
-      few = omega (arith, longer, count, few);
-      each = λ v l. each_push (λ _ y. IsSmall y) no_share (length xs) xs x refl are.each is v (omega (arith, longer, l));
-    }
-
-pub none_small : AreSmall []
-none_small = record { few = omega arith; each = λ v l. absurd (omega (arith, l)) }

@@ -1,13 +1,9 @@
 //! What no change of a region changes: the hosts of machines, what all have, and the most that any of them uses.
-ghost use Rattle.std.specs.Prelude.{◌≡◌, ℕ, ◌+◌, ◌*◌, ◌<◌, ◌≤◌, [], IfOk, length};
-ghost use Rattle.cluster.specs.Limits.{max_amount};
-ghost use Rattle.catalogue.specs.Instance.{Instance, IsElement};
-ghost use Rattle.catalogue.specs.Values.{demand_of};
+ghost use Rattle.std.specs.Prelude.{◌≡◌, ◌+◌, ◌<◌, [], IfOk, length};
+ghost use Rattle.catalogue.specs.Instance.{IsElement};
 ghost use Rattle.slices.specs.Elements.{machine_count, state_of};
 ghost use Rattle.slices.specs.Stages.{one};
-ghost use Rattle.slices.specs.declared.slice.Weight.TheVariants.{Amount as AmountOf};
 ghost use Rattle.relax.specs.Areas.{hosted_in};
-ghost use Rattle.profiles.specs.Standing.Standings.{base as the_base};
 ghost use Rattle.profiles.specs.Fixed.{AreHosts, AreMostUses, AreOrders, AreTotalBases, AreUses, IsFixed, IsMostUse, IsOrder, IsTotalBase, lists_of};
 
 use crate::host::{host_of, is_this};

@@ -1,5 +1,5 @@
 //! A list of so many items, with levels.
-ghost use Rattle.std.specs.Prelude.{◌≡◌, ◌<◌, [], ◌∷◌, ◌++◌, length, OnOk, OnErr, slice_set};
+ghost use Rattle.std.specs.Prelude.{◌≡◌, ◌<◌, [], length, OnOk, OnErr, slice_set};
 ghost use Rattle.profiles.specs.Levels.{IsBack, marked};
 
 use base::Memory;

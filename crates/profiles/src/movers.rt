@@ -1,5 +1,5 @@
 //! The machines that may not stay, in a list that only grows.
-ghost use Rattle.std.specs.Prelude.{◌≡◌, ℕ, ◌+◌, ◌<◌, ◌≤◌, ◌↔◌, [], ◌∷◌, ◌++◌, false, IfOk, IsTrue, OnErr, OnOk, length, slice_index_or, vec_len};
+ghost use Rattle.std.specs.Prelude.{◌≡◌, ℕ, ◌+◌, ◌<◌, ◌≤◌, ◌↔◌, [], ◌∷◌, ◌++◌, false, IfOk, IsTrue, OnOk, length, slice_index_or, vec_len};
 ghost use Rattle.std.specs.List.{Contains};
 ghost use Rattle.cluster.specs.declared.choices.Choice.TheVariants.{Idle};
 ghost use Rattle.catalogue.specs.Instance.{IsElement};

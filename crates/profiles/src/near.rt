@@ -1,16 +1,14 @@
 //! For each node the machines near it.
-ghost use Rattle.std.specs.Prelude.{◌≡◌, ◌↔◌, ℕ, ◌+◌, ◌<◌, [], length, false, IfNone, IfOk, IfSome, IsTrue, OnErr, OnOk, replicate};
+ghost use Rattle.std.specs.Prelude.{◌≡◌, ◌↔◌, ℕ, ◌+◌, ◌<◌, [], IfOk, IsTrue, OnOk, replicate};
 ghost use Rattle.std.specs.List.{Contains};
-ghost use Rattle.slices.specs.Elements.{machine_count, node_count, state_of};
-ghost use Rattle.slices.specs.Stages.{one};
-ghost use Rattle.relax.specs.Areas.{hosted_in};
+ghost use Rattle.slices.specs.Elements.{machine_count, node_count};
 ghost use Rattle.profiles.specs.Near.{AreNear, IsNear, IsPut, list_at};
 
 use crate::host::host_of;
 use crate::number_lists::NumberLists;
-use base::Memory;
-use catalogue::Problem;
-use cluster::{Element, NodeId, VmId};
+use catalogue::problem::Problem;
+use cluster::ids::{NodeId, VmId};
+use memory::Memory;
 use std::alloc::Global;
 use std::marker::Model;
 

@@ -1,5 +1,5 @@
 -- The machines near each node, told of one more.
-use Rattle.std.proofs.Common.{◌≡◌, inl, inr, ℕ, ◌+◌, ◌-◌, ◌<◌, Bool, true, false, cond, nat_le, List, [], ◌∷◌, ◌++◌, length, Some, None, refl, sym, ap, subst, ◌∙◌, arith}
+use Rattle.std.proofs.Common.{◌≡◌, inl, inr, ℕ, ◌-◌, ◌<◌, Bool, true, false, cond, nat_le, List, length, Some, None, refl, sym, ap, subst, ◌∙◌, arith}
 use Rattle.std.specs.Prelude.{slice_index_or}
 use Rattle.std.specs.List.{Contains}
 use Rattle.std.proofs.lemmas.Bool.{and_parts, cases_eq, false≢true, ne_eqb}
@@ -29,7 +29,7 @@ use Rattle.profiles.specs.declared.standing.numbers.Arrival.{Arrival}
 use Rattle.profiles.specs.declared.standing.numbers.Standing.{Standing}
 use Rattle.profiles.specs.Standing.Standings.{comes_by}
 use Rattle.profiles.specs.Standing.Tables.{AreStanding, Tables, no_standing}
-use Rattle.profiles.specs.Fixed.{FixedView, IsFixed}
+use Rattle.profiles.specs.Fixed.{FixedView}
 use Rattle.profiles.specs.Firsts.{AreFirstAt, AreFirsts}
 use Rattle.profiles.proofs.Public.{firsts_fewer}
 use Rattle.rule_load.specs.Kept.{AreKept, AreKeptAt, Grows, HaveCome, IsListedBy, IsListedFor, cache_of}
@@ -53,17 +53,7 @@ grows_put n v count xs ys low put = record { kept = put.kept; near = λ p same i
 pub grows_not : (count : ℕ) (xs : List (List ℕ)) → Grows count xs xs
 grows_not count xs = record { kept = λ n v h. h; near = λ p same is. is }
 
-pub listed_grows : (p : Instance) (v count : ℕ) (k : Standing) (xs ys : List (List ℕ)) → Grows count xs ys → IsListedBy p v k xs → IsListedBy p v k ys
-listed_grows p v count k xs ys grows listed = record { there = λ n t low on. grows.kept n v (listed.there n t low on) }
-
--- the first machines are listed, and one more
-pub next_listed : (p : Instance) (i count : ℕ) (ks : List Standing) (xs ys : List (List ℕ)) → Grows count xs ys → ((v : ℕ) → v < i → IsListedBy p v (slice_index_or ks v no_standing) xs) → IsListedBy p i (slice_index_or ks i no_standing) ys → (v : ℕ) → v < i + 1 → IsListedBy p v (slice_index_or ks v no_standing) ys
-next_listed p i count ks xs ys grows before here v h = elim (cases_eq v i) [ inl same ↦ rw same here | inr other ↦ listed_grows p v count (slice_index_or ks v no_standing) xs ys grows (before v (omega (arith, h, other))) ]
-
 -- ---- all that have come
-
-pub all_come : (p : Instance) (s : Sets) (ks : List Standing) (xs : List (List ℕ)) → AreStanding p s ks → ((v : ℕ) → v < machine_count p → IsListedBy p v (slice_index_or ks v no_standing) xs) → HaveCome p s xs
-all_come p s ks xs are listed = record { come = λ n v t low l on. (listed v l).there n t low ((are.each v l).come n t ∙ on) }
 
 -- after a change of one element
 pub come_told : (p : Instance) (g : RegionView) (x : Element) (before : Before) (kept : DomainView) (ks : List Standing) (xs ys : List (List ℕ)) (count : ℕ) → HaveCome p (sets_before g x before kept) xs → Grows count xs ys → AreStanding p (sets g) ks → IsListedFor p x ks ys → HaveCome p (sets g) ys

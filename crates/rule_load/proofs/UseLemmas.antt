@@ -1,8 +1,8 @@
 -- What one machine uses of a node at the most during a period.
-use Rattle.std.proofs.Common.{◌≡◌, ◌≢◌, inl, inr, ℕ, ◌+◌, ◌-◌, ◌<◌, ◌≤◌, ◌==◌, Bool, true, false, ◌&&◌, nat_lt, nat_le, cond, Option, Some, None, List, [], ◌∷◌, ◌++◌, length, refl, sym, ap, subst, ◌∙◌, arith}
+use Rattle.std.proofs.Common.{◌≡◌, ◌≢◌, ℕ, ◌+◌, ◌-◌, ◌<◌, ◌≤◌, ◌==◌, Bool, true, false, ◌&&◌, nat_lt, nat_le, cond, Option, Some, None, List, [], ◌∷◌, ◌++◌, length, refl, sym, ap, subst, ◌∙◌, arith}
 use Rattle.std.specs.Prelude.{IfSome, slice_index_or}
 use Rattle.std.specs.List.{Contains, filter}
-use Rattle.std.proofs.lemmas.Bool.{cases_eq, false≢true}
+use Rattle.std.proofs.lemmas.Bool.{false≢true}
 use Rattle.std.proofs.lemmas.List.{get_or_default}
 use Rattle.std.proofs.lemmas.Bool.Decides.{Decides-eqb, nat_tests}
 use Rattle.base.specs.Least.{least}
@@ -193,16 +193,6 @@ fits_at_once p v cs r n x most spare kept short uses fits =
     at : (b : Bool) → cond b (base p v (Amount r)) 0 ≤ base p v (Amount r)
     at true = omega arith
     at false = omega arith
-
--- what fits of the first machines fits of one more
-pub fits_next : (p : Instance) (s : Sets) (ks : List Standing) (r n : ℕ) (x : Period) (spare i : ℕ) (d : Standing) → i < length ks →
-    ((v : ℕ) → v < i → IsMost p v (s (vm v)) r (one n) x (spare + most_kept p v (Amount r) n x (slice_index_or ks v no_standing))) → IsMost p i (s (vm i)) r (one n) x (spare + most_kept p i (Amount r) n x (slice_index_or ks i d)) →
-    (v : ℕ) → v < i + 1 → IsMost p v (s (vm v)) r (one n) x (spare + most_kept p v (Amount r) n x (slice_index_or ks v no_standing))
-fits_next p s ks r n x spare i d low before here v h =
-    elim (cases_eq v i) [
-      | inl same ↦ rw same (subst (λ k. IsMost p i (s (vm i)) r (one n) x (spare + most_kept p i (Amount r) n x k)) (get_or_default ks i d no_standing low) here)
-      | inr other ↦ before v (omega (arith, h, other))
-    ]
 
 -- ---- a machine that does not come
 

@@ -1,6 +1,6 @@
 -- What is kept beside the rule: where each machine surely stands and before when it does not start at a node, with levels; the machines
 -- near each node, and those that may not stay.
-use Rattle.std.specs.Prelude.{◌≡◌, ℕ, ◌<◌, true, List, [], length, slice_index_or}
+use Rattle.std.specs.Prelude.{◌≡◌, ℕ, ◌<◌, true, List, length, slice_index_or}
 use Rattle.std.specs.List.{Contains}
 use Rattle.cluster.specs.declared.ids.Element.{Element}
 use Rattle.cluster.specs.declared.ids.Element.TheVariants.{Vm, Node as TheNode}

@@ -1,5 +1,5 @@
 //! What can be asked of one choice: over the starts at one place each is least at the first or the last.
-ghost use Rattle.std.specs.Prelude.{◌≡◌, IfSome};
+ghost use Rattle.std.specs.Prelude.{IfSome};
 ghost use Rattle.catalogue.specs.Instance.{IsElement};
 ghost use Rattle.slices.specs.Elements.{node, vm};
 ghost use Rattle.profiles.specs.Standing.Leaves.{AreLeaves};

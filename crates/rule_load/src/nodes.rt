@@ -1,6 +1,5 @@
 //! The nodes whose load is a watch.
-ghost use Rattle.std.specs.Prelude.{◌≡◌, ℕ, ◌+◌, ◌<◌, ◌≤◌, IfNone, IfSome, nat_lt};
-ghost use Rattle.cluster.specs.Limits.{max_nodes};
+ghost use Rattle.std.specs.Prelude.{◌≡◌, ℕ, ◌+◌, ◌<◌, IfNone, IfSome};
 ghost use Rattle.cluster.specs.Sets.{has_node};
 ghost use Rattle.slices.specs.Elements.{node_count};
 ghost use Rattle.slices.specs.Stages.{one};

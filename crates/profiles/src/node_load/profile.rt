@@ -1,5 +1,5 @@
 //! The profile of one node and resource.
-ghost use Rattle.std.specs.Prelude.{◌≡◌, ◌<◌, [], ◌∷◌, ◌++◌, length, OnOk, OnErr, IfOk};
+ghost use Rattle.std.specs.Prelude.{◌≡◌, ◌<◌, [], length, OnOk, OnErr, IfOk};
 ghost use Rattle.catalogue.specs.Instance.{Instance, IsElement};
 ghost use Rattle.slices.specs.Snapshots.{load};
 ghost use Rattle.slices.specs.Stages.{one};

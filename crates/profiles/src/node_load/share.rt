@@ -1,6 +1,5 @@
 //! What one machine adds to the profile of a node.
 ghost use Rattle.std.specs.Prelude.{◌≡◌, ◌≤◌, ◌<◌, length, IfOk, slice_index_or};
-ghost use Rattle.cluster.specs.Limits.{max_amount};
 ghost use Rattle.catalogue.specs.Instance.{IsElement};
 ghost use Rattle.slices.specs.Elements.{machine_count};
 ghost use Rattle.profiles.specs.Standing.Tables.{no_standing};

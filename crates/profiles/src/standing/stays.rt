@@ -2,9 +2,8 @@
 ghost use Rattle.std.specs.Prelude.{◌≡◌, IsTrue, false, true};
 ghost use Rattle.cluster.specs.declared.states.State.TheVariants.{Running};
 ghost use Rattle.catalogue.specs.Instance.{IsElement};
-ghost use Rattle.slices.specs.Elements.{state_of, vm};
+ghost use Rattle.slices.specs.Elements.{state_of};
 ghost use Rattle.slices.specs.Stages.{one};
-ghost use Rattle.domains.specs.Sets.{RegionView, sets};
 ghost use Rattle.domains.specs.Views.{seen};
 ghost use Rattle.reasons.specs.Sure.{sure};
 ghost use Rattle.relax.specs.Areas.{IsSized};

@@ -1,5 +1,5 @@
 //! The numbers of all machines, with levels.
-ghost use Rattle.std.specs.Prelude.{◌≡◌, ◌<◌, [], ◌∷◌, ◌++◌, length, OnOk, OnErr, IfOk, slice_index_or, slice_set};
+ghost use Rattle.std.specs.Prelude.{◌≡◌, ◌<◌, [], length, OnOk, OnErr, IfOk, slice_index_or, slice_set};
 ghost use Rattle.catalogue.specs.Instance.{IsElement};
 ghost use Rattle.domains.specs.Choices.{choices};
 ghost use Rattle.domains.specs.Laws.{AreFewer};

@@ -2,8 +2,7 @@
 ghost use Rattle.std.specs.Prelude.{◌≡◌, ◌≤◌};
 ghost use Rattle.catalogue.specs.Instance.{IsElement};
 ghost use Rattle.slices.specs.Elements.{state_of};
-ghost use Rattle.slices.specs.Stages.{one};
-ghost use Rattle.relax.specs.Areas.{IsWeight, hosted_in};
+ghost use Rattle.relax.specs.Areas.{IsWeight};
 ghost use Rattle.profiles.specs.Standing.Standings.{base as the_base, brought as the_brought, comes_by as the_comes_by, gain as the_gain, had_there as the_had_there, kept_use as the_kept_use, weight_if};
 
 use crate::host::is_host;
