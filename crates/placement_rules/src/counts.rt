@@ -1,6 +1,6 @@
 //! Sums over machines and nodes.
 ghost use Rattle.std.specs.Prelude.{◌≡◌, ◌≤◌, ◌<◌, length};
-ghost use Rattle.placement_rules.specs.Prelude.{amount_in, choices_of, count_in, has_node, image_in as the_image_in, IsPlanOf, IsWeightFit, machine_count, max_amount, max_held, node_count, powered_nodes, snapshot_at, total};
+ghost use Rattle.placement_rules.specs.Prelude.{amount_in, choices_of, count_in, has_node, image_in as the_image_in, IsPlanOf, IsWeight, machine_count, max_amount, max_held, node_count, powered_nodes, snapshot_at, total};
 
 use catalogue::Problem;
 use cluster::{Instant, NodeId, NodeSet, VmId};
@@ -67,7 +67,7 @@ fn image_in(image: Option<NodeId>, nodes: &NodeSet) -> u64
 fn held_on(p: &Problem, plan: &Plan, v: VmId, weight: Weight, nodes: &NodeSet, t: Instant) -> u64
     requires plan { IsPlanOf p.now.given plan.now }
     requires machine { v.0 < machine_count p.now.given }
-    requires weight { IsWeightFit p.now.given weight }
+    requires weight { IsWeight p.now.given weight }
     ensures value { result ≡ (snapshot_at p.now.given (choices_of plan.now) t).held v.0 weight (has_node nodes.now) }
     ensures small { result ≤ max_held }
 {
@@ -84,7 +84,7 @@ fn held_on(p: &Problem, plan: &Plan, v: VmId, weight: Weight, nodes: &NodeSet, t
 /// What all machines hold on the nodes of a set.
 pub fn total_on(p: &Problem, plan: &Plan, weight: Weight, nodes: &NodeSet, t: Instant) -> u64
     requires plan { IsPlanOf p.now.given plan.now }
-    requires weight { IsWeightFit p.now.given weight }
+    requires weight { IsWeight p.now.given weight }
     ensures { result ≡ total p.now.given (snapshot_at p.now.given (choices_of plan.now) t) weight (has_node nodes.now) }
 {
     let mut total = 0;

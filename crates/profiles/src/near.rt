@@ -6,9 +6,9 @@ ghost use Rattle.profiles.specs.Near.{AreNear, IsNear, IsPut, list_at};
 
 use crate::host::host_of;
 use crate::number_lists::NumberLists;
-use catalogue::problem::Problem;
-use cluster::ids::{NodeId, VmId};
-use memory::Memory;
+use base::Memory;
+use catalogue::Problem;
+use cluster::{NodeId, VmId};
 use std::alloc::Global;
 use std::marker::Model;
 

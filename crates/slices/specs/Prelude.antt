@@ -34,7 +34,7 @@ pub use Rattle.slices.specs.Costs.{cost_of, IsInfeasible, IsOptimal}
 pub use Rattle.slices.specs.Elements.{is_place, machine_count, node, node_count, state_in, state_of, vm}
 pub use Rattle.slices.specs.Ends.{action_count, ActionAtEnds, HeldAtEnds, HeldInSteps, IsLeastAtEnds, IsPointwise, powered_count, PoweredAtEnds, snapshot_of, step_value, Steps, unusable_count, UnusableAtEnds}
 pub use Rattle.slices.specs.Fewer.{AreLessPresent, IsLessForForm, IsLessSeparated, LessHolds}
-pub use Rattle.slices.specs.Forms.{Allowed, AnyNode, AnyOf, Apart, Between, Bounded, Each, Form, form_of, form_seen, FromOthers, Groups, groups_seen, InTurn, IsGroupsFit, IsSound, IsWeightFit, members, Ordered, Places, places_seen, Powered, separated, Separation, separation_seen, Settled, SoundForm, Together}
+pub use Rattle.slices.specs.Forms.{Allowed, AnyNode, AnyOf, Apart, Between, Bounded, Each, Form, form_of, form_seen, FromOthers, Groups, groups_seen, InTurn, IsGroupsFit, IsSound, members, Ordered, Places, places_seen, Powered, separated, Separation, separation_seen, Settled, SoundForm, Together}
 pub use Rattle.slices.specs.Holdings.{amount_in, count_in, held_of, holding_of, image_in, is_in, is_raise, IsHeldWithin, IsHolding, IsHoldingAt, IsHoldingOf, IsNodeWithin, node_of, with_raise}
 pub use Rattle.slices.specs.Holds.{AreAbsent, AreAllowed, AreApart, AreGrouped, AreWithin, ForbidsPair, ForbidsPlace, FormForbidsPair, FormForbidsPlace, group_sets, Holds, IsInPart, IsKept, IsMember, IsOffLimits, runs_elsewhere, Separates, TakeTurns}
 pub use Rattle.slices.specs.Legal.{DurationsLast, EndsByDuration, LegalActsLast, LegalEarlier, LegalIsPlan}
@@ -43,8 +43,8 @@ pub use Rattle.slices.specs.Parts.{AreOver, ExecutionKeeps, FirstIsOne, IsPartOf
 pub use Rattle.slices.specs.Plans.{Choices, choices_of, HasElement, IsPlan, IsPlanOf, parted, PlanChoices}
 pub use Rattle.slices.specs.Rules.{applies, InRange, IsFirstBroken, IsFirstRule, Keeps, KeepsAllAt, KeepsAt, Precedes}
 unfoldable pub use Rattle.slices.specs.Rules.{IsValid}
-pub use Rattle.slices.specs.Snapshots.{load, powered_nodes, presences, present_at, room, Snapshot, snapshot_at, stands_on, total}
-unfoldable pub use Rattle.slices.specs.Snapshots.{action_at, held_at, held_by, powered_at, snapshot, stage_at, stages_at, usable_at}
+pub use Rattle.slices.specs.Snapshots.{IsWeight, load, powered_nodes, presences, present_at, room, Snapshot, snapshot_at, stands_on, total}
+unfoldable pub use Rattle.slices.specs.Snapshots.{IsWeight, action_at, held_at, held_by, powered_at, snapshot, stage_at, stages_at, usable_at}
 pub use Rattle.slices.specs.Stages.{acting_slices, covers, idle_slices, Nodes, one, powered_of, progress_of, slice, stage_from, stage_of, usable_of, weigh, weight_of}
 unfoldable pub use Rattle.slices.specs.Stages.{slices_by, slices_of}
 pub use Rattle.slices.specs.Starts.{ActionQuiet, form_matters, HasLastStart, HeldQuiet, IsQuiet, KeepsQuiet, LastStart, machine_matters, matters, MattersQuiet, node_matters, PoweredQuiet, separation_matters, start_of, UsableQuiet}
