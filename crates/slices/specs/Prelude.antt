@@ -44,7 +44,7 @@ pub use Rattle.slices.specs.Plans.{Choices, choices_of, HasElement, IsPlan, IsPl
 pub use Rattle.slices.specs.Rules.{applies, InRange, IsFirstBroken, IsFirstRule, Keeps, KeepsAllAt, KeepsAt, Precedes}
 unfoldable pub use Rattle.slices.specs.Rules.{IsValid}
 pub use Rattle.slices.specs.Snapshots.{IsWeight, load, powered_nodes, presences, present_at, room, Snapshot, snapshot_at, stands_on, total}
-unfoldable pub use Rattle.slices.specs.Snapshots.{IsWeight, action_at, held_at, held_by, powered_at, snapshot, stage_at, stages_at, usable_at}
+unfoldable pub use Rattle.slices.specs.Snapshots.{action_at, held_at, held_by, powered_at, snapshot, stage_at, stages_at, usable_at}
 pub use Rattle.slices.specs.Stages.{acting_slices, covers, idle_slices, Nodes, one, powered_of, progress_of, slice, stage_from, stage_of, usable_of, weigh, weight_of}
 unfoldable pub use Rattle.slices.specs.Stages.{slices_by, slices_of}
 pub use Rattle.slices.specs.Starts.{ActionQuiet, form_matters, HasLastStart, HeldQuiet, IsQuiet, KeepsQuiet, LastStart, machine_matters, matters, MattersQuiet, node_matters, PoweredQuiet, separation_matters, start_of, UsableQuiet}
