@@ -1,8 +1,8 @@
 -- `check` says yes to the files that `plan` writes.
-use Rattle.std.proofs.Common.{◌≡◌, ◌≢◌, ◌∙◌, ℕ, ◌<◌, ◌^◌, Bool, List, Option, Some, None, Result, Ok, Err, sym, ap, subst, refl, arith}
+use Rattle.std.proofs.Common.{◌≡◌, ◌∙◌, ℕ, Bool, List, Option, Some, None, Result, Ok, Err, sym, ap, subst, refl, arith}
 use Rattle.plan_io.specs.Files.{Files, bytes_of}
 use Rattle.catalogue.specs.Instance.{Instance}
-use Rattle.slices.specs.Plans.{Choices, PlanChoices}
+use Rattle.slices.specs.Plans.{PlanChoices}
 use Rattle.trees.specs.declared.steps.Goal.{Goal}
 use Rattle.plan_json.specs.Plans.{plan_of}
 use Rattle.trees.specs.Certificates.{IsCertificate, IsHandedIn, least_of}
@@ -19,7 +19,6 @@ use Rattle.search.specs.declared.found.Found.TheVariants.{Optimal, Infeasible, U
 use Rattle.search.specs.Answers.{IsTrueOf, choices_in, goal_in, least_in, plan_in}
 use Rattle.commands.specs.Answer.{AnswersBy, Outside, Says}
 use Rattle.commands.specs.Checking.{Checks, IsChecked, SaysGiven, verdict_line}
-use Rattle.commands.specs.Planning.{IsWritten}
 use Rattle.commands.specs.Commands.{IsAnswer}
 use Rattle.commands.specs.Inputs.Instance.{instance_in, reading_of}
 use Rattle.commands.specs.Inputs.Plan.{any_plan_in, any_plan_lined, any_plan_reading_of}

@@ -1,15 +1,13 @@
 -- What `demo` answers and leaves.
-use Rattle.std.proofs.Common.{◌≡◌, ◌≢◌, ◌⊎◌, ◌∙◌, ℕ, true, false, List, ◌++◌, Option, Some, Result, Ok, Err, codes, refl, sym, ap, subst, inl, inr, append_assoc}
+use Rattle.std.proofs.Common.{◌≡◌, ◌≢◌, ◌∙◌, ℕ, true, false, List, ◌++◌, Option, Some, Result, Ok, Err, codes, refl, sym, ap, subst, inl, inr, append_assoc}
 use Rattle.std.proofs.lemmas.Slice.Eq.{bytes_eq-Decides}
 use Rattle.std.specs.Fmt.{decimal}
-use Rattle.plan_io.specs.Files.{Files, OthersStay}
+use Rattle.plan_io.specs.Files.{Files}
 use Rattle.catalogue.specs.Instance.{Instance}
-use Rattle.instance_make.specs.Generated.{generated as problem_of}
-use Rattle.instance_make.specs.Text.{instance_text}
 use Rattle.search.specs.declared.found.Found.{Found}
 use Rattle.search.specs.declared.found.Found.TheVariants.{Optimal, Infeasible, Undecided}
 use Rattle.commands.specs.Words.{Command, demo}
-use Rattle.commands.specs.Answer.{Outside, outside, AnswersBy, LeavesBy, Says}
+use Rattle.commands.specs.Answer.{Outside, outside}
 use Rattle.commands.specs.Inputs.Instance.{instance_in}
 use Rattle.commands.specs.Commands.{IsAnswer, Takes}
 use Rattle.commands.specs.Checking.{IsChecked}

@@ -1,4 +1,5 @@
 //! The solvers of the tests.
+
 use branching::brancher::Brancher;
 use branching::least_start::LeastStart;
 use catalogue::Problem;
