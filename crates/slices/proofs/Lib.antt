@@ -1,6 +1,7 @@
 -- Public has what crates above may cite; the rest is for this crate alone.
 pub mod Public
 mod DurationLemmas
+mod MemberLemmas
 mod PlaceLemmas
 mod HoldingLemmas
 mod FormLemmas

@@ -9,3 +9,4 @@ pub use Rattle.slices.proofs.StartLemmas.{action_quiet, held_quiet, keeps_quiet,
 pub use Rattle.slices.proofs.LastLemmas.{has_last_start}
 pub use Rattle.slices.proofs.EndLemmas.{action_at_ends, held_at_ends, held_in_steps, is_pointwise, powered_at_ends, unusable_at_ends}
 pub use Rattle.slices.proofs.NodeLemmas.{absent_uses_nothing, held_by_node, held_is_small, held_on_more, present_on_set, present_somewhere}
+pub use Rattle.slices.proofs.MemberLemmas.{each_member, each_more, joined_member, member_at, member_below, part_listed}

@@ -4,6 +4,7 @@ use Rattle.base.proofs.Public.{◌≡◌, ◌⊎◌, inl, inr, ℕ, zero, suc, �
 use Rattle.slices.specs.Prelude.{Act, Acting, action_at, action_duration, ActionQuiet, all_of, Allowed, Amount, Apart, Between, Bounded, Choice, choice_duration, Choices, choices_of, Constraint as OfConstraint, Each, Element, Form, form_of, FromOthers, held_at, HeldQuiet, Holds, Idle, Image, Instance, InTurn, is_member, is_online, IsElement, IsLessForForm, IsLessSeparated, IsPlanOf, IsQuiet, Keeps, KeepsQuiet, Load, machine_count, machine_matters, matters, MattersQuiet, node, Node as TheNode, node_count, node_matters, Nodes, one, Ordered, PlanChoices, Powered, powered_at, PoweredQuiet, Presence, Progress, Rule, Separation, separation_matters, Settled, snapshot, snapshot_at, stage_at, stage_of, stages_at, Started, Together, Unended, Usable, usable_at, UsableQuiet, Vm, vm, VmId, Weight}
 use Rattle.catalogue.specs.declared.constraint.Constraint.{Constraint}
 use Rattle.slices.proofs.FewerLemmas.{less_holds}
+use Rattle.slices.proofs.MemberLemmas.{joined_member}
 use Rattle.slices.proofs.PartLemmas.{held_by-part, not-part, or_implied, powered_of-part, progress_of-part, usable_of-part}
 
 same-number : (v : ℕ) → IsTrue (v == v)
@@ -55,12 +56,6 @@ unended-earlier p v u t (Act place start) l x =
 
 -- ---- all choices
 
--- the machines of each part are listed
-part-listed : (parts : List (List VmId)) (i v : ℕ) → IsTrue (is_member (slice_index_or parts i []) v) → IsTrue (is_member (all_of parts) v)
-part-listed [] i v h = h
-part-listed (vs ∷ parts) zero v h = list_any-append (λ x. x.0 == v) vs (all_of parts) ∙ or_left (is_member vs v) (is_member (all_of parts) v) h
-part-listed (vs ∷ parts) (suc i) v h = list_any-append (λ x. x.0 == v) vs (all_of parts) ∙ or_right (is_member vs v) (is_member (all_of parts) v) (part-listed parts i v h)
-
 module _ (p : Instance) (plan : Choices) (u t : ℕ) (l : u ≤ t) where
   held-then : (v : ℕ) → IsQuiet (plan (vm v)) u t → (w : Weight) (set : Nodes) → (snapshot_at p plan t).held v w set ≤ (snapshot_at p plan u).held v w set
   unfolding snapshot stages_at held_at
@@ -88,7 +83,7 @@ module _ (p : Instance) (plan : Choices) (u t : ℕ) (l : u ≤ t) where
 
   less_apart-quiet : (separation : Separation) → ((v : ℕ) → IsTrue (separation_matters separation v) → IsQuiet (plan (vm v)) u t) → IsLessSeparated p separation (snapshot_at p plan t) (snapshot_at p plan u)
   less_apart-quiet (Each vs) q = λ v i m. present-then v (q v m)
-  less_apart-quiet (Between parts) q = λ j v i m. present-then v (q v (part-listed parts j v m))
+  less_apart-quiet (Between parts) q = λ j v i m. present-then v (q v (joined_member parts j v m))
   less_apart-quiet (FromOthers vs) q = λ v i. present-then v (q v refl)
 
   less_for-quiet : (f : Form) → ((v : ℕ) → IsTrue (machine_matters f v) → IsQuiet (plan (vm v)) u t) → ((n : ℕ) → IsTrue (node_matters f n) → IsQuiet (plan (node n)) u t) → IsLessForForm p f (snapshot_at p plan t) (snapshot_at p plan u)
