@@ -8,7 +8,7 @@ use Rattle.slices.specs.Snapshots.{Snapshot}
 use Rattle.domains.specs.Sets.{Sets}
 use Rattle.closing.specs.Looks.{IsFreeOf, IsMetWith}
 use Rattle.closing.specs.Stands.{IsAnyOf, MeetsOtherPart, ShareNode}
-use Rattle.closing.proofs.MemberLemmas.{part_listed}
+use Rattle.slices.proofs.Public.{part_listed}
 
 module _ (p : Instance) (s : Sets) (t : ℕ) (parts : List (List VmId)) where
   abbrev met_in : ℕ → ℕ → Snapshot → Type 0

@@ -9,13 +9,12 @@ use Rattle.slices.specs.Forms.{Places, Each, Between, FromOthers}
 use Rattle.slices.specs.Holds.{IsInPart}
 use Rattle.slices.specs.Snapshots.{Snapshot}
 use Rattle.domains.specs.Sets.{Sets}
-use Rattle.reasons.proofs.Public.{joined_member, member_below}
 use Rattle.closing.specs.declared.look.Look.{Look}
 use Rattle.closing.specs.Forms.{HasMisplaced, HasSeparated}
 use Rattle.closing.specs.Looks.{IsFound}
 use Rattle.closing.specs.Stands.{IsAnyOf, IsPlacedBadly, MeetsOtherPart, MeetsStranger, ShareNode}
 use Rattle.closing.proofs.FoundLemmas.{found_same}
-use Rattle.closing.proofs.MemberLemmas.{part_listed}
+use Rattle.slices.proofs.Public.{joined_member, member_below, part_listed}
 
 module _ (p : Instance) (b : Snapshot) where
   abbrev HasTwo : List VmId → Type 0

@@ -6,7 +6,7 @@ use Rattle.base.proofs.Public.{◌≡◌, ◌≢◌, ◌⊎◌, inl, inr, ℕ, z
 use Rattle.reasons.specs.Prelude.{Allowed, Apart, are_below, AreApart, Between, Bounded, Choices, differ, Each, ExceedsNodes, ExceedsSeparated, Form, form_of, FromOthers, Holds, Instance, InTurn, is_member, IsHall, IsInstance, IsKept, IsMember, IsSound, machine_count, node_count, Nodes, nodes_in, one, Ordered, Powered, present_at, Separation, Settled, snapshot_of, sum_to, Together, vm, VmId}
 use Rattle.catalogue.specs.declared.constraint.Constraint.{Constraint}
 use Rattle.slices.proofs.Public.{present_somewhere}
-use Rattle.reasons.proofs.RuleLemmas.{member_below}
+use Rattle.slices.proofs.Public.{member_below}
 
 -- terms that are no less, and one that is more
 sum_to-more : (n : ℕ) (f g : ℕ → ℕ) (place : ℕ) → place < n → ((k : ℕ) → k < n → f k ≤ g k) → f place < g place → sum_to n f < sum_to n g

@@ -5,7 +5,8 @@ use Rattle.base.proofs.Public.{◌≡◌, ◌≢◌, ◌⊎◌, inl, inr, ℕ, z
 use Rattle.reasons.specs.Prelude.{Allowed, AnyNode, AnyOf, Apart, are_below, AreBothActing, AreGrouped, AreScattered, AreWithin, Between, Bounded, BreaksGroup, Choices, Each, ExceedsAmount, ExceedsPower, Form, form_of, FormForbidsPair, FormForbidsPlace, FromOthers, group_sets, Groups, has_node, HasOutside, Holds, Instance, InTurn, is_member, IsGroup, IsGroupsFit, IsInstance, IsKept, IsMember, IsPair, IsPlace, IsPower, IsSetLoad, IsSound, machine_count, node_count, Nodes, one, Ordered, Powered, present_at, Separates, Separation, Settled, Snapshot, snapshot_of, TakeTurns, Together, vm, VmId}
 use Rattle.catalogue.specs.declared.constraint.Constraint.{Constraint}
 use Rattle.slices.proofs.Public.{present_on_set, present_somewhere}
-use Rattle.reasons.proofs.RuleLemmas.{member_below, parts_differ}
+use Rattle.slices.proofs.Public.{member_below}
+use Rattle.reasons.proofs.RuleLemmas.{parts_differ}
 
 -- a constraint is broken in no way
 pub record IsUnbroken (p : Instance) (s : Snapshot) (k : Constraint) : Type 0 where

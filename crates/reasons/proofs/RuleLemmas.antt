@@ -4,22 +4,12 @@ use Rattle.std.proofs.lemmas.Bool.{true≢false}
 use Rattle.base.proofs.Public.{◌≡◌, ◌≢◌, inl, inr, ℕ, zero, suc, ◌<◌, true, ◌==◌, nat_lt, not, List, [], ◌∷◌, ◌++◌, Some, refl, sym, ap, ◌∙◌, arith, and_parts, eqb-true, false≢true, ltb-true, not-true, or_cases, or_left, or_right, All-get_or, list_any-append, get_or_from_slice_get, slice_get_within}
 use Rattle.reasons.specs.Prelude.{all_of, are_below, differ, form_of, Instance, inventory_of, is_member, is_rule, IsInPart, IsInstance, IsMember, IsSound, VmId}
 use Rattle.catalogue.specs.declared.constraint.Constraint.{Constraint}
-use Rattle.slices.proofs.Public.{sound_form}
+use Rattle.slices.proofs.Public.{joined_member, sound_form}
 
 -- the form of each constraint of an instance is sound
 pub sound_rule : (p : Instance) → IsInstance p → (c : ℕ) (k : Constraint) → slice_get p.constraints c ≡ Some k → IsSound p (form_of k)
 sound_rule p sound c k e =
     sound_form p k (rw (get_or_from_slice_get p.constraints c k k e) at (All-get_or (λ x. is_rule (inventory_of p) x ≡ true) p.constraints c k (slice_get_within p.constraints c k e) sound.rules))
-
--- a member of listed machines is listed
-pub member_below : (n : ℕ) (vs : List VmId) (v : ℕ) → are_below n vs ≡ true → IsMember vs v → v < n
-member_below n [] v b m = absurd (false≢true m)
-member_below n (x ∷ xs) v b m =
-    let parts : (nat_lt x.0 n ≡ true) × (are_below n xs ≡ true) = and_parts _ (are_below n xs) b in
-    elim (or_cases (x.0 == v) (is_member xs v) m) [
-      | inl here ↦ omega (arith, ltb-true x.0 n parts.0, eqb-true x.0 v here)
-      | inr later ↦ member_below n xs v parts.1 later
-    ]
 
 -- machines that differ stand in no two of the lists that they are joined of
 split-differ : (xs ys : List VmId) (v : ℕ) → differ (xs ++ ys) ≡ true → IsMember xs v → IsMember ys v → ⊥
@@ -33,11 +23,6 @@ split-differ (x ∷ xs) ys v d m k =
           true≢false (sym again ∙ not-true (is_member (xs ++ ys) x.0) parts.0)
       | inr later ↦ split-differ xs ys v parts.1 later k
     ]
-
-pub joined_member : (parts : List (List VmId)) (i v : ℕ) → IsInPart parts i v → IsMember (all_of parts) v
-joined_member [] i v h = h
-joined_member (vs ∷ parts) zero v h = list_any-append (λ x. x.0 == v) vs (all_of parts) ∙ or_left (is_member vs v) (is_member (all_of parts) v) h
-joined_member (vs ∷ parts) (suc i) v h = list_any-append (λ x. x.0 == v) vs (all_of parts) ∙ or_right (is_member vs v) (is_member (all_of parts) v) (joined_member parts i v h)
 
 differ-rest : (xs ys : List VmId) → differ (xs ++ ys) ≡ true → differ ys ≡ true
 differ-rest [] ys d = d

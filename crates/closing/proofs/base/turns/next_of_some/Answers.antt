@@ -3,7 +3,7 @@ use Rattle.slices.specs.Elements.{vm}
 use Rattle.domains.specs.Sets.{sets}
 use Rattle.closing.specs.Parts.{StartsPast}
 use Rattle.closing.proofs.EndLemmas.{no_turn_of}
-use Rattle.closing.proofs.MemberLemmas.{each_member}
+use Rattle.slices.proofs.Public.{each_member}
 use Rattle.closing.proofs.base.turns.next_of_some.Goals as goal
 
 pub returns-clause-turns : goal.returns-clause-turns

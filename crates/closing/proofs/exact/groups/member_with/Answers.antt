@@ -3,7 +3,7 @@ use Rattle.slices.specs.Elements.{vm}
 use Rattle.domains.specs.Sets.{sets}
 use Rattle.closing.specs.Parts.{FailAtEnds}
 use Rattle.closing.specs.Stands.{IsGroupWith}
-use Rattle.closing.proofs.MemberLemmas.{each_member}
+use Rattle.slices.proofs.Public.{each_member}
 use Rattle.closing.proofs.exact.groups.member_with.Goals as goal
 
 pub returns-clause-none : goal.returns-clause-none

@@ -2,7 +2,7 @@ use Rattle.std.proofs.Common.{◌≢◌, ℕ, arith}
 use Rattle.slices.specs.Holds.{IsMember}
 use Rattle.domains.specs.Sets.{sets}
 use Rattle.closing.specs.Stands.{StaysClear}
-use Rattle.closing.proofs.MemberLemmas.{each_member, each_more}
+use Rattle.slices.proofs.Public.{each_member, each_more}
 use Rattle.closing.proofs.quick.apart.are_apart.Goals as goal
 
 pub returns : goal.returns
