@@ -10,7 +10,7 @@ use Rattle.closing.specs.Kinds.{rule_watch}
 use Rattle.closing.specs.Looks.{broken_at}
 use Rattle.rule_constraint.specs.Given.{IsBrokenBy, reason_kind}
 use Rattle.rule_constraint.specs.Watches.{choose, kept_watch, no_watch, passes}
-use Rattle.rule_constraint.proofs.KindLemmas.{broken_by}
+use Rattle.rule_constraint.specs.Broken.{broken_by}
 
 -- one that is broken as a watch of a rule applies, and is broken by what a kind that passes says
 pub kept_applies : (kinds : ReasonKind → Bool) (p : Instance) (o : Option Constraint) (t : ℕ) (b : Snapshot) (P : Constraint → Type 0) → ((k : Constraint) (kind : ReasonKind) → reason_kind k ≡ Some kind → kinds kind ≡ true → IsBrokenBy p b k kind → P k) → broken_at (kept_watch kinds p o) p t b → IsSomeAnd o (λ k. IsTrue (is_continuous k || (t == p.horizon)) × P k)

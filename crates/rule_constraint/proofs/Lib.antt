@@ -3,7 +3,6 @@ mod AddLemmas
 mod ChoiceLemmas
 mod IndexLemmas
 mod KeptLemmas
-mod KindLemmas
 mod MarkLemmas
 mod MemberLemmas
 mod SettingLemmas

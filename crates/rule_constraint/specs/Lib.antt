@@ -3,5 +3,6 @@ pub mod Given
 pub mod Watches
 pub mod Indexes
 -- what the laws say beside it, and what the trait of watchers asks a proof of
+pub mod Broken
 pub mod Laws
 pub mod Quiet

@@ -15,7 +15,7 @@ use Rattle.closing.specs.Watches.{IsLocal, Watch}
 use Rattle.closing.proofs.Public.{constraint_is_local}
 use Rattle.rule_frame.specs.Asked.{AllClean}
 use Rattle.rule_constraint.specs.Given.{IsBrokenBy, reason_kind}
-use Rattle.rule_constraint.proofs.KindLemmas.{breaks, by_kind}
+use Rattle.rule_constraint.specs.Broken.{breaks, by_kind}
 use Rattle.rule_constraint.specs.Watches.{choose, kept_watch, no_watch, passes, watch_at, watch_count}
 
 -- ---- scopes

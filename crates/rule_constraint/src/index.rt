@@ -113,10 +113,12 @@ impl Lists {
         ensures { OnOk result (IsAdded constraint.now c self.old self.new) }
     {
         match form_of(constraint) {
-            Form::Apart(Separation::Each(machines))
-            | Form::Allowed(machines, _)
-            | Form::Together(machines, _)
-            | Form::InTurn(machines) => put_machines(&mut self.machines, machines.items(), c)?,
+            Form::Apart(Separation::Each(machines)) => {
+                put_machines(&mut self.machines, machines.items(), c)?
+            }
+            Form::Allowed(machines, _) | Form::Together(machines, _) | Form::InTurn(machines) => {
+                put_machines(&mut self.machines, machines.items(), c)?
+            }
             Form::Apart(Separation::Between(parts)) => {
                 put_parts(&mut self.machines, parts.items(), c)?
             }

@@ -43,7 +43,8 @@ use Rattle.rule_pair.specs.Apart.{AreClear, HasPosts, IsAt, IsLate, IsTold, Keep
 use Rattle.rule_pair.specs.Longest.{AreLonger, AreOrdered, told_until}
 use Rattle.rule_pair.specs.Stays.{StandsWithin}
 use Rattle.rule_constraint.specs.Given.{reason_kind}
-use Rattle.rule_constraint.proofs.Public.{and-true, arrival, arrived, numbers, of_kind, of_one, other-vm, own_present, same_present, vm_or}
+use Rattle.rule_constraint.proofs.Public.{and-true, arrival, arrived, numbers, of_one, other-vm, own_present, same_present, vm_or}
+use Rattle.rule_constraint.specs.Broken.{of_kind}
 
 -- ---- one choice
 

@@ -33,7 +33,8 @@ use Rattle.closing.specs.Looks.{IsClean}
 use Rattle.rule_constraint.specs.Given.{reason_kind}
 use Rattle.profiles.specs.Standing.Standings.{has_come, leave_of, never}
 use Rattle.rule_place.specs.Allowed.{IsAllowed, IsDue, IsOffHost, MayGo}
-use Rattle.rule_constraint.proofs.Public.{of_kind, own_present, same_present, vm_or}
+use Rattle.rule_constraint.proofs.Public.{own_present, same_present, vm_or}
+use Rattle.rule_constraint.specs.Broken.{of_kind}
 use Rattle.rule_place.proofs.ShutdownLemmas.{holds_none}
 
 -- ---- the host

@@ -25,7 +25,7 @@ use Rattle.closing.specs.Kinds.{IsBroken, rule_watch}
 use Rattle.closing.specs.Looks.{IsClean, IsFreeOf}
 use Rattle.closing.specs.Watches.{Watch}
 use Rattle.rule_constraint.specs.Given.{reason_kind}
-use Rattle.rule_constraint.proofs.Public.{of_kind}
+use Rattle.rule_constraint.specs.Broken.{of_kind}
 use Rattle.reasons.specs.declared.reason.ReasonKind.TheVariants.{SetLoad}
 use Rattle.domains.specs.SetsBefore.{sets_before}
 use Rattle.rule_frame.specs.Caches.{IsCacheTold}

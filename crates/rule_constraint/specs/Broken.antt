@@ -1,4 +1,4 @@
--- What breaks a constraint is of the kind that its form gives.
+-- Helping only: what breaks a constraint is of the kind that its form gives.
 use Rattle.std.proofs.Common.{◌≡◌, inl, inr, ℕ, Some, refl, subst}
 use Rattle.catalogue.specs.declared.constraint.Constraint.{Constraint}
 use Rattle.catalogue.specs.Instance.{Instance}
