@@ -1,11 +1,13 @@
 //! Two machines on one node that a constraint keeps apart, looked for.
-ghost use Rattle.std.specs.Prelude.{◌≡◌, ℕ, ◌<◌, ◌≤◌, false, length, IfNone, IfSome, IsTrue};
+ghost use Rattle.std.specs.Prelude.{◌≡◌, ℕ, ◌<◌, ◌≤◌, false, true, length, IfNone, IfSome, IsTrue};
+ghost use Rattle.catalogue.specs.Faults.{are_below, is_rule};
+ghost use Rattle.catalogue.specs.Instance.{Instance, inventory_of};
 ghost use Rattle.slices.specs.Elements.{machine_count, node_count};
 ghost use Rattle.domains.specs.Views.{seen};
 ghost use Rattle.reasons.specs.Reasons.{Applies, IsPair};
 ghost use Rattle.reasons.specs.Sure.{sure};
 ghost use Rattle.relax.specs.Areas.{IsSized};
-ghost use Rattle.slices.specs.Forms.{Apart, form_of as the_form_of, separation_seen};
+ghost use Rattle.slices.specs.Forms.{Apart, form_of as the_form_of, separated, separation_seen};
 ghost use Rattle.slices.specs.Holds.{ForbidsPair, IsInPart, Separates};
 ghost use Rattle.closing.specs.Kinds.{HasPair};
 ghost use Rattle.prop_core.specs.Propagators.{FailHolds};
@@ -24,6 +26,8 @@ use slices::form::{Separation, form_of};
 pub fn separation_of(constraint: &Constraint) -> Option<Separation<'_>>
     ensures none { IfNone result ((v w : ℕ) → ¬ ForbidsPair constraint.now v w) }
     ensures some { IfSome result (λ s. the_form_of constraint.now ≡ Apart (separation_seen s)) }
+    ensures listed { (p : Instance) → is_rule (inventory_of p) constraint.now ≡ true
+        → IfSome result (λ s. are_below (machine_count p) (separated (separation_seen s)) ≡ true) }
 {
     match form_of(constraint) {
         Form::Apart(separation) => Some(separation),
