@@ -1,20 +1,9 @@
 -- Machines that keep others off the nodes where they stand.
-use Rattle.std.proofs.Common.{◌≡◌, ◌≢◌, inl, inr, ℕ, ◌<◌, Bool, true, false, IsTrue, List, [], length, slice_index_or, refl, sym, ◌∙◌}
-use Rattle.std.proofs.lemmas.Bool.{cases_eq}
-use Rattle.cluster.specs.declared.ids.VmId.{VmId}
-use Rattle.catalogue.specs.Instance.{Instance}
-use Rattle.slices.specs.Elements.{node_count, vm}
-use Rattle.slices.specs.Holds.{IsMember}
-use Rattle.slices.specs.Snapshots.{present_at}
-use Rattle.slices.specs.Stages.{one}
-use Rattle.domains.specs.Sets.{Sets, surely}
+use Rattle.std.proofs.Common.{IsTrue, slice_index_or}
+use Rattle.base.proofs.Public.{◌≡◌, ◌≢◌, inl, inr, ℕ, ◌<◌, Bool, true, false, List, [], length, refl, sym, ◌∙◌, cases_eq}
+use Rattle.closing.specs.Prelude.{AreApart, FailAtEnds, has_node_of, Instance, IsAnyOf, IsFreeOf, IsMember, IsOn, MeetsOtherPart, node_count, one, present_at, Sets, ShareNode, Stands, StaysClear, sure, surely, vm, VmId}
 use Rattle.domains.proofs.Public.{surely_each}
-use Rattle.reasons.specs.Sure.{sure}
 use Rattle.reasons.proofs.Public.{end_is_choice}
-use Rattle.closing.specs.declared.base.stands.Stands.{Stands}
-use Rattle.closing.specs.Looks.{IsFreeOf}
-use Rattle.closing.specs.Parts.{FailAtEnds}
-use Rattle.closing.specs.Stands.{AreApart, IsAnyOf, IsOn, MeetsOtherPart, ShareNode, StaysClear, has_node_of}
 use Rattle.closing.proofs.MemberLemmas.{any_free}
 use Rattle.closing.proofs.PairLemmas.{others_free, parts_free}
 use Rattle.closing.proofs.FoundLemmas.{never_met}

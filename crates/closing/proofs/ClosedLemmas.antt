@@ -1,29 +1,8 @@
 -- Closed sets, by watches.
-use Rattle.std.proofs.Common.{◌≡◌, ◌≢◌, inl, inr, ℕ, zero, suc, ◌+◌, ◌<◌, Bool, ◌||◌, ◌==◌, List, [], ◌∷◌, length, Option, Some, None, IsTrue, refl, arith}
-use Rattle.std.specs.Prelude.{slice_get}
-use Rattle.std.proofs.lemmas.Bool.{cases_lt}
-use Rattle.cluster.specs.declared.choices.Choice.{Choice}
-use Rattle.cluster.specs.declared.ids.Element.{Element}
-use Rattle.cluster.specs.declared.ids.Element.TheVariants.{Vm, Node as TheNode}
-use Rattle.catalogue.specs.declared.constraint.Constraint.{Constraint}
-use Rattle.catalogue.specs.Instance.{Instance, IsElement}
-use Rattle.catalogue.specs.Kinds.{is_continuous}
-use Rattle.slices.specs.Elements.{machine_count, node_count, node, vm}
-use Rattle.slices.specs.Snapshots.{Snapshot}
-use Rattle.slices.specs.Stages.{one}
-use Rattle.domains.specs.Sets.{Sets, setting}
-use Rattle.reasons.specs.Closed.{IsClosed, IsEnd, IsFree, all_nodes}
-use Rattle.reasons.specs.declared.reason.ReasonKind.{ReasonKind}
-use Rattle.reasons.specs.declared.reason.ReasonKind.TheVariants.{Empty, Bound, Load, Pair, Place, Group, SetLoad, Power, Usable, Hall}
-use Rattle.reasons.specs.Reasons.{IsGroup, IsPower, IsSetLoad}
-use Rattle.reasons.specs.Sure.{sure}
+use Rattle.std.proofs.Common.{IsTrue}
+use Rattle.base.proofs.Public.{◌≡◌, ◌≢◌, inl, inr, ℕ, zero, suc, ◌+◌, ◌<◌, Bool, ◌||◌, ◌==◌, List, [], ◌∷◌, length, Option, Some, None, refl, arith, slice_get, cases_lt}
+use Rattle.closing.specs.Prelude.{all_nodes, AreClean, AreCleanAt, Bound, Choice, Clean, ClosedByWatches, Constraint, constraint_watch, Cut, Element, Empty, Fail, Group, Hall, HasPair, HasPlace, Instance, is_continuous, IsBroken, IsClean, IsClosed, IsElement, IsEnd, IsFree, IsGroup, IsLook, IsNeeded, IsOverloaded, IsPower, IsSetLoad, Load, load_watch, Look, machine_count, node, Node as TheNode, node_count, one, Pair, Place, Power, ReasonKind, SetLoad, Sets, setting, Snapshot, sure, total_load_watch, Usable, usable_watch, Vm, vm, Watch, watch_of}
 use Rattle.reasons.proofs.Public.{closed_by_kinds, quiet_is_free}
-use Rattle.closing.specs.Kinds.{HasPair, HasPlace, IsBroken, IsNeeded, IsOverloaded, constraint_watch, load_watch, total_load_watch, usable_watch, watch_of}
-use Rattle.closing.specs.Laws.{AreClean, AreCleanAt, ClosedByWatches}
-use Rattle.closing.specs.declared.look.Look.TheVariants.{Clean, Fail, Cut}
-use Rattle.closing.specs.declared.look.Look.{Look}
-use Rattle.closing.specs.Looks.{IsClean, IsLook}
-use Rattle.closing.specs.Watches.{Watch}
 
 -- no watch is broken in a snapshot
 record AreUnbroken (p : Instance) (b : Snapshot) (last : Bool) : Type 0 where

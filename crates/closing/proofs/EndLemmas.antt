@@ -1,35 +1,11 @@
 -- Ends of choices by rows, and the instants at which they start.
-use Rattle.std.proofs.Common.{◌≡◌, ◌⊎◌, inl, inr, ℕ, zero, suc, ◌+◌, ◌<◌, ◌≤◌, Bool, true, false, ◌&&◌, nat_le, Some, List, [], ◌∷◌, length, slice_index_or, refl, ap, arith}
-use Rattle.std.specs.List.{Contains, filter}
-use Rattle.std.proofs.lemmas.Bool.{cases_lt, false≢true}
-use Rattle.std.proofs.lemmas.Bool.Decides.{nat_tests}
-use Rattle.std.proofs.lemmas.List.{get_or_past}
-use Rattle.cluster.specs.declared.choices.Choice.{Choice}
-use Rattle.cluster.specs.declared.choices.Choice.TheVariants.{Idle, Act}
+use Rattle.std.proofs.Common.{slice_index_or}
+use Rattle.base.proofs.Public.{◌≡◌, ◌⊎◌, inl, inr, ℕ, zero, suc, ◌+◌, ◌<◌, ◌≤◌, Bool, true, false, ◌&&◌, nat_le, Some, List, [], ◌∷◌, length, refl, ap, arith, Contains, filter, cases_lt, false≢true, nat_tests, get_or_past}
+use Rattle.closing.specs.Prelude.{Act, AreOf, AreRowsPast, At, Choice, choices, Climbs, DomainView, Element, FailAtEnds, FailAtRows, From, goes_in, in_part, Instance, is_among, IsElement, IsEnd, IsEndThat, IsMember, IsRowEndThat, IsSized, IsTurn, machine_count, no_row, node, Node as TheNode, node_count, NodeId, Nowhere, one, only_of, PassOnlyAt, RegionView, Row, row_at, same_place, sets, start_of, StartsPast, staying, Vm, vm, VmId}
+use Rattle.cluster.specs.declared.choices.Choice.TheVariants.{Idle}
 use Rattle.cluster.specs.declared.choices.Place.{Place}
-use Rattle.cluster.specs.declared.choices.Place.TheVariants.{Nowhere, At}
-use Rattle.cluster.specs.declared.ids.NodeId.{NodeId}
-use Rattle.cluster.specs.declared.ids.Element.{Element}
-use Rattle.cluster.specs.declared.ids.Element.TheVariants.{Vm, Node as TheNode}
-use Rattle.cluster.specs.declared.ids.VmId.{VmId}
-use Rattle.catalogue.specs.Instance.{Instance, IsElement}
-use Rattle.slices.specs.Elements.{machine_count, node_count, node, vm}
-use Rattle.slices.specs.Holds.{IsMember}
-use Rattle.slices.specs.Stages.{one}
-use Rattle.slices.specs.Starts.{start_of}
-use Rattle.domains.specs.Choices.{DomainView, Climbs, choices, no_row, same_place, staying}
-use Rattle.domains.specs.declared.parts.Part.TheVariants.{From}
-use Rattle.domains.specs.declared.parts.Row.{Row}
-use Rattle.domains.specs.Parts.{in_part}
 use Rattle.domains.proofs.Public.{contains_filter, filter_contains}
-use Rattle.domains.specs.Sets.{RegionView, sets}
-use Rattle.reasons.specs.Closed.{IsEnd}
-use Rattle.reasons.specs.Quiet.{AreOf, IsTurn}
-use Rattle.reasons.specs.Regions.{row_at}
 use Rattle.reasons.proofs.Public.{end_is_choice, ends_of_rows}
-use Rattle.relax.specs.Areas.{IsSized, goes_in}
-use Rattle.closing.specs.Watches.{is_among, only_of}
-use Rattle.closing.specs.Parts.{AreRowsPast, FailAtEnds, FailAtRows, IsEndThat, IsRowEndThat, PassOnlyAt, StartsPast}
 
 -- ---- tests at ends
 

@@ -1,23 +1,6 @@
 -- What stays within an amount at every instant.
-use Rattle.std.proofs.Common.{◌≡◌, ℕ, ◌+◌, ◌<◌, ◌≤◌, ◌-◌, Some, arith}
-use Rattle.std.specs.Prelude.{slice_get}
-use Rattle.cluster.specs.declared.choices.Choice.{Choice}
-use Rattle.cluster.specs.declared.sets.NodeSet.{NodeSet}
-use Rattle.cluster.specs.Sets.{has_node}
-use Rattle.catalogue.specs.declared.constraint.Constraint.{Constraint}
-use Rattle.catalogue.specs.Instance.{Instance}
-use Rattle.slices.specs.declared.slice.Weight.{Weight}
-use Rattle.slices.specs.Elements.{vm}
-use Rattle.slices.specs.Forms.{Bounded, form_of}
-use Rattle.slices.specs.Snapshots.{held_at, total}
-use Rattle.slices.specs.Stages.{Nodes}
-use Rattle.domains.specs.Sets.{Sets}
-use Rattle.reasons.specs.Closed.{IsEnd}
-use Rattle.reasons.specs.Sure.{sure}
-use Rattle.closing.specs.Kinds.{IsBroken, constraint_watch}
-use Rattle.closing.specs.Looks.{IsClean, IsFreeOf}
-use Rattle.closing.specs.Most.{StaysWithin}
-use Rattle.closing.specs.Parts.{IsSpared}
+use Rattle.base.proofs.Public.{◌≡◌, ℕ, ◌+◌, ◌<◌, ◌≤◌, ◌-◌, Some, arith, slice_get}
+use Rattle.closing.specs.Prelude.{Bounded, Choice, Constraint, constraint_watch, form_of, has_node, held_at, Instance, IsBroken, IsClean, IsEnd, IsFreeOf, IsSpared, Nodes, NodeSet, Sets, StaysWithin, sure, total, vm, Weight}
 use Rattle.closing.proofs.FormLemmas.{form_broken}
 use Rattle.closing.proofs.FoundLemmas.{freed}
 use Rattle.closing.proofs.SettingLemmas.{total_free}

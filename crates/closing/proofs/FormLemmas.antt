@@ -1,19 +1,6 @@
 -- A constraint is broken exactly where its form is.
 use Rattle.std.proofs.Common.{◌≡◌, ◌⊎◌, inl, inr, ℕ, ◌<◌, IsTrue}
-use Rattle.catalogue.specs.declared.constraint.Constraint.{Constraint}
-use Rattle.catalogue.specs.Instance.{Instance}
-use Rattle.slices.specs.Elements.{machine_count, node_count}
-use Rattle.slices.specs.Forms.{Form, Apart, Allowed, Together, Ordered, InTurn, Bounded, Powered, Settled, form_of}
-use Rattle.slices.specs.Holds.{FormForbidsPair, FormForbidsPlace}
-use Rattle.slices.specs.Snapshots.{Snapshot}
-use Rattle.slices.specs.Stages.{one}
-use Rattle.domains.specs.Sets.{Sets}
-use Rattle.reasons.specs.Reasons.{BreaksGroup, ExceedsAmount, ExceedsPower}
-use Rattle.closing.specs.declared.look.Look.{Look}
-use Rattle.closing.specs.Forms.{IsFormBroken}
-use Rattle.closing.specs.Kinds.{IsBroken}
-use Rattle.closing.specs.Looks.{IsFound}
-use Rattle.closing.specs.Stands.{ShareNode}
+use Rattle.closing.specs.Prelude.{Allowed, Apart, Bounded, BreaksGroup, Constraint, ExceedsAmount, ExceedsPower, Form, form_of, FormForbidsPair, FormForbidsPlace, Instance, InTurn, IsBroken, IsFormBroken, IsFound, Look, machine_count, node_count, one, Ordered, Powered, Sets, Settled, ShareNode, Snapshot, Together}
 use Rattle.closing.proofs.FoundLemmas.{found_same}
 
 module _ (p : Instance) (s : Snapshot) where

@@ -1,11 +1,6 @@
 -- What a look says of a condition, it says of others too.
 use Rattle.std.proofs.Common.{ℕ}
-use Rattle.catalogue.specs.Instance.{Instance}
-use Rattle.slices.specs.Snapshots.{Snapshot}
-use Rattle.domains.specs.Sets.{Sets}
-use Rattle.closing.specs.declared.look.Look.{Look}
-use Rattle.closing.specs.declared.look.Look.TheVariants.{Clean, Fail, Cut}
-use Rattle.closing.specs.Looks.{IsFound, IsFreeOf}
+use Rattle.closing.specs.Prelude.{Clean, Cut, Fail, Instance, IsFound, IsFreeOf, Look, Sets, Snapshot}
 
 -- what is met only where something is that is never met is never met
 pub freed : (met other : Snapshot → Type 0) (p : Instance) (s : Sets) (t : ℕ) → ((b : Snapshot) → met b → other b) → IsFreeOf other p s t → IsFreeOf met p s t

@@ -1,25 +1,8 @@
 -- A condition on whole groups looks at the members of a form, and at no other machines.
-use Rattle.std.proofs.Common.{◌≡◌, ◌≢◌, ◌⊎◌, inl, inr, ℕ, Bool, true, false, List, IsTrue, refl, sym, ◌∙◌}
-use Rattle.std.proofs.lemmas.Bool.{cases_eq, false≢true}
-use Rattle.cluster.specs.declared.choices.Choice.{Choice}
-use Rattle.cluster.specs.declared.ids.VmId.{VmId}
-use Rattle.cluster.specs.declared.ids.Element.{Element}
-use Rattle.cluster.specs.declared.ids.Element.TheVariants.{Vm, Node as TheNode}
-use Rattle.catalogue.specs.declared.constraint.Constraint.{Constraint}
-use Rattle.catalogue.specs.Faults.{is_member}
-use Rattle.catalogue.specs.Instance.{Instance, IsElement}
-use Rattle.slices.specs.Elements.{vm}
-use Rattle.slices.specs.Forms.{form_of, members}
-use Rattle.slices.specs.Holds.{IsMember}
-use Rattle.domains.specs.Sets.{Sets, setting}
-use Rattle.reasons.specs.Closed.{IsEnd}
-use Rattle.reasons.specs.Reasons.{IsGroup}
-use Rattle.reasons.specs.Settings.{IsSameMachine}
-use Rattle.reasons.specs.Sure.{sure}
+use Rattle.std.proofs.Common.{IsTrue}
+use Rattle.base.proofs.Public.{◌≡◌, ◌≢◌, ◌⊎◌, inl, inr, ℕ, Bool, true, false, List, refl, sym, ◌∙◌, cases_eq, false≢true}
+use Rattle.closing.specs.Prelude.{Choice, Constraint, Element, FailAtEnds, form_of, Instance, is_member, IsElement, IsEnd, IsFreeOf, IsGroup, IsGroupWith, IsMember, IsSameMachine, members, Node as TheNode, Sets, setting, sure, Vm, vm, VmId}
 use Rattle.reasons.proofs.Public.{group_grows, setting_sets}
-use Rattle.closing.specs.Looks.{IsFreeOf}
-use Rattle.closing.specs.Parts.{FailAtEnds}
-use Rattle.closing.specs.Stands.{IsGroupWith}
 use Rattle.closing.proofs.SettingLemmas.{other_vm}
 
 member-or : (vs : List VmId) (v : ℕ) → IsMember vs v ⊎ ¬ IsMember vs v

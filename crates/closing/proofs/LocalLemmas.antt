@@ -1,34 +1,8 @@
 -- What each watch looks at, and that turns decide whether it is clean.
-use Rattle.std.proofs.Common.{◌≡◌, ◌≢◌, inl, inr, ℕ, Bool, false, ◌==◌, cond, Option, Some, None, refl, arith}
-use Rattle.std.proofs.lemmas.Bool.{cases_eq, false≢true, ne_eqb}
-use Rattle.std.specs.Prelude.{slice_get}
-use Rattle.base.proofs.Sums.{sum_to-le}
-use Rattle.base.proofs.Tests.{cond-implied, cond-le, fails_below, positive_above}
-use Rattle.cluster.specs.Sets.{has_node}
-use Rattle.catalogue.specs.declared.constraint.Constraint.{Constraint}
-use Rattle.catalogue.specs.Instance.{Instance}
-use Rattle.catalogue.specs.Kinds.{is_continuous}
-use Rattle.catalogue.specs.Values.{capacity_of}
-use Rattle.slices.specs.declared.stage.Progress.TheVariants.{Started, Unended}
-use Rattle.slices.specs.declared.slice.Weight.TheVariants.{Amount, Image}
-use Rattle.slices.specs.Elements.{machine_count, node_count}
-use Rattle.slices.specs.Forms.{Form, Apart, Allowed, Together, Ordered, InTurn, Bounded, Powered, Settled, Separation, Each, Between, FromOthers, form_of}
-use Rattle.slices.specs.Holds.{Separates}
-use Rattle.slices.specs.Parts.{IsPartOf}
-use Rattle.slices.specs.Snapshots.{Snapshot}
-use Rattle.slices.specs.Stages.{one}
-use Rattle.reasons.specs.Reasons.{IsOverload}
+use Rattle.base.proofs.Public.{◌≡◌, ◌≢◌, inl, inr, ℕ, Bool, false, ◌==◌, cond, Option, Some, None, refl, arith, cases_eq, false≢true, ne_eqb, slice_get, sum_to-le, cond-implied, cond-le, fails_below, positive_above}
+use Rattle.closing.specs.Prelude.{Allowed, Amount, Apart, Between, Bounded, broken_at, capacity_of, Clean, Constraint, constraint_watch, ConstraintIsLocal, Cut, Each, Fail, Form, form_of, form_scope, FromOthers, has_node, HasSeparated, Image, Instance, InTurn, is_continuous, IsFormBroken, IsFound, IsLocal, IsLook, IsOverload, IsPartOf, IsPartWithin, load_scope, LoadIsLocal, Look, machine_count, node_count, one, Ordered, Powered, rule_watch, Scope, Separates, Separation, separation_scope, Sets, setting, Settled, Snapshot, Started, sure, Together, TurnsAreEnough, Unended, UsableIsLocal, watch_of}
 use Rattle.slices.proofs.Public.{or_implied}
-use Rattle.domains.specs.Sets.{Sets, setting}
-use Rattle.reasons.specs.Sure.{sure}
 use Rattle.reasons.proofs.Public.{acting_grows, quiet_at_turns_for, scattered_grows, turns_decide_for}
-use Rattle.closing.specs.Forms.{HasSeparated, IsFormBroken}
-use Rattle.closing.specs.Kinds.{constraint_watch, form_scope, load_scope, rule_watch, separation_scope, watch_of}
-use Rattle.closing.specs.Laws.{ConstraintIsLocal, LoadIsLocal, TurnsAreEnough, UsableIsLocal}
-use Rattle.closing.specs.declared.look.Look.{Look}
-use Rattle.closing.specs.declared.look.Look.TheVariants.{Clean, Fail, Cut}
-use Rattle.closing.specs.Looks.{IsFound, IsLook, broken_at}
-use Rattle.closing.specs.Watches.{IsLocal, IsPartWithin, Scope}
 use Rattle.closing.proofs.FormLemmas.{broken_form, form_broken}
 
 -- ---- loads and usable nodes

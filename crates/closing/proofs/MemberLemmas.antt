@@ -1,17 +1,7 @@
 -- What no machine of a list meets, and sets of machines.
-use Rattle.std.proofs.Common.{◌≡◌, inl, inr, ℕ, suc, ◌+◌, ◌<◌, ◌≤◌, Bool, true, false, ◌||◌, ◌==◌, List, [], ◌∷◌, length, take, get_or, slice_index_or, refl, subst, ◌∙◌, arith}
-use Rattle.std.proofs.lemmas.Bool.{both_ways, cases_eq, cases_lt, eqb-true, or_cases}
-use Rattle.std.proofs.lemmas.Bool.Decides.{nat_tests}
-use Rattle.std.proofs.lemmas.List.{get_or_default, get_or_past}
-use Rattle.std.proofs.lemmas.List.Folds.{list_any_more}
-use Rattle.cluster.specs.declared.ids.VmId.{VmId}
-use Rattle.catalogue.specs.Faults.{is_member}
-use Rattle.catalogue.specs.Instance.{Instance}
-use Rattle.slices.specs.Holds.{IsInPart, IsMember}
-use Rattle.slices.specs.Snapshots.{Snapshot}
-use Rattle.domains.specs.Sets.{Sets}
-use Rattle.closing.specs.Looks.{IsFreeOf, IsMetWith}
-use Rattle.closing.specs.Stands.{IsAnyOf}
+use Rattle.std.proofs.Common.{slice_index_or}
+use Rattle.base.proofs.Public.{◌≡◌, inl, inr, ℕ, suc, ◌+◌, ◌<◌, ◌≤◌, Bool, true, false, ◌||◌, ◌==◌, List, [], ◌∷◌, length, take, get_or, refl, subst, ◌∙◌, arith, both_ways, cases_eq, cases_lt, eqb-true, or_cases, nat_tests, get_or_default, get_or_past, list_any_more}
+use Rattle.closing.specs.Prelude.{Instance, is_member, IsAnyOf, IsFreeOf, IsInPart, IsMember, IsMetWith, Sets, Snapshot, VmId}
 
 -- a part by its number
 pub is_part : (parts : List (List VmId)) (vs given : List VmId) (j : ℕ) → j < length parts → vs ≡ given → given ≡ get_or parts j given → vs ≡ slice_index_or parts j []

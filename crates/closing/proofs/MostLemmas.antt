@@ -1,42 +1,13 @@
 -- The most that machines hold, and sums of it.
-use Rattle.std.proofs.Common.{◌≡◌, inl, inr, ℕ, suc, ◌+◌, ◌<◌, ◌≤◌, ◌&&◌, Bool, true, false, cond, List, [], length, slice_index_or, Option, Some, None, refl, sym, ◌∙◌, arith}
-use Rattle.std.specs.List.{Contains}
-use Rattle.std.proofs.lemmas.Bool.{cases_eq, false≢true}
-use Rattle.base.specs.Sums.{sum_to}
-use Rattle.cluster.specs.declared.choices.Choice.{Choice}
-use Rattle.cluster.specs.declared.choices.Choice.TheVariants.{Idle, Act}
+use Rattle.std.proofs.Common.{slice_index_or}
+use Rattle.base.proofs.Public.{◌≡◌, inl, inr, ℕ, suc, ◌+◌, ◌<◌, ◌≤◌, ◌&&◌, Bool, true, false, cond, List, [], length, Option, Some, None, refl, sym, ◌∙◌, arith, Contains, cases_eq, false≢true}
+use Rattle.closing.specs.Prelude.{Act, acting_slices, Allocate, Always, Amount, AreWithin, At, BeforeEnd, Boot, Choice, choices, Climbs, covers, Demand, DomainView, FromStart, goes_in, Gone, held_at, held_by, hosted_in, idle_slices, if_so, Image, Init, Instance, IsEnd, IsMostOf, IsMostSure, IsSpared, Kill, Kind, kind_of, machine_count, Migrate, no_row, NodeId, Nodes, Nowhere, Presence, Raise, Ready, Resume, Row, row_at, Running, Sets, Shutdown, Sleeping, slice, Slices, slices_by, slices_of, Span, Stage, stage_at, State, state_of, StaysWithin, sum_to, sure, Suspend, unit_of, Use, vm, weigh, Weight, weight_of, What}
+use Rattle.cluster.specs.declared.choices.Choice.TheVariants.{Idle}
 use Rattle.cluster.specs.declared.choices.Place.{Place}
-use Rattle.cluster.specs.declared.choices.Place.TheVariants.{Nowhere, At}
-use Rattle.cluster.specs.declared.ids.NodeId.{NodeId}
-use Rattle.cluster.specs.declared.kinds.Kind.{Kind}
-use Rattle.cluster.specs.declared.kinds.Kind.TheVariants.{Boot, Shutdown, Suspend, Resume, Migrate, Allocate, Kill}
-use Rattle.cluster.specs.declared.states.State.{State}
-use Rattle.cluster.specs.declared.states.State.TheVariants.{Init, Ready, Running, Sleeping, Gone}
-use Rattle.catalogue.specs.Instance.{Instance}
+use Rattle.slices.specs.declared.slice.What.TheVariants.{Image as OfImage}
 use Rattle.catalogue.proofs.Public.{use_of_le}
-use Rattle.slices.specs.declared.slice.Slices.{Slices}
-use Rattle.slices.specs.declared.slice.Span.{Span}
-use Rattle.slices.specs.declared.slice.Span.TheVariants.{Always, BeforeEnd, FromStart}
-use Rattle.slices.specs.declared.slice.Weight.{Weight}
-use Rattle.slices.specs.declared.slice.Weight.TheVariants.{Amount, Presence, Image}
-use Rattle.slices.specs.declared.slice.What.{What}
-use Rattle.slices.specs.declared.slice.What.TheVariants.{Use, Demand, Raise, Image as OfImage}
-use Rattle.slices.specs.declared.stage.Stage.{Stage}
-use Rattle.slices.specs.Actions.{kind_of}
-use Rattle.slices.specs.Elements.{machine_count, state_of, vm}
-use Rattle.slices.specs.Snapshots.{held_at, held_by, stage_at}
-use Rattle.slices.specs.Stages.{Nodes, acting_slices, covers, idle_slices, slice, slices_by, slices_of, weigh, weight_of}
-use Rattle.domains.specs.Choices.{DomainView, Climbs, choices, no_row}
-use Rattle.domains.specs.declared.parts.Row.{Row}
-use Rattle.domains.specs.Sets.{Sets}
 use Rattle.domains.proofs.Public.{least_of_each}
-use Rattle.reasons.specs.Closed.{IsEnd}
-use Rattle.reasons.specs.Regions.{row_at}
-use Rattle.reasons.specs.Sure.{sure}
 use Rattle.reasons.proofs.Public.{ends_of_rows}
-use Rattle.relax.specs.Areas.{goes_in, hosted_in}
-use Rattle.closing.specs.Most.{AreWithin, IsMostOf, IsMostSure, StaysWithin, if_so, unit_of}
-use Rattle.closing.specs.Parts.{IsSpared}
 
 idle-held : (p : Instance) (v : ℕ) (w : Weight) (set : Nodes) (g h : Stage) → held_by p v w set Idle g ≡ held_by p v w set Idle h
 unfolding held_by slices_of

@@ -1,13 +1,6 @@
 -- Loops over parts, and over the machines that are not in a set.
 use Rattle.std.proofs.Common.{◌≢◌, ℕ, ◌<◌, List, [], length, slice_index_or}
-use Rattle.cluster.specs.declared.choices.Choice.{Choice}
-use Rattle.cluster.specs.declared.ids.Element.{Element}
-use Rattle.cluster.specs.declared.ids.VmId.{VmId}
-use Rattle.catalogue.specs.Instance.{Instance}
-use Rattle.slices.specs.Snapshots.{Snapshot}
-use Rattle.domains.specs.Sets.{Sets}
-use Rattle.closing.specs.Looks.{IsFreeOf, IsMetWith}
-use Rattle.closing.specs.Stands.{IsAnyOf, MeetsOtherPart, ShareNode}
+use Rattle.closing.specs.Prelude.{Choice, Element, Instance, IsAnyOf, IsFreeOf, IsMetWith, MeetsOtherPart, Sets, ShareNode, Snapshot, VmId}
 use Rattle.slices.proofs.Public.{part_listed}
 
 module _ (p : Instance) (s : Sets) (t : ℕ) (parts : List (List VmId)) where

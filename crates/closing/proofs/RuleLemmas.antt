@@ -1,18 +1,7 @@
 -- Looks at lists of machines are looks at forms.
-use Rattle.std.proofs.Common.{◌≡◌, ℕ, ◌<◌, List, [], length, slice_index_or, true, sym, ◌∙◌}
-use Rattle.std.proofs.lemmas.Bool.{false≢true, false_from_ne_true}
-use Rattle.cluster.specs.declared.ids.VmId.{VmId}
-use Rattle.catalogue.specs.Faults.{all_of, are_below, is_member}
-use Rattle.catalogue.specs.Instance.{Instance}
-use Rattle.slices.specs.Elements.{machine_count}
-use Rattle.slices.specs.Forms.{Places, Each, Between, FromOthers}
-use Rattle.slices.specs.Holds.{IsInPart}
-use Rattle.slices.specs.Snapshots.{Snapshot}
-use Rattle.domains.specs.Sets.{Sets}
-use Rattle.closing.specs.declared.look.Look.{Look}
-use Rattle.closing.specs.Forms.{HasMisplaced, HasSeparated}
-use Rattle.closing.specs.Looks.{IsFound}
-use Rattle.closing.specs.Stands.{IsAnyOf, IsPlacedBadly, MeetsOtherPart, MeetsStranger, ShareNode}
+use Rattle.std.proofs.Common.{slice_index_or}
+use Rattle.base.proofs.Public.{◌≡◌, ℕ, ◌<◌, List, [], length, true, sym, ◌∙◌, false≢true, false_from_ne_true}
+use Rattle.closing.specs.Prelude.{all_of, are_below, Between, Each, FromOthers, HasMisplaced, HasSeparated, Instance, is_member, IsAnyOf, IsFound, IsInPart, IsPlacedBadly, Look, machine_count, MeetsOtherPart, MeetsStranger, Places, Sets, ShareNode, Snapshot, VmId}
 use Rattle.closing.proofs.FoundLemmas.{found_same}
 use Rattle.slices.proofs.Public.{joined_member, member_below, part_listed}
 

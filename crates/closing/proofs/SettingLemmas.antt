@@ -1,25 +1,8 @@
 -- What setting one element leaves as it was, for conditions on amounts, powered nodes, places and pairs.
-use Rattle.std.proofs.Common.{◌≡◌, ◌≢◌, ◌⊎◌, inl, inr, ℕ, ◌+◌, ◌<◌, ◌≤◌, Bool, true, false, cond, IsTrue, refl, sym, ap, ◌∙◌, arith}
-use Rattle.std.proofs.lemmas.Bool.{cases_eq, false≢true}
-use Rattle.cluster.specs.declared.choices.Choice.{Choice}
-use Rattle.cluster.specs.declared.ids.VmId.{VmId}
-use Rattle.cluster.specs.declared.ids.NodeId.{NodeId}
-use Rattle.cluster.specs.declared.ids.Element.{Element}
-use Rattle.cluster.specs.declared.ids.Element.TheVariants.{Vm, Node as TheNode}
-use Rattle.catalogue.specs.Instance.{Instance, IsElement}
-use Rattle.slices.specs.declared.slice.Weight.{Weight}
-use Rattle.slices.specs.Elements.{machine_count, node_count, node, vm}
-use Rattle.slices.specs.Forms.{Places}
-use Rattle.slices.specs.Snapshots.{powered_at, powered_nodes, present_at, total}
-use Rattle.slices.specs.Stages.{Nodes, one}
-use Rattle.domains.specs.Sets.{Sets, setting}
-use Rattle.reasons.specs.Closed.{IsEnd}
-use Rattle.reasons.specs.Sure.{sure}
+use Rattle.std.proofs.Common.{IsTrue}
+use Rattle.base.proofs.Public.{◌≡◌, ◌≢◌, ◌⊎◌, inl, inr, ℕ, ◌+◌, ◌<◌, ◌≤◌, Bool, true, false, cond, refl, sym, ap, ◌∙◌, arith, cases_eq, false≢true}
+use Rattle.closing.specs.Prelude.{Choice, Element, FailAtEnds, has_node_of, Instance, IsAbove, IsElement, IsEnd, IsEndThat, IsFreeOf, IsMetWith, IsMisplaced, IsOn, IsPlacedBadly, IsPoweredUnder, IsSpared, machine_count, node, Node as TheNode, node_count, NodeId, Nodes, one, Places, powered_at, powered_nodes, present_at, Sets, setting, ShareNode, Stands, sure, total, Vm, vm, VmId, Weight}
 use Rattle.reasons.proofs.Public.{machine_change, node_change, setting_agrees, setting_powered, setting_sets, setting_total}
-use Rattle.closing.specs.Looks.{IsFreeOf, IsMetWith}
-use Rattle.closing.specs.Parts.{FailAtEnds, IsAbove, IsEndThat, IsPoweredUnder, IsSpared}
-use Rattle.closing.specs.Stands.{IsMisplaced, IsOn, IsPlacedBadly, ShareNode, has_node_of}
-use Rattle.closing.specs.declared.base.stands.Stands.{Stands}
 
 pub other_vm : (v w : ℕ) → v ≢ w → vm v ≢ vm w
 other_vm v w ne e = ne (let same : record { 0 = v } ≡ (let x : VmId = record { 0 = w } in x) = cc in ap (λ (x : VmId). x.0) same)

@@ -1,31 +1,9 @@
 -- A watch that looks at some machines alone.
-use Rattle.std.proofs.Common.{◌≡◌, ◌⊎◌, inl, inr, ℕ, ◌≤◌, ◌==◌, Bool, true, false, cond, List, [], ◌∷◌, IsTrue, refl, sym, ap, ◌∙◌, arith}
-use Rattle.std.proofs.lemmas.Bool.{false≢true}
-use Rattle.cluster.specs.declared.choices.Choice.{Choice}
+use Rattle.std.proofs.Common.{IsTrue}
+use Rattle.base.proofs.Public.{◌≡◌, ◌⊎◌, inl, inr, ℕ, ◌≤◌, ◌==◌, Bool, true, false, cond, List, [], ◌∷◌, refl, sym, ap, ◌∙◌, arith, false≢true}
+use Rattle.closing.specs.Prelude.{action_at, actions_of, AreOf, broken_at, Choice, Element, held_at, Instance, is_among, IsClean, IsElement, IsEnd, IsFreeOf, IsLocal, IsMember, IsPartWithin, IsTurn, IsUnseen, least, may, node, Node as TheNode, Nodes, Of, OfAll, only_of, powered_at, presences_of, present_at, Progress, same_element, Scope, SeesOnly, Sets, setting, Suffice, sure, surely, turning, Turns, TurnsOfSomeAreEnough, usable_at, Vm, vm, VmId, Watch, Weight}
 use Rattle.cluster.specs.declared.choices.Choice.TheVariants.{Idle}
-use Rattle.cluster.specs.declared.ids.Element.{Element}
-use Rattle.cluster.specs.declared.ids.Element.TheVariants.{Vm, Node as TheNode}
-use Rattle.cluster.specs.declared.ids.VmId.{VmId}
-use Rattle.catalogue.specs.Instance.{Instance, IsElement}
-use Rattle.base.specs.Least.{least}
-use Rattle.slices.specs.declared.slice.Weight.{Weight}
-use Rattle.slices.specs.declared.stage.Progress.{Progress}
-use Rattle.slices.specs.Elements.{node, vm}
-use Rattle.slices.specs.Holds.{IsMember}
-use Rattle.slices.specs.Snapshots.{action_at, held_at, powered_at, present_at, usable_at}
-use Rattle.slices.specs.Stages.{Nodes}
-use Rattle.domains.specs.Sets.{Sets, may, same_element, setting, surely}
 use Rattle.domains.proofs.Public.{same_is}
-use Rattle.reasons.specs.Closed.{IsEnd}
-use Rattle.reasons.specs.Quiet.{AreOf, IsTurn}
-use Rattle.reasons.specs.Sure.{sure}
-use Rattle.closing.specs.Kinds.{actions_of, presences_of}
-use Rattle.closing.specs.Laws.{TurnsOfSomeAreEnough}
-use Rattle.closing.specs.Looks.{IsClean, IsFreeOf, broken_at}
-use Rattle.closing.specs.Turns.{Suffice, turning}
-use Rattle.closing.specs.declared.base.turns.Turns.{Turns}
-use Rattle.closing.specs.declared.base.turns.Turns.TheVariants.{OfAll, Of}
-use Rattle.closing.specs.Watches.{IsLocal, IsPartWithin, IsUnseen, Scope, SeesOnly, Watch, is_among, only_of}
 use Rattle.closing.proofs.LocalLemmas.{turns_are_enough}
 
 -- ---- scopes of members

@@ -1,27 +1,11 @@
 -- Where a machine stands, by one of its choices.
-use Rattle.std.proofs.Common.{◌≡◌, ℕ, ◌<◌, Bool, true, false, ◌&&◌, ◌||◌, ◌==◌, List, [], Option, Some, None, is_some, IsTrue, refl, sym, ap, ◌∙◌, arith}
-use Rattle.std.specs.List.{Contains}
-use Rattle.std.proofs.lemmas.Bool.{eq-eqb, false≢true, or_left, or_right}
-use Rattle.std.proofs.lemmas.Bool.Decides.{nat_tests}
-use Rattle.cluster.specs.declared.choices.Choice.{Choice}
-use Rattle.cluster.specs.declared.choices.Place.TheVariants.{At}
-use Rattle.cluster.specs.declared.ids.NodeId.{NodeId}
-use Rattle.catalogue.specs.Instance.{Instance}
-use Rattle.slices.specs.declared.slice.Weight.TheVariants.{Presence}
-use Rattle.slices.specs.Elements.{state_of, vm}
-use Rattle.slices.specs.Snapshots.{present_at}
-use Rattle.slices.specs.Stages.{one}
-use Rattle.domains.specs.Sets.{Sets, surely}
+use Rattle.std.proofs.Common.{IsTrue}
+use Rattle.base.proofs.Public.{◌≡◌, ℕ, ◌<◌, Bool, true, false, ◌&&◌, ◌||◌, ◌==◌, List, [], Option, Some, None, is_some, refl, sym, ap, ◌∙◌, arith, Contains, eq-eqb, false≢true, or_left, or_right, nat_tests}
+use Rattle.closing.specs.Prelude.{At, Choice, FailAtEnds, goes_in, has_node_of, hosted_in, Instance, is_node, IsEnd, IsEndThat, IsOn, IsWithin, NodeId, On, one, PassOnlyAt, Presence, present_at, Sets, Stands, state_of, sure, surely, vm}
+use Rattle.closing.specs.Stands.{AreWithin}
 use Rattle.domains.proofs.Public.{surely_each}
-use Rattle.reasons.specs.Sure.{sure}
-use Rattle.reasons.specs.Closed.{IsEnd}
-use Rattle.relax.specs.Areas.{goes_in, hosted_in}
 use Rattle.relax.proofs.Public.{away}
 use Rattle.closing.proofs.EndLemmas.{goes_elsewhere}
-use Rattle.closing.specs.Parts.{FailAtEnds, IsEndThat, PassOnlyAt}
-use Rattle.closing.specs.declared.base.stands.Stands.{Stands}
-use Rattle.closing.specs.declared.base.stands.Stands.TheVariants.{On}
-use Rattle.closing.specs.Stands.{AreWithin, IsOn, IsWithin, has_node_of, is_node}
 
 -- ---- who has no choice stands everywhere; else where one choice has it, and all others
 

@@ -1,25 +1,10 @@
 -- Room that stays, and loads that fit it at every instant.
-use Rattle.std.proofs.Common.{◌≡◌, inl, inr, ℕ, suc, ◌+◌, Bool, cond, [], ◌∷◌, IsTrue, refl, sym, ap, subst, ◌∙◌, arith}
-use Rattle.std.specs.List.{Contains}
-use Rattle.std.proofs.lemmas.Bool.{cases_eq}
-use Rattle.cluster.specs.declared.choices.Choice.{Choice}
+use Rattle.std.proofs.Common.{IsTrue}
+use Rattle.base.proofs.Public.{◌≡◌, inl, inr, ℕ, suc, ◌+◌, Bool, cond, [], ◌∷◌, refl, sym, ap, subst, ◌∙◌, arith, Contains, cases_eq}
+use Rattle.closing.specs.Prelude.{Amount, capacity_of, Choice, Element, HasSteadyRoom, Instance, IsElement, IsEnd, IsFreeOf, IsOverload, node, Node as TheNode, node_count, Nodes, Sets, setting, StaysUsable, StaysWithin, sure, usable_at, Vm, vm}
 use Rattle.cluster.specs.declared.choices.Choice.TheVariants.{Idle}
-use Rattle.cluster.specs.declared.ids.Element.{Element}
-use Rattle.cluster.specs.declared.ids.Element.TheVariants.{Vm, Node as TheNode}
-use Rattle.catalogue.specs.Instance.{Instance, IsElement}
-use Rattle.catalogue.specs.Values.{capacity_of}
-use Rattle.slices.specs.declared.slice.Weight.TheVariants.{Amount}
-use Rattle.slices.specs.Elements.{node_count, node, vm}
-use Rattle.slices.specs.Snapshots.{usable_at}
-use Rattle.slices.specs.Stages.{Nodes}
-use Rattle.domains.specs.Sets.{Sets, setting}
 use Rattle.domains.proofs.Public.{contains_one}
-use Rattle.reasons.specs.Closed.{IsEnd}
-use Rattle.reasons.specs.Reasons.{IsOverload}
-use Rattle.reasons.specs.Sure.{sure}
 use Rattle.reasons.proofs.Public.{end_is_choice, node_change, setting_agrees, setting_sets, setting_total}
-use Rattle.closing.specs.Looks.{IsFreeOf}
-use Rattle.closing.specs.Most.{HasSteadyRoom, StaysUsable, StaysWithin}
 use Rattle.closing.proofs.SettingLemmas.{other_node}
 
 -- ---- nodes that can only stay

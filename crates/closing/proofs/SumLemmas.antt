@@ -1,22 +1,7 @@
 -- What setting one element changes in a sum of what machines hold.
 use Rattle.std.proofs.Common.{◌≡◌, ℕ, ◌+◌, ◌<◌, ◌≤◌, Bool, true, false, cond, length, IsTrue, refl, arith}
-use Rattle.cluster.specs.declared.choices.Choice.{Choice}
-use Rattle.cluster.specs.declared.ids.Element.{Element}
-use Rattle.cluster.specs.declared.ids.Element.TheVariants.{Vm, Node as TheNode}
-use Rattle.catalogue.specs.Instance.{Instance, IsElement}
-use Rattle.catalogue.specs.Values.{capacity_of}
-use Rattle.slices.specs.declared.slice.Weight.TheVariants.{Amount}
-use Rattle.slices.specs.Elements.{machine_count, node_count, node, vm}
-use Rattle.slices.specs.Snapshots.{load, room, usable_at}
-use Rattle.slices.specs.Stages.{Nodes}
-use Rattle.domains.specs.Sets.{Sets, setting}
-use Rattle.reasons.specs.Closed.{IsEnd}
-use Rattle.reasons.specs.Reasons.{IsOverload}
-use Rattle.reasons.specs.Sure.{sure}
+use Rattle.closing.specs.Prelude.{Amount, capacity_of, Choice, Element, Instance, IsAbove, IsElement, IsEnd, IsFreeOf, IsMetWith, IsNodeMissed, IsNodeSpared, IsOverload, IsOverloaded, IsSpared, load, machine_count, node, Node as TheNode, node_count, Nodes, room, Sets, setting, sure, usable_at, Vm, vm}
 use Rattle.reasons.proofs.Public.{machine_change, node_change, setting_agrees, setting_room, setting_total}
-use Rattle.closing.specs.Kinds.{IsOverloaded}
-use Rattle.closing.specs.Looks.{IsFreeOf, IsMetWith}
-use Rattle.closing.specs.Parts.{IsAbove, IsNodeMissed, IsNodeSpared, IsSpared}
 
 module _ (p : Instance) (s : Sets) (r : ℕ) (set : Nodes) (t spare : ℕ) (fits : spare + load p (sure p s t) r set ≡ room p (sure p s t) r set) where
   -- a machine's choice changes no room, and a node's no load

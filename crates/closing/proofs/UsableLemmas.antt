@@ -1,30 +1,11 @@
 -- When a node is needed and not usable, with one element set.
-use Rattle.std.proofs.Common.{◌≡◌, ◌⊎◌, inl, inr, ℕ, ◌<◌, ◌||◌, Bool, true, false, nat_lt, IsTrue, refl, sym, ap, ◌∙◌, arith}
-use Rattle.std.proofs.lemmas.Bool.{cases_eq, false≢true}
-use Rattle.std.proofs.lemmas.Bool.Decides.{nat_tests}
-use Rattle.cluster.specs.declared.choices.Choice.{Choice}
-use Rattle.cluster.specs.declared.choices.Place.TheVariants.{At}
-use Rattle.cluster.specs.declared.ids.NodeId.{NodeId}
-use Rattle.cluster.specs.declared.ids.Element.{Element}
-use Rattle.cluster.specs.declared.ids.Element.TheVariants.{Vm, Node as TheNode}
-use Rattle.catalogue.specs.Instance.{Instance, IsElement}
-use Rattle.slices.specs.declared.slice.Weight.TheVariants.{Image, Presence}
-use Rattle.slices.specs.Elements.{machine_count, node_count, node, state_of, vm}
-use Rattle.slices.specs.Snapshots.{Snapshot, held_at, stands_on}
-use Rattle.slices.specs.Stages.{one}
-use Rattle.domains.specs.Sets.{Sets, setting}
-use Rattle.reasons.specs.Closed.{IsEnd}
-use Rattle.reasons.specs.Settings.{IsMachineUnder, IsSameMachine}
-use Rattle.reasons.specs.Sure.{sure}
+use Rattle.std.proofs.Common.{IsTrue}
+use Rattle.base.proofs.Public.{◌≡◌, ◌⊎◌, inl, inr, ℕ, ◌<◌, ◌||◌, Bool, true, false, nat_lt, refl, sym, ap, ◌∙◌, arith, cases_eq, false≢true, nat_tests}
+use Rattle.closing.specs.Prelude.{At, Choice, Element, FailAtEnds, goes_in, held_at, hosted_in, Image, Instance, IsElement, IsEnd, IsEndThat, IsFreeOf, IsMachineUnder, IsMetWith, IsNeeded, IsNotUsable, IsSameMachine, machine_count, node, Node as TheNode, node_count, NodeId, NoneAmong, one, PassOnlyAt, Presence, Sets, setting, Snapshot, stands_on, StandsUnder, state_of, StaysUsable, sure, Vm, vm}
 use Rattle.reasons.proofs.Public.{setting_sets}
-use Rattle.relax.specs.Areas.{goes_in, hosted_in}
 use Rattle.relax.proofs.Public.{away}
 use Rattle.closing.proofs.EndLemmas.{goes_elsewhere}
 use Rattle.closing.proofs.SettingLemmas.{other_node, other_vm}
-use Rattle.closing.specs.Kinds.{IsNeeded}
-use Rattle.closing.specs.Looks.{IsFreeOf, IsMetWith}
-use Rattle.closing.specs.Most.{StaysUsable}
-use Rattle.closing.specs.Parts.{FailAtEnds, IsEndThat, IsNotUsable, NoneAmong, PassOnlyAt, StandsUnder}
 
 either : (x y : ℕ) → IsTrue (nat_lt 0 x || nat_lt 0 y) → (0 < x) ⊎ (0 < y)
 either x y h =

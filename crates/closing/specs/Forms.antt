@@ -1,13 +1,7 @@
 -- What breaks a constraint in a snapshot, by its form.
 use Rattle.std.specs.Prelude.{ℕ, ◌<◌, List}
+use Rattle.relax.specs.Prelude.{Allowed, Apart, Bounded, BreaksGroup, Form, has_node, Instance, InTurn, IsMember, machine_count, Ordered, Places, Powered, powered_nodes, Separates, Separation, Settled, Snapshot, Together, total}
 use Rattle.cluster.specs.declared.ids.VmId.{VmId}
-use Rattle.cluster.specs.Sets.{has_node}
-use Rattle.catalogue.specs.Instance.{Instance}
-use Rattle.slices.specs.Elements.{machine_count}
-use Rattle.slices.specs.Forms.{Form, Apart, Allowed, Together, Ordered, InTurn, Bounded, Powered, Settled, Places, Separation}
-use Rattle.slices.specs.Holds.{IsMember, Separates}
-use Rattle.slices.specs.Snapshots.{Snapshot, powered_nodes, total}
-use Rattle.reasons.specs.Reasons.{BreaksGroup}
 use Rattle.closing.specs.Stands.{IsPlacedBadly, ShareNode}
 
 -- two machines of the instance that are kept apart are on one node

@@ -1,18 +1,9 @@
 -- The watches: the load of one node and of all nodes, each constraint, and whether a node that is needed is usable.
 use Rattle.std.specs.Prelude.{◌≡◌, ◌⊎◌, ℕ, ◌<◌, ◌||◌, length, slice_get, Option, Some, None, IsTrue}
-use Rattle.cluster.specs.Sets.{has_node}
+use Rattle.relax.specs.Prelude.{all_nodes, Allowed, Apart, Between, Bounded, Each, Form, form_of, FromOthers, has_node, Instance, InTurn, is_continuous, IsGroup, IsInPart, IsMember, IsOverload, IsPair, IsPlace, IsPower, IsSetLoad, IsUnusable, machine_count, node_count, Nodes, one, Ordered, Powered, Separation, Settled, Snapshot, Together}
 use Rattle.catalogue.specs.declared.constraint.Constraint.{Constraint}
-use Rattle.catalogue.specs.Instance.{Instance}
-use Rattle.catalogue.specs.Kinds.{is_continuous}
 use Rattle.slices.specs.declared.slice.Weight.{Weight}
 use Rattle.slices.specs.declared.slice.Weight.TheVariants.{Amount, Image}
-use Rattle.slices.specs.Elements.{machine_count, node_count}
-use Rattle.slices.specs.Forms.{Form, Apart, Allowed, Together, Ordered, InTurn, Bounded, Powered, Settled, Separation, Each, Between, FromOthers, form_of}
-use Rattle.slices.specs.Holds.{IsInPart, IsMember}
-use Rattle.slices.specs.Snapshots.{Snapshot}
-use Rattle.slices.specs.Stages.{Nodes, one}
-use Rattle.reasons.specs.Closed.{all_nodes}
-use Rattle.reasons.specs.Reasons.{IsGroup, IsOverload, IsPair, IsPlace, IsPower, IsSetLoad, IsUnusable}
 use Rattle.closing.specs.Watches.{Scope, Watch}
 
 -- ---- loads

@@ -1,13 +1,8 @@
 -- Helping only: what looks say of closed regions.
 use Rattle.std.specs.Prelude.{◌↔◌, ℕ, ◌<◌, ◌≤◌, List, length}
+use Rattle.relax.specs.Prelude.{AreOf, HaveChoices, Instance, IsClosed, IsElement, IsTurn, node_count, Nodes, Sets}
 use Rattle.cluster.specs.declared.ids.Element.{Element}
 use Rattle.cluster.specs.declared.ids.VmId.{VmId}
-use Rattle.catalogue.specs.Instance.{Instance, IsElement}
-use Rattle.slices.specs.Elements.{node_count}
-use Rattle.slices.specs.Stages.{Nodes}
-use Rattle.domains.specs.Sets.{Sets}
-use Rattle.reasons.specs.Closed.{HaveChoices, IsClosed}
-use Rattle.reasons.specs.Quiet.{AreOf, IsTurn}
 use Rattle.closing.specs.Kinds.{constraint_watch, load_on, load_watch, total_load_watch, usable_watch}
 use Rattle.closing.specs.Looks.{IsClean, IsFreeOf, broken_at}
 use Rattle.closing.specs.Watches.{IsLocal, SeesOnly, Watch, only_of}

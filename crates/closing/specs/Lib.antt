@@ -9,3 +9,4 @@ pub mod Most
 pub mod Parts
 pub mod Stands
 pub mod Turns
+pub mod Prelude

@@ -1,12 +1,8 @@
 -- What a look at a watch over a region says.
 use Rattle.std.specs.Prelude.{◌≡◌, ℕ, ◌≤◌, ◌==◌}
+use Rattle.relax.specs.Prelude.{Instance, IsElement, IsEnd, Sets, setting, Snapshot, sure}
 use Rattle.cluster.specs.declared.choices.Choice.{Choice}
 use Rattle.cluster.specs.declared.ids.Element.{Element}
-use Rattle.catalogue.specs.Instance.{Instance, IsElement}
-use Rattle.slices.specs.Snapshots.{Snapshot}
-use Rattle.domains.specs.Sets.{Sets, setting}
-use Rattle.reasons.specs.Closed.{IsEnd}
-use Rattle.reasons.specs.Sure.{sure}
 use Rattle.closing.specs.declared.look.Look.{Look}
 use Rattle.closing.specs.declared.look.Look.TheVariants.{Clean, Fail, Cut}
 use Rattle.closing.specs.Watches.{Watch}

@@ -1,18 +1,10 @@
 -- Helping only: the most that machines hold on a set of nodes, at every instant.
 use Rattle.std.specs.Prelude.{ℕ, ◌+◌, ◌<◌, ◌≤◌, Bool, IsTrue, if◌then◌else◌}
+use Rattle.relax.specs.Prelude.{capacity_of, demand_of, held_at, Instance, IsElement, IsEnd, machine_count, Nodes, Sets, setting, Snapshot, sum_to, sure, vm}
 use Rattle.cluster.specs.declared.choices.Choice.{Choice}
 use Rattle.cluster.specs.declared.ids.Element.{Element}
-use Rattle.catalogue.specs.Instance.{Instance, IsElement}
-use Rattle.catalogue.specs.Values.{capacity_of, demand_of}
-use Rattle.base.specs.Sums.{sum_to}
 use Rattle.slices.specs.declared.slice.Weight.{Weight}
 use Rattle.slices.specs.declared.slice.Weight.TheVariants.{Amount, Image, Presence}
-use Rattle.slices.specs.Elements.{machine_count, vm}
-use Rattle.slices.specs.Snapshots.{Snapshot, held_at}
-use Rattle.slices.specs.Stages.{Nodes}
-use Rattle.domains.specs.Sets.{Sets, setting}
-use Rattle.reasons.specs.Closed.{IsEnd}
-use Rattle.reasons.specs.Sure.{sure}
 
 -- the most that a machine holds in one place
 abbrev pub unit_of : Instance → ℕ → Weight → ℕ

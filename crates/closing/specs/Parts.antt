@@ -1,24 +1,13 @@
 -- What the code says of instants, ends and single machines.
 use Rattle.std.specs.Prelude.{◌≡◌, ◌⊎◌, ℕ, ◌+◌, ◌<◌, ◌≤◌, Bool, true, false, List, Some, IsTrue, slice_index_or}
+use Rattle.relax.specs.Prelude.{capacity_of, held_at, hosted_in, in_part, Instance, IsEnd, no_row, node, Nodes, one, powered_at, Sets, start_of, state_of, sure, usable_at, vm}
 use Rattle.cluster.specs.declared.choices.Choice.{Choice}
 use Rattle.cluster.specs.declared.choices.Choice.TheVariants.{Idle, Act}
 use Rattle.cluster.specs.declared.choices.Place.{Place}
-use Rattle.catalogue.specs.Instance.{Instance}
-use Rattle.catalogue.specs.Values.{capacity_of}
 use Rattle.slices.specs.declared.slice.Weight.{Weight}
 use Rattle.slices.specs.declared.slice.Weight.TheVariants.{Image, Presence}
-use Rattle.slices.specs.Elements.{node, state_of, vm}
-use Rattle.slices.specs.Snapshots.{held_at, powered_at, usable_at}
-use Rattle.slices.specs.Starts.{start_of}
-use Rattle.slices.specs.Stages.{Nodes, one}
-use Rattle.domains.specs.Choices.{no_row}
 use Rattle.domains.specs.declared.parts.Part.TheVariants.{From}
 use Rattle.domains.specs.declared.parts.Row.{Row}
-use Rattle.domains.specs.Parts.{in_part}
-use Rattle.domains.specs.Sets.{Sets}
-use Rattle.reasons.specs.Closed.{IsEnd}
-use Rattle.reasons.specs.Sure.{sure}
-use Rattle.relax.specs.Areas.{hosted_in}
 
 -- ---- instants
 

@@ -1,19 +1,10 @@
 -- Where machines surely are, and where they are under an end of their choices.
 use Rattle.std.specs.Prelude.{◌≡◌, ◌≢◌, ℕ, ◌<◌, Bool, true, false, ◌||◌, ◌==◌, List, [], Option, Some, None, IsTrue, slice_index_or}
+use Rattle.relax.specs.Prelude.{Instance, IsEnd, IsGroup, IsMember, IsOffLimits, machine_count, node_count, Nodes, one, Places, present_at, Sets, setting, Snapshot, sure, vm}
 use Rattle.cluster.specs.declared.choices.Choice.{Choice}
 use Rattle.cluster.specs.declared.ids.NodeId.{NodeId}
 use Rattle.cluster.specs.declared.ids.VmId.{VmId}
 use Rattle.catalogue.specs.declared.constraint.Constraint.{Constraint}
-use Rattle.catalogue.specs.Instance.{Instance}
-use Rattle.slices.specs.Elements.{machine_count, node_count, vm}
-use Rattle.slices.specs.Forms.{Places}
-use Rattle.slices.specs.Holds.{IsMember, IsOffLimits}
-use Rattle.slices.specs.Snapshots.{Snapshot, present_at}
-use Rattle.slices.specs.Stages.{Nodes, one}
-use Rattle.domains.specs.Sets.{Sets, setting}
-use Rattle.reasons.specs.Reasons.{IsGroup}
-use Rattle.reasons.specs.Closed.{IsEnd}
-use Rattle.reasons.specs.Sure.{sure}
 use Rattle.closing.specs.Parts.{FailAtEnds}
 use Rattle.closing.specs.declared.base.stands.Stands.{Stands}
 use Rattle.closing.specs.declared.base.stands.Stands.TheVariants.{Everywhere, On}

@@ -1,9 +1,7 @@
 -- Whose starts are turns.
 use Rattle.std.specs.Prelude.{◌≡◌, nat_lt, true}
 use Rattle.std.specs.List.{list_all}
-use Rattle.catalogue.specs.Instance.{Instance}
-use Rattle.slices.specs.Elements.{machine_count}
-use Rattle.domains.specs.Sets.{Sets}
+use Rattle.relax.specs.Prelude.{Instance, machine_count, Sets}
 use Rattle.closing.specs.declared.base.turns.Turns.{Turns}
 use Rattle.closing.specs.declared.base.turns.Turns.TheVariants.{OfAll, Of}
 use Rattle.closing.specs.Watches.{Scope, SeesOnly, only_of}

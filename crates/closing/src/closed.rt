@@ -1,13 +1,6 @@
 //! Whether a region is closed.
 ghost use Rattle.std.specs.Prelude.{◌≡◌, ◌≢◌, ◌↔◌, ℕ, ◌+◌, ◌<◌, ◌≤◌, [], false, IsTrue, length};
-ghost use Rattle.catalogue.specs.Instance.{IsElement};
-ghost use Rattle.slices.specs.Elements.{machine_count, node, node_count, vm};
-ghost use Rattle.domains.specs.Sets.{HasElement, sets};
-ghost use Rattle.reasons.specs.Closed.{HaveChoices, IsClosed};
-ghost use Rattle.relax.specs.Areas.{IsSized};
-ghost use Rattle.closing.specs.Kinds.{constraint_watch, load_watch, total_load_watch, usable_watch};
-ghost use Rattle.closing.specs.Laws.{AreClean};
-ghost use Rattle.closing.specs.Looks.{IsClean};
+ghost use Rattle.closing.specs.Prelude.{AreClean, constraint_watch, HasElement, HaveChoices, IsClean, IsClosed, IsElement, IsSized, load_watch, machine_count, node, node_count, sets, total_load_watch, usable_watch, vm};
 
 use crate::base::counts::{machines_of, nodes_of};
 use crate::look::Look;

@@ -1,9 +1,6 @@
 //! Single things that can be broken, looked at over a region: at one instant, and at all.
 ghost use Rattle.std.specs.Prelude.{◌≡◌, ℕ, ◌+◌, ◌<◌, ◌≤◌, length};
-ghost use Rattle.catalogue.specs.Instance.{Instance};
-ghost use Rattle.slices.specs.Elements.{node_count};
-ghost use Rattle.domains.specs.Sets.{sets};
-ghost use Rattle.relax.specs.Areas.{IsSized};
+ghost use Rattle.relax.specs.Prelude.{Instance, IsSized, node_count, sets};
 ghost use Rattle.closing.specs.Kinds.{constraint_watch, load_watch, total_load_watch, usable_watch};
 ghost use Rattle.closing.specs.Looks.{IsFound, IsLook, broken_at};
 ghost use Rattle.closing.specs.Turns.{AreListed, Suffice};

@@ -1,29 +1,10 @@
 -- `check` says yes to the files that `plan` writes.
 use Rattle.std.proofs.Common.{◌≡◌, ◌∙◌, ℕ, Bool, List, Option, Some, None, Result, Ok, Err, sym, ap, subst, refl, arith}
-use Rattle.plan_io.specs.Files.{Files, bytes_of}
-use Rattle.catalogue.specs.Instance.{Instance}
-use Rattle.slices.specs.Plans.{PlanChoices}
-use Rattle.trees.specs.declared.steps.Goal.{Goal}
-use Rattle.plan_json.specs.Plans.{plan_of}
-use Rattle.trees.specs.Certificates.{IsCertificate, IsHandedIn, least_of}
-use Rattle.cert_read.specs.declared.line.LineFault.TheVariants.{NotALine, TooLong, Short, ReadFault, Memory as NoRoom}
-use Rattle.cert_model.specs.Walks.{choices_handed}
-use Rattle.cert_check.specs.Laws.{IsAccepted, IsYesUnlessOutside}
-use Rattle.cert_check.specs.declared.verdict.CheckFault.{CheckFault}
-use Rattle.cert_check.specs.declared.verdict.CheckFault.TheVariants.{Line, Memory}
-use Rattle.cert_check.specs.declared.verdict.Verdict.{Verdict}
-use Rattle.cert_check.specs.declared.verdict.Verdict.TheVariants.{Yes, No}
+use Rattle.commands.specs.Prelude.{AnswersBy, any_plan_in, any_plan_lined, any_plan_reading_of, AreAccepted, bytes_of, CheckFault, Checks, choices_handed, choices_in, Files, Found, Goal, goal_in, Infeasible, Instance, instance_in, IsAnswer, IsCertificate, IsChecked, IsHandedIn, IsTrueOf, IsYesUnlessOutside, least_in, least_of, Line, Memory, No, NotALine, Optimal, Outside, plan_of, PlanChoices, PlannedIsChecked, ReadFault, reading_of, Says, SaysGiven, Short, Status, TooLong, Undecided, Verdict, verdict_line, WrittenIsAccepted, Yes, yes_to}
+use Rattle.cert_read.specs.declared.line.LineFault.TheVariants.{Memory as NoRoom}
+use Rattle.cert_check.specs.Laws.{IsAccepted}
+use Rattle.search.specs.Answers.{plan_in}
 use Rattle.cert_check.proofs.Public.{certificate_is_accepted, is_writable}
-use Rattle.search.specs.declared.found.Found.{Found}
-use Rattle.search.specs.declared.found.Found.TheVariants.{Optimal, Infeasible, Undecided}
-use Rattle.search.specs.Answers.{IsTrueOf, choices_in, goal_in, least_in, plan_in}
-use Rattle.commands.specs.Answer.{AnswersBy, Outside, Says}
-use Rattle.commands.specs.Checking.{Checks, IsChecked, SaysGiven, verdict_line}
-use Rattle.commands.specs.Commands.{IsAnswer}
-use Rattle.commands.specs.Inputs.Instance.{instance_in, reading_of}
-use Rattle.commands.specs.Inputs.Plan.{any_plan_in, any_plan_lined, any_plan_reading_of}
-use Rattle.commands.specs.Laws.{AreAccepted, PlannedIsChecked, WrittenIsAccepted, yes_to}
-use Rattle.commands.specs.declared.status.Status.{Status}
 use Rattle.commands.specs.declared.status.Status.TheVariants as status
 
 -- ---- the plan

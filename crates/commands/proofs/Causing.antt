@@ -1,13 +1,8 @@
 -- The causes of a status, from those of how the command ended.
 use Rattle.std.proofs.Common.{◌≡◌, ◌⊎◌, ℕ, Result, Err, inl, inr, refl, subst}
-use Rattle.plan_io.specs.Causes.{Rose}
-use Rattle.commands.specs.Causes.{Counts, counts, Causes, CommandCauses, NothingFailed, PartCauses}
-use Rattle.commands.specs.Endings.{IsAnswered}
-use Rattle.commands.specs.declared.status.Status.{Status}
+use Rattle.commands.specs.Prelude.{Causes, CommandCauses, Counts, counts, Ending, Fault, IsAnswered, NothingFailed, PartCauses, Rose, Status}
 use Rattle.commands.specs.declared.status.Status.TheVariants as status
-use Rattle.commands.specs.declared.fault.Fault.{Fault}
 use Rattle.commands.specs.declared.fault.Fault.TheVariants as fault
-use Rattle.commands.specs.declared.fault.Ending.{Ending}
 
 -- where no read and no write failed before, and the last line is printed
 pub causes_of_line : (before : Counts) (reads source writes sink now : ℕ) (ended : Result Ending Fault) (result : Status)

@@ -1,27 +1,10 @@
 -- What `check` answers, by the readings of its inputs and what the check gives.
-use Rattle.std.proofs.Common.{◌≡◌, ◌∙◌, ℕ, Bool, List, ◌++◌, Option, Some, codes, Result, Ok, Err, IfOk, IfErr, refl, sym, inl, inr, append_assoc}
-use Rattle.std.specs.Fmt.{decimal}
-use Rattle.catalogue.specs.Instance.{Instance}
-use Rattle.slices.specs.Plans.{Choices}
-use Rattle.plan_io.specs.Files.{Files, bytes_of}
-use Rattle.cert_read.specs.declared.line.LineFault.{LineFault}
+use Rattle.std.proofs.Common.{codes, Result, Err, IfOk, IfErr}
+use Rattle.base.proofs.Public.{◌≡◌, ◌∙◌, ℕ, Bool, List, ◌++◌, Option, Some, Ok, refl, sym, inl, inr, append_assoc, decimal}
+use Rattle.commands.specs.Prelude.{any_plan_in, bytes_of, check, CheckFault, CheckGives, Checks, Choices, CountsCheck, Ending, Ends, Fault, Files, Instance, instance_in, IsAnswer, IsChecked, IsLastLine, IsLineRefusal, IsOfReading, IsRefusal, IsSound, LineFault, not_a_line, Outside, outside, ReadCauses, SaysGiven, short_line, Status, too_long_line, undecided_line, Verdict, verdict_line, verdict_status}
 use Rattle.cert_read.specs.declared.line.LineFault.TheVariants as line
-use Rattle.cert_check.specs.declared.verdict.CheckFault.{CheckFault}
 use Rattle.cert_check.specs.declared.verdict.CheckFault.TheVariants as check_fault
-use Rattle.cert_check.specs.declared.verdict.Verdict.{Verdict}
-use Rattle.cert_check.specs.Verdicts.{CheckGives, CountsCheck, IsSound}
-use Rattle.commands.specs.Words.{check}
-use Rattle.commands.specs.Answer.{Outside, outside}
-use Rattle.commands.specs.Causes.{ReadCauses}
-use Rattle.commands.specs.Inputs.Instance.{instance_in}
-use Rattle.commands.specs.Inputs.Plan.{any_plan_in}
-use Rattle.commands.specs.Commands.{IsAnswer}
-use Rattle.commands.specs.Checking.{Checks, IsChecked, IsLineRefusal, SaysGiven, undecided_line, verdict_line, verdict_status, not_a_line, too_long_line, short_line}
-use Rattle.commands.specs.Endings.{Ends, IsLastLine, IsOfReading, IsRefusal}
-use Rattle.commands.specs.declared.fault.Ending.{Ending}
-use Rattle.commands.specs.declared.fault.Fault.{Fault}
 use Rattle.commands.specs.declared.fault.Fault.TheVariants as fault
-use Rattle.commands.specs.declared.status.Status.{Status}
 use Rattle.commands.specs.declared.status.Status.TheVariants as status
 use Rattle.commands.proofs.Ends.{says, answers_well, answers_refused, ends_more}
 use Rattle.commands.proofs.LastLines.{ends_with_line}

@@ -1,26 +1,8 @@
 -- What `demo` answers and leaves.
-use Rattle.std.proofs.Common.{◌≡◌, ◌≢◌, ◌∙◌, ℕ, true, false, List, ◌++◌, Option, Some, Result, Ok, Err, codes, refl, sym, ap, subst, inl, inr, append_assoc}
-use Rattle.std.proofs.lemmas.Slice.Eq.{bytes_eq-Decides}
-use Rattle.std.specs.Fmt.{decimal}
-use Rattle.plan_io.specs.Files.{Files}
-use Rattle.catalogue.specs.Instance.{Instance}
-use Rattle.search.specs.declared.found.Found.{Found}
-use Rattle.search.specs.declared.found.Found.TheVariants.{Optimal, Infeasible, Undecided}
-use Rattle.commands.specs.Words.{Command, demo}
-use Rattle.commands.specs.Answer.{Outside, outside}
-use Rattle.commands.specs.Inputs.Instance.{instance_in}
-use Rattle.commands.specs.Commands.{IsAnswer, Takes}
-use Rattle.commands.specs.Checking.{IsChecked}
-use Rattle.commands.specs.Demonstrating.{Follows, IsConcluded, IsDemonstrated, IsPlannedAndChecked, LeavesDemo, demo_certificate, demo_instance, demo_line, demo_plan, optimal_line}
-use Rattle.commands.specs.Executing.{Taking}
-use Rattle.commands.specs.Generating.{HasGenerated, LeavesGenerated}
-use Rattle.commands.specs.Planning.{IsWritten, LeavesPlanned, found_line, found_status}
-use Rattle.commands.specs.Endings.{Ends, EndsAnyhow}
-use Rattle.commands.specs.declared.demonstrating.TheConstants.{DEMO_BUDGET}
-use Rattle.commands.specs.declared.fault.Ending.{Ending}
-use Rattle.commands.specs.declared.fault.Fault.{Fault}
+use Rattle.std.proofs.Common.{Result, Err, codes}
+use Rattle.base.proofs.Public.{◌≡◌, ◌≢◌, ◌∙◌, ℕ, true, false, List, ◌++◌, Option, Some, Ok, refl, sym, ap, subst, inl, inr, append_assoc, bytes_eq-Decides, decimal}
+use Rattle.commands.specs.Prelude.{Command, demo, DEMO_BUDGET, demo_certificate, demo_instance, demo_line, demo_plan, Ending, Ends, EndsAnyhow, Fault, Files, Follows, Found, found_line, found_status, HasGenerated, Infeasible, Instance, instance_in, IsAnswer, IsChecked, IsConcluded, IsDemonstrated, IsPlannedAndChecked, IsWritten, LeavesDemo, LeavesGenerated, LeavesPlanned, Optimal, optimal_line, Outside, outside, Status, Takes, Taking, Undecided}
 use Rattle.commands.specs.declared.fault.Fault.TheVariants as fault
-use Rattle.commands.specs.declared.status.Status.{Status}
 use Rattle.commands.specs.declared.status.Status.TheVariants as status
 use Rattle.commands.proofs.Ends.{says, answers_well, answers_refused, ends_more}
 use Rattle.commands.proofs.LastLines.{always_anyhow}

@@ -1,15 +1,8 @@
 -- How commands end: what each command's answers are built of.
 use Rattle.std.proofs.Common.{◌≡◌, ℕ, List, ◌++◌, Option, None, Result, Ok, Err, refl}
-use Rattle.plan_io.specs.Files.{Files}
-use Rattle.plan_io.specs.declared.faults.OutFault.{OutFault}
+use Rattle.commands.specs.Prelude.{AnswersBy, Ending, Ends, Fault, Files, IsAnswer, out_fault, OutFault, Outside, outside, Says, Status}
 use Rattle.plan_io.specs.declared.faults.OutFault.TheVariants as out
-use Rattle.commands.specs.Answer.{Outside, outside, Says, AnswersBy}
-use Rattle.commands.specs.Commands.{IsAnswer}
-use Rattle.commands.specs.Endings.{Ends, out_fault}
-use Rattle.commands.specs.declared.status.Status.{Status}
 use Rattle.commands.specs.declared.status.Status.TheVariants as status
-use Rattle.commands.specs.declared.fault.Ending.{Ending}
-use Rattle.commands.specs.declared.fault.Fault.{Fault}
 use Rattle.commands.specs.declared.fault.Fault.TheVariants as fault
 
 -- words that are in no command end with their fault, and leave all as it was

@@ -1,34 +1,11 @@
 -- What `execute` answers and takes, by the readings of its inputs and by its transcript.
-use Rattle.std.proofs.Common.{◌≡◌, ℕ, List, ◌++◌, Bool, true, false, Option, Some, None, Result, Ok, Err, IsTrue, String, string_bytes, refl, sym, subst, ◌∙◌, inl, inr}
-use Rattle.std.specs.declared.alloc.Global.{Global}
-use Rattle.std.specs.Io.{StartsWith}
-use Rattle.base.proofs.Prefixes.{whole, longer, longer_text}
-use Rattle.catalogue.specs.Instance.{Instance}
-use Rattle.plan_io.specs.Files.{Files}
-use Rattle.slices.specs.declared.rule.Broken.{Broken}
-use Rattle.slices.specs.Plans.{Choices, IsPlanOf, PlanChoices, choices_of}
-use Rattle.slices.specs.Rules.{IsFirstBroken, IsValid}
-use Rattle.replay.specs.Lines.{broken_line}
+use Rattle.std.proofs.Common.{Result, Err, IsTrue, string_bytes}
+use Rattle.base.proofs.Public.{◌≡◌, ℕ, List, ◌++◌, Bool, true, false, Option, Some, None, Ok, String, refl, sym, subst, ◌∙◌, inl, inr, Global, StartsWith, whole, longer, longer_text}
+use Rattle.commands.specs.Prelude.{Broken, broken_line, Choices, choices_of, Conclusion, conclusion_line, conclusion_status, Done, Ending, Ends, EndsAnyhow, execute, ExecuteFault, ExecuteGives, Executes, Fault, Files, first_point, Instance, instance_in, IsAnswer, IsBegun, IsExecuted, IsFirstBroken, IsOfReading, IsPartOfAnswer, IsPlanOf, IsValid, LineEnds, NotValid, Outside, outside, plan_in, PlanChoices, PrintsPrefix, Reads, Refused, RunGives, Starts, Status, StoppedEnd, StoppedFail, Takes, TakesNothing, TakesRead, Taking, told, Took, TookBy, WriteFault}
+use Rattle.transcript.specs.declared.conclusion.ExecuteFault.TheVariants.{ReadFault, Memory}
 use Rattle.executor.proofs.Public.{begins_well}
-use Rattle.transcript.specs.declared.conclusion.Conclusion.{Conclusion}
-use Rattle.transcript.specs.declared.conclusion.Conclusion.TheVariants.{Done, StoppedFail, StoppedEnd, Refused}
-use Rattle.transcript.specs.declared.conclusion.ExecuteFault.{ExecuteFault}
-use Rattle.transcript.specs.declared.conclusion.ExecuteFault.TheVariants.{NotValid, ReadFault, WriteFault, Memory}
-use Rattle.transcript.specs.Laws.{IsBegun}
-use Rattle.transcript.specs.Transcript.{ExecuteGives, RunGives, first_point}
 use Rattle.transcript.proofs.Public.{faults_leave_a_beginning}
-use Rattle.commands.specs.Words.{execute}
-use Rattle.commands.specs.Answer.{Outside, outside, told}
-use Rattle.commands.specs.Inputs.Instance.{instance_in}
-use Rattle.commands.specs.Inputs.Plan.{plan_in}
-use Rattle.commands.specs.Commands.{IsAnswer, Takes}
-use Rattle.commands.specs.Executing.{Executes, IsExecuted, IsPartOfAnswer, Starts, Taking, TakesNothing, TakesRead, Took, TookBy, conclusion_line, conclusion_status}
-use Rattle.commands.specs.Endings.{Ends, EndsAnyhow, IsOfReading, LineEnds, Reads}
-use Rattle.commands.specs.Printed.{PrintsPrefix}
-use Rattle.commands.specs.declared.fault.Ending.{Ending}
-use Rattle.commands.specs.declared.fault.Fault.{Fault}
 use Rattle.commands.specs.declared.fault.Fault.TheVariants as fault
-use Rattle.commands.specs.declared.status.Status.{Status}
 use Rattle.commands.specs.declared.status.Status.TheVariants as status
 use Rattle.commands.proofs.Ends.{says, answers_well, answers_refused, ends_more}
 use Rattle.commands.proofs.LastLines.{anyhow_more}

@@ -1,16 +1,6 @@
 -- What `generate` answers and leaves.
 use Rattle.std.proofs.Common.{◌≡◌, ℕ, List, ◌++◌, Option, Some, Result, refl, ap, inl}
-use Rattle.plan_io.specs.Files.{Files, OthersStay}
-use Rattle.instance_make.specs.Generated.{generated as problem_of}
-use Rattle.instance_make.specs.Text.{instance_text}
-use Rattle.commands.specs.Words.{Command, generate}
-use Rattle.commands.specs.Answer.{Outside, outside}
-use Rattle.commands.specs.Commands.{IsAnswer, Takes}
-use Rattle.commands.specs.Executing.{Taking}
-use Rattle.commands.specs.Generating.{generated_line, HasGenerated, LeavesGenerated}
-use Rattle.commands.specs.Endings.{EndsAnyhow}
-use Rattle.commands.specs.declared.fault.Ending.{Ending}
-use Rattle.commands.specs.declared.fault.Fault.{Fault}
+use Rattle.commands.specs.Prelude.{Command, Ending, EndsAnyhow, Fault, Files, generate, generated as problem_of, generated_line, HasGenerated, instance_text, IsAnswer, LeavesGenerated, OthersStay, Outside, outside, Takes, Taking}
 use Rattle.commands.specs.declared.status.Status.TheVariants as status
 use Rattle.commands.proofs.LastLines.{always_anyhow}
 

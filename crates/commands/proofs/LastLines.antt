@@ -1,15 +1,7 @@
 -- How a part ends that has a last line, and what is so however it ends.
-use Rattle.std.proofs.Common.{◌≡◌, ℕ, Bool, List, ◌++◌, Option, Some, None, Result, Ok, Err, option_map, String, string_bytes, refl, sym, subst}
-use Rattle.std.specs.declared.alloc.Global.{Global}
-use Rattle.base.proofs.Prefixes.{whole, longer}
-use Rattle.commands.specs.Words.{Command, plan, check, replay}
-use Rattle.commands.specs.Answer.{Outside, outside}
-use Rattle.commands.specs.Commands.{Takes}
-use Rattle.commands.specs.Executing.{Taking}
-use Rattle.commands.specs.Endings.{Ends, EndsAnyhow, IsLastLine, LastEnds, LineEnds, line_of, fault_status, outcome_status, printed_with}
-use Rattle.commands.specs.declared.status.Status.{Status}
-use Rattle.commands.specs.declared.fault.Ending.{Ending}
-use Rattle.commands.specs.declared.fault.Fault.{Fault}
+use Rattle.std.proofs.Common.{Result, Err, option_map, string_bytes}
+use Rattle.base.proofs.Public.{◌≡◌, ℕ, Bool, List, ◌++◌, Option, Some, None, Ok, String, refl, sym, subst, Global, whole, longer}
+use Rattle.commands.specs.Prelude.{check, Command, Ending, Ends, EndsAnyhow, Fault, fault_status, IsLastLine, LastEnds, line_of, LineEnds, outcome_status, Outside, outside, plan, printed_with, replay, Status, Takes, Taking}
 use Rattle.commands.specs.declared.fault.Fault.TheVariants as fault
 
 -- the line that is due is printed

@@ -1,14 +1,6 @@
 -- Which words are a number.
-use Rattle.std.proofs.Common.{◌≡◌, ◌≢◌, ℕ, zero, suc, ◌<◌, ◌==◌, ◌&&◌, ◌^◌, Bool, true, false, not, List, [], ◌∷◌, length, get_or, nat_lt, Some, None, Result, Ok, Err, refl, sym, ap, ◌∙◌, arith, if◌then◌else◌}
-use Rattle.std.proofs.lemmas.Grind.{common_steps}
-use Rattle.std.proofs.lemmas.Bool.{lt-ltb, ltb-true, and_parts}
-use Rattle.std.proofs.lemmas.Fmt.{decimal-digits_value, decimal_digit, first_decimal, parse-decimal, decimal_nonempty}
-use Rattle.std.proofs.lemmas.Result.{OkIff-at_ok}
-use Rattle.std.proofs.lemmas.Slice.Eq.{bytes_eq-Decides}
-use Rattle.std.proofs.lemmas.Str.Parse.{IsNumeralModel, numerals_by_value, tells_digits, parse_plain}
-use Rattle.std.specs.Fmt.{decimal}
-use Rattle.std.specs.Str.{bytes_eq}
-use Rattle.std.specs.Str.Parse.{AllDigits, ParsesUnsigned, digits_value}
+use Rattle.std.proofs.Common.{◌^◌, Result, Err, if◌then◌else◌}
+use Rattle.base.proofs.Public.{◌≡◌, ◌≢◌, ℕ, zero, suc, ◌<◌, ◌==◌, ◌&&◌, Bool, true, false, not, List, [], ◌∷◌, length, get_or, nat_lt, Some, None, Ok, refl, sym, ap, ◌∙◌, arith, common_steps, lt-ltb, ltb-true, and_parts, decimal-digits_value, decimal_digit, first_decimal, parse-decimal, decimal_nonempty, OkIff-at_ok, bytes_eq-Decides, IsNumeralModel, numerals_by_value, tells_digits, parse_plain, decimal, bytes_eq, AllDigits, ParsesUnsigned, digits_value}
 use Rattle.commands.specs.Words.{is_plain, number_of}
 
 own : IsNumeralModel (AllDigits 10) (digits_value 10)

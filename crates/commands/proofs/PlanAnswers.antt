@@ -1,40 +1,10 @@
 -- What `plan` answers and leaves, by what was found of its problem.
-use Rattle.std.proofs.Common.{◌≡◌, ◌≢◌, ◌⊎◌, ◌∙◌, ◌+◌, ℕ, List, [], ◌++◌, Option, Some, None, Bool, IsTrue, Result, Ok, Err, codes, refl, sym, ap, subst, inl, inr, append_assoc}
-use Rattle.std.specs.Prelude.{IfSome}
-use Rattle.std.specs.Io.{StartsWith}
-use Rattle.std.specs.Fmt.{decimal}
-use Rattle.std.specs.List.{flat_map}
-use Rattle.plan_io.specs.Files.{Files, OthersStay, IsCut, bytes_of}
-use Rattle.base.specs.Sums.{sum_to}
-use Rattle.base.proofs.Prefixes.{longer_text}
-use Rattle.base.proofs.Sums.{sum_to-none}
-use Rattle.cluster.specs.declared.choices.Choice.TheVariants.{Idle}
-use Rattle.cluster.specs.declared.ids.Element.{Element}
-use Rattle.catalogue.specs.Instance.{Instance, IsInstance}
-use Rattle.slices.specs.Actions.{end_of}
-use Rattle.slices.specs.Elements.{machine_count, node, node_count, vm}
-use Rattle.slices.specs.Plans.{IsPlanOf, PlanChoices, choices_of}
-use Rattle.plan_json.specs.Plans.{plan_of}
-use Rattle.plan_json.specs.Print.{plan_text}
+use Rattle.std.proofs.Common.{IsTrue, Result, Err, codes}
+use Rattle.base.proofs.Public.{◌≡◌, ◌≢◌, ◌⊎◌, ◌∙◌, ◌+◌, ℕ, List, [], ◌++◌, Option, Some, None, Bool, Ok, refl, sym, ap, subst, inl, inr, append_assoc, IfSome, StartsWith, decimal, flat_map, longer_text, sum_to-none}
+use Rattle.commands.specs.Prelude.{bytes_of, certificate_text, choices_of, Element, end_line, end_of, Ending, Ends, Fault, Files, Found, found_line, found_status, goal_in, header_line, Idle, Infeasible, Instance, instance_in, IsAnswer, IsCertificateCut, IsCertified, IsCut, IsInstance, IsPlanCut, IsPlanned, IsPlanOf, IsShown, IsStayed, IsToStay, IsTrueOf, IsWritten, LeavesBy, LeavesPlanned, LeavesText, machine_count, MayStay, Meaning, node, node_count, Optimal, OthersStay, Outside, outside, plan, plan_cost, plan_of, plan_text, PlanChoices, RestStays, Status, step_line, steps_of, sum_to, Undecided, vm}
 use Rattle.trees.specs.declared.steps.Goal.TheVariants.{Infeasible as NonePlanned}
-use Rattle.trees.specs.Trees.{steps_of}
-use Rattle.cert_text.specs.Spelling.{certificate_text, end_line, header_line, step_line}
-use Rattle.prop_core.specs.Propagators.{Meaning}
-use Rattle.search.specs.declared.found.Found.{Found}
-use Rattle.search.specs.declared.found.Found.TheVariants.{Optimal, Infeasible, Undecided}
-use Rattle.search.specs.Answers.{IsTrueOf, goal_in, plan_in}
-use Rattle.search.specs.Staying.{IsStayed, MayStay}
-use Rattle.search.specs.Works.{IsShown}
-use Rattle.search.specs.Written.{LeavesText}
-use Rattle.commands.specs.Words.{plan}
-use Rattle.commands.specs.Answer.{Outside, outside, LeavesBy}
-use Rattle.commands.specs.Inputs.Instance.{instance_in}
-use Rattle.commands.specs.Commands.{IsAnswer}
-use Rattle.commands.specs.Planning.{IsCertificateCut, IsCertified, IsPlanCut, IsPlanned, IsToStay, IsWritten, LeavesPlanned, RestStays, found_line, found_status, plan_cost, undecided_line}
-use Rattle.commands.specs.Endings.{Ends}
-use Rattle.commands.specs.declared.fault.Ending.{Ending}
-use Rattle.commands.specs.declared.fault.Fault.{Fault}
-use Rattle.commands.specs.declared.status.Status.{Status}
+use Rattle.search.specs.Answers.{plan_in}
+use Rattle.commands.specs.Planning.{undecided_line}
 use Rattle.commands.specs.declared.status.Status.TheVariants as status
 use Rattle.commands.proofs.Ends.{says, answers_well, answers_refused, ends_more}
 

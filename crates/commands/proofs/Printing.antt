@@ -1,13 +1,6 @@
 -- What has been printed is a prefix of an answer.
-use Rattle.std.proofs.Common.{◌≡◌, ℕ, List, ◌++◌, Option, refl, inl, inr}
-use Rattle.std.specs.Io.{StartsWith}
-use Rattle.plan_io.specs.Files.{Files}
-use Rattle.base.proofs.Prefixes.{whole, further}
-use Rattle.commands.specs.Words.{Command}
-use Rattle.commands.specs.Answer.{Outside, outside}
-use Rattle.commands.specs.Commands.{IsAnswer}
-use Rattle.commands.specs.Printed.{PrintsPrefix}
-use Rattle.commands.specs.declared.status.Status.{Status}
+use Rattle.base.proofs.Public.{◌≡◌, ℕ, List, ◌++◌, Option, refl, inl, inr, StartsWith, whole, further}
+use Rattle.commands.specs.Prelude.{Command, Files, IsAnswer, Outside, outside, PrintsPrefix, Status}
 
 -- nothing is a prefix of every answer
 pub prints_nothing : (command : Option Command) (source : Option (List ℕ)) (before after : Files) (printed : List ℕ) → PrintsPrefix command source (outside before printed) (outside after printed)

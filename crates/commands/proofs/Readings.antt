@@ -1,24 +1,12 @@
 -- What the readings of an instance and of a plan answer.
-use Rattle.std.proofs.Common.{◌≡◌, ◌<◌, ◌≤◌, ℕ, List, Bool, length, nat_le, true, false, Option, Some, None, Ok, Err, if◌then◌else◌, codes, refl, ap, arith}
-use Rattle.std.proofs.lemmas.Bool.Decides.{nat_tests}
-use Rattle.catalogue.specs.Instance.{Instance, inventory_of}
-use Rattle.json_walk.specs.Walk.{Fails}
-use Rattle.slices.specs.Plans.{PlanChoices, choices_of}
-use Rattle.instance_json.specs.Instance.{instance_of}
+use Rattle.std.proofs.Common.{Err, if◌then◌else◌, codes}
+use Rattle.base.proofs.Public.{◌≡◌, ◌<◌, ◌≤◌, ℕ, List, Bool, length, nat_le, true, false, Option, Some, None, Ok, refl, ap, arith, nat_tests}
+use Rattle.commands.specs.Prelude.{any_plan_lined, any_plan_reading_of, choices_handed, choices_of, Fails, input_line, Instance, instance_fault_of, instance_line, instance_of, InstanceFault, inventory_of, lined, MAX_TEXT_BYTES, plan_fault_of, plan_line, plan_lined, plan_of, plan_reading_of, PlanChoices, reading_of, whole_of}
 use Rattle.instance_json.specs.Texts.{fault_text as instance_fault_text}
-use Rattle.instance_json.specs.Walk.{instance_fault_of}
-use Rattle.instance_json.specs.declared.fault.InstanceFault.{InstanceFault}
-use Rattle.instance_json.specs.declared.fault.InstanceFault.TheVariants as of_instance
-use Rattle.plan_json.specs.Plans.{plan_of}
 use Rattle.plan_json.specs.Texts.{fault_text as plan_fault_text}
-use Rattle.plan_json.specs.Walk.{plan_fault_of}
 use Rattle.plan_json.specs.declared.fault.PlanFault.{PlanFault}
+use Rattle.instance_json.specs.declared.fault.InstanceFault.TheVariants as of_instance
 use Rattle.plan_json.specs.declared.fault.PlanFault.TheVariants as of_plan
-use Rattle.cert_model.specs.Walks.{choices_handed}
-use Rattle.json_walk.specs.declared.reading.TheConstants.{MAX_TEXT_BYTES}
-use Rattle.commands.specs.Inputs.{input_line, whole_of}
-use Rattle.commands.specs.Inputs.Instance.{reading_of, instance_line, lined}
-use Rattle.commands.specs.Inputs.Plan.{plan_reading_of, plan_line, plan_lined, any_plan_reading_of, any_plan_lined}
 
 -- ---- all bytes of an input
 

@@ -1,21 +1,8 @@
 -- What `replay` answers, by the readings of its inputs.
-use Rattle.std.proofs.Common.{◌≡◌, ℕ, List, ◌++◌, Option, Some, Result, Ok, Err, refl, inr}
-use Rattle.std.specs.Io.{StartsWith}
-use Rattle.catalogue.specs.Instance.{Instance}
-use Rattle.slices.specs.Plans.{Choices}
-use Rattle.replay.specs.Report.{IsPrefixOfReport, report_text}
-use Rattle.plan_io.specs.Files.{Files}
-use Rattle.commands.specs.Words.{replay}
-use Rattle.commands.specs.Answer.{Outside, outside}
-use Rattle.commands.specs.Inputs.Instance.{instance_in}
-use Rattle.commands.specs.Inputs.Plan.{plan_in}
-use Rattle.commands.specs.Commands.{IsAnswer}
-use Rattle.commands.specs.Replaying.{Replays, IsReplayed, verdict_status}
-use Rattle.commands.specs.Endings.{Ends}
-use Rattle.commands.specs.Printed.{PrintsPrefix}
-use Rattle.commands.specs.declared.fault.Ending.{Ending}
-use Rattle.commands.specs.declared.fault.Fault.{Fault}
-use Rattle.commands.specs.declared.status.Status.{Status}
+use Rattle.std.proofs.Common.{Result, Err}
+use Rattle.base.proofs.Public.{◌≡◌, ℕ, List, ◌++◌, Option, Some, Ok, refl, inr, StartsWith}
+use Rattle.commands.specs.Prelude.{Choices, Ending, Ends, Fault, Files, Instance, instance_in, IsAnswer, IsPrefixOfReport, IsReplayed, Outside, outside, plan_in, PrintsPrefix, replay, Replays, report_text, Status}
+use Rattle.commands.specs.Replaying.{verdict_status}
 use Rattle.commands.specs.declared.status.Status.TheVariants as status
 use Rattle.commands.proofs.Ends.{says, answers_well, answers_refused, ends_more}
 

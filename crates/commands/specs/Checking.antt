@@ -1,19 +1,16 @@
 -- What `check` answers.
 use Rattle.std.specs.Prelude.{◌≡◌, ◌++◌, ℕ, Bool, List, Option, Some, None, Result, Ok, Err, IfOk, codes}
 use Rattle.std.specs.Fmt.{decimal}
-use Rattle.plan_io.specs.Files.{bytes_of}
-use Rattle.catalogue.specs.Instance.{Instance}
-use Rattle.slices.specs.Plans.{Choices}
+use Rattle.cert_check.specs.Prelude.{bytes_of, CheckGives, Choices, Instance, IsSound}
 use Rattle.trees.specs.declared.steps.Goal.TheVariants.{Optimal, Infeasible, Undecided}
 use Rattle.cert_model.specs.declared.why.Why.{Why}
-use Rattle.cert_model.specs.declared.why.Why.TheVariants as why
 use Rattle.cert_read.specs.declared.line.LineFault.{LineFault}
-use Rattle.cert_read.specs.declared.line.LineFault.TheVariants as line
 use Rattle.cert_check.specs.declared.verdict.CheckFault.{CheckFault}
-use Rattle.cert_check.specs.declared.verdict.CheckFault.TheVariants as check_fault
 use Rattle.cert_check.specs.declared.verdict.Verdict.{Verdict}
 use Rattle.cert_check.specs.declared.verdict.Verdict.TheVariants.{Yes, No}
-use Rattle.cert_check.specs.Verdicts.{CheckGives, IsSound}
+use Rattle.cert_model.specs.declared.why.Why.TheVariants as why
+use Rattle.cert_read.specs.declared.line.LineFault.TheVariants as line
+use Rattle.cert_check.specs.declared.verdict.CheckFault.TheVariants as check_fault
 use Rattle.commands.specs.Answer.{Outside, Says, AnswersBy}
 use Rattle.commands.specs.Inputs.{input_line}
 use Rattle.commands.specs.Inputs.Plan.{any_plan_in}

@@ -1,8 +1,7 @@
 -- What `demo` answers, and what it leaves in its three files.
 use Rattle.std.specs.Prelude.{◌≡◌, ◌≢◌, ◌⊎◌, ◌++◌, ℕ, false, List, codes}
 use Rattle.std.specs.Fmt.{decimal}
-use Rattle.plan_io.specs.Files.{Files}
-use Rattle.catalogue.specs.Instance.{Instance}
+use Rattle.cert_write.specs.Prelude.{Files, Instance}
 use Rattle.search.specs.declared.found.Found.{Found}
 use Rattle.search.specs.declared.found.Found.TheVariants.{Optimal, Infeasible, Undecided}
 use Rattle.commands.specs.Answer.{Outside, Says, AnswersBy, LeavesBy, outside}

@@ -2,18 +2,16 @@
 use Rattle.std.specs.Prelude.{◌≡◌, ◌⊎◌, ℕ, List, ◌++◌, Option, Some, None, Ok, codes}
 use Rattle.std.specs.Fmt.{decimal}
 use Rattle.std.specs.Io.{StartsWith}
-use Rattle.cluster.specs.Inventory.{name_of}
-use Rattle.catalogue.specs.Instance.{Instance, inventory_of}
+use Rattle.profiles.specs.Prelude.{IsFirstBroken, name_of}
+use Rattle.transcript.specs.Prelude.{Choices, first_point, Instance, inventory_of, IsValid, StopsInEvent, StopsInStart}
 use Rattle.slices.specs.declared.rule.Broken.{Broken}
-use Rattle.slices.specs.Plans.{Choices}
-use Rattle.slices.specs.Rules.{IsFirstBroken, IsValid}
 use Rattle.replay.specs.Lines.{broken_line}
 use Rattle.transcript.specs.declared.conclusion.Conclusion.{Conclusion}
 use Rattle.transcript.specs.declared.conclusion.Conclusion.TheVariants.{Done, StoppedFail, StoppedEnd, Refused}
 use Rattle.transcript.specs.Lines.{fault_text}
-use Rattle.transcript.specs.Transcript.{EndsFrom, StopsInEvent, StopsInStart, first_point}
-use Rattle.commands.specs.Answer.{Outside, outside, Says, AnswersBy}
+use Rattle.transcript.specs.Transcript.{EndsFrom}
 use Rattle.plan_io.specs.Files.{Files}
+use Rattle.commands.specs.Answer.{Outside, outside, Says, AnswersBy}
 use Rattle.commands.specs.Inputs.{input_line}
 use Rattle.commands.specs.Inputs.Instance.{instance_in}
 use Rattle.commands.specs.Inputs.Plan.{plan_in}

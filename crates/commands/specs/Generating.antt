@@ -1,9 +1,8 @@
 -- What `generate` answers, and what it leaves in the files.
 use Rattle.std.specs.Prelude.{◌≡◌, ◌++◌, ℕ, List, Some, codes}
 use Rattle.std.specs.Fmt.{decimal}
+use Rattle.instance_make.specs.Prelude.{generated, instance_text}
 use Rattle.plan_io.specs.Files.{Files, OthersStay, IsCut}
-use Rattle.instance_make.specs.Generated.{generated}
-use Rattle.instance_make.specs.Text.{instance_text}
 use Rattle.commands.specs.Answer.{Outside}
 use Rattle.commands.specs.declared.status.Status.{Status}
 use Rattle.commands.specs.declared.status.Status.TheVariants as status

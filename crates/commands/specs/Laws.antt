@@ -1,13 +1,12 @@
 -- What is proved of the files that `plan` writes: `check` says yes to them.
 use Rattle.std.specs.Prelude.{◌≡◌, ◌≢◌, ℕ, ◌<◌, ◌^◌, Bool, List, Option, Some, Ok}
-use Rattle.plan_io.specs.Files.{Files, bytes_of}
-use Rattle.catalogue.specs.Instance.{Instance}
+use Rattle.search.specs.Prelude.{bytes_of, goal_in, Instance, least_in, plan_in}
+use Rattle.plan_io.specs.Files.{Files}
 use Rattle.cert_model.specs.Walks.{choices_handed}
 use Rattle.cert_check.specs.Laws.{IsAccepted}
 use Rattle.cert_check.specs.declared.verdict.Verdict.{Verdict}
 use Rattle.cert_check.specs.declared.verdict.Verdict.TheVariants.{Yes}
 use Rattle.search.specs.declared.found.Found.{Found}
-use Rattle.search.specs.Answers.{goal_in, least_in, plan_in}
 use Rattle.commands.specs.Words.{check}
 use Rattle.commands.specs.Answer.{Outside, Says}
 use Rattle.commands.specs.Inputs.Instance.{instance_in}

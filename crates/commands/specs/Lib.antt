@@ -14,3 +14,4 @@ pub mod Printed
 pub mod Causes
 pub mod Endings
 pub mod Laws
+pub mod Prelude

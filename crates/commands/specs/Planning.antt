@@ -2,20 +2,14 @@
 use Rattle.std.specs.Prelude.{◌≡◌, ◌≢◌, ◌⊎◌, ◌++◌, ℕ, List, Option, Some, None, Ok, option_map, codes}
 use Rattle.std.specs.Fmt.{decimal}
 use Rattle.std.specs.Io.{StartsWith}
-use Rattle.plan_io.specs.Files.{Files, IsCut, bytes_of}
-use Rattle.catalogue.specs.Instance.{Instance, IsInstance}
-use Rattle.slices.specs.Plans.{PlanChoices, choices_of}
-use Rattle.slices.specs.Costs.{cost_of}
-use Rattle.plan_json.specs.Plans.{plan_of}
-use Rattle.plan_json.specs.Print.{plan_text}
+use Rattle.plan_json.specs.Prelude.{plan_of, plan_text}
+use Rattle.search.specs.Prelude.{bytes_of, choices_of, cost_of, goal_in, Instance, IsInstance, IsStayingPlan, IsTreeOf, IsTrueOf, MayStay, plan_in, PlanChoices, steps_of, Tree}
+use Rattle.plan_io.specs.Files.{Files, IsCut}
 use Rattle.trees.specs.declared.steps.Goal.{Goal}
 use Rattle.trees.specs.declared.steps.Step.{Step}
-use Rattle.trees.specs.Trees.{Tree, steps_of}
 use Rattle.cert_text.specs.Spelling.{certificate_text}
 use Rattle.search.specs.declared.found.Found.{Found}
 use Rattle.search.specs.declared.found.Found.TheVariants.{Optimal, Infeasible, Undecided}
-use Rattle.search.specs.Answers.{IsTreeOf, IsTrueOf, goal_in, plan_in}
-use Rattle.search.specs.Staying.{IsStayingPlan, MayStay}
 use Rattle.commands.specs.Answer.{Outside}
 use Rattle.commands.specs.declared.status.Status.{Status}
 use Rattle.commands.specs.declared.status.Status.TheVariants as status

@@ -1,9 +1,7 @@
 -- What `replay` answers.
 use Rattle.std.specs.Prelude.{◌≡◌, ◌++◌, ℕ, List, Option, Some, None}
-use Rattle.catalogue.specs.Instance.{Instance}
-use Rattle.slices.specs.Plans.{Choices}
+use Rattle.replay.specs.Prelude.{Choices, Instance, IsVerdict, report_text}
 use Rattle.slices.specs.declared.rule.Broken.{Broken}
-use Rattle.replay.specs.Report.{IsVerdict, report_text}
 use Rattle.commands.specs.Answer.{Outside, AnswersBy}
 use Rattle.commands.specs.Inputs.Plan.{plan_in}
 use Rattle.commands.specs.declared.status.Status.{Status}

@@ -1,19 +1,8 @@
 //! The command `check`.
 
-ghost use Rattle.std.specs.Prelude.{◌≡◌, ◌≢◌, ℕ, List, Option, Some, Err};
-ghost use Rattle.std.specs.Prelude.{IsTrue, IfErr, IfOk, IfSome, string_bytes};
+ghost use Rattle.std.specs.Prelude.{◌≡◌, ◌≢◌, ℕ, List, Option, Some, Err, IsTrue, IfErr, IfOk, IfSome, string_bytes};
 ghost use Rattle.std.specs.Option.{option_copied};
-ghost use Rattle.slices.specs.Plans.{IsPlanOf};
-ghost use Rattle.cert_model.specs.Walks.{choices_handed};
-ghost use Rattle.commands.specs.Words.{check};
-ghost use Rattle.commands.specs.Answer.{outside};
-ghost use Rattle.commands.specs.Causes.{PartCauses, ReadCauses};
-ghost use Rattle.commands.specs.Commands.{MayRun, IsAnswer};
-ghost use Rattle.commands.specs.Checking.{Checks, IsChecked, IsLineRefusal};
-ghost use Rattle.commands.specs.Checking.{no_line, not_a_line};
-ghost use Rattle.commands.specs.Checking.{too_long_line, undecided_line, verdict_line};
-ghost use Rattle.commands.specs.Checking.{verdict_status, why_text};
-ghost use Rattle.commands.specs.Endings.{Ends, IsLastLine, IsOfReading, IsRefusal, outcome_status};
+ghost use Rattle.commands.specs.Prelude.{check, Checks, choices_handed, Ends, IsAnswer, IsChecked, IsLastLine, IsLineRefusal, IsOfReading, IsPlanOf, IsRefusal, MayRun, no_line, not_a_line, outcome_status, outside, PartCauses, ReadCauses, too_long_line, undecided_line, verdict_line, verdict_status, why_text};
 
 use crate::fault::{Ending, Fault, Outcome};
 use crate::inputs::instance::problem_at;

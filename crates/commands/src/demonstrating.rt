@@ -1,19 +1,8 @@
 //! The command `demo`.
 
-ghost use Rattle.std.specs.Prelude.{◌≡◌, ◌≢◌, ℕ, false, List, Option, Some, Err};
-ghost use Rattle.std.specs.Prelude.{IsTrue, IfErr, IfOk, IfSome, string_bytes};
-ghost use Rattle.slices.specs.Plans.{IsPlanOf};
-ghost use Rattle.search.specs.declared.found.Found.{Found as AnyFound};
+ghost use Rattle.std.specs.Prelude.{◌≡◌, ◌≢◌, ℕ, false, List, Option, Some, Err, IsTrue, IfErr, IfOk, IfSome, string_bytes};
+ghost use Rattle.commands.specs.Prelude.{demo, demo_certificate, demo_line, demo_plan, Ends, Found as AnyFound, IsAnswer, IsChecked, IsConcluded, IsOfReading, IsPlannedAndChecked, IsPlanOf, Leaves, LeavesPlanned, MayRun, optimal_line, Outside, outside, PartCauses, ReadCauses};
 ghost use Rattle.search.specs.Answers.{plan_in};
-ghost use Rattle.commands.specs.Words.{demo};
-ghost use Rattle.commands.specs.Answer.{Outside, outside};
-ghost use Rattle.commands.specs.Causes.{PartCauses, ReadCauses};
-ghost use Rattle.commands.specs.Commands.{MayRun, IsAnswer, Leaves};
-ghost use Rattle.commands.specs.Checking.{IsChecked};
-ghost use Rattle.commands.specs.Demonstrating.{demo_certificate, demo_line, demo_plan, optimal_line};
-ghost use Rattle.commands.specs.Demonstrating.{IsConcluded, IsPlannedAndChecked};
-ghost use Rattle.commands.specs.Planning.{LeavesPlanned};
-ghost use Rattle.commands.specs.Endings.{Ends, IsOfReading};
 
 use crate::checking::check_problem;
 use crate::fault::{Ending, Fault, Outcome};

@@ -3,20 +3,8 @@
 ghost use Rattle.std.specs.Prelude.{◌≡◌, ◌≢◌, ◌++◌, Some, Err, IsTrue, IfOk, IfErr, codes, string_bytes};
 ghost use Rattle.std.specs.Fmt.{decimal};
 ghost use Rattle.std.specs.Io.{StartsWith};
-ghost use Rattle.plan_io.specs.Files.{Files};
-ghost use Rattle.slices.specs.Plans.{IsPlanOf, choices_of};
-ghost use Rattle.slices.specs.Rules.{InRange, IsValid};
-ghost use Rattle.replay.specs.Lines.{broken_line};
+ghost use Rattle.commands.specs.Prelude.{broken_line, choices_of, CommandCauses, conclusion_line, conclusion_status, counts, Ends, EndsAnyhow, events_line, execute, Executes, Files, InRange, IsAnswer, IsLastLine, IsOfExecuting, IsPartOfAnswer, IsPlanOf, IsRefusal, IsValid, KeepsSource, MayRun, NamesListed, outside, PartCauses, PrintsPrefix, Takes, taking, told, TookBy};
 ghost use Rattle.transcript.specs.Lines.{fault_text};
-ghost use Rattle.transcript.specs.Parts.{NamesListed};
-ghost use Rattle.commands.specs.Words.{execute};
-ghost use Rattle.commands.specs.Answer.{outside, told};
-ghost use Rattle.commands.specs.Causes.{CommandCauses, PartCauses, counts};
-ghost use Rattle.commands.specs.Commands.{MayRun, IsAnswer, KeepsSource, Takes};
-ghost use Rattle.commands.specs.Executing.{Executes, IsPartOfAnswer, TookBy, conclusion_line};
-ghost use Rattle.commands.specs.Executing.{conclusion_status, events_line, taking};
-ghost use Rattle.commands.specs.Endings.{Ends, EndsAnyhow, IsLastLine, IsOfExecuting, IsRefusal};
-ghost use Rattle.commands.specs.Printed.{PrintsPrefix};
 ghost use Rattle.commands.specs.declared.status.Status.TheVariants as Status;
 
 use crate::fault::{Ending, Fault, Outcome};

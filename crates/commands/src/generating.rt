@@ -1,16 +1,7 @@
 //! The command `generate`.
 
-ghost use Rattle.std.specs.Prelude.{◌≡◌, ◌≢◌, ℕ, List, Option, Some, Err};
-ghost use Rattle.std.specs.Prelude.{IsTrue, IfOk, OnOk, string_bytes};
-ghost use Rattle.plan_io.specs.Causes.{CountsWrites};
-ghost use Rattle.instance_make.specs.Generated.{generated};
-ghost use Rattle.instance_make.specs.Text.{instance_text};
-ghost use Rattle.commands.specs.Words.{generate};
-ghost use Rattle.commands.specs.Answer.{outside};
-ghost use Rattle.commands.specs.Causes.{PartCauses};
-ghost use Rattle.commands.specs.Commands.{MayRun, IsAnswer, Leaves};
-ghost use Rattle.commands.specs.Generating.{generated_line, HasGenerated, LeavesGenerated};
-ghost use Rattle.commands.specs.Endings.{Ends};
+ghost use Rattle.std.specs.Prelude.{◌≡◌, ◌≢◌, ℕ, List, Option, Some, Err, IsTrue, IfOk, OnOk, string_bytes};
+ghost use Rattle.commands.specs.Prelude.{CountsWrites, Ends, generate, generated, generated_line, HasGenerated, instance_text, IsAnswer, Leaves, LeavesGenerated, MayRun, outside, PartCauses};
 
 use crate::fault::{Ending, Fault, Outcome};
 use base::Memory;

@@ -1,10 +1,7 @@
 //! The inputs that commands read from files, each in a room of its own, and what they share.
 
 ghost use Rattle.std.specs.Prelude.{◌≡◌, ◌≢◌, IsTrue, IfOk, IfErr, Err};
-ghost use Rattle.plan_io.specs.Files.{bytes_of};
-ghost use Rattle.commands.specs.Inputs.{input_line, whole_of};
-ghost use Rattle.commands.specs.Causes.{ReadCauses};
-ghost use Rattle.commands.specs.Endings.{Reads, IsRefusal, IsOfReading};
+ghost use Rattle.commands.specs.Prelude.{bytes_of, input_line, IsOfReading, IsRefusal, ReadCauses, Reads, whole_of};
 
 use crate::fault::Fault;
 use json_walk::MAX_TEXT_BYTES;

@@ -1,21 +1,10 @@
 //! The command `plan`.
 
-ghost use Rattle.std.specs.Prelude.{◌≡◌, ◌≢◌, ℕ, List, Option, Some, Ok, Err};
-ghost use Rattle.std.specs.Prelude.{IsTrue, IfOk, IfErr, IfSome, OnOk, string_bytes};
+ghost use Rattle.std.specs.Prelude.{◌≡◌, ◌≢◌, ℕ, List, Option, Some, Ok, Err, IsTrue, IfOk, IfErr, IfSome, OnOk, string_bytes};
 ghost use Rattle.std.specs.Option.{option_copied};
-ghost use Rattle.plan_io.specs.Causes.{CountsWrites};
-ghost use Rattle.plan_io.specs.Files.{OthersStay, IsCut};
-ghost use Rattle.slices.specs.Plans.{IsPlanOf};
-ghost use Rattle.plan_json.specs.Plans.{plan_of as plan_read};
-ghost use Rattle.plan_json.specs.Print.{plan_text};
+ghost use Rattle.commands.specs.Prelude.{CountsWrites, Ends, found_line, found_status, IsAnswer, IsCut, IsOfWriting, IsPlanned, IsPlanOf, IsWritten, Leaves, LeavesAtFailedRead, LeavesPlanned, MayRun, OthersStay, outcome_status, outside, PartCauses, plan, plan_of as plan_read, plan_text, WriteCauses};
 ghost use Rattle.search.specs.Answers.{plan_in};
-ghost use Rattle.commands.specs.Words.{plan};
-ghost use Rattle.commands.specs.Answer.{outside};
-ghost use Rattle.commands.specs.Causes.{PartCauses, WriteCauses};
-ghost use Rattle.commands.specs.Commands.{MayRun, IsAnswer, Leaves, LeavesAtFailedRead};
-ghost use Rattle.commands.specs.Planning.{found_line, found_status, undecided_line};
-ghost use Rattle.commands.specs.Planning.{IsPlanned, IsWritten, LeavesPlanned};
-ghost use Rattle.commands.specs.Endings.{Ends, IsOfWriting, outcome_status};
+ghost use Rattle.commands.specs.Planning.{undecided_line};
 
 use crate::fault::{Ending, Fault, Outcome};
 use crate::inputs::instance::problem_at;

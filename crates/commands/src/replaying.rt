@@ -2,16 +2,8 @@
 
 ghost use Rattle.std.specs.Prelude.{◌≡◌, ◌≢◌, ℕ, List, Option, Some, Err, IsTrue, IfErr};
 ghost use Rattle.std.specs.Io.{StartsWith};
-ghost use Rattle.plan_io.specs.Files.{Files};
-ghost use Rattle.slices.specs.Plans.{IsPlanOf, choices_of};
-ghost use Rattle.replay.specs.Report.{IsPrefixOfReport};
-ghost use Rattle.commands.specs.Words.{replay};
-ghost use Rattle.commands.specs.Answer.{outside};
-ghost use Rattle.commands.specs.Causes.{PartCauses, WriteCauses};
-ghost use Rattle.commands.specs.Commands.{MayRun, IsAnswer};
-ghost use Rattle.commands.specs.Replaying.{verdict_status, Replays};
-ghost use Rattle.commands.specs.Endings.{Ends, IsOfWriting, outcome_status};
-ghost use Rattle.commands.specs.Printed.{PrintsPrefix};
+ghost use Rattle.commands.specs.Prelude.{choices_of, Ends, Files, IsAnswer, IsOfWriting, IsPlanOf, IsPrefixOfReport, MayRun, outcome_status, outside, PartCauses, PrintsPrefix, replay, Replays, WriteCauses};
+ghost use Rattle.commands.specs.Replaying.{verdict_status};
 
 use crate::fault::{Ending, Fault, Outcome};
 use crate::inputs::instance::problem_at;

@@ -1,17 +1,7 @@
 //! The top call, from the words of the command line to the files and the line that it leaves.
 
 ghost use Rattle.std.specs.Prelude.{◌≡◌, ◌≢◌, ◌⊎◌, ◌++◌, ◌↔◌, ℕ, List, Option, None, Err, IsTrue};
-ghost use Rattle.plan_io.specs.Causes.{Rose};
-ghost use Rattle.plan_io.specs.Files.{Files};
-ghost use Rattle.commands.specs.Words.{asked, Command as Asked};
-ghost use Rattle.commands.specs.Answer.{Outside, outside, told};
-ghost use Rattle.commands.specs.Commands.{MayRun, IsAnswer, Leaves, LeavesAtFailedRead};
-ghost use Rattle.commands.specs.Commands.{KeepsSource, KeepsDeskWrites, KeepsDeskReads};
-ghost use Rattle.commands.specs.Commands.{ReadsInput, Takes};
-ghost use Rattle.commands.specs.Executing.{Taking, taking};
-ghost use Rattle.commands.specs.Printed.{PrintsPrefix};
-ghost use Rattle.commands.specs.Causes.{Counts, Causes, CommandCauses, NothingFailed, counts};
-ghost use Rattle.commands.specs.Endings.{Ends, EndsAnyhow, IsAnswered, LineEnds};
+ghost use Rattle.commands.specs.Prelude.{asked, Causes, Command as Asked, CommandCauses, Counts, counts, Ends, EndsAnyhow, Files, IsAnswer, IsAnswered, KeepsDeskReads, KeepsDeskWrites, KeepsSource, Leaves, LeavesAtFailedRead, LineEnds, MayRun, NothingFailed, Outside, outside, PrintsPrefix, ReadsInput, Rose, Takes, Taking, taking, told};
 
 use crate::checking::check;
 use crate::demonstrating::demo;

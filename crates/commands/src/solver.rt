@@ -1,12 +1,7 @@
 //! The search that commands ask for: by a solver, which makes its rules and its brancher when it is asked.
 
 ghost use Rattle.std.specs.Prelude.{◌≡◌, IsTrue, IfOk};
-ghost use Rattle.plan_io.specs.Causes.{CountsWrites};
-ghost use Rattle.plan_io.specs.Files.{OthersStay};
-ghost use Rattle.prop_core.specs.Lists.{Covered};
-ghost use Rattle.search.specs.Answers.{IsTrueOf};
-ghost use Rattle.search.specs.Staying.{MayStay};
-ghost use Rattle.commands.specs.Planning.{IsCertificateCut, IsCertified, IsToStay};
+ghost use Rattle.commands.specs.Prelude.{CountsWrites, Covered, IsCertificateCut, IsCertified, IsToStay, IsTrueOf, MayStay, OthersStay};
 
 use branching::brancher::Brancher;
 use catalogue::Problem;

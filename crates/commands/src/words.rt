@@ -1,8 +1,7 @@
 //! The words of the command line.
 
 ghost use Rattle.std.specs.Prelude.{◌≡◌, ◌≢◌, [], ◌∷◌, option_map, IfSome};
-ghost use Rattle.commands.specs.Words.{asked, command_of, are_names, is_name, is_plain, number_of, demo, generate, plan};
-ghost use Rattle.commands.specs.Meaning.{meaning, HasFilesApart};
+ghost use Rattle.commands.specs.Prelude.{are_names, asked, command_of, demo, generate, HasFilesApart, is_name, is_plain, meaning, number_of, plan};
 
 /// A command, with the names of its files, and its seed, its budget of decisions, or whether the check is strict.
 #[derive(Clone, Copy, Debug, PartialEq, Eq)]

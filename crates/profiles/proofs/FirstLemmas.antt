@@ -1,23 +1,7 @@
 -- Instants before which no machine starts at a node.
-use Rattle.std.proofs.Common.{◌≡◌, ◌≢◌, ◌⊎◌, inl, inr, ℕ, ◌*◌, ◌<◌, ◌≤◌, true, List, [], ◌∷◌, length, take, drop, refl, ap, subst, ◌∙◌, arith, Option, Some, None}
-use Rattle.std.specs.Prelude.{slice_index_or, slice_set, unwrap_or}
-use Rattle.std.specs.List.{Contains, filter}
-use Rattle.std.proofs.lemmas.Bool.{cases_eq}
-use Rattle.std.proofs.lemmas.Bool.Decides.{nat_tests}
-use Rattle.std.proofs.lemmas.Nat.{row_fits}
-use Rattle.std.proofs.lemmas.List.{length-set, length-take, length-drop, get_or-set_same, get_or-set_other, get_or-take, get_or-drop}
-use Rattle.base.specs.Least.{least, lowest}
-use Rattle.cluster.specs.declared.choices.Choice.{Choice}
-use Rattle.cluster.specs.declared.choices.Choice.TheVariants.{Act}
-use Rattle.cluster.specs.declared.choices.Place.TheVariants.{At}
-use Rattle.catalogue.specs.Instance.{Instance}
-use Rattle.slices.specs.Elements.{machine_count, node_count, vm}
-use Rattle.domains.specs.declared.parts.Part.TheVariants.{From}
-use Rattle.domains.specs.Parts.{in_part, stays}
-use Rattle.domains.specs.Sets.{Sets}
+use Rattle.base.proofs.Public.{◌≡◌, ◌≢◌, ◌⊎◌, inl, inr, ℕ, ◌*◌, ◌<◌, ◌≤◌, true, List, [], ◌∷◌, length, take, drop, refl, ap, subst, ◌∙◌, arith, Option, Some, None, slice_index_or, slice_set, unwrap_or, Contains, filter, cases_eq, nat_tests, row_fits, length-set, length-take, length-drop, get_or-set_same, get_or-set_other, get_or-take, get_or-drop}
+use Rattle.profiles.specs.Prelude.{Act, AreFirstAt, AreFirsts, At, Choice, From, in_part, Instance, IsNoLater, least, lowest, machine_count, node_count, Sets, slot_of, start_count, stays, vm}
 use Rattle.domains.proofs.Public.{contains_filter, least_of_each}
-use Rattle.profiles.specs.Firsts.{AreFirstAt, AreFirsts, IsNoLater, slot_of}
-use Rattle.profiles.specs.Firsts.{start_count}
 
 -- ---- the first start of some choices
 

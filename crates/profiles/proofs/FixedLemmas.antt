@@ -1,20 +1,8 @@
 -- Hosts, and the most that is used, by lists.
-use Rattle.std.proofs.Common.{◌≡◌, inl, inr, ℕ, ◌+◌, ◌<◌, Bool, List, [], ◌∷◌, ◌++◌, Option, Some, None, Vec, get_or, sym, ap, subst, ◌∙◌, arith}
-use Rattle.std.specs.List.Sorted.{IsNonDecreasingBy, IsPermutation}
-use Rattle.std.specs.declared.alloc.Global.{Global}
-use Rattle.std.proofs.lemmas.Bool.{cases_eq}
-use Rattle.std.proofs.lemmas.List.{get_or-map, length-append, length-map, map-append}
-use Rattle.std.proofs.lemmas.List.Elements.{All-push, All-weaker, Contains-append_left, Contains-push}
-use Rattle.std.proofs.lemmas.List.Sorted.{All-permutation, Contains-permutation}
-use Rattle.cluster.specs.declared.ids.NodeId.{NodeId}
-use Rattle.catalogue.specs.Instance.{Instance}
-use Rattle.slices.specs.Elements.{machine_count, state_of}
-use Rattle.slices.specs.Stages.{one}
-use Rattle.relax.specs.Areas.{hosted_in}
+use Rattle.std.proofs.Common.{Vec}
+use Rattle.base.proofs.Public.{◌≡◌, inl, inr, ℕ, ◌+◌, ◌<◌, Bool, List, [], ◌∷◌, ◌++◌, Option, Some, None, get_or, sym, ap, subst, ◌∙◌, arith, IsNonDecreasingBy, IsPermutation, Global, cases_eq, get_or-map, length-append, length-map, map-append, All-push, All-weaker, Contains-append_left, Contains-push, All-permutation, Contains-permutation}
+use Rattle.profiles.specs.Prelude.{AreHosts, AreMostUses, AreOrders, AreTotalBases, AreUses, hosted_in, HostIs, Instance, IsMostUse, IsOrder, IsTotalBase, lists_of, machine_count, most_use, MostUse, NodeId, one, state_of}
 use Rattle.profiles.proofs.StandingLemmas.Tables.{each_push}
-use Rattle.profiles.specs.declared.fixed.MostUse.{MostUse}
-use Rattle.profiles.specs.Hosts.{HostIs}
-use Rattle.profiles.specs.Fixed.{AreHosts, AreMostUses, AreOrders, AreTotalBases, AreUses, IsMostUse, IsOrder, IsTotalBase, lists_of, most_use}
 
 -- both tell whether the node is the host
 pub host_tells : (h : Option NodeId) (n : ℕ) (a b : Bool) → HostIs h n a → HostIs h n b → a ≡ b

@@ -1,13 +1,5 @@
 -- Flags of the numbers of a list.
-use Rattle.std.proofs.Common.{◌≡◌, ◌≢◌, inl, inr, ℕ, zero, suc, ◌<◌, ◌≤◌, ◌||◌, Bool, true, false, List, [], ◌∷◌, ◌++◌, length, get_or, set, refl, sym, ◌∙◌}
-use Rattle.std.specs.Prelude.{◌↔◌, IsTrue, nat_eq}
-use Rattle.std.specs.List.{Contains}
-use Rattle.std.proofs.lemmas.Bool.{cases_eq, eqb-true, ne_eqb}
-use Rattle.std.proofs.lemmas.Bool.Decides.{Decides-eqb}
-use Rattle.std.proofs.lemmas.Cmp.{nat_eq_equiv}
-use Rattle.std.proofs.lemmas.List.{get_or-set_same, get_or-set_other, get_or_past}
-use Rattle.std.proofs.lemmas.List.Folds.{list_any-append}
-use Rattle.std.proofs.lemmas.Map.Views.{Contains-from_any, list_any-from_Contains}
+use Rattle.base.proofs.Public.{◌≡◌, ◌≢◌, inl, inr, ℕ, zero, suc, ◌<◌, ◌≤◌, ◌||◌, Bool, true, false, List, [], ◌∷◌, ◌++◌, length, get_or, set, refl, sym, ◌∙◌, ◌↔◌, IsTrue, nat_eq, Contains, cases_eq, eqb-true, ne_eqb, Decides-eqb, nat_eq_equiv, get_or-set_same, get_or-set_other, get_or_past, list_any-append, Contains-from_any, list_any-from_Contains}
 use Rattle.profiles.specs.Flags.{AreFlags, is_in}
 
 -- the test tells what is in the list

@@ -1,10 +1,7 @@
 -- What a log tells after one entry more.
-use Rattle.std.proofs.Common.{◌≡◌, ◌≢◌, ℕ, zero, suc, ◌-◌, ◌<◌, ◌≤◌, List, [], ◌∷◌, ◌++◌, length, reverse, refl, sym, ap, ◌∙◌, arith}
-use Rattle.std.specs.Prelude.{slice_set, slice_index_or}
-use Rattle.std.proofs.lemmas.List.{get_or_append_left, get_or-append_right, length-append, length-reverse, reverse-append}
-use Rattle.profiles.specs.declared.levels.Entry.{Entry}
-use Rattle.profiles.specs.declared.levels.Entry.TheVariants.{Mark, Undo}
-use Rattle.profiles.specs.Levels.{IsLog, Levels, level_at, olders}
+use Rattle.std.proofs.Common.{reverse}
+use Rattle.base.proofs.Public.{◌≡◌, ◌≢◌, ℕ, zero, suc, ◌-◌, ◌<◌, ◌≤◌, List, [], ◌∷◌, ◌++◌, length, refl, sym, ap, ◌∙◌, arith, slice_set, slice_index_or, get_or_append_left, get_or-append_right, length-append, length-reverse, reverse-append}
+use Rattle.profiles.specs.Prelude.{Entry, IsLog, level_at, Levels, Mark, olders, Undo}
 
 module _ {T : Type 0} where
   -- what was there before is there again

@@ -1,20 +1,9 @@
 -- The list of the machines that may not stay, with one machine more.
-use Rattle.std.proofs.Common.{◌≡◌, inl, inr, ℕ, ◌+◌, ◌<◌, Bool, true, false, List, [], ◌∷◌, ◌++◌, sym, subst, ◌∙◌, arith}
-use Rattle.std.specs.List.{Contains, flat_map}
-use Rattle.std.proofs.lemmas.Bool.{cases_eq, ne_eqb}
-use Rattle.std.proofs.lemmas.List.Elements.{Contains-append_left, Contains-push, Contains-push_cases}
-use Rattle.cluster.specs.declared.choices.Choice.{Choice}
+use Rattle.base.proofs.Public.{◌≡◌, inl, inr, ℕ, ◌+◌, ◌<◌, Bool, true, false, List, [], ◌∷◌, ◌++◌, sym, subst, ◌∙◌, arith, Contains, flat_map, cases_eq, ne_eqb, Contains-append_left, Contains-push, Contains-push_cases}
+use Rattle.profiles.specs.Prelude.{AreMachines, AreMovers, Choice, choices, DomainView, Element, Instance, IsGrown, IsListedOrStays, IsToldOf, machine_count, Node, row_choices, same_element, Sets, Vm, vm}
 use Rattle.cluster.specs.declared.choices.Choice.TheVariants.{Idle}
-use Rattle.cluster.specs.declared.ids.Element.{Element}
-use Rattle.cluster.specs.declared.ids.Element.TheVariants.{Vm, Node}
-use Rattle.catalogue.specs.Instance.{Instance}
-use Rattle.slices.specs.Elements.{machine_count, vm}
-use Rattle.domains.specs.Choices.{DomainView, choices, row_choices}
-use Rattle.domains.specs.Sets.{Sets, same_element}
 use Rattle.domains.specs.SetsBefore.{putting}
 use Rattle.domains.proofs.Public.{contains_here}
-use Rattle.profiles.specs.Near.{AreMachines}
-use Rattle.profiles.specs.Movers.{AreMovers, IsGrown, IsListedOrStays, IsToldOf}
 use Rattle.profiles.proofs.SumLemmas.{once_more}
 
 -- ---- whether Idle is a choice

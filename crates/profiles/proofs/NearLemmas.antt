@@ -1,16 +1,6 @@
 -- Lists of machines that grow.
-use Rattle.std.proofs.Common.{◌≡◌, ◌≢◌, ◌⊎◌, inl, inr, ℕ, ◌+◌, ◌<◌, ◌≤◌, nat_lt, true, false, List, [], ◌∷◌, ◌++◌, length, replicate, refl, sym, subst, ◌∙◌, arith}
-use Rattle.std.specs.Prelude.{slice_set}
-use Rattle.std.specs.List.{Contains}
-use Rattle.std.proofs.lemmas.Bool.{cases_Bool, cases_eq, false≢true}
-use Rattle.std.proofs.lemmas.Bool.Decides.{nat_tests}
-use Rattle.std.proofs.lemmas.List.{get_or-replicate, get_or-set_same, get_or-set_other, get_or_past, length-replicate, length-set}
-use Rattle.std.proofs.lemmas.List.Elements.{Contains-append_left, Contains-push, Contains-push_cases}
-use Rattle.catalogue.specs.Instance.{Instance}
-use Rattle.slices.specs.Elements.{machine_count, node_count, state_of}
-use Rattle.slices.specs.Stages.{one}
-use Rattle.relax.specs.Areas.{hosted_in}
-use Rattle.profiles.specs.Near.{AreMachines, AreNear, IsEachOnce, IsNear, IsPut, list_at}
+use Rattle.base.proofs.Public.{◌≡◌, ◌≢◌, ◌⊎◌, inl, inr, ℕ, ◌+◌, ◌<◌, ◌≤◌, nat_lt, true, false, List, [], ◌∷◌, ◌++◌, length, replicate, refl, sym, subst, ◌∙◌, arith, slice_set, Contains, cases_Bool, cases_eq, false≢true, nat_tests, get_or-replicate, get_or-set_same, get_or-set_other, get_or_past, length-replicate, length-set, Contains-append_left, Contains-push, Contains-push_cases}
+use Rattle.profiles.specs.Prelude.{AreMachines, AreNear, hosted_in, Instance, IsEachOnce, IsNear, IsPut, list_at, machine_count, node_count, one, state_of}
 use Rattle.profiles.proofs.SumLemmas.{once_more}
 
 -- ---- one machine more

@@ -1,22 +1,7 @@
 -- What is added up is the load of the node.
-use Rattle.std.proofs.Common.{◌≡◌, ℕ, ◌+◌, ◌<◌, Bool, true, false, ◌&&◌, nat_lt, cond, refl, sym, ap, ◌∙◌}
-use Rattle.std.specs.Prelude.{slice_index_or}
-use Rattle.catalogue.specs.Instance.{Instance}
-use Rattle.base.specs.Sums.{sum_to}
-use Rattle.base.proofs.Sums.{sum_to-same}
-use Rattle.slices.specs.declared.slice.Weight.TheVariants.{Amount}
-use Rattle.slices.specs.Elements.{machine_count, state_of}
-use Rattle.slices.specs.Snapshots.{load}
-use Rattle.slices.specs.Stages.{one}
-use Rattle.domains.specs.Sets.{Sets}
-use Rattle.reasons.specs.Sure.{sure}
-use Rattle.relax.specs.Areas.{hosted_in}
-use Rattle.profiles.specs.declared.standing.numbers.Standing.{Standing}
-use Rattle.profiles.specs.Standing.Standings.{base, comes_by, gain, kept_use, never}
-use Rattle.profiles.specs.Standing.Tables.{no_standing}
+use Rattle.base.proofs.Public.{◌≡◌, ℕ, ◌+◌, ◌<◌, Bool, true, false, ◌&&◌, nat_lt, cond, refl, sym, ap, ◌∙◌, slice_index_or, sum_to-same}
+use Rattle.profiles.specs.Prelude.{Amount, base, comes_by, gain, hosted_in, Instance, IsProfile, IsShare, kept_use, load, machine_count, never, no_share, no_standing, one, ProfileView, Sets, Share, share_use, Standing, state_of, sum_to, sure, total_use}
 use Rattle.profiles.proofs.StandingLemmas.Laws.{load_law}
-use Rattle.profiles.specs.declared.node_load.share.Share.{Share}
-use Rattle.profiles.specs.NodeLoad.{IsProfile, IsShare, ProfileView, no_share, share_use, total_use}
 
 -- a machine's share is what it surely has
 share-is : (p : Instance) (n r v t : ℕ) (x : Share) (k : Standing) → IsShare p n r v x → kept_use p v (Amount r) n t k ≡ share_use n t x k

@@ -1,20 +1,7 @@
 -- The room of one node.
-use Rattle.std.proofs.Common.{◌≡◌, ◌≢◌, ℕ, ◌<◌, ◌==◌, true, false, cond, refl, arith}
-use Rattle.std.proofs.lemmas.Bool.{ne_eqb}
-use Rattle.std.proofs.lemmas.Bool.Decides.{Decides-eqb}
-use Rattle.base.specs.Sums.{sum_to}
-use Rattle.base.proofs.Sums.{sum_to-change, sum_to-zero}
-use Rattle.cluster.specs.Inventory.{is_online}
-use Rattle.catalogue.specs.Instance.{Instance}
-use Rattle.catalogue.specs.Values.{capacity_of}
-use Rattle.slices.specs.Elements.{node, node_count}
-use Rattle.slices.specs.Snapshots.{Snapshot, room, usable_at}
-use Rattle.slices.specs.Stages.{one}
-use Rattle.domains.specs.declared.view.Lens.{Lens}
-use Rattle.domains.specs.Sets.{RegionView, domain_at}
-use Rattle.domains.specs.Views.{idle_seen, seen, sight_at}
+use Rattle.base.proofs.Public.{◌≡◌, ◌≢◌, ℕ, ◌<◌, ◌==◌, true, false, cond, refl, arith, ne_eqb, Decides-eqb, sum_to-change, sum_to-zero}
+use Rattle.profiles.specs.Prelude.{capacity_of, domain_at, idle_seen, Instance, is_online, Lens, node, node_count, one, RegionView, room, seen, sight_at, Snapshot, sum_to, sure, usable_at}
 use Rattle.domains.proofs.Public.{seen_by_rows}
-use Rattle.reasons.specs.Sure.{sure}
 
 -- of a sum over one node there is one term
 sum-of-one : (count n : ℕ) (f : ℕ → ℕ) → n < count → sum_to count (λ k. cond (one n k) (f k) 0) ≡ f n

@@ -1,14 +1,6 @@
 -- Sums over the numbers of a list in place of all below a bound.
-use Rattle.std.proofs.Common.{◌≡◌, ◌≢◌, inl, inr, ◌⊎◌, ℕ, zero, suc, ◌+◌, ◌-◌, ◌<◌, ◌≤◌, ◌==◌, true, false, cond, List, [], ◌∷◌, ◌++◌, length, refl, sym, subst, take, ◌∙◌, arith}
-use Rattle.std.specs.List.{Contains, sum_by}
-use Rattle.std.proofs.lemmas.Bool.{cases_eq}
-use Rattle.std.proofs.lemmas.Bool.Decides.{Decides-eqb, nat_tests}
-use Rattle.std.proofs.lemmas.List.{take_all}
-use Rattle.std.proofs.lemmas.List.Elements.{Contains-append_right, Contains-append_cases, Contains-push_cases}
-use Rattle.std.proofs.lemmas.List.Sums.{sum_by-cons}
-use Rattle.base.specs.Sums.{sum_to}
-use Rattle.base.proofs.Sums.{sum_to-change, sum_to-none}
-use Rattle.profiles.specs.Near.{IsEachOnce}
+use Rattle.base.proofs.Public.{◌≡◌, ◌≢◌, inl, inr, ◌⊎◌, ℕ, zero, suc, ◌+◌, ◌-◌, ◌<◌, ◌≤◌, ◌==◌, true, false, cond, List, [], ◌∷◌, ◌++◌, length, refl, sym, subst, take, ◌∙◌, arith, Contains, sum_by, cases_eq, Decides-eqb, nat_tests, take_all, Contains-append_right, Contains-append_cases, Contains-push_cases, sum_by-cons, sum_to-change, sum_to-none}
+use Rattle.profiles.specs.Prelude.{IsEachOnce, sum_to}
 
 -- ---- lists
 

@@ -3,15 +3,9 @@ use Rattle.std.specs.Prelude.{◌≡◌, ℕ, ◌+◌, ◌*◌, ◌<◌, ◌≤�
 use Rattle.std.specs.List.{All, Contains}
 use Rattle.std.specs.List.Sorted.{IsNonDecreasingBy}
 use Rattle.std.specs.declared.alloc.Global.{Global}
-use Rattle.cluster.specs.Limits.{max_amount, max_machines}
+use Rattle.relax.specs.Prelude.{demand_of, hosted_in, Instance, machine_count, max_amount, max_machines, one, state_of, sum_to}
 use Rattle.cluster.specs.declared.ids.NodeId.{NodeId}
-use Rattle.catalogue.specs.Instance.{Instance}
-use Rattle.catalogue.specs.Values.{demand_of}
-use Rattle.base.specs.Sums.{sum_to}
 use Rattle.slices.specs.declared.slice.Weight.TheVariants.{Amount}
-use Rattle.slices.specs.Elements.{machine_count, state_of}
-use Rattle.slices.specs.Stages.{one}
-use Rattle.relax.specs.Areas.{hosted_in}
 use Rattle.profiles.specs.Hosts.{HostIs}
 use Rattle.profiles.specs.Standing.Standings.{base}
 use Rattle.profiles.specs.declared.fixed.MostUse.{MostUse}

@@ -9,3 +9,4 @@ pub mod Fixed
 pub mod NodeLoad
 -- what the code's contracts say beside it
 pub mod Flags
+pub mod Prelude

@@ -1,12 +1,10 @@
 -- The machines that may not stay as they are.
 use Rattle.std.specs.Prelude.{◌≡◌, ℕ, ◌<◌, List}
 use Rattle.std.specs.List.{Contains}
+use Rattle.relax.specs.Prelude.{Instance, machine_count, Sets, vm}
 use Rattle.cluster.specs.declared.choices.Choice.TheVariants.{Idle}
 use Rattle.cluster.specs.declared.ids.Element.{Element}
 use Rattle.cluster.specs.declared.ids.Element.TheVariants.{Vm, Node}
-use Rattle.catalogue.specs.Instance.{Instance}
-use Rattle.slices.specs.Elements.{machine_count, vm}
-use Rattle.domains.specs.Sets.{Sets}
 use Rattle.profiles.specs.Near.{AreMachines}
 
 -- any machine that is not in the list may stay as it is; no machine is there twice

@@ -1,10 +1,7 @@
 -- Which machines are near each node.
 use Rattle.std.specs.Prelude.{◌≡◌, ◌⊎◌, ℕ, ◌<◌, true, List, [], ◌∷◌, length, slice_index_or}
 use Rattle.std.specs.List.{Contains}
-use Rattle.catalogue.specs.Instance.{Instance}
-use Rattle.slices.specs.Elements.{machine_count, node_count, state_of}
-use Rattle.slices.specs.Stages.{one}
-use Rattle.relax.specs.Areas.{hosted_in}
+use Rattle.relax.specs.Prelude.{hosted_in, Instance, machine_count, node_count, one, state_of}
 
 -- the list of node n
 abbrev pub list_at : List (List ℕ) → ℕ → List ℕ

@@ -1,13 +1,7 @@
 -- What a node surely holds of a resource at each instant, by the numbers of the machines.
 use Rattle.std.specs.Prelude.{◌≡◌, ℕ, ◌+◌, ◌<◌, ◌≤◌, List, length, nat_lt, slice_index_or, if◌then◌else◌}
-use Rattle.cluster.specs.Limits.{max_amount, max_machines}
-use Rattle.catalogue.specs.Instance.{Instance}
-use Rattle.base.specs.Sums.{sum_to}
+use Rattle.relax.specs.Prelude.{hosted_in, Instance, machine_count, max_amount, max_machines, one, Sets, state_of, sum_to}
 use Rattle.slices.specs.declared.slice.Weight.TheVariants.{Amount}
-use Rattle.slices.specs.Elements.{machine_count, state_of}
-use Rattle.slices.specs.Stages.{one}
-use Rattle.domains.specs.Sets.{Sets}
-use Rattle.relax.specs.Areas.{hosted_in}
 use Rattle.profiles.specs.declared.standing.numbers.Standing.{Standing}
 use Rattle.profiles.specs.Standing.Standings.{base, comes_by, gain}
 use Rattle.profiles.specs.Standing.Tables.{AreStanding, Tables, no_standing}

@@ -1,10 +1,6 @@
 //! No later than when each machine first starts at each node, kept with levels.
 ghost use Rattle.std.specs.Prelude.{◌≡◌, ◌+◌, ◌*◌, ◌<◌, [], length, OnErr, OnOk};
-ghost use Rattle.catalogue.specs.Instance.{IsElement};
-ghost use Rattle.slices.specs.Elements.{machine_count, node_count};
-ghost use Rattle.domains.specs.Choices.{choices};
-ghost use Rattle.domains.specs.Sets.{sets};
-ghost use Rattle.relax.specs.Areas.{IsSized};
+ghost use Rattle.relax.specs.Prelude.{choices, IsElement, IsSized, machine_count, node_count, sets};
 ghost use Rattle.profiles.specs.Levels.{IsBack, marked};
 ghost use Rattle.profiles.specs.Firsts.{AreFirstAt, AreFirsts, IsNoLater, slot_of as the_slot_of, start_count};
 

@@ -1,9 +1,6 @@
 //! What no change of a region changes: the hosts of machines, what all have, and the most that any of them uses.
 ghost use Rattle.std.specs.Prelude.{◌≡◌, ◌+◌, ◌<◌, [], IfOk, length};
-ghost use Rattle.catalogue.specs.Instance.{IsElement};
-ghost use Rattle.slices.specs.Elements.{machine_count, state_of};
-ghost use Rattle.slices.specs.Stages.{one};
-ghost use Rattle.relax.specs.Areas.{hosted_in};
+ghost use Rattle.relax.specs.Prelude.{hosted_in, IsElement, machine_count, one, state_of};
 ghost use Rattle.profiles.specs.Fixed.{AreHosts, AreMostUses, AreOrders, AreTotalBases, AreUses, IsFixed, IsMostUse, IsOrder, IsTotalBase, lists_of};
 
 use crate::host::{host_of, is_this};

@@ -1,10 +1,6 @@
 //! The host of a machine: the node on which it runs or sleeps at present.
 ghost use Rattle.std.specs.Prelude.{◌≡◌, ℕ};
-ghost use Rattle.catalogue.specs.Instance.{IsElement};
-ghost use Rattle.slices.specs.Elements.{state_of};
-ghost use Rattle.slices.specs.Stages.{one};
-ghost use Rattle.relax.specs.Areas.{hosted_in};
-ghost use Rattle.profiles.specs.Hosts.{HostIs};
+ghost use Rattle.profiles.specs.Prelude.{hosted_in, HostIs, IsElement, one, state_of};
 
 use catalogue::Problem;
 use cluster::{Element, NodeId, State, VmId};

@@ -1,11 +1,8 @@
 //! The machines that may not stay, in a list that only grows.
 ghost use Rattle.std.specs.Prelude.{◌≡◌, ℕ, ◌+◌, ◌<◌, ◌≤◌, ◌↔◌, [], ◌∷◌, ◌++◌, false, IfOk, IsTrue, OnOk, length, slice_index_or, vec_len};
 ghost use Rattle.std.specs.List.{Contains};
+ghost use Rattle.relax.specs.Prelude.{IsElement, IsSized, machine_count, sets, vm};
 ghost use Rattle.cluster.specs.declared.choices.Choice.TheVariants.{Idle};
-ghost use Rattle.catalogue.specs.Instance.{IsElement};
-ghost use Rattle.slices.specs.Elements.{machine_count, vm};
-ghost use Rattle.domains.specs.Sets.{sets};
-ghost use Rattle.relax.specs.Areas.{IsSized};
 ghost use Rattle.profiles.specs.Movers.{AreMovers, IsGrown, IsListedOrStays, IsToldOf};
 
 use base::Memory;

@@ -1,13 +1,6 @@
 //! What a lens shows: the machine of which it may not show all choices, and the room of a node.
 ghost use Rattle.std.specs.Prelude.{◌≡◌, ◌≢◌, ℕ, ◌<◌, false, length, true, IfSome, IsTrue};
-ghost use Rattle.cluster.specs.Inventory.{is_online as the_is_online};
-ghost use Rattle.slices.specs.Elements.{node_count, vm};
-ghost use Rattle.slices.specs.Snapshots.{room as room_of};
-ghost use Rattle.slices.specs.Stages.{one};
-ghost use Rattle.domains.specs.Sets.{RegionView, sets};
-ghost use Rattle.domains.specs.Views.{seen};
-ghost use Rattle.reasons.specs.Sure.{sure};
-ghost use Rattle.relax.specs.Areas.{IsSized};
+ghost use Rattle.profiles.specs.Prelude.{is_online as the_is_online, IsSized, node_count, one, RegionView, room as room_of, seen, sets, sure, vm};
 
 use catalogue::Problem;
 use cluster::{Element, Instant, NodeId, VmId};

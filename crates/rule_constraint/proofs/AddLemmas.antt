@@ -1,20 +1,7 @@
 -- A constraint in the lists of all that it looks at.
-use Rattle.std.proofs.Common.{◌≡◌, ◌⊎◌, inl, inr, ℕ, zero, suc, ◌+◌, ◌<◌, ◌≤◌, false, List, [], ◌∷◌, length, Some, None, IsTrue, refl, sym, subst, ◌∙◌, arith}
-use Rattle.std.specs.Prelude.{slice_get, slice_index_or}
-use Rattle.std.specs.List.{Contains}
-use Rattle.std.proofs.lemmas.Bool.{cases_eq, cases_lt}
-use Rattle.cluster.specs.declared.ids.Element.{Element}
-use Rattle.cluster.specs.declared.ids.Element.TheVariants.{Vm, Node as TheNode}
-use Rattle.cluster.specs.declared.ids.VmId.{VmId}
-use Rattle.cluster.specs.declared.ids.NodeId.{NodeId}
-use Rattle.cluster.specs.declared.sets.NodeSet.{NodeSet}
-use Rattle.cluster.specs.Sets.{has_node}
-use Rattle.catalogue.specs.declared.constraint.Constraint.{Constraint}
-use Rattle.catalogue.specs.Instance.{Instance, IsElement}
-use Rattle.closing.specs.Kinds.{actions_of, constraint_watch, nothing, powered_in_set, presences_of, scope_of, watch_of}
-use Rattle.closing.specs.Watches.{IsMachineUnseen, IsNodeUnseen, IsUnseen, Scope}
-use Rattle.rule_frame.specs.Levels.{Levels}
-use Rattle.rule_constraint.specs.Indexes.{AreLooking, AreMarked, HasList, IsAdded, IsIndexOf, IsListed, IsPut, Lists}
+use Rattle.std.proofs.Common.{IsTrue}
+use Rattle.base.proofs.Public.{◌≡◌, ◌⊎◌, inl, inr, ℕ, zero, suc, ◌+◌, ◌<◌, ◌≤◌, false, List, [], ◌∷◌, length, Some, None, refl, sym, subst, ◌∙◌, arith, slice_get, slice_index_or, Contains, cases_eq, cases_lt}
+use Rattle.rule_constraint.specs.Prelude.{actions_of, AreLooking, AreMarked, Constraint, constraint_watch, Element, has_node, HasList, Instance, IsAdded, IsElement, IsIndexOf, IsListed, IsMachineUnseen, IsNodeUnseen, IsPut, IsUnseen, Levels, Lists, Node as TheNode, NodeId, NodeSet, nothing, powered_in_set, presences_of, Scope, scope_of, Vm, VmId, watch_of}
 
 -- ---- by where a constraint looks
 

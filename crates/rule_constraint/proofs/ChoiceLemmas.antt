@@ -1,18 +1,8 @@
 -- Where a machine comes to under one choice.
-use Rattle.std.proofs.Common.{◌≡◌, ℕ, ◌≤◌, Bool, true, false, ◌&&◌, List, [], ◌∷◌, Option, Some, None, refl, sym, subst, ◌∙◌, arith}
-use Rattle.std.specs.List.{Contains, filter}
-use Rattle.std.proofs.lemmas.Bool.Decides.{nat_tests}
-use Rattle.cluster.specs.declared.choices.Choice.{Choice}
-use Rattle.cluster.specs.declared.choices.Choice.TheVariants.{Idle, Act}
-use Rattle.cluster.specs.declared.choices.Place.TheVariants.{Nowhere, At}
-use Rattle.cluster.specs.declared.ids.NodeId.{NodeId}
-use Rattle.catalogue.specs.Instance.{Instance}
-use Rattle.domains.specs.declared.parts.Part.TheVariants.{Upto}
-use Rattle.domains.specs.Parts.{in_part}
+use Rattle.base.proofs.Public.{◌≡◌, ℕ, ◌≤◌, Bool, true, false, ◌&&◌, List, [], ◌∷◌, Option, Some, None, refl, sym, subst, ◌∙◌, arith, Contains, filter, nat_tests}
+use Rattle.rule_constraint.specs.Prelude.{Act, Arrival, At, Choice, comes_by, has_come, in_part, Instance, IsStanding, leave_of, NodeId, Nowhere, Standing, Upto}
+use Rattle.cluster.specs.declared.choices.Choice.TheVariants.{Idle}
 use Rattle.domains.proofs.Public.{contains_filter}
-use Rattle.profiles.specs.declared.standing.numbers.Arrival.{Arrival}
-use Rattle.profiles.specs.declared.standing.numbers.Standing.{Standing}
-use Rattle.profiles.specs.Standing.Standings.{IsStanding, comes_by, has_come, leave_of}
 
 abbrev pub arrival : Choice → Option Arrival
 arrival Idle = None

@@ -1,17 +1,7 @@
 -- Lists of constraints, filled one constraint after the other.
-use Rattle.std.proofs.Common.{◌≡◌, ◌≢◌, ◌⊎◌, inl, inr, ℕ, suc, ◌+◌, ◌<◌, ◌≤◌, ◌==◌, true, false, IsTrue, List, [], ◌∷◌, ◌++◌, length, get_or, set, refl, sym, subst, ◌∙◌, arith}
-use Rattle.std.specs.List.{Contains}
-use Rattle.std.proofs.lemmas.Bool.{both_ways, cases_eq, cases_lt, eqb-true, false≢true, or_cases}
-use Rattle.std.proofs.lemmas.List.{get_or-set_other, get_or_default, get_or_past, length-set}
-use Rattle.std.proofs.lemmas.Grind.{get_or-set_at}
-use Rattle.std.proofs.lemmas.List.Elements.{Contains-append_cases, Contains-append_left, Contains-append_right}
-use Rattle.cluster.specs.declared.ids.VmId.{VmId}
-use Rattle.cluster.specs.declared.sets.NodeSet.{NodeSet}
-use Rattle.cluster.specs.Sets.{has_node}
-use Rattle.catalogue.specs.Faults.{is_member}
-use Rattle.slices.specs.Holds.{IsInPart, IsMember}
-use Rattle.rule_constraint.specs.Indexes.{AreMarked, IsPut}
-use Rattle.rule_frame.specs.Levels.{Levels}
+use Rattle.std.proofs.Common.{IsTrue}
+use Rattle.base.proofs.Public.{◌≡◌, ◌≢◌, ◌⊎◌, inl, inr, ℕ, suc, ◌+◌, ◌<◌, ◌≤◌, ◌==◌, true, false, List, [], ◌∷◌, ◌++◌, length, get_or, set, refl, sym, subst, ◌∙◌, arith, Contains, both_ways, cases_eq, cases_lt, eqb-true, false≢true, or_cases, get_or-set_other, get_or_default, get_or_past, length-set, get_or-set_at, Contains-append_cases, Contains-append_left, Contains-append_right}
+use Rattle.rule_constraint.specs.Prelude.{AreMarked, has_node, is_member, IsInPart, IsMember, IsPut, Levels, NodeSet, VmId}
 
 contains-one : (c d : ℕ) → Contains (c ∷ []) d → d ≡ c
 contains-one c d (k, h, e) = at k h e

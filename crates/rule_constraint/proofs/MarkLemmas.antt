@@ -1,21 +1,7 @@
 -- Marks on the watches of constraints.
-use Rattle.std.proofs.Common.{◌≡◌, ℕ, ◌<◌, Bool, true, false, List, length, get_or, Option, Some, None}
-use Rattle.std.specs.Prelude.{slice_get}
-use Rattle.cluster.specs.declared.choices.Choice.{Choice}
-use Rattle.cluster.specs.declared.ids.Element.{Element}
-use Rattle.cluster.specs.declared.ids.Element.TheVariants.{Vm, Node as TheNode}
-use Rattle.catalogue.specs.declared.constraint.Constraint.{Constraint}
-use Rattle.catalogue.specs.Instance.{Instance}
-use Rattle.reasons.specs.declared.reason.ReasonKind.{ReasonKind}
-use Rattle.closing.specs.Kinds.{nothing, rule_watch, watch_of}
-use Rattle.closing.specs.Watches.{IsUnseen}
-use Rattle.rule_constraint.specs.Given.{reason_kind}
-use Rattle.rule_frame.specs.Changes.{IsDisturbed, IsStill}
-use Rattle.rule_frame.specs.Levels.{Levels}
+use Rattle.base.proofs.Public.{◌≡◌, ℕ, ◌<◌, Bool, true, false, List, length, get_or, Option, Some, None, slice_get}
+use Rattle.rule_constraint.specs.Prelude.{AreLooking, Choice, choose, Constraint, Element, Instance, IsDisturbed, IsStill, IsUnseen, kept_watch, Levels, LookingDisturbs, no_watch, Node as TheNode, nothing, passes, reason_kind, ReasonKind, rule_watch, Vm, watch_at, watch_of}
 use Rattle.rule_frame.proofs.Public.{unseen_still}
-use Rattle.rule_constraint.specs.Indexes.{AreLooking}
-use Rattle.rule_constraint.specs.Laws.{LookingDisturbs}
-use Rattle.rule_constraint.specs.Watches.{choose, kept_watch, no_watch, passes, watch_at}
 
 pub looking_disturbs : LookingDisturbs
 looking_disturbs watch p x old now m n further looking = record {

@@ -1,10 +1,6 @@
 -- What holds of each machine of a list.
-use Rattle.std.proofs.Common.{◌≡◌, inl, inr, ℕ, suc, ◌+◌, ◌<◌, ◌≤◌, ◌==◌, List, [], ◌∷◌, length, get_or, subst, arith}
-use Rattle.std.proofs.lemmas.Bool.{cases_eq, eqb-true, false≢true, or_cases}
-use Rattle.std.proofs.lemmas.List.{get_or_default}
-use Rattle.cluster.specs.declared.ids.VmId.{VmId}
-use Rattle.catalogue.specs.Faults.{is_member}
-use Rattle.slices.specs.Holds.{IsMember}
+use Rattle.base.proofs.Public.{◌≡◌, inl, inr, ℕ, suc, ◌+◌, ◌<◌, ◌≤◌, ◌==◌, List, [], ◌∷◌, length, get_or, subst, arith, cases_eq, eqb-true, false≢true, or_cases, get_or_default}
+use Rattle.rule_constraint.specs.Prelude.{is_member, IsMember, VmId}
 
 -- what holds of the first machines of a list holds of one more
 pub next_member : (P : ℕ → Type 0) (vs : List VmId) (i : ℕ) (e : VmId) → i < length vs → ((k : ℕ) (d : VmId) → k < i → P (get_or vs k d).0) → P (get_or vs i e).0 → (k : ℕ) (d : VmId) → k < i + 1 → P (get_or vs k d).0

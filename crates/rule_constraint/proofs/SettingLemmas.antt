@@ -1,21 +1,7 @@
 -- What a setting of one element leaves of presences, and the first start of a row.
-use Rattle.std.proofs.Common.{◌≡◌, ◌≢◌, ◌⊎◌, inl, inr, ℕ, ◌<◌, List, length, slice_index_or, refl, sym, ap}
-use Rattle.std.proofs.lemmas.Bool.{cases_eq}
-use Rattle.cluster.specs.declared.choices.Choice.{Choice}
-use Rattle.cluster.specs.declared.choices.Choice.TheVariants.{Act}
-use Rattle.cluster.specs.declared.ids.Element.{Element}
-use Rattle.cluster.specs.declared.ids.Element.TheVariants.{Vm, Node as TheNode}
-use Rattle.cluster.specs.declared.ids.VmId.{VmId}
-use Rattle.catalogue.specs.Instance.{Instance}
-use Rattle.slices.specs.Elements.{vm}
-use Rattle.slices.specs.Snapshots.{present_at}
-use Rattle.slices.specs.Stages.{one}
-use Rattle.domains.specs.Choices.{Climbs, DomainView, choices, no_row}
-use Rattle.domains.specs.declared.parts.Row.{Row}
-use Rattle.domains.specs.Sets.{Sets, setting}
-use Rattle.reasons.specs.Closed.{IsEnd}
-use Rattle.reasons.specs.Regions.{row_at}
-use Rattle.reasons.specs.Sure.{sure}
+use Rattle.std.proofs.Common.{slice_index_or}
+use Rattle.base.proofs.Public.{◌≡◌, ◌≢◌, ◌⊎◌, inl, inr, ℕ, ◌<◌, List, length, refl, sym, ap, cases_eq}
+use Rattle.rule_constraint.specs.Prelude.{Act, Choice, choices, Climbs, DomainView, Element, Instance, IsEnd, no_row, Node as TheNode, one, present_at, Row, row_at, Sets, setting, sure, Vm, vm, VmId}
 use Rattle.reasons.proofs.Public.{ends_of_rows, setting_sets}
 
 pub other-vm : (v w : ℕ) → v ≢ w → vm v ≢ vm w

@@ -1,14 +1,9 @@
 -- Helping only: what breaks a constraint is of the kind that its form gives.
 use Rattle.std.proofs.Common.{◌≡◌, inl, inr, ℕ, Some, refl, subst}
+use Rattle.rule_frame.specs.Prelude.{Allowed, Apart, Bounded, BreaksGroup, ExceedsAmount, ExceedsPower, Form, form_of, FormForbidsPair, FormForbidsPlace, Instance, InTurn, IsBroken, Ordered, Powered, Settled, Snapshot, Together}
 use Rattle.catalogue.specs.declared.constraint.Constraint.{Constraint}
-use Rattle.catalogue.specs.Instance.{Instance}
-use Rattle.slices.specs.Forms.{Form, Apart, Allowed, Together, Ordered, InTurn, Bounded, Powered, Settled, form_of}
-use Rattle.slices.specs.Holds.{FormForbidsPair, FormForbidsPlace}
-use Rattle.slices.specs.Snapshots.{Snapshot}
 use Rattle.reasons.specs.declared.reason.ReasonKind.{ReasonKind}
 use Rattle.reasons.specs.declared.reason.ReasonKind.TheVariants.{Empty, Bound, Load, Pair, Place, Group, SetLoad, Power, Usable, Hall}
-use Rattle.reasons.specs.Reasons.{BreaksGroup, ExceedsAmount, ExceedsPower}
-use Rattle.closing.specs.Kinds.{IsBroken}
 use Rattle.rule_constraint.specs.Given.{IsBrokenBy, kind_of, reason_kind}
 
 module _ (p : Instance) (s : Snapshot) where

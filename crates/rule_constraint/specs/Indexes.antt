@@ -1,14 +1,10 @@
 -- Which constraints look at each machine and at each node.
 use Rattle.std.specs.Prelude.{◌≡◌, ◌≢◌, ◌⊎◌, ℕ, ◌<◌, false, List, [], length, slice_index_or}
 use Rattle.std.specs.List.{Contains}
+use Rattle.rule_frame.specs.Prelude.{constraint_watch, Instance, IsElement, IsUnseen, Levels, machine_count, node_count, scope_of}
 use Rattle.cluster.specs.declared.ids.Element.{Element}
 use Rattle.cluster.specs.declared.ids.Element.TheVariants.{Vm, Node as TheNode}
 use Rattle.catalogue.specs.declared.constraint.Constraint.{Constraint}
-use Rattle.catalogue.specs.Instance.{Instance, IsElement}
-use Rattle.slices.specs.Elements.{machine_count, node_count}
-use Rattle.closing.specs.Kinds.{constraint_watch, scope_of}
-use Rattle.closing.specs.Watches.{IsUnseen}
-use Rattle.rule_frame.specs.Levels.{Levels}
 
 -- of each machine and each node a list of numbers of constraints, and one list for all machines
 pub record Lists : Type 0 where

@@ -1,12 +1,8 @@
 -- Helping only: what marks of all constraints that look at an element are enough for.
 use Rattle.std.specs.Prelude.{ℕ, List}
+use Rattle.rule_frame.specs.Prelude.{constraint_watch, Instance, IsDisturbed, IsUnseen, Levels, Watch}
 use Rattle.cluster.specs.declared.choices.Choice.{Choice}
 use Rattle.cluster.specs.declared.ids.Element.{Element}
-use Rattle.catalogue.specs.Instance.{Instance}
-use Rattle.closing.specs.Kinds.{constraint_watch}
-use Rattle.closing.specs.Watches.{IsUnseen, Watch}
-use Rattle.rule_frame.specs.Changes.{IsDisturbed}
-use Rattle.rule_frame.specs.Levels.{Levels}
 use Rattle.rule_constraint.specs.Indexes.{AreLooking}
 
 -- where all constraints that look at an element are marked, so is each watch on which a change of it weighs that looks no further

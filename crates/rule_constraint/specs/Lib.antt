@@ -6,3 +6,4 @@ pub mod Indexes
 pub mod Broken
 pub mod Laws
 pub mod Quiet
+pub mod Prelude

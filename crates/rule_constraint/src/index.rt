@@ -1,13 +1,8 @@
 //! An index of constraints by what they look at, kept beside rules of constraints.
 ghost use Rattle.std.specs.Prelude.{◌≡◌, ◌<◌, ◌≤◌, ℕ, IfOk, IsTrue, OnOk, List, [], length, slice_index_or};
 ghost use Rattle.std.specs.List.{Contains};
-ghost use Rattle.cluster.specs.Limits.{max_nodes};
-ghost use Rattle.cluster.specs.Sets.{has_node};
-ghost use Rattle.catalogue.specs.Instance.{IsElement};
+ghost use Rattle.rule_frame.specs.Prelude.{constraint_watch, has_node, IsDisturbed, IsElement, IsInPart, IsMember, max_nodes};
 ghost use Rattle.cluster.specs.declared.choices.Choice.{Choice as AnyChoice};
-ghost use Rattle.closing.specs.Kinds.{constraint_watch};
-ghost use Rattle.rule_frame.specs.Changes.{IsDisturbed};
-ghost use Rattle.slices.specs.Holds.{IsInPart, IsMember};
 ghost use Rattle.rule_constraint.specs.Indexes.{AreLooking, AreMarked, IsAdded, IsIndexOf, IsPut};
 
 use base::Memory;

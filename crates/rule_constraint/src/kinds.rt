@@ -1,7 +1,6 @@
 //! Which kind of reasons a constraint gives, by its form.
 ghost use Rattle.std.specs.Prelude.{◌≡◌};
-ghost use Rattle.slices.specs.Forms.{form_seen};
-ghost use Rattle.rule_constraint.specs.Given.{kind_of as the_kind_of, reason_kind as the_reason_kind};
+ghost use Rattle.rule_constraint.specs.Prelude.{form_seen, kind_of as the_kind_of, reason_kind as the_reason_kind};
 
 use catalogue::Constraint;
 use reasons::ReasonKind;

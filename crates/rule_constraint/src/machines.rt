@@ -1,8 +1,6 @@
 //! The host of a machine, and where it is likely to be.
 ghost use Rattle.std.specs.Prelude.{◌≡◌, ◌<◌, false, IfNone, IfSome};
-ghost use Rattle.slices.specs.Elements.{machine_count, state_of as the_state_of};
-ghost use Rattle.slices.specs.Stages.{Nodes};
-ghost use Rattle.relax.specs.Areas.{hosted_in};
+ghost use Rattle.rule_constraint.specs.Prelude.{hosted_in, machine_count, Nodes, state_of as the_state_of};
 
 use catalogue::Problem;
 use cluster::{Choice, NodeId, Place, VmId};

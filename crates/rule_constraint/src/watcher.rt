@@ -1,8 +1,6 @@
 //! The watches of constraints that give reasons of some kinds.
 ghost use Rattle.std.specs.Prelude.{◌≡◌, ◌<◌, length, slice_get};
-ghost use Rattle.domains.specs.Sets.{sets};
-ghost use Rattle.relax.specs.Areas.{IsSized};
-ghost use Rattle.closing.specs.Looks.{IsLook};
+ghost use Rattle.rule_frame.specs.Prelude.{IsLook, IsSized, sets};
 ghost use Rattle.rule_constraint.specs.Watches.{kept_watch, watch_at, watch_count};
 ghost use Rattle.rule_constraint.specs.Quiet.{kinds_are_quiet, watches_are_local};
 
@@ -23,16 +21,9 @@ use rule_frame::watcher::Watcher;
 /// The kinds of reasons that a rule covers, of those that constraints give, and how it looks at a constraint.
 pub trait Kinds: Drop {
     ghost use Rattle.std.specs.Prelude.{◌≡◌, ◌<◌, ◌≤◌, Bool, IfSome, IsTrue, None, false, length, slice_get};
-    ghost use Rattle.catalogue.specs.Instance.{IsElement};
-    ghost use Rattle.domains.specs.Parts.{in_part};
-    ghost use Rattle.domains.specs.Sets.{keeping, sets};
-    ghost use Rattle.domains.specs.Views.{seen};
+    ghost use Rattle.rule_frame.specs.Prelude.{broken_at, constraint_watch, in_part, IsElement, IsLook, IsSized, keeping, seen, sets, sure};
     ghost use Rattle.reasons.specs.declared.reason.ReasonKind.{ReasonKind as AnyKind};
     ghost use Rattle.reasons.specs.declared.reason.ReasonKind.TheVariants.{Load, Usable};
-    ghost use Rattle.reasons.specs.Sure.{sure};
-    ghost use Rattle.relax.specs.Areas.{IsSized};
-    ghost use Rattle.closing.specs.Kinds.{constraint_watch};
-    ghost use Rattle.closing.specs.Looks.{IsLook, broken_at};
     ghost use Rattle.prop_core.specs.Propagators.{FailHolds, MayAnswer};
     ghost use Rattle.rule_constraint.specs.Watches.{kept_watch};
 

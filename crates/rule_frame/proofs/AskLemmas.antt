@@ -1,15 +1,6 @@
 -- Watches that are looked at one after the other.
-use Rattle.std.proofs.Common.{◌≡◌, ◌≢◌, ◌⊎◌, inl, inr, ℕ, ◌+◌, ◌<◌, ◌≤◌, false, length, get_or, set, sym, subst, ◌∙◌, arith}
-use Rattle.std.proofs.lemmas.Bool.{cases_eq}
-use Rattle.std.proofs.lemmas.List.{get_or-set_other, length-set}
-use Rattle.std.proofs.lemmas.Grind.{get_or-set_at}
-use Rattle.catalogue.specs.Instance.{Instance}
-use Rattle.domains.specs.Sets.{Sets}
-use Rattle.closing.specs.Looks.{IsClean}
-use Rattle.closing.specs.Watches.{Watch}
-use Rattle.rule_frame.specs.Asked.{AllClean}
-use Rattle.rule_frame.specs.Changes.{IsSettling}
-use Rattle.rule_frame.specs.Levels.{Levels}
+use Rattle.base.proofs.Public.{◌≡◌, ◌≢◌, ◌⊎◌, inl, inr, ℕ, ◌+◌, ◌<◌, ◌≤◌, false, length, get_or, set, sym, subst, ◌∙◌, arith, cases_eq, get_or-set_other, length-set, get_or-set_at}
+use Rattle.rule_frame.specs.Prelude.{AllClean, Instance, IsClean, IsSettling, Levels, Sets, Watch}
 
 module _ (watch : ℕ → Watch) (p : Instance) (s : Sets) (i : ℕ) (m n : Levels) (settling : IsSettling watch p s i m n) where
   -- the next watch has no mark

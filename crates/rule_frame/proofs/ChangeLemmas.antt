@@ -1,20 +1,8 @@
 -- A watch stays clean under a change that does not weigh on it.
-use Rattle.std.proofs.Common.{◌≡◌, inl, inr, ℕ, ◌≤◌, Bool, true, false, cond, List, [], ◌∷◌, refl, sym, subst, ◌∙◌, arith}
-use Rattle.std.proofs.lemmas.Bool.{eq-eqb, false_from_ne_true, false≢true}
-use Rattle.cluster.specs.declared.choices.Choice.{Choice}
-use Rattle.cluster.specs.declared.ids.Element.{Element}
-use Rattle.cluster.specs.declared.ids.Element.TheVariants.{Vm, Node as TheNode}
-use Rattle.catalogue.specs.Instance.{Instance, IsElement}
-use Rattle.slices.specs.Elements.{node, vm}
-use Rattle.domains.specs.Sets.{Sets, same_element, setting}
-use Rattle.domains.proofs.Public.{same_is}
-use Rattle.reasons.specs.Closed.{IsEnd}
-use Rattle.reasons.specs.Sure.{sure}
-use Rattle.closing.specs.Looks.{IsClean, broken_at}
-use Rattle.closing.specs.Watches.{IsLocal, IsPartWithin, IsUnseen, Scope, Watch}
+use Rattle.base.proofs.Public.{◌≡◌, inl, inr, ℕ, ◌≤◌, Bool, true, false, cond, List, [], ◌∷◌, refl, sym, subst, ◌∙◌, arith, eq-eqb, false_from_ne_true, false≢true}
+use Rattle.rule_frame.specs.Prelude.{broken_at, Choice, Element, Instance, IsClean, IsElement, IsEnd, IsLess, IsLocal, IsPartWithin, IsStill, IsUnseen, node, Node as TheNode, same_element, Scope, Sets, setting, StillClean, sure, UnseenStill, Vm, vm, Watch}
 use Rattle.domains.specs.SetsBefore.{putting}
-use Rattle.rule_frame.specs.Changes.{IsLess, IsStill}
-use Rattle.rule_frame.specs.Laws.{StillClean, UnseenStill}
+use Rattle.domains.proofs.Public.{same_is}
 
 self : (x : Element) → same_element x x ≡ true
 self (Vm v) = eq-eqb v.0 v.0 refl

@@ -1,20 +1,11 @@
 -- The part that has one end of an element's choices and no other choice.
 use mathlib.Core.Path.{fun_ext}
-use Rattle.std.proofs.Common.{◌≡◌, ◌≢◌, ◌⊎◌, inl, inr, ℕ, zero, suc, ◌+◌, ◌-◌, ◌<◌, ◌≤◌, Bool, true, false, cond, List, [], ◌∷◌, ◌++◌, length, slice_index_or, refl, sym, ap, subst, ◌∙◌, arith, append-nil}
-use Rattle.std.specs.List.{filter, flat_map, Contains}
-use Rattle.std.proofs.lemmas.Bool.Decides.{nat_tests}
-use Rattle.std.proofs.lemmas.List.Elements.{filter-append}
-use Rattle.cluster.specs.declared.choices.Choice.{Choice}
-use Rattle.cluster.specs.declared.choices.Choice.TheVariants.{Idle as Stay, Act}
+use Rattle.std.proofs.Common.{slice_index_or}
+use Rattle.base.proofs.Public.{◌≡◌, ◌≢◌, ◌⊎◌, inl, inr, ℕ, zero, suc, ◌+◌, ◌-◌, ◌<◌, ◌≤◌, Bool, true, false, cond, List, [], ◌∷◌, ◌++◌, length, refl, sym, ap, subst, ◌∙◌, arith, append-nil, filter, flat_map, Contains, nat_tests, filter-append}
+use Rattle.rule_frame.specs.Prelude.{Act, Choice, choices, Climbs, DomainView, Element, From, Idle, in_part, IsEnd, keeping, no_row, place_index, Row, row_choices, same_element, Sets, setting, starts_from, Upto}
+use Rattle.cluster.specs.declared.choices.Choice.TheVariants.{Idle as Stay}
 use Rattle.cluster.specs.declared.choices.Place.{Place}
-use Rattle.cluster.specs.declared.ids.Element.{Element}
-use Rattle.domains.specs.declared.parts.Part.TheVariants.{Idle, Upto, From}
-use Rattle.domains.specs.declared.parts.Row.{Row}
-use Rattle.domains.specs.Choices.{Climbs, DomainView, choices, no_row, place_index, row_choices, starts_from}
-use Rattle.domains.specs.Parts.{in_part}
-use Rattle.domains.specs.Sets.{Sets, keeping, same_element, setting}
 use Rattle.domains.proofs.Public.{contains_filter, same_is}
-use Rattle.reasons.specs.Closed.{IsEnd}
 use Rattle.reasons.proofs.Public.{ends_of_rows}
 
 -- ---- the starts of one place

@@ -1,13 +1,7 @@
 -- What telling leaves clean.
 use Rattle.std.proofs.Common.{ℕ, List, arith}
-use Rattle.cluster.specs.declared.choices.Choice.{Choice}
-use Rattle.cluster.specs.declared.ids.Element.{Element}
-use Rattle.catalogue.specs.Instance.{Instance, IsElement}
-use Rattle.domains.specs.Sets.{Sets}
-use Rattle.closing.specs.Watches.{IsLocal, Watch}
+use Rattle.rule_frame.specs.Prelude.{AreClean, Choice, Element, Instance, IsDisturbed, IsElement, IsKept, IsLocal, Levels, Sets, Watch}
 use Rattle.domains.specs.SetsBefore.{putting}
-use Rattle.rule_frame.specs.Changes.{AreClean, IsDisturbed, IsKept}
-use Rattle.rule_frame.specs.Levels.{Levels}
 use Rattle.rule_frame.proofs.ChangeLemmas.{still_clean}
 
 -- what is not marked was clean before the change, and the change does not weigh on it

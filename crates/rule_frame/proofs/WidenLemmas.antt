@@ -1,22 +1,12 @@
 -- Parts that a reason takes away.
-use Rattle.std.proofs.Common.{◌≡◌, ℕ, Bool, true, false, [], ◌∷◌, cond, IsTrue, List, None, refl, sym, subst}
-use Rattle.std.specs.List.{Contains, filter}
-use Rattle.cluster.specs.declared.choices.Choice.{Choice}
-use Rattle.cluster.specs.declared.choices.Choice.TheVariants.{Idle as Stay, Act}
+use Rattle.std.proofs.Common.{IsTrue}
+use Rattle.base.proofs.Public.{◌≡◌, ℕ, Bool, true, false, [], ◌∷◌, cond, List, None, refl, sym, subst, Contains, filter}
+use Rattle.rule_frame.specs.Prelude.{Act, Choice, CutHolds, domain_at, Element, From, Idle, in_part, Instance, IsElement, IsEnd, Part, Reason, Refutes, RegionView, Row, Sets, sets, setting, Upto}
+use Rattle.cluster.specs.declared.choices.Choice.TheVariants.{Idle as Stay}
 use Rattle.cluster.specs.declared.choices.Place.{Place}
-use Rattle.cluster.specs.declared.ids.Element.{Element}
-use Rattle.catalogue.specs.Instance.{Instance, IsElement}
-use Rattle.domains.specs.declared.parts.Part.{Part}
-use Rattle.domains.specs.declared.parts.Part.TheVariants.{Idle, Upto, From}
-use Rattle.domains.specs.declared.parts.Row.{Row}
-use Rattle.domains.specs.Parts.{in_part}
-use Rattle.domains.specs.Sets.{RegionView, Sets, domain_at, setting, sets}
+use Rattle.prop_core.specs.Propagators.{FailHolds}
 use Rattle.domains.proofs.Public.{contains_here, filter_contains}
-use Rattle.reasons.specs.Closed.{IsEnd}
-use Rattle.reasons.specs.declared.reason.Reason.{Reason}
-use Rattle.reasons.specs.Reasons.{Refutes}
 use Rattle.reasons.proofs.Public.{end_is_choice}
-use Rattle.prop_core.specs.Propagators.{CutHolds, FailHolds}
 use Rattle.rule_frame.proofs.EndLemmas.{idle_is_part, keeping_one}
 
 -- what a test leaves alone passes it

@@ -1,10 +1,6 @@
 -- What is asked of the watches of a rule.
 use Rattle.std.specs.Prelude.{ℕ, ◌<◌, ◌≤◌}
-use Rattle.catalogue.specs.Instance.{Instance}
-use Rattle.domains.specs.Sets.{Sets}
-use Rattle.reasons.specs.Sure.{sure}
-use Rattle.closing.specs.Looks.{IsClean, IsMetWith, broken_at}
-use Rattle.closing.specs.Watches.{Watch}
+use Rattle.closing.specs.Prelude.{broken_at, Instance, IsClean, IsMetWith, Sets, sure, Watch}
 use Rattle.prop_core.specs.Propagators.{FailHolds}
 use Rattle.rule_frame.specs.declared.watcher.Asked.{Asked}
 use Rattle.rule_frame.specs.declared.watcher.Asked.TheVariants.{Quiet, Failed, Cuts, Refuted}

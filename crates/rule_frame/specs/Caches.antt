@@ -1,7 +1,6 @@
 -- What is kept beside a rule, with levels.
 use Rattle.std.specs.Prelude.{◌≡◌, ℕ, ◌+◌, ◌<◌}
-use Rattle.catalogue.specs.Instance.{Instance}
-use Rattle.domains.specs.Sets.{Sets}
+use Rattle.prop_core.specs.Prelude.{Instance, Sets}
 
 -- `right p k s`: what is kept at level k is right for the sets of choices s of the instance p
 pub record Cache : Type 1 where

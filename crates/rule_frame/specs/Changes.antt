@@ -1,18 +1,11 @@
 -- What a change of one element's choices weighs on.
 use Rattle.std.specs.Prelude.{◌≡◌, ◌⊎◌, ℕ, ◌<◌, ◌≤◌, Bool, false, List, [], ◌∷◌, length, slice_index_or, IsTrue}
+use Rattle.closing.specs.Prelude.{action_at, held_at, Instance, IsClean, IsEnd, least, may, Nodes, powered_at, present_at, Scope, Sets, surely, usable_at, Watch}
 use Rattle.cluster.specs.declared.choices.Choice.{Choice}
 use Rattle.cluster.specs.declared.ids.Element.{Element}
 use Rattle.cluster.specs.declared.ids.Element.TheVariants.{Vm, Node as TheNode}
-use Rattle.catalogue.specs.Instance.{Instance}
-use Rattle.base.specs.Least.{least}
 use Rattle.slices.specs.declared.slice.Weight.{Weight}
 use Rattle.slices.specs.declared.stage.Progress.{Progress}
-use Rattle.slices.specs.Snapshots.{held_at, present_at, usable_at, powered_at, action_at}
-use Rattle.slices.specs.Stages.{Nodes}
-use Rattle.domains.specs.Sets.{Sets, surely, may}
-use Rattle.reasons.specs.Closed.{IsEnd}
-use Rattle.closing.specs.Watches.{Scope, Watch}
-use Rattle.closing.specs.Looks.{IsClean}
 use Rattle.rule_frame.specs.Levels.{Levels}
 
 -- ---- one set of choices beside another, at an instant

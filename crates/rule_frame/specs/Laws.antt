@@ -1,11 +1,8 @@
 -- Helping only: what a change leaves clean.
 use Rattle.std.specs.Prelude.{ℕ, List}
+use Rattle.closing.specs.Prelude.{Instance, IsClean, IsElement, IsLocal, IsUnseen, Scope, Sets, Watch}
 use Rattle.cluster.specs.declared.choices.Choice.{Choice}
 use Rattle.cluster.specs.declared.ids.Element.{Element}
-use Rattle.catalogue.specs.Instance.{Instance, IsElement}
-use Rattle.domains.specs.Sets.{Sets}
-use Rattle.closing.specs.Watches.{IsLocal, IsUnseen, Scope, Watch}
-use Rattle.closing.specs.Looks.{IsClean}
 use Rattle.domains.specs.SetsBefore.{putting}
 use Rattle.rule_frame.specs.Changes.{IsDisturbed, IsStill}
 use Rattle.rule_frame.specs.Indexes.{AreLooking}

@@ -6,3 +6,4 @@ pub mod Asked
 pub mod Rules
 -- what the laws say beside it
 pub mod Laws
+pub mod Prelude

@@ -1,13 +1,11 @@
 -- What a rule of watches means.
 use Rattle.std.specs.Prelude.{◌≡◌, ℕ, Bool, true, length}
-use Rattle.catalogue.specs.Instance.{Instance}
-use Rattle.domains.specs.Sets.{Sets}
-use Rattle.reasons.specs.Closed.{IsQuietKind}
+use Rattle.prop_core.specs.Prelude.{CutHolds, Instance, IsQuietKind, Meaning, Sets}
 use Rattle.reasons.specs.declared.reason.ReasonKind.{ReasonKind}
 use Rattle.closing.specs.Watches.{Watch}
 use Rattle.prop_core.specs.declared.propagator.Answer.{Answer}
 use Rattle.prop_core.specs.declared.propagator.Answer.TheVariants.{Quiet, Cut, Fail}
-use Rattle.prop_core.specs.Propagators.{CutHolds, FailHolds, Meaning}
+use Rattle.prop_core.specs.Propagators.{FailHolds}
 use Rattle.rule_frame.specs.Caches.{Cache}
 use Rattle.rule_frame.specs.Changes.{AreClean}
 use Rattle.rule_frame.specs.Levels.{Levels, level_at}

@@ -1,8 +1,7 @@
 //! What is kept beside a rule, with levels.
 ghost use Rattle.std.specs.Prelude.{◌≡◌, ◌<◌, OnErr, OnOk};
-ghost use Rattle.domains.specs.Sets.{sets};
+ghost use Rattle.prop_core.specs.Prelude.{IsNarrowed, IsRegionOf, most, sets};
 ghost use Rattle.domains.specs.SetsBefore.{sets_before};
-ghost use Rattle.prop_core.specs.Propagators.{IsNarrowed, IsRegionOf, most};
 ghost use Rattle.rule_frame.specs.Caches.{Cache, IsCacheBack, IsCacheFor, IsCacheMarked, IsCachePosted, IsCacheSame, IsCacheTold};
 
 use base::Memory;

@@ -1,7 +1,6 @@
 //! A rule: watches with marks, and what is kept beside them.
 ghost use Rattle.std.specs.Prelude.{◌≡◌, ◌<◌, ◌≤◌};
-ghost use Rattle.domains.specs.Sets.{sets};
-ghost use Rattle.prop_core.specs.Propagators.{IsRegionOf, counted};
+ghost use Rattle.prop_core.specs.Prelude.{counted, IsRegionOf, sets};
 ghost use Rattle.rule_frame.specs.Asked.{IsAskedOf};
 ghost use Rattle.rule_frame.specs.Caches.{IsCacheFor};
 ghost use Rattle.rule_frame.specs.Rules.{AnswerHolds, meaning_of};

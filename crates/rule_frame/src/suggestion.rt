@@ -1,12 +1,8 @@
 //! Cuts that are worth a try: they are looked at exactly before they are answered.
 ghost use Rattle.std.specs.Prelude.{◌≡◌, IfSome, IsTrue};
 ghost use Rattle.std.specs.List.{Contains};
-ghost use Rattle.cluster.specs.declared.choices.Choice.{Choice as AnyChoice};
-ghost use Rattle.catalogue.specs.Instance.{IsElement};
-ghost use Rattle.domains.specs.Parts.{in_part};
-ghost use Rattle.domains.specs.Sets.{sets};
-ghost use Rattle.prop_core.specs.Propagators.{CutHolds, IsRegionOf, MayAnswer};
-ghost use Rattle.rule_frame.specs.Caches.{IsCacheFor};
+ghost use Rattle.rule_frame.specs.Prelude.{Choice as AnyChoice, CutHolds, in_part, IsCacheFor, IsElement, IsRegionOf, sets};
+ghost use Rattle.prop_core.specs.Propagators.{MayAnswer};
 
 use crate::keeper::Keeper;
 use crate::watcher::Watcher;

@@ -1,15 +1,8 @@
 //! Watches of a rule, which are looked at again where a change weighs on them.
 ghost use Rattle.std.specs.Prelude.{◌≡◌, ◌<◌, ◌≤◌, IfSome, IsTrue, None, length};
-ghost use Rattle.catalogue.specs.Instance.{IsElement};
-ghost use Rattle.domains.specs.Choices.{choices};
-ghost use Rattle.domains.specs.Parts.{in_part};
-ghost use Rattle.domains.specs.Sets.{domain_at, keeping, sets};
-ghost use Rattle.domains.specs.Undo.{domain_before};
-ghost use Rattle.domains.specs.Views.{seen};
-ghost use Rattle.reasons.specs.Sure.{sure};
-ghost use Rattle.closing.specs.Looks.{IsLook, broken_at};
+ghost use Rattle.closing.specs.Prelude.{broken_at, choices, domain_at, domain_before, in_part, IsElement, IsLook, keeping, seen, sets, sure};
 ghost use Rattle.domains.specs.SetsBefore.{sets_before};
-ghost use Rattle.prop_core.specs.Propagators.{FailHolds, IsNarrowed, IsRegionOf, MayAnswer};
+ghost use Rattle.prop_core.specs.Propagators.{FailHolds, MayAnswer, IsNarrowed, IsRegionOf};
 ghost use Rattle.rule_frame.specs.Asked.{IsAskedOf};
 ghost use Rattle.rule_frame.specs.Caches.{IsCacheFor};
 ghost use Rattle.rule_frame.specs.Changes.{AreClean, IsDisturbed, IsKept};
@@ -40,11 +33,8 @@ pub enum Asked {
 /// The watches of a rule, by their numbers, looked at with the help of what is kept beside them.
 pub trait Watcher<K: Keeper> {
     ghost use Rattle.std.specs.Prelude.{◌≡◌, ℕ, Bool, true};
-    ghost use Rattle.catalogue.specs.Instance.{Instance};
-    ghost use Rattle.domains.specs.Sets.{Sets};
-    ghost use Rattle.reasons.specs.Closed.{IsQuietKind};
+    ghost use Rattle.closing.specs.Prelude.{Instance, IsLocal, IsQuietKind, Sets, Watch};
     ghost use Rattle.reasons.specs.declared.reason.ReasonKind.{ReasonKind as AnyKind};
-    ghost use Rattle.closing.specs.Watches.{IsLocal, Watch};
     ghost use Rattle.rule_frame.specs.Asked.{AllClean};
 
     ghost watch: { Self → Instance → ℕ → Watch };

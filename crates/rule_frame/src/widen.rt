@@ -1,13 +1,7 @@
 //! The widest part of an element's choices that a reason is seen to take away.
 ghost use Rattle.std.specs.Prelude.{◌≡◌, ◌⊎◌, ◌<◌, ◌≤◌, [], ◌∷◌, filter, IfSome, None};
-ghost use Rattle.catalogue.specs.Instance.{IsElement};
-ghost use Rattle.cluster.specs.declared.choices.Choice.{Choice as AnyChoice};
-ghost use Rattle.domains.specs.Choices.{choices};
-ghost use Rattle.domains.specs.Parts.{in_part};
-ghost use Rattle.domains.specs.Sets.{keeping, setting, sets};
-ghost use Rattle.reasons.specs.Closed.{IsEnd};
-ghost use Rattle.prop_core.specs.Propagators.{CutHolds, FailHolds, IsRegionOf, MayAnswer};
-ghost use Rattle.rule_frame.specs.Caches.{IsCacheFor};
+ghost use Rattle.rule_frame.specs.Prelude.{Choice as AnyChoice, choices, CutHolds, in_part, IsCacheFor, IsElement, IsEnd, IsRegionOf, keeping, sets, setting};
+ghost use Rattle.prop_core.specs.Propagators.{FailHolds, MayAnswer};
 
 use crate::keeper::Keeper;
 use crate::watcher::Watcher;

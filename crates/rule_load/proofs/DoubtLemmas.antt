@@ -1,26 +1,7 @@
 -- That all machines fit, told in the order of what they use; and what they use on a node, told by those near it.
-use Rattle.std.proofs.Common.{◌≡◌, inl, inr, ℕ, ◌+◌, ◌<◌, ◌≤◌, Bool, true, false, ◌&&◌, nat_lt, cond, List, length, get_or, refl, sym, ap, subst, ◌∙◌, arith}
-use Rattle.std.specs.Prelude.{slice_index_or}
-use Rattle.std.specs.List.{Contains, sum_by}
-use Rattle.std.proofs.lemmas.Bool.{cases_eq, cases_lt}
-use Rattle.std.proofs.lemmas.List.{get_or_default}
-use Rattle.base.specs.Sums.{sum_to}
-use Rattle.catalogue.specs.Instance.{Instance}
-use Rattle.slices.specs.declared.slice.Weight.{Weight}
-use Rattle.slices.specs.declared.slice.Weight.TheVariants.{Amount}
-use Rattle.slices.specs.Elements.{machine_count, state_of, vm}
-use Rattle.slices.specs.Stages.{one}
-use Rattle.domains.specs.Sets.{Sets}
+use Rattle.base.proofs.Public.{◌≡◌, inl, inr, ℕ, ◌+◌, ◌<◌, ◌≤◌, Bool, true, false, ◌&&◌, nat_lt, cond, List, length, get_or, refl, sym, ap, subst, ◌∙◌, arith, slice_index_or, Contains, sum_by, cases_eq, cases_lt, get_or_default}
+use Rattle.rule_load.specs.Prelude.{Amount, AreKeptAt, AreNearAt, AreStanding, base, comes_by, FixedView, gain, hosted_in, Instance, IsMost, IsOrder, machine_count, MachinesFit, most_kept, most_use, MostUse, never, no_standing, one, Period, Sets, Standing, state_of, sum_to, vm, Weight}
 use Rattle.profiles.proofs.Public.{all_over}
-use Rattle.relax.specs.Areas.{hosted_in}
-use Rattle.profiles.specs.declared.standing.numbers.Standing.{Standing}
-use Rattle.profiles.specs.Standing.Standings.{base, comes_by, gain, never}
-use Rattle.profiles.specs.Standing.Tables.{AreStanding, no_standing}
-use Rattle.profiles.specs.declared.fixed.MostUse.{MostUse}
-use Rattle.rule_load.specs.declared.period.Period.{Period}
-use Rattle.profiles.specs.Fixed.{FixedView, IsOrder, most_use}
-use Rattle.rule_load.specs.Kept.{AreKeptAt, AreNearAt}
-use Rattle.rule_load.specs.Periods.{IsMost, MachinesFit, most_kept}
 use Rattle.rule_load.proofs.UseLemmas.{fits_at_once}
 
 -- ---- in the order of what they use

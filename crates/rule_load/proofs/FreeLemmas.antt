@@ -1,31 +1,7 @@
 -- Where bounds of what is used fit, nothing is overloaded.
-use Rattle.std.proofs.Common.{◌≡◌, inl, inr, ℕ, zero, suc, ◌+◌, ◌-◌, ◌<◌, ◌≤◌, cond, List, length, subst, sym, arith}
-use Rattle.std.specs.Prelude.{slice_index_or}
-use Rattle.std.proofs.lemmas.Bool.{cases_eq, cases_lt}
-use Rattle.base.specs.Sums.{sum_to}
-use Rattle.base.proofs.Sums.{sum_to-le}
-use Rattle.cluster.specs.declared.choices.Choice.{Choice}
-use Rattle.cluster.specs.declared.ids.Element.{Element}
-use Rattle.cluster.specs.declared.ids.Element.TheVariants.{Vm, Node as TheNode}
-use Rattle.catalogue.specs.Instance.{Instance, IsElement}
-use Rattle.catalogue.specs.Values.{capacity_of}
-use Rattle.slices.specs.declared.slice.Weight.TheVariants.{Amount}
-use Rattle.slices.specs.Elements.{machine_count, node_count, node, vm}
-use Rattle.slices.specs.Snapshots.{load}
-use Rattle.slices.specs.Stages.{Nodes, one}
-use Rattle.domains.specs.Sets.{RegionView, Sets, sets, setting}
-use Rattle.reasons.specs.Closed.{IsEnd, all_nodes}
-use Rattle.reasons.specs.Reasons.{IsOverload}
-use Rattle.reasons.specs.Sure.{sure}
+use Rattle.base.proofs.Public.{◌≡◌, inl, inr, ℕ, zero, suc, ◌+◌, ◌-◌, ◌<◌, ◌≤◌, cond, List, length, subst, sym, arith, slice_index_or, cases_eq, cases_lt, sum_to-le}
+use Rattle.rule_load.specs.Prelude.{all_nodes, Amount, AreMost, AreStanding, capacity_of, Choice, Element, HasRoom, Instance, is_steady, IsDuring, IsElement, IsEnd, IsFreeDuring, IsFreeOf, IsFreePast, IsOverload, IsOverloaded, load, machine_count, MachinesFit, may_wait, most_anywhere, most_kept, never, no_standing, node, Node as TheNode, node_count, Nodes, NodesFit, one, Period, RegionView, Sets, sets, setting, Standing, sum_to, sure, Vm, vm}
 use Rattle.reasons.proofs.Public.{end_is_choice, machine_change, node_change, setting_agrees, setting_total}
-use Rattle.closing.specs.Kinds.{IsOverloaded}
-use Rattle.closing.specs.Looks.{IsFreeOf}
-use Rattle.profiles.specs.declared.standing.numbers.Standing.{Standing}
-use Rattle.profiles.specs.Standing.Standings.{never}
-use Rattle.profiles.specs.Standing.Tables.{AreStanding, no_standing}
-use Rattle.rule_load.specs.declared.period.Period.{Period}
-use Rattle.rule_load.specs.Periods.{AreMost, HasRoom, IsDuring, IsFreeDuring, IsFreePast, MachinesFit, NodesFit, most_kept}
-use Rattle.rule_load.specs.Totals.{is_steady, may_wait, most_anywhere}
 use Rattle.rule_load.proofs.RoomLemmas.{steady-fits, steady-room}
 use Rattle.rule_load.proofs.TotalLemmas.{are_most}
 use Rattle.rule_load.proofs.UseLemmas.{sure_most}

@@ -1,38 +1,12 @@
 -- The machines near each node, told of one more.
-use Rattle.std.proofs.Common.{◌≡◌, inl, inr, ℕ, ◌-◌, ◌<◌, Bool, true, false, cond, nat_le, List, length, Some, None, refl, sym, ap, subst, ◌∙◌, arith}
-use Rattle.std.specs.Prelude.{slice_index_or}
-use Rattle.std.specs.List.{Contains}
-use Rattle.std.proofs.lemmas.Bool.{and_parts, cases_eq, false≢true, ne_eqb}
-use Rattle.std.proofs.lemmas.Bool.Decides.{nat_tests}
-use Rattle.cluster.specs.declared.choices.Choice.{Choice}
-use Rattle.cluster.specs.declared.ids.Element.{Element}
-use Rattle.cluster.specs.declared.ids.Element.TheVariants.{Vm, Node as TheNode}
-use Rattle.catalogue.specs.Instance.{Instance}
-use Rattle.slices.specs.Elements.{machine_count, node_count, vm}
-use Rattle.slices.specs.Stages.{one}
-use Rattle.domains.specs.declared.undo.Before.{Before}
-use Rattle.domains.specs.declared.parts.Change.{Change}
-use Rattle.domains.specs.Choices.{DomainView, choices}
-use Rattle.domains.specs.Parts.{on_side}
-use Rattle.domains.specs.Undo.{domain_before}
-use Rattle.domains.proofs.Public.{filter_is_fewer, same_is}
-use Rattle.domains.specs.Sets.{RegionView, Sets, domain_at, same_element, sets}
-use Rattle.profiles.specs.Levels.{Levels, level_at}
-use Rattle.profiles.specs.Near.{IsNear, IsPut, list_at}
-use Rattle.profiles.proofs.Public.{level_below, level_top, near_put}
-use Rattle.profiles.specs.Movers.{AreMovers, IsGrown}
-use Rattle.profiles.proofs.Public.{movers_grown}
+use Rattle.base.proofs.Public.{◌≡◌, inl, inr, ℕ, ◌-◌, ◌<◌, Bool, true, false, cond, nat_le, List, length, Some, None, refl, sym, ap, subst, ◌∙◌, arith, slice_index_or, Contains, and_parts, cases_eq, false≢true, ne_eqb, nat_tests}
+use Rattle.rule_load.specs.Prelude.{AreFirstAt, AreFirsts, AreKept, AreKeptAt, AreMovers, AreStanding, Arrival, Before, cache_of, Change, Choice, choices, comes_by, domain_at, domain_before, DomainView, Element, FixedView, Grows, HaveCome, Instance, IsCacheTold, IsGrown, IsListedBy, IsListedFor, IsNarrowed, IsNear, IsPut, level_at, list_at, machine_count, no_standing, Node as TheNode, node_count, on_side, one, RegionView, same_element, Sets, sets, Standing, Tables, Vm, vm}
+use Rattle.profiles.specs.Levels.{Levels}
 use Rattle.domains.specs.SetsBefore.{sets_before}
-use Rattle.prop_core.specs.Propagators.{IsNarrowed}
-use Rattle.rule_frame.specs.Caches.{IsCacheTold}
-use Rattle.profiles.specs.declared.standing.numbers.Arrival.{Arrival}
-use Rattle.profiles.specs.declared.standing.numbers.Standing.{Standing}
-use Rattle.profiles.specs.Standing.Standings.{comes_by}
-use Rattle.profiles.specs.Standing.Tables.{AreStanding, Tables, no_standing}
-use Rattle.profiles.specs.Fixed.{FixedView}
-use Rattle.profiles.specs.Firsts.{AreFirstAt, AreFirsts}
+use Rattle.domains.proofs.Public.{filter_is_fewer, same_is}
+use Rattle.profiles.proofs.Public.{level_below, level_top, near_put}
+use Rattle.profiles.proofs.Public.{movers_grown}
 use Rattle.profiles.proofs.Public.{firsts_fewer}
-use Rattle.rule_load.specs.Kept.{AreKept, AreKeptAt, Grows, HaveCome, IsListedBy, IsListedFor, cache_of}
 
 -- ---- one machine more
 

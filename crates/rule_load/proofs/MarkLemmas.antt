@@ -1,25 +1,6 @@
 -- Marks.
-use Rattle.std.proofs.Common.{◌≡◌, ◌≢◌, ◌⊎◌, inl, inr, ℕ, ◌+◌, ◌<◌, Bool, true, false, List, length, refl, sym, subst, ◌∙◌, arith}
-use Rattle.std.proofs.lemmas.Bool.{false≢true, ne_eqb}
-use Rattle.std.specs.List.{Contains}
-use Rattle.cluster.specs.declared.choices.Choice.{Choice}
-use Rattle.cluster.specs.declared.ids.Element.{Element}
-use Rattle.cluster.specs.declared.ids.Element.TheVariants.{Vm, Node as TheNode}
-use Rattle.cluster.specs.declared.ids.NodeId.{NodeId}
-use Rattle.cluster.specs.declared.ids.VmId.{VmId}
-use Rattle.catalogue.specs.Instance.{Instance}
-use Rattle.slices.specs.Elements.{node_count, state_of}
-use Rattle.slices.specs.Stages.{one}
-use Rattle.domains.specs.Laws.{AreFewer}
-use Rattle.relax.specs.Areas.{hosted_in}
-use Rattle.closing.specs.Kinds.{load_scope}
-use Rattle.rule_frame.specs.Changes.{IsDisturbed, IsStill}
-use Rattle.rule_frame.specs.Levels.{Levels}
-use Rattle.profiles.specs.declared.standing.numbers.Standing.{Standing}
-use Rattle.profiles.specs.Standing.Standings.{IsStanding, comes_by, has_come, never}
-use Rattle.rule_load.specs.Marking.{AreSpared, CameBefore, KeepsHost}
-use Rattle.rule_load.specs.Quiet.{one_at}
-use Rattle.rule_load.specs.Watched.{watch_at}
+use Rattle.base.proofs.Public.{◌≡◌, ◌≢◌, ◌⊎◌, inl, inr, ℕ, ◌+◌, ◌<◌, Bool, true, false, List, length, refl, sym, subst, ◌∙◌, arith, false≢true, ne_eqb, Contains}
+use Rattle.rule_load.specs.Prelude.{AreFewer, AreSpared, CameBefore, Choice, comes_by, Element, has_come, hosted_in, Instance, IsDisturbed, IsStanding, IsStill, KeepsHost, Levels, load_scope, never, Node as TheNode, node_count, NodeId, one, one_at, Standing, state_of, Vm, VmId, watch_at}
 use Rattle.rule_load.proofs.StayLemmas.{host_still}
 use Rattle.rule_load.proofs.StillLemmas.{machine_still, node_still}
 

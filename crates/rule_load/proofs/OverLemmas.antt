@@ -1,28 +1,8 @@
 -- What machines surely use of a node in what is seen.
-use Rattle.std.proofs.Common.{◌≡◌, ◌≢◌, ℕ, zero, suc, ◌+◌, ◌-◌, ◌<◌, ◌≤◌, true, false, List, [], ◌∷◌, length, take, refl, sym, ap, ◌∙◌, append-nil, arith}
-use Rattle.std.specs.Prelude.{slice_index_or}
-use Rattle.std.specs.List.{Contains, sum_by}
-use Rattle.std.proofs.lemmas.List.{get_or_default}
-use Rattle.std.proofs.lemmas.List.Sums.{sum_by-cons}
-use Rattle.cluster.specs.declared.choices.Choice.{Choice}
-use Rattle.cluster.specs.declared.choices.Place.TheVariants.{At}
-use Rattle.cluster.specs.declared.ids.NodeId.{NodeId}
-use Rattle.base.specs.Least.{least}
-use Rattle.catalogue.specs.Instance.{Instance}
-use Rattle.slices.specs.declared.slice.Weight.TheVariants.{Amount}
-use Rattle.slices.specs.Elements.{machine_count, vm}
-use Rattle.slices.specs.Snapshots.{Snapshot, held_at, load}
-use Rattle.slices.specs.Stages.{one}
-use Rattle.domains.specs.declared.parts.Row.{Row}
-use Rattle.domains.specs.Choices.{Climbs, DomainView, choices, row_choices}
-use Rattle.domains.specs.Sets.{Sets}
+use Rattle.base.proofs.Public.{◌≡◌, ◌≢◌, ℕ, zero, suc, ◌+◌, ◌-◌, ◌<◌, ◌≤◌, true, false, List, [], ◌∷◌, length, take, refl, sym, ap, ◌∙◌, append-nil, arith, slice_index_or, Contains, sum_by, get_or_default, sum_by-cons}
+use Rattle.rule_load.specs.Prelude.{Amount, AreMachines, AreStanding, At, Choice, choices, Climbs, DomainView, gain, has_come, held_at, Instance, IsStanding, kept_use, least, load, machine_count, never, no_standing, NodeId, one, Row, row_choices, Sets, Snapshot, Standing, sure, vm}
 use Rattle.domains.proofs.Public.{contains_here}
-use Rattle.reasons.specs.Sure.{sure}
-use Rattle.profiles.specs.Near.{AreMachines}
 use Rattle.profiles.proofs.Public.{over_once}
-use Rattle.profiles.specs.declared.standing.numbers.Standing.{Standing}
-use Rattle.profiles.specs.Standing.Standings.{IsStanding, gain, has_come, kept_use, never}
-use Rattle.profiles.specs.Standing.Tables.{AreStanding, no_standing}
 use Rattle.profiles.proofs.Public.{kept_law}
 use Rattle.rule_load.proofs.StayLemmas.{row_came}
 use Rattle.rule_load.proofs.StillLemmas.{held_parts, least_above}

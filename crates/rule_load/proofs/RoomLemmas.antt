@@ -1,29 +1,8 @@
 -- Which room a node has during a period.
-use Rattle.std.proofs.Common.{◌≡◌, ℕ, suc, ◌+◌, ◌<◌, ◌≤◌, ◌==◌, ◌&&◌, ◌||◌, Bool, true, false, not, nat_le, nat_lt, cond, List, [], ◌∷◌, length, refl, sym, subst, arith}
-use Rattle.std.specs.List.{Contains}
-use Rattle.std.proofs.lemmas.Bool.{false≢true, lt-ltb}
-use Rattle.std.proofs.lemmas.Bool.Decides.{Decides-eqb, nat_tests}
-use Rattle.base.specs.Sums.{sum_to}
-use Rattle.base.proofs.Sums.{sum_to-le, sum_to-term}
-use Rattle.cluster.specs.declared.choices.Choice.{Choice}
-use Rattle.cluster.specs.declared.choices.Choice.TheVariants.{Idle, Act}
-use Rattle.cluster.specs.Inventory.{is_online}
-use Rattle.catalogue.specs.Instance.{Instance}
-use Rattle.catalogue.specs.Values.{capacity_of}
-use Rattle.slices.specs.Actions.{action_duration}
-use Rattle.slices.specs.Elements.{node, node_count}
-use Rattle.slices.specs.Snapshots.{Snapshot, room, stage_at, usable_at}
-use Rattle.slices.specs.Stages.{one}
-use Rattle.domains.specs.Choices.{DomainView, choices}
-use Rattle.domains.specs.declared.parts.Row.{Row}
-use Rattle.domains.specs.Sets.{Sets, may, setting, surely}
+use Rattle.base.proofs.Public.{◌≡◌, ℕ, suc, ◌+◌, ◌<◌, ◌≤◌, ◌==◌, ◌&&◌, ◌||◌, Bool, true, false, not, nat_le, nat_lt, cond, List, [], ◌∷◌, length, refl, sym, subst, arith, Contains, false≢true, lt-ltb, Decides-eqb, nat_tests, sum_to-le, sum_to-term}
+use Rattle.rule_load.specs.Prelude.{Act, action_duration, all_nodes, capacity_of, Choice, choices, DomainView, HasRoom, Idle, Instance, is_online, is_steady, IsDuring, may, node, node_count, NodesFit, one, Period, room, Row, Sets, setting, Snapshot, stage_at, sum_to, sure, surely, usable_at}
 use Rattle.domains.proofs.Public.{contains_here, surely_each}
-use Rattle.reasons.specs.Closed.{all_nodes}
-use Rattle.reasons.specs.Sure.{sure}
 use Rattle.reasons.proofs.Public.{setting_room}
-use Rattle.rule_load.specs.declared.period.Period.{Period}
-use Rattle.rule_load.specs.Periods.{HasRoom, IsDuring, NodesFit}
-use Rattle.rule_load.specs.Totals.{is_steady}
 
 -- ---- an online node is usable until a start, an offline one from an end
 

@@ -1,13 +1,6 @@
 -- Sets of nodes.
-use Rattle.std.proofs.Common.{◌≡◌, ℕ, ◌<◌, ◌≤◌, false, refl, ap, ◌∙◌, arith}
-use Rattle.std.proofs.lemmas.Bool.Decides.{Decides-eqb, nat_tests}
-use Rattle.cluster.specs.Bits.{has_bit}
-use Rattle.cluster.specs.declared.sets.NodeSet.{NodeSet}
-use Rattle.cluster.specs.Sets.{has_node}
-use Rattle.catalogue.specs.Instance.{Instance}
-use Rattle.slices.specs.Elements.{node_count}
-use Rattle.slices.specs.Stages.{one}
-use Rattle.reasons.specs.Reasons.{AreListed}
+use Rattle.base.proofs.Public.{◌≡◌, ℕ, ◌<◌, ◌≤◌, false, refl, ap, ◌∙◌, arith, Decides-eqb, nat_tests}
+use Rattle.rule_load.specs.Prelude.{AreListed, has_bit, has_node, Instance, node_count, NodeSet, one}
 
 -- the set of one node of the instance is listed
 pub one_listed : (p : Instance) (set : NodeSet) (n : ℕ) → n < node_count p → ((m : ℕ) → has_node set m ≡ one n m) → AreListed p set

@@ -1,20 +1,8 @@
 -- Ends of choices by rows, and a case that is one.
 use Rattle.std.proofs.Common.{◌≡◌, ◌⊎◌, ℕ, ◌<◌, ◌≤◌, true, List, length, slice_index_or}
-use Rattle.cluster.specs.declared.choices.Choice.{Choice}
-use Rattle.cluster.specs.declared.choices.Choice.TheVariants.{Idle, Act}
+use Rattle.rule_load.specs.Prelude.{Act, Choice, choices, Climbs, Cut, domain_at, DomainView, Element, Idle, Instance, IsElement, IsEnd, IsLook, IsOverloaded, load_watch, no_row, one, RegionView, Row, sets, setting, sure}
 use Rattle.cluster.specs.declared.choices.Place.{Place}
-use Rattle.cluster.specs.declared.ids.Element.{Element}
-use Rattle.catalogue.specs.Instance.{Instance, IsElement}
-use Rattle.slices.specs.Stages.{one}
-use Rattle.domains.specs.Choices.{Climbs, DomainView, choices, no_row}
-use Rattle.domains.specs.declared.parts.Row.{Row}
-use Rattle.domains.specs.Sets.{RegionView, domain_at, setting, sets}
-use Rattle.reasons.specs.Closed.{IsEnd}
-use Rattle.reasons.specs.Sure.{sure}
 use Rattle.reasons.proofs.Public.{ends_of_rows}
-use Rattle.closing.specs.Kinds.{IsOverloaded, load_watch}
-use Rattle.closing.specs.Looks.{IsLook}
-use Rattle.closing.specs.declared.look.Look.TheVariants.{Cut}
 
 pub idle_is_end : (d : DomainView) (rows : List Row) → rows ≡ d.rows → Climbs 0 rows → d.idle ≡ true → IsEnd (choices d) Idle
 idle_is_end d rows same climbs idle = (ends_of_rows d (rw same at climbs) Idle).1 idle

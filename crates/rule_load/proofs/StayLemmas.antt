@@ -1,36 +1,9 @@
 -- A change of a machine does not weigh on its host, where it surely keeps that as long as before; and where all its choices came before.
-use Rattle.std.proofs.Common.{◌≡◌, ◌≢◌, ◌⊎◌, inl, inr, ℕ, zero, suc, ◌+◌, ◌-◌, ◌<◌, ◌≤◌, ◌&&◌, Bool, true, false, nat_le, nat_lt, cond, Option, Some, None, min, unwrap_or, List, [], ◌∷◌, refl, sym, ap, subst, ◌∙◌, arith}
-use Rattle.std.proofs.lemmas.Bool.{cases_lt, false≢true}
-use Rattle.std.proofs.lemmas.Bool.Decides.{Decides-eqb, nat_tests}
-use Rattle.std.specs.List.{Contains, filter}
-use Rattle.cluster.specs.declared.choices.Choice.{Choice}
-use Rattle.cluster.specs.declared.choices.Choice.TheVariants.{Idle, Act}
-use Rattle.cluster.specs.declared.choices.Place.TheVariants.{Nowhere, At}
-use Rattle.cluster.specs.declared.ids.NodeId.{NodeId}
-use Rattle.catalogue.specs.Instance.{Instance}
-use Rattle.base.specs.Least.{least, lowest}
-use Rattle.slices.specs.declared.slice.Weight.TheVariants.{Amount}
-use Rattle.slices.specs.Elements.{state_of, vm}
-use Rattle.slices.specs.Snapshots.{held_at}
-use Rattle.slices.specs.Stages.{one}
-use Rattle.domains.specs.declared.parts.Part.TheVariants.{From}
-use Rattle.domains.specs.declared.parts.Row.{Row}
-use Rattle.domains.specs.declared.undo.Lost.{Lost}
+use Rattle.std.proofs.Common.{min}
+use Rattle.base.proofs.Public.{◌≡◌, ◌≢◌, ◌⊎◌, inl, inr, ℕ, zero, suc, ◌+◌, ◌-◌, ◌<◌, ◌≤◌, ◌&&◌, Bool, true, false, nat_le, nat_lt, cond, Option, Some, None, unwrap_or, List, [], ◌∷◌, refl, sym, ap, subst, ◌∙◌, arith, cases_lt, false≢true, Decides-eqb, nat_tests, Contains, filter}
+use Rattle.rule_load.specs.Prelude.{Act, Amount, AreFewer, Arrival, At, base, CameBefore, Choice, choices, comes_by, DomainView, From, gain, goes_in, has_come, have_come, held_at, hosted_in, Idle, in_part, Instance, IsEnd, IsMachineLess, IsStill, KeepsHost, least, leave_climbs, leave_of, load_scope, Lost, lost_choices, lower_option, lowest, never, NodeId, Nowhere, one, restored, Row, starts_from, state_of, vm}
 use Rattle.domains.specs.declared.undo.Lost.TheVariants.{Row as LostRow}
-use Rattle.domains.specs.Choices.{DomainView, choices, starts_from}
-use Rattle.domains.specs.Laws.{AreFewer}
-use Rattle.domains.specs.Measures.{lower_option}
-use Rattle.domains.specs.Parts.{in_part}
-use Rattle.domains.specs.Undo.{lost_choices, restored}
 use Rattle.domains.proofs.Public.{contains_filter, least_of_each, lowest_before, restored_is_both, surely_each}
-use Rattle.reasons.specs.Closed.{IsEnd}
-use Rattle.relax.specs.Areas.{goes_in, hosted_in}
-use Rattle.closing.specs.Kinds.{load_scope}
-use Rattle.rule_frame.specs.Changes.{IsMachineLess, IsStill}
-use Rattle.profiles.specs.Standing.Ends.{leave_climbs}
-use Rattle.profiles.specs.declared.standing.numbers.Arrival.{Arrival}
-use Rattle.profiles.specs.Standing.Standings.{base, comes_by, gain, has_come, have_come, leave_of, never}
-use Rattle.rule_load.specs.Marking.{CameBefore, KeepsHost}
 use Rattle.rule_load.proofs.StillLemmas.{cases_in, held_parts, last_of, least_above, least_attained}
 
 -- ---- until when the host is kept

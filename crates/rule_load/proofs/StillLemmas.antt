@@ -1,31 +1,9 @@
 -- A change of a machine does not weigh on the load of a node that is not its host, unless all its choices come there sooner now.
-use Rattle.std.proofs.Common.{◌≡◌, ◌≢◌, ◌⊎◌, inl, inr, ℕ, zero, suc, ◌+◌, ◌<◌, ◌≤◌, Bool, true, false, ◌&&◌, nat_le, nat_lt, cond, Option, Some, None, List, [], ◌∷◌, refl, sym, ap, subst, ◌∙◌, arith}
-use Rattle.std.proofs.lemmas.Bool.{cases_eq, cases_lt, false≢true}
-use Rattle.std.proofs.lemmas.Bool.Decides.{nat_tests}
-use Rattle.std.specs.List.{Contains}
-use Rattle.cluster.specs.declared.choices.Choice.{Choice}
-use Rattle.cluster.specs.declared.choices.Choice.TheVariants.{Idle, Act}
+use Rattle.base.proofs.Public.{◌≡◌, ◌≢◌, ◌⊎◌, inl, inr, ℕ, zero, suc, ◌+◌, ◌<◌, ◌≤◌, Bool, true, false, ◌&&◌, nat_le, nat_lt, cond, Option, Some, None, List, [], ◌∷◌, refl, sym, ap, subst, ◌∙◌, arith, cases_eq, cases_lt, false≢true, nat_tests, Contains}
+use Rattle.rule_load.specs.Prelude.{Act, Amount, AreFewer, Arrival, At, base, Choice, comes_by, gain, has_come, have_come, held_at, hosted_in, Idle, Instance, IsEnd, IsLess, IsMachineLess, IsStanding, IsStill, kept_use, least, leave_of, load_scope, never, node, NodeId, Nowhere, one, Standing, state_of, surely, vm, Weight}
 use Rattle.cluster.specs.declared.choices.Place.{Place}
-use Rattle.cluster.specs.declared.choices.Place.TheVariants.{Nowhere, At}
-use Rattle.cluster.specs.declared.ids.NodeId.{NodeId}
-use Rattle.catalogue.specs.Instance.{Instance}
-use Rattle.base.specs.Least.{least}
-use Rattle.slices.specs.declared.slice.Weight.{Weight}
-use Rattle.slices.specs.declared.slice.Weight.TheVariants.{Amount}
-use Rattle.slices.specs.Elements.{state_of, vm, node}
-use Rattle.slices.specs.Snapshots.{held_at}
-use Rattle.slices.specs.Stages.{one}
-use Rattle.domains.specs.Laws.{AreFewer}
 use Rattle.domains.proofs.Public.{contains_here}
-use Rattle.domains.specs.Sets.{surely}
-use Rattle.reasons.specs.Closed.{IsEnd}
-use Rattle.relax.specs.Areas.{hosted_in}
-use Rattle.closing.specs.Kinds.{load_scope}
-use Rattle.rule_frame.specs.Changes.{IsLess, IsMachineLess, IsStill}
 use Rattle.rule_frame.proofs.Public.{unseen_still}
-use Rattle.profiles.specs.declared.standing.numbers.Arrival.{Arrival}
-use Rattle.profiles.specs.declared.standing.numbers.Standing.{Standing}
-use Rattle.profiles.specs.Standing.Standings.{IsStanding, base, comes_by, gain, has_come, have_come, kept_use, leave_of, never}
 use Rattle.profiles.proofs.Public.{kept_law}
 
 -- ---- one choice, away from the host

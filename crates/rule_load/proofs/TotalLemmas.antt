@@ -1,43 +1,11 @@
 -- What one machine uses at the most on the nodes of any set.
-use Rattle.std.specs.Prelude.{slice_index_or}
-use Rattle.std.specs.List.{Contains, sum_by}
-use Rattle.std.proofs.Common.{nat_lt, ◌≡◌, inl, inr, ℕ, suc, ◌+◌, ◌-◌, ◌<◌, ◌≤◌, Bool, true, false, not, ◌&&◌, nat_le, cond, Option, Some, None, List, [], ◌∷◌, refl, sym, ◌∙◌, arith}
-use Rattle.std.proofs.lemmas.Bool.{cases_lt, false≢true}
-use Rattle.std.proofs.lemmas.Bool.Decides.{nat_tests}
-use Rattle.base.specs.Least.{least}
-use Rattle.base.specs.Sums.{sum_to}
-use Rattle.cluster.specs.declared.choices.Choice.{Choice}
-use Rattle.cluster.specs.declared.choices.Choice.TheVariants.{Idle, Act}
+use Rattle.base.proofs.Public.{slice_index_or, Contains, sum_by, nat_lt, ◌≡◌, inl, inr, ℕ, suc, ◌+◌, ◌-◌, ◌<◌, ◌≤◌, Bool, true, false, not, ◌&&◌, nat_le, cond, Option, Some, None, List, [], ◌∷◌, refl, sym, ◌∙◌, arith, cases_lt, false≢true, nat_tests}
+use Rattle.rule_load.specs.Prelude.{Act, acting_slices, action_duration, Allocate, Amount, AreMost, AreMovers, AreStanding, At, base, Boot, Choice, demand_of, end_of, Gone, had_there, HasLeft, held_at, held_by, Idle, idle_slices, Init, Instance, IsDuring, IsMost, IsStanding, kept_until, Kill, Kind, kind_of, least, leave_of, machine_count, may, may_wait, Migrate, most_anywhere, never, no_standing, Nodes, Period, Ready, RegionView, Resume, Running, sets, Shutdown, Sleeping, Slices, slices_by, slices_of, Stage, stage_at, stage_from, Standing, start_count, StartsAfter, State, state_of, sum_to, sure, Suspend, use_of, vm, waits, weigh, weight_if}
 use Rattle.cluster.specs.declared.choices.Place.{Place}
-use Rattle.cluster.specs.declared.choices.Place.TheVariants.{At}
-use Rattle.cluster.specs.declared.kinds.Kind.{Kind}
-use Rattle.cluster.specs.declared.kinds.Kind.TheVariants.{Boot, Shutdown, Suspend, Resume, Migrate, Allocate, Kill}
-use Rattle.cluster.specs.declared.states.State.{State}
-use Rattle.cluster.specs.declared.states.State.TheVariants.{Init, Ready, Running, Sleeping, Gone}
-use Rattle.catalogue.specs.Instance.{Instance}
-use Rattle.catalogue.specs.Values.{demand_of, use_of}
-use Rattle.slices.specs.declared.slice.Slices.{Slices}
-use Rattle.slices.specs.declared.stage.Stage.{Stage}
-use Rattle.slices.specs.declared.slice.Weight.TheVariants.{Amount}
-use Rattle.slices.specs.Actions.{action_duration, end_of, kind_of}
-use Rattle.slices.specs.Elements.{machine_count, state_of, vm}
-use Rattle.slices.specs.Snapshots.{held_at, held_by, stage_at}
-use Rattle.slices.specs.Stages.{Nodes, acting_slices, idle_slices, slices_by, slices_of, stage_from, weigh}
 use Rattle.slices.proofs.Public.{ends_by_duration}
-use Rattle.domains.specs.Sets.{may, RegionView, sets}
 use Rattle.domains.proofs.Public.{contains_here, least_of_each, may_each}
-use Rattle.reasons.specs.Sure.{sure}
-use Rattle.profiles.specs.Movers.{AreMovers}
 use Rattle.profiles.proofs.Public.{sum_but_for}
-use Rattle.profiles.specs.declared.standing.numbers.Standing.{Standing}
-use Rattle.profiles.specs.Standing.Standings.{IsStanding, base, had_there, kept_until, leave_of, never, weight_if}
-use Rattle.profiles.specs.Standing.Tables.{AreStanding, no_standing}
 use Rattle.rule_load.proofs.StillLemmas.{least_attained}
-use Rattle.rule_load.specs.declared.period.Period.{Period}
-use Rattle.profiles.specs.Firsts.{start_count}
-use Rattle.rule_load.specs.Parts.{HasLeft, StartsAfter}
-use Rattle.rule_load.specs.Periods.{AreMost, IsDuring, IsMost}
-use Rattle.rule_load.specs.Totals.{may_wait, most_anywhere, waits}
 
 -- ---- what slices weigh
 

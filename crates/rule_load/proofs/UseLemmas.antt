@@ -1,42 +1,8 @@
 -- What one machine uses of a node at the most during a period.
-use Rattle.std.proofs.Common.{◌≡◌, ◌≢◌, ℕ, ◌+◌, ◌-◌, ◌<◌, ◌≤◌, ◌==◌, Bool, true, false, ◌&&◌, nat_lt, nat_le, cond, Option, Some, None, List, [], ◌∷◌, ◌++◌, length, refl, sym, ap, subst, ◌∙◌, arith}
-use Rattle.std.specs.Prelude.{IfSome, slice_index_or}
-use Rattle.std.specs.List.{Contains, filter}
-use Rattle.std.proofs.lemmas.Bool.{false≢true}
-use Rattle.std.proofs.lemmas.List.{get_or_default}
-use Rattle.std.proofs.lemmas.Bool.Decides.{Decides-eqb, nat_tests}
-use Rattle.base.specs.Least.{least}
-use Rattle.cluster.specs.declared.choices.Choice.{Choice}
-use Rattle.cluster.specs.declared.choices.Choice.TheVariants.{Idle, Act}
-use Rattle.cluster.specs.declared.choices.Place.TheVariants.{Nowhere, At}
-use Rattle.cluster.specs.declared.ids.NodeId.{NodeId}
-use Rattle.cluster.specs.declared.kinds.Kind.{Kind}
-use Rattle.cluster.specs.declared.kinds.Kind.TheVariants.{Forge, Boot, Shutdown, Suspend, Resume, Migrate, Allocate, Kill, NodeBoot, NodeShutdown}
-use Rattle.catalogue.specs.Instance.{Instance}
-use Rattle.catalogue.specs.Values.{demand_of}
-use Rattle.slices.specs.declared.slice.Weight.{Weight}
-use Rattle.slices.specs.declared.slice.Weight.TheVariants.{Amount}
-use Rattle.slices.specs.Actions.{kind_of}
-use Rattle.slices.specs.Elements.{machine_count, state_of, vm}
-use Rattle.slices.specs.Stages.{one}
-use Rattle.domains.specs.declared.parts.Part.TheVariants.{Upto}
-use Rattle.domains.specs.declared.parts.Side.TheVariants.{Inside}
-use Rattle.domains.specs.Choices.{DomainView, choices}
-use Rattle.domains.specs.declared.parts.Row.{Row}
-use Rattle.domains.specs.Parts.{in_part, on_side}
-use Rattle.domains.specs.Sets.{Sets}
+use Rattle.base.proofs.Public.{◌≡◌, ◌≢◌, ℕ, ◌+◌, ◌-◌, ◌<◌, ◌≤◌, ◌==◌, Bool, true, false, ◌&&◌, nat_lt, nat_le, cond, Option, Some, None, List, [], ◌∷◌, ◌++◌, length, refl, sym, ap, subst, ◌∙◌, arith, IfSome, slice_index_or, Contains, filter, false≢true, get_or_default, Decides-eqb, nat_tests}
+use Rattle.rule_load.specs.Prelude.{Act, Allocate, Amount, AreFirstAt, AreMost, AreStanding, Arrival, At, base, Boot, brought, Choice, choices, comes_by, demand_of, DomainView, Forge, gain, has_come, HasLeft, have_come, hosted_in, Idle, in_part, Inside, Instance, IsDuring, IsMost, IsMostBrought, IsMostLeft, IsStanding, kept_use, Kill, Kind, kind_of, least, leave_of, left_over, machine_count, Migrate, most_kept, never, no_standing, NodeBoot, NodeId, NodeShutdown, Nowhere, on_side, one, Period, Resume, Row, Sets, Shutdown, Standing, StartsPast, state_of, sure, Suspend, Upto, vm, Weight, weight_if}
 use Rattle.domains.proofs.Public.{contains_filter, least_of_each, surely_each}
-use Rattle.reasons.specs.Sure.{sure}
-use Rattle.relax.specs.Areas.{hosted_in}
-use Rattle.profiles.specs.declared.standing.numbers.Arrival.{Arrival}
-use Rattle.profiles.specs.declared.standing.numbers.Standing.{Standing}
-use Rattle.profiles.specs.Standing.Standings.{IsStanding, base, brought, comes_by, gain, has_come, have_come, kept_use, leave_of, never, weight_if}
-use Rattle.profiles.specs.Standing.Tables.{AreStanding, no_standing}
 use Rattle.profiles.proofs.Public.{kept_law}
-use Rattle.rule_load.specs.declared.period.Period.{Period}
-use Rattle.profiles.specs.Firsts.{AreFirstAt}
-use Rattle.rule_load.specs.Parts.{HasLeft, IsMostBrought, IsMostLeft, StartsPast, left_over}
-use Rattle.rule_load.specs.Periods.{AreMost, IsDuring, IsMost, most_kept}
 use Rattle.rule_load.proofs.StillLemmas.{held_parts}
 
 -- ---- what counts only where a test holds

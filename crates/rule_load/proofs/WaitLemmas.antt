@@ -1,13 +1,7 @@
 -- Who may wait until the last instant.
-use Rattle.std.proofs.Common.{◌≡◌, ℕ, zero, suc, ◌+◌, ◌≤◌, Bool, true, false, nat_lt, List, [], ◌∷◌, refl, arith}
-use Rattle.std.specs.List.{flat_map, list_any}
-use Rattle.std.proofs.lemmas.Bool.Decides.{nat_tests}
-use Rattle.std.proofs.lemmas.List.Folds.{list_any-append}
+use Rattle.base.proofs.Public.{◌≡◌, ℕ, zero, suc, ◌+◌, ◌≤◌, Bool, true, false, nat_lt, List, [], ◌∷◌, refl, arith, flat_map, list_any, nat_tests, list_any-append}
+use Rattle.rule_load.specs.Prelude.{choices, DomainView, may, Row, row_choices, starts_from, waits}
 use Rattle.cluster.specs.declared.choices.Place.{Place}
-use Rattle.domains.specs.declared.parts.Row.{Row}
-use Rattle.domains.specs.Choices.{DomainView, choices, row_choices, starts_from}
-use Rattle.domains.specs.Sets.{may}
-use Rattle.rule_load.specs.Totals.{waits}
 
 module _ (last to : ℕ) (over : nat_lt to last ≡ false) where
   none-waits : (place : Place) (from count : ℕ) → list_any (waits last to) (starts_from place from count) ≡ false

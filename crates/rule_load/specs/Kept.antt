@@ -2,22 +2,11 @@
 -- near each node, and those that may not stay.
 use Rattle.std.specs.Prelude.{◌≡◌, ℕ, ◌<◌, true, List, length, slice_index_or}
 use Rattle.std.specs.List.{Contains}
+use Rattle.profiles.specs.Prelude.{AreFirstAt, AreFirsts, AreMachines, AreMovers, AreStanding, comes_by, FixedView, have_come, hosted_in, Instance, IsFixed, IsNear, level_at, Levels, list_at, machine_count, no_standing, node_count, one, Sets, state_of, Tables, vm}
 use Rattle.cluster.specs.declared.ids.Element.{Element}
 use Rattle.cluster.specs.declared.ids.Element.TheVariants.{Vm, Node as TheNode}
-use Rattle.catalogue.specs.Instance.{Instance}
-use Rattle.slices.specs.Elements.{machine_count, node_count, state_of, vm}
-use Rattle.slices.specs.Stages.{one}
-use Rattle.domains.specs.Sets.{Sets}
-use Rattle.relax.specs.Areas.{hosted_in}
-use Rattle.profiles.specs.Levels.{Levels, level_at}
-use Rattle.profiles.specs.Near.{AreMachines, IsNear, list_at}
-use Rattle.profiles.specs.Movers.{AreMovers}
 use Rattle.rule_frame.specs.Caches.{Cache}
 use Rattle.profiles.specs.declared.standing.numbers.Standing.{Standing}
-use Rattle.profiles.specs.Standing.Standings.{comes_by, have_come}
-use Rattle.profiles.specs.Standing.Tables.{AreStanding, Tables, no_standing}
-use Rattle.profiles.specs.Firsts.{AreFirstAt, AreFirsts}
-use Rattle.profiles.specs.Fixed.{FixedView, IsFixed}
 
 -- each machine of which all choices have come to a node is in the list of the node
 pub record HaveCome (p : Instance) (s : Sets) (xs : List (List ℕ)) : Type 0 where

@@ -8,3 +8,4 @@ pub mod Parts
 pub mod Periods
 pub mod Quiet
 pub mod Totals
+pub mod Prelude

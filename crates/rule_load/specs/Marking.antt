@@ -1,14 +1,9 @@
 -- Which marks are set.
 use Rattle.std.specs.Prelude.{◌≡◌, ◌≢◌, ℕ, ◌<◌, true, false, List, [], Option, length, slice_index_or}
 use Rattle.std.specs.List.{Contains}
+use Rattle.profiles.specs.Prelude.{comes_by, goes_in, has_come, hosted_in, Instance, least, leave_of, one, state_of}
 use Rattle.cluster.specs.declared.choices.Choice.{Choice}
-use Rattle.catalogue.specs.Instance.{Instance}
-use Rattle.base.specs.Least.{least}
-use Rattle.slices.specs.Elements.{state_of}
-use Rattle.slices.specs.Stages.{one}
-use Rattle.relax.specs.Areas.{goes_in, hosted_in}
 use Rattle.profiles.specs.declared.standing.numbers.Arrival.{Arrival}
-use Rattle.profiles.specs.Standing.Standings.{comes_by, has_come, leave_of}
 use Rattle.rule_frame.specs.Levels.{Levels}
 
 -- no mark is gone, and what has none is spared

@@ -2,16 +2,8 @@
 use Rattle.std.specs.Prelude.{ℕ, ◌≤◌, ◌-◌, ◌&&◌, nat_lt, min}
 use Rattle.std.proofs.Common.{Bool, true, false, cond, arith}
 use Rattle.std.proofs.lemmas.Bool.Decides.{nat_tests}
+use Rattle.profiles.specs.Prelude.{action_duration, Instance, is_online, IsLeastAtEnds, leave_climbs, leave_of, never, node, stage_at, stage_of, usable_at, usable_of}
 use Rattle.cluster.specs.declared.choices.Choice.TheVariants.{Act}
-use Rattle.cluster.specs.Inventory.{is_online}
-use Rattle.catalogue.specs.Instance.{Instance}
-use Rattle.slices.specs.Actions.{action_duration}
-use Rattle.slices.specs.Elements.{node}
-use Rattle.slices.specs.Ends.{IsLeastAtEnds}
-use Rattle.slices.specs.Snapshots.{stage_at, usable_at}
-use Rattle.slices.specs.Stages.{stage_of, usable_of}
-use Rattle.profiles.specs.Standing.Ends.{leave_climbs}
-use Rattle.profiles.specs.Standing.Standings.{leave_of, never}
 use Rattle.rule_load.specs.Totals.{hurry_count}
 use Rattle.rule_load.specs.Parts.{left_over, usable_count}
 

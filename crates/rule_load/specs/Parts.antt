@@ -1,17 +1,11 @@
 -- What the code says of single machines and nodes.
 use Rattle.std.specs.Prelude.{ℕ, ◌-◌, ◌<◌, ◌≤◌, ◌&&◌, List, nat_lt, if◌then◌else◌}
 use Rattle.std.specs.List.{Contains}
+use Rattle.profiles.specs.Prelude.{base, gain, has_come, hosted_in, Instance, leave_of, never, one, start_count, state_of, usable_at}
 use Rattle.cluster.specs.declared.choices.Choice.{Choice}
 use Rattle.cluster.specs.declared.choices.Choice.TheVariants.{Act}
 use Rattle.cluster.specs.declared.choices.Place.TheVariants.{At}
-use Rattle.catalogue.specs.Instance.{Instance}
 use Rattle.slices.specs.declared.slice.Weight.TheVariants.{Amount}
-use Rattle.slices.specs.Elements.{state_of}
-use Rattle.slices.specs.Snapshots.{usable_at}
-use Rattle.slices.specs.Stages.{one}
-use Rattle.relax.specs.Areas.{hosted_in}
-use Rattle.profiles.specs.Firsts.{start_count}
-use Rattle.profiles.specs.Standing.Standings.{base, gain, has_come, leave_of, never}
 
 -- under each of these choices machine v gives its host up by the instant
 pub record HasLeft (p : Instance) (v : ℕ) (cs : List Choice) (by : ℕ) : Type 0 where

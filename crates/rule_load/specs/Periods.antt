@@ -1,20 +1,12 @@
 -- What is so at each instant of a period.
 use Rattle.std.specs.Prelude.{ℕ, ◌+◌, ◌<◌, ◌≤◌, ◌&&◌, List, nat_lt, if◌then◌else◌}
 use Rattle.std.specs.List.{Contains}
+use Rattle.profiles.specs.Prelude.{base, comes_by, gain, held_at, hosted_in, Instance, machine_count, node, node_count, Nodes, one, room, Sets, setting, Snapshot, state_of, sure, vm}
+use Rattle.rule_frame.specs.Prelude.{IsFreeOf, IsOverloaded}
 use Rattle.cluster.specs.declared.choices.Choice.{Choice}
-use Rattle.catalogue.specs.Instance.{Instance}
 use Rattle.slices.specs.declared.slice.Weight.{Weight}
 use Rattle.slices.specs.declared.slice.Weight.TheVariants.{Amount}
-use Rattle.slices.specs.Elements.{machine_count, node_count, node, state_of, vm}
-use Rattle.slices.specs.Snapshots.{Snapshot, held_at, room}
-use Rattle.slices.specs.Stages.{Nodes, one}
-use Rattle.domains.specs.Sets.{Sets, setting}
-use Rattle.reasons.specs.Sure.{sure}
-use Rattle.relax.specs.Areas.{hosted_in}
-use Rattle.closing.specs.Kinds.{IsOverloaded}
-use Rattle.closing.specs.Looks.{IsFreeOf}
 use Rattle.profiles.specs.declared.standing.numbers.Standing.{Standing}
-use Rattle.profiles.specs.Standing.Standings.{base, comes_by, gain}
 use Rattle.rule_load.specs.declared.period.Period.{Period}
 
 -- the instant is one of the period

@@ -1,13 +1,8 @@
 -- The watches of the rule of loads: the load of each node, and past them that of all nodes together.
 use Rattle.std.specs.Prelude.{ℕ, Bool, true, false, nat_lt, if◌then◌else◌}
-use Rattle.catalogue.specs.Instance.{Instance}
-use Rattle.slices.specs.Elements.{node_count}
-use Rattle.slices.specs.Stages.{Nodes, one}
-use Rattle.reasons.specs.Closed.{all_nodes}
+use Rattle.rule_frame.specs.Prelude.{all_nodes, Instance, load_on, node_count, Nodes, one, Watch}
 use Rattle.reasons.specs.declared.reason.ReasonKind.{ReasonKind}
 use Rattle.reasons.specs.declared.reason.ReasonKind.TheVariants.{Empty, Bound, Load, Pair, Place, Group, SetLoad, Power, Usable, Hall}
-use Rattle.closing.specs.Kinds.{load_on}
-use Rattle.closing.specs.Watches.{Watch}
 
 -- the nodes whose load is watch i
 abbrev pub nodes_at : Instance → ℕ → Nodes

@@ -1,17 +1,6 @@
 //! Where a node may be overloaded during a period.
 ghost use Rattle.std.specs.Prelude.{◌≡◌, ◌<◌, ◌≤◌, IfNone, length, slice_index_or};
-ghost use Rattle.catalogue.specs.Instance.{IsElement};
-ghost use Rattle.catalogue.specs.Limits.{max_capacity};
-ghost use Rattle.slices.specs.Elements.{node_count};
-ghost use Rattle.slices.specs.Stages.{one};
-ghost use Rattle.slices.specs.declared.slice.Weight.TheVariants.{Amount as AmountOf};
-ghost use Rattle.domains.specs.Sets.{sets};
-ghost use Rattle.reasons.specs.Reasons.{IsOverload};
-ghost use Rattle.relax.specs.Areas.{IsSized};
-ghost use Rattle.closing.specs.Kinds.{IsOverloaded};
-ghost use Rattle.profiles.specs.Standing.Tables.{no_standing};
-ghost use Rattle.rule_load.specs.Kept.{AreKeptAt};
-ghost use Rattle.rule_load.specs.Periods.{IsFreeDuring, MachinesFit, most_kept};
+ghost use Rattle.rule_load.specs.Prelude.{Amount as AmountOf, AreKeptAt, IsElement, IsFreeDuring, IsOverload, IsOverloaded, IsSized, MachinesFit, max_capacity, most_kept, no_standing, node_count, one, sets};
 
 use crate::kept::Kept;
 use crate::period::Period;

@@ -1,23 +1,7 @@
 //! The watches on which a change weighs.
 ghost use Rattle.std.specs.Prelude.{◌≡◌, ◌≢◌, ◌⊎◌, ℕ, ◌+◌, ◌<◌, [], true, false, IsTrue, length};
 ghost use Rattle.std.specs.List.{Contains};
-ghost use Rattle.base.specs.Least.{least};
-ghost use Rattle.cluster.specs.declared.choices.Choice.{Choice as AnyChoice};
-ghost use Rattle.catalogue.specs.Instance.{IsElement};
-ghost use Rattle.slices.specs.Elements.{node_count, state_of, vm};
-ghost use Rattle.slices.specs.Stages.{one};
-ghost use Rattle.domains.specs.Choices.{choices};
-ghost use Rattle.domains.specs.Laws.{AreFewer};
-ghost use Rattle.domains.specs.Sets.{HasElement, domain_at, sets};
-ghost use Rattle.domains.specs.Undo.{domain_before, lost_choices};
-ghost use Rattle.relax.specs.Areas.{IsSized, goes_in, hosted_in};
-ghost use Rattle.closing.specs.Kinds.{load_scope};
-ghost use Rattle.rule_frame.specs.Caches.{IsCacheFor};
-ghost use Rattle.rule_frame.specs.Changes.{IsDisturbed, IsStill};
-ghost use Rattle.profiles.specs.Standing.Standings.{comes_by, has_come, have_come, leave_of};
-ghost use Rattle.rule_load.specs.Kept.{cache_of};
-ghost use Rattle.rule_load.specs.Marking.{AreSpared, CameBefore, KeepsHost};
-ghost use Rattle.rule_load.specs.Watched.{watch_at};
+ghost use Rattle.rule_load.specs.Prelude.{AreFewer, AreSpared, cache_of, CameBefore, Choice as AnyChoice, choices, comes_by, domain_at, domain_before, goes_in, has_come, HasElement, have_come, hosted_in, IsCacheFor, IsDisturbed, IsElement, IsSized, IsStill, KeepsHost, least, leave_of, load_scope, lost_choices, node_count, one, sets, state_of, vm, watch_at};
 
 use crate::nodes::node_total;
 use crate::standings::Standings;

@@ -1,8 +1,6 @@
 //! What can be asked of one choice: over the starts at one place each is least at the first or the last.
 ghost use Rattle.std.specs.Prelude.{IfSome};
-ghost use Rattle.catalogue.specs.Instance.{IsElement};
-ghost use Rattle.slices.specs.Elements.{node, vm};
-ghost use Rattle.profiles.specs.Standing.Leaves.{AreLeaves};
+ghost use Rattle.profiles.specs.Prelude.{AreLeaves, IsElement, node, vm};
 ghost use Rattle.rule_load.specs.Parts.{left_over, usable_count};
 ghost use Rattle.rule_load.specs.Totals.{hurry_count};
 

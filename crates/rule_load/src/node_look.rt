@@ -1,11 +1,6 @@
 //! The look at the load of one node, by where machines surely stand.
 ghost use Rattle.std.specs.Prelude.{◌<◌, IfNone};
-ghost use Rattle.slices.specs.Elements.{node_count};
-ghost use Rattle.domains.specs.Sets.{sets};
-ghost use Rattle.relax.specs.Areas.{IsSized};
-ghost use Rattle.closing.specs.Looks.{IsLook};
-ghost use Rattle.closing.specs.Kinds.{load_watch};
-ghost use Rattle.rule_load.specs.Kept.{AreKeptAt};
+ghost use Rattle.rule_load.specs.Prelude.{AreKeptAt, IsLook, IsSized, load_watch, node_count, sets};
 
 use crate::doubt::{Doubt, load_doubt};
 use crate::kept::Kept;

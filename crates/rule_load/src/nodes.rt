@@ -1,11 +1,6 @@
 //! The nodes whose load is a watch.
 ghost use Rattle.std.specs.Prelude.{◌≡◌, ℕ, ◌+◌, ◌<◌, IfNone, IfSome};
-ghost use Rattle.cluster.specs.Sets.{has_node};
-ghost use Rattle.slices.specs.Elements.{node_count};
-ghost use Rattle.slices.specs.Stages.{one};
-ghost use Rattle.reasons.specs.Closed.{all_nodes};
-ghost use Rattle.reasons.specs.Reasons.{AreListed};
-ghost use Rattle.rule_load.specs.Watched.{nodes_at};
+ghost use Rattle.rule_load.specs.Prelude.{all_nodes, AreListed, has_node, node_count, nodes_at, one};
 
 use catalogue::Problem;
 use cluster::{NodeId, NodeSet};

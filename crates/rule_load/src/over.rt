@@ -1,26 +1,7 @@
 //! Whether a node is overloaded, told by where the machines near it surely stand.
 ghost use Rattle.std.specs.Prelude.{◌≡◌, ◌≢◌, ◌+◌, ◌*◌, ◌<◌, ◌≤◌, [], false, true, IfSome, IsTrue, length};
 ghost use Rattle.std.specs.List.{Contains, sum_by};
-ghost use Rattle.cluster.specs.Limits.{max_machines};
-ghost use Rattle.cluster.specs.declared.choices.Choice.{Choice as AnyChoice};
-ghost use Rattle.cluster.specs.declared.choices.Place.TheVariants.{At};
-ghost use Rattle.cluster.specs.declared.ids.NodeId.{NodeId as AnyNode};
-ghost use Rattle.base.specs.Least.{least};
-ghost use Rattle.catalogue.specs.Instance.{IsElement};
-ghost use Rattle.slices.specs.Elements.{node_count};
-ghost use Rattle.slices.specs.Limits.{max_held};
-ghost use Rattle.slices.specs.Snapshots.{held_at, load as load_of};
-ghost use Rattle.slices.specs.Stages.{one};
-ghost use Rattle.slices.specs.declared.slice.Weight.TheVariants.{Amount as AmountOf};
-ghost use Rattle.domains.specs.Choices.{choices};
-ghost use Rattle.domains.specs.Sets.{sets};
-ghost use Rattle.domains.specs.Views.{seen};
-ghost use Rattle.reasons.specs.Reasons.{IsOverload};
-ghost use Rattle.reasons.specs.Sure.{sure};
-ghost use Rattle.relax.specs.Areas.{IsSized};
-ghost use Rattle.profiles.specs.Standing.Standings.{has_come, kept_use as the_kept_use};
-ghost use Rattle.profiles.specs.Fixed.{IsFixed};
-ghost use Rattle.rule_load.specs.Kept.{AreKeptAt};
+ghost use Rattle.rule_load.specs.Prelude.{Amount as AmountOf, AreKeptAt, At, Choice as AnyChoice, choices, has_come, held_at, IsElement, IsFixed, IsOverload, IsSized, kept_use as the_kept_use, least, load as load_of, max_held, max_machines, node_count, NodeId as AnyNode, one, seen, sets, sure};
 
 use crate::kept::Kept;
 use crate::period::Period;

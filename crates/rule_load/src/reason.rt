@@ -1,17 +1,7 @@
 //! The reason why nodes are overloaded.
 ghost use Rattle.std.specs.Prelude.{◌+◌, ◌<◌, ◌≤◌, IfNone, IfSome, length};
-ghost use Rattle.cluster.specs.Sets.{has_node};
-ghost use Rattle.slices.specs.Elements.{node_count};
-ghost use Rattle.domains.specs.Sets.{sets};
-ghost use Rattle.domains.specs.Views.{seen};
-ghost use Rattle.reasons.specs.Reasons.{IsOverload};
-ghost use Rattle.reasons.specs.Sure.{sure};
-ghost use Rattle.relax.specs.Areas.{IsSized};
-ghost use Rattle.closing.specs.Kinds.{IsOverloaded};
+ghost use Rattle.rule_load.specs.Prelude.{cache_of, has_node, IsCacheFor, IsOverload, IsOverloaded, IsSized, node_count, nodes_at, seen, sets, sure};
 ghost use Rattle.prop_core.specs.Propagators.{FailHolds};
-ghost use Rattle.rule_frame.specs.Caches.{IsCacheFor};
-ghost use Rattle.rule_load.specs.Kept.{cache_of};
-ghost use Rattle.rule_load.specs.Watched.{nodes_at};
 
 use crate::nodes::{node_at, watched_nodes};
 use crate::over::overloaded_at;

@@ -1,17 +1,7 @@
 //! Whether a reason is seen to refute a region with what is inside a part of an element's choices.
 ghost use Rattle.std.specs.Prelude.{◌≡◌, ◌<◌, ◌≤◌, IfSome, IsTrue, length};
-ghost use Rattle.cluster.specs.Sets.{has_node};
-ghost use Rattle.catalogue.specs.Instance.{IsElement};
-ghost use Rattle.slices.specs.Elements.{node_count};
-ghost use Rattle.slices.specs.Stages.{one};
-ghost use Rattle.domains.specs.Parts.{in_part};
-ghost use Rattle.domains.specs.Sets.{keeping, sets};
-ghost use Rattle.reasons.specs.Reasons.{IsOverload};
-ghost use Rattle.reasons.specs.Sure.{sure};
-ghost use Rattle.relax.specs.Areas.{IsSized};
+ghost use Rattle.rule_load.specs.Prelude.{cache_of, has_node, in_part, IsCacheFor, IsElement, IsOverload, IsSized, keeping, node_count, one, sets, sure};
 ghost use Rattle.prop_core.specs.Propagators.{FailHolds, MayAnswer};
-ghost use Rattle.rule_frame.specs.Caches.{IsCacheFor};
-ghost use Rattle.rule_load.specs.Kept.{cache_of};
 
 use crate::nodes::{node_set, node_total};
 use crate::over::is_over;

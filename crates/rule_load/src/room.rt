@@ -1,20 +1,6 @@
 //! Which room a node has during a period.
 ghost use Rattle.std.specs.Prelude.{◌≡◌, ℕ, ◌*◌, ◌<◌, ◌≤◌, length, IsTrue, true, if◌then◌else◌};
-ghost use Rattle.cluster.specs.Limits.{max_nodes};
-ghost use Rattle.cluster.specs.Inventory.{is_online as the_is_online};
-ghost use Rattle.base.specs.Sums.{sum_to};
-ghost use Rattle.catalogue.specs.Limits.{max_capacity};
-ghost use Rattle.catalogue.specs.Values.{capacity_of};
-ghost use Rattle.slices.specs.Elements.{node, node_count};
-ghost use Rattle.slices.specs.Snapshots.{usable_at};
-ghost use Rattle.slices.specs.Stages.{one};
-ghost use Rattle.domains.specs.Laws.{is_above_none};
-ghost use Rattle.domains.specs.Sets.{sets, surely};
-ghost use Rattle.reasons.specs.Sure.{sure};
-ghost use Rattle.relax.specs.Areas.{IsSized};
-ghost use Rattle.rule_load.specs.Periods.{HasRoom, NodesFit};
-ghost use Rattle.rule_load.specs.Totals.{is_steady as the_is_steady};
-ghost use Rattle.rule_load.specs.declared.period.Period.{Period as AnyPeriod};
+ghost use Rattle.rule_load.specs.Prelude.{capacity_of, HasRoom, is_above_none, is_online as the_is_online, is_steady as the_is_steady, IsSized, max_capacity, max_nodes, node, node_count, NodesFit, one, Period as AnyPeriod, sets, sum_to, sure, surely, usable_at};
 
 use crate::measures::IsUsable;
 use crate::period::Period;

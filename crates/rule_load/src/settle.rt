@@ -1,17 +1,6 @@
 //! Cases in which nodes may be overloaded, looked at one by one.
 ghost use Rattle.std.specs.Prelude.{◌≡◌, ◌⊎◌, ℕ, ◌<◌, ◌≤◌, length, slice_index_or, IfSome, IsTrue};
-ghost use Rattle.catalogue.specs.Instance.{IsElement};
-ghost use Rattle.slices.specs.Elements.{node_count};
-ghost use Rattle.slices.specs.Stages.{one};
-ghost use Rattle.domains.specs.Choices.{choices, no_row};
-ghost use Rattle.domains.specs.Sets.{sets};
-ghost use Rattle.domains.specs.Views.{seen};
-ghost use Rattle.reasons.specs.Closed.{IsEnd};
-ghost use Rattle.reasons.specs.Sure.{sure};
-ghost use Rattle.relax.specs.Areas.{IsSized};
-ghost use Rattle.closing.specs.Kinds.{IsOverloaded, load_watch};
-ghost use Rattle.closing.specs.Looks.{IsLook};
-ghost use Rattle.rule_load.specs.Kept.{AreKeptAt};
+ghost use Rattle.rule_load.specs.Prelude.{AreKeptAt, choices, IsElement, IsEnd, IsLook, IsOverloaded, IsSized, load_watch, no_row, node_count, one, seen, sets, sure};
 
 use crate::doubt::Doubt;
 use crate::kept::Kept;

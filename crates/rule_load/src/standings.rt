@@ -1,14 +1,7 @@
 //! Where machines surely stand, kept beside the rule.
 ghost use Rattle.std.specs.Prelude.{◌≡◌, ℕ, ◌<◌, OnErr, OnOk, [], length, slice_index_or};
-ghost use Rattle.catalogue.specs.Instance.{IsElement};
-ghost use Rattle.slices.specs.Elements.{machine_count, node_count};
-ghost use Rattle.domains.specs.Sets.{sets};
-ghost use Rattle.profiles.specs.Near.{IsNear};
-ghost use Rattle.profiles.specs.Movers.{AreMovers};
+ghost use Rattle.profiles.specs.Prelude.{AreMovers, AreStanding, IsElement, IsFixed, IsNear, IsStanding, machine_count, no_standing, node_count, sets};
 ghost use Rattle.rule_frame.specs.Caches.{IsCacheFor};
-ghost use Rattle.profiles.specs.Fixed.{IsFixed};
-ghost use Rattle.profiles.specs.Standing.Standings.{IsStanding};
-ghost use Rattle.profiles.specs.Standing.Tables.{AreStanding, no_standing};
 ghost use Rattle.rule_load.specs.Kept.{AreKeptAt, Grows, IsListedBy, IsListedFor};
 
 use crate::kept::Kept;

@@ -1,11 +1,6 @@
 //! Cuts that are worth a try after one of a machine at a node was found.
 ghost use Rattle.std.specs.Prelude.{◌<◌, IsTrue, length};
-ghost use Rattle.catalogue.specs.Instance.{IsElement};
-ghost use Rattle.slices.specs.Elements.{machine_count, node_count};
-ghost use Rattle.domains.specs.Sets.{sets};
-ghost use Rattle.relax.specs.Areas.{IsSized};
-ghost use Rattle.profiles.specs.Standing.Tables.{AreStanding};
-ghost use Rattle.rule_load.specs.Kept.{AreKeptAt};
+ghost use Rattle.rule_load.specs.Prelude.{AreKeptAt, AreStanding, IsElement, IsSized, machine_count, node_count, sets};
 
 use crate::kept::Kept;
 use crate::nodes::node_set;

@@ -1,15 +1,6 @@
 //! The look at the load of all nodes together, by where machines surely stand.
 ghost use Rattle.std.specs.Prelude.{◌+◌, ◌<◌, ◌≤◌, length, IfSome, IsTrue};
-ghost use Rattle.domains.specs.Sets.{sets};
-ghost use Rattle.reasons.specs.Closed.{all_nodes};
-ghost use Rattle.reasons.specs.Reasons.{IsOverload};
-ghost use Rattle.relax.specs.Areas.{IsSized};
-ghost use Rattle.closing.specs.Kinds.{IsOverloaded, total_load_watch};
-ghost use Rattle.closing.specs.Looks.{IsLook};
-ghost use Rattle.profiles.specs.Movers.{AreMovers};
-ghost use Rattle.profiles.specs.Standing.Tables.{AreStanding};
-ghost use Rattle.profiles.specs.Fixed.{IsFixed};
-ghost use Rattle.rule_load.specs.Periods.{IsFreeDuring, IsFreePast};
+ghost use Rattle.rule_load.specs.Prelude.{all_nodes, AreMovers, AreStanding, IsFixed, IsFreeDuring, IsFreePast, IsLook, IsOverload, IsOverloaded, IsSized, sets, total_load_watch};
 
 use crate::period::Period;
 use crate::room::steady_room;

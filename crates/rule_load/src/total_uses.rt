@@ -1,24 +1,7 @@
 //! What machines use at the most on all nodes together during a period.
 ghost use Rattle.std.specs.Prelude.{◌≡◌, ◌+◌, ◌-◌, ◌*◌, ◌<◌, ◌≤◌, length, slice_index_or, IsTrue};
 ghost use Rattle.std.specs.List.{sum_by};
-ghost use Rattle.cluster.specs.Limits.{max_amount, max_machines, max_nodes};
-ghost use Rattle.base.specs.Sums.{sum_to};
-ghost use Rattle.catalogue.specs.Instance.{IsElement};
-ghost use Rattle.catalogue.specs.Limits.{max_capacity};
-ghost use Rattle.slices.specs.Elements.{machine_count, vm};
-ghost use Rattle.slices.specs.declared.slice.Weight.TheVariants.{Amount as AmountOf};
-ghost use Rattle.domains.specs.Laws.{is_nought};
-ghost use Rattle.domains.specs.Sets.{sets};
-ghost use Rattle.reasons.specs.Closed.{all_nodes};
-ghost use Rattle.relax.specs.Areas.{IsSized};
-ghost use Rattle.profiles.specs.Near.{AreMachines};
-ghost use Rattle.profiles.specs.Movers.{AreMovers};
-ghost use Rattle.profiles.specs.Standing.Standings.{base as the_base};
-ghost use Rattle.profiles.specs.Standing.Tables.{AreStanding, no_standing};
-ghost use Rattle.profiles.specs.Fixed.{IsFixed};
-ghost use Rattle.rule_load.specs.Parts.{StartsAfter};
-ghost use Rattle.rule_load.specs.Periods.{IsMost, MachinesFit};
-ghost use Rattle.rule_load.specs.Totals.{may_wait as the_may_wait, most_anywhere as the_most_anywhere};
+ghost use Rattle.rule_load.specs.Prelude.{all_nodes, Amount as AmountOf, AreMachines, AreMovers, AreStanding, base as the_base, is_nought, IsElement, IsFixed, IsMost, IsSized, machine_count, MachinesFit, max_amount, max_capacity, max_machines, max_nodes, may_wait as the_may_wait, most_anywhere as the_most_anywhere, no_standing, sets, StartsAfter, sum_to, vm};
 
 use crate::measures::Hurries;
 use crate::period::Period;

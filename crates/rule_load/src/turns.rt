@@ -1,12 +1,6 @@
 //! The instants at which what is surely used changes, by where machines surely stand.
 ghost use Rattle.std.specs.Prelude.{◌≡◌, ◌+◌, ◌<◌, ◌≤◌, length};
-ghost use Rattle.catalogue.specs.Instance.{IsElement};
-ghost use Rattle.slices.specs.Elements.{machine_count, node_count};
-ghost use Rattle.relax.specs.Areas.{IsSized};
-ghost use Rattle.domains.specs.Sets.{sets};
-ghost use Rattle.profiles.specs.Near.{AreMachines};
-ghost use Rattle.profiles.specs.Fixed.{IsFixed};
-ghost use Rattle.rule_load.specs.Kept.{AreKeptAt};
+ghost use Rattle.rule_load.specs.Prelude.{AreKeptAt, AreMachines, IsElement, IsFixed, IsSized, machine_count, node_count, sets};
 
 use crate::kept::Kept;
 use catalogue::Problem;

@@ -1,20 +1,6 @@
 //! What machines use of a node at the most during a period.
 ghost use Rattle.std.specs.Prelude.{◌≡◌, ◌≢◌, ℕ, None, false, IfSome, ◌+◌, ◌*◌, ◌<◌, ◌≤◌, length, slice_index_or, IsTrue, if◌then◌else◌};
-ghost use Rattle.cluster.specs.Limits.{max_amount, max_machines};
-ghost use Rattle.base.specs.Sums.{sum_to};
-ghost use Rattle.catalogue.specs.Instance.{IsElement};
-ghost use Rattle.catalogue.specs.Limits.{max_capacity};
-ghost use Rattle.slices.specs.Elements.{machine_count, state_of, vm};
-ghost use Rattle.slices.specs.Stages.{one};
-ghost use Rattle.slices.specs.declared.slice.Weight.TheVariants.{Amount as AmountOf};
-ghost use Rattle.domains.specs.Sets.{sets};
-ghost use Rattle.relax.specs.Areas.{IsSized, hosted_in};
-ghost use Rattle.profiles.specs.Standing.Standings.{base as the_base, gain as the_gain};
-ghost use Rattle.profiles.specs.Standing.Tables.{no_standing};
-ghost use Rattle.profiles.specs.Fixed.{IsFixed};
-ghost use Rattle.rule_load.specs.Kept.{AreKeptAt};
-ghost use Rattle.rule_load.specs.Parts.{HasLeft, IsMostBrought, IsMostLeft, StartsPast};
-ghost use Rattle.rule_load.specs.Periods.{IsMost, most_kept as the_most_kept};
+ghost use Rattle.rule_load.specs.Prelude.{Amount as AmountOf, AreKeptAt, base as the_base, gain as the_gain, HasLeft, hosted_in, IsElement, IsFixed, IsMost, IsMostBrought, IsMostLeft, IsSized, machine_count, max_amount, max_capacity, max_machines, most_kept as the_most_kept, no_standing, one, sets, StartsPast, state_of, sum_to, vm};
 
 use crate::kept::Kept;
 use crate::measures::LeftOver;

@@ -1,50 +1,13 @@
 -- Machines that are told to keep apart at all instants.
-use Rattle.std.proofs.Common.{◌≡◌, ◌≢◌, ◌⊎◌, inl, inr, ℕ, zero, suc, ◌+◌, ◌<◌, ◌≤◌, Bool, true, false, ◌&&◌, nat_lt, if◌then◌else◌, IsTrue, List, [], ◌∷◌, length, get_or, slice_index_or, Some, refl, sym, ◌∙◌, arith}
-use Rattle.std.proofs.lemmas.Bool.{and_parts, both_ways, cases_eq, cases_lt, eqb-true, false≢true}
-use Rattle.std.proofs.lemmas.Bool.Decides.{nat_tests}
-use Rattle.std.proofs.lemmas.List.{get_or_default, get_or_past}
-use Rattle.base.specs.Least.{least}
-use Rattle.cluster.specs.declared.choices.Choice.{Choice}
-use Rattle.cluster.specs.declared.choices.Choice.TheVariants.{Idle, Act}
+use Rattle.std.proofs.Common.{if◌then◌else◌, IsTrue, slice_index_or}
+use Rattle.base.proofs.Public.{◌≡◌, ◌≢◌, ◌⊎◌, inl, inr, ℕ, zero, suc, ◌+◌, ◌<◌, ◌≤◌, Bool, true, false, ◌&&◌, nat_lt, List, [], ◌∷◌, length, get_or, Some, refl, sym, ◌∙◌, arith, and_parts, both_ways, cases_eq, cases_lt, eqb-true, false≢true, nat_tests, get_or_default, get_or_past}
+use Rattle.rule_pair.specs.Prelude.{Act, Apart, are_below, AreClear, AreLonger, AreOrdered, At, base, Between, Choice, choices, Clear, Climbs, comes_by, Constraint, DomainView, Doubtful, Each, Element, form_of, gain, has_come, HasPosts, hosted_in, Idle, Instance, inventory_of, is_rule, IsAt, IsClean, IsEnd, IsInPart, IsLate, IsMember, IsStanding, IsTold, KeepsClear, KeepsOff, kept_use, least, leave_of, Longest, machine_count, never, no_row, Nowhere, of_kind, OnClear, one, Pair, place_index, Posts, Presence, present_at, reason_kind, Row, row_at, rule_watch, Seen, separated, Separation, Sets, setting, Standing, StandsWithin, state_of, sure, told_until, Unknown, vm, VmId}
 use Rattle.cluster.specs.declared.choices.Place.{Place}
-use Rattle.cluster.specs.declared.choices.Place.TheVariants.{Nowhere, At}
-use Rattle.cluster.specs.declared.ids.Element.{Element}
-use Rattle.cluster.specs.declared.ids.VmId.{VmId}
-use Rattle.catalogue.specs.declared.constraint.Constraint.{Constraint}
-use Rattle.catalogue.specs.Faults.{are_below, is_rule}
-use Rattle.catalogue.specs.Instance.{Instance, inventory_of}
-use Rattle.slices.specs.declared.slice.Weight.TheVariants.{Presence}
-use Rattle.slices.specs.Elements.{machine_count, state_of, vm}
-use Rattle.slices.specs.Forms.{Apart, Each, Between, Separation, form_of, separated}
 use Rattle.slices.proofs.Public.{sound_form}
-use Rattle.slices.specs.Holds.{IsInPart, IsMember}
-use Rattle.slices.specs.Snapshots.{present_at}
-use Rattle.slices.specs.Stages.{one}
-use Rattle.domains.specs.Choices.{Climbs, DomainView, choices, no_row, place_index}
-use Rattle.domains.specs.declared.parts.Row.{Row}
-use Rattle.domains.specs.Sets.{Sets, setting}
 use Rattle.domains.proofs.Public.{surely_each}
-use Rattle.reasons.specs.Closed.{IsEnd}
-use Rattle.reasons.specs.declared.reason.ReasonKind.TheVariants.{Pair}
-use Rattle.reasons.specs.Regions.{row_at}
-use Rattle.reasons.specs.Sure.{sure}
 use Rattle.reasons.proofs.Public.{end_is_choice, ends_of_rows, some_end}
-use Rattle.relax.specs.Areas.{hosted_in}
-use Rattle.closing.specs.Kinds.{rule_watch}
-use Rattle.closing.specs.Looks.{IsClean}
-use Rattle.profiles.specs.declared.standing.numbers.Standing.{Standing}
-use Rattle.profiles.specs.Standing.Standings.{IsStanding, base, comes_by, gain, has_come, kept_use, leave_of, never}
 use Rattle.profiles.proofs.Public.{present_law}
-use Rattle.rule_pair.specs.declared.clear.Seen.{Seen}
-use Rattle.rule_pair.specs.declared.clear.Seen.TheVariants.{Clear, Doubtful, Unknown}
-use Rattle.rule_pair.specs.declared.posts.Posts.{Posts}
-use Rattle.rule_pair.specs.declared.longest.Longest.{Longest}
-use Rattle.rule_pair.specs.Apart.{AreClear, HasPosts, IsAt, IsLate, IsTold, KeepsClear, KeepsOff, OnClear}
-use Rattle.rule_pair.specs.Longest.{AreLonger, AreOrdered, told_until}
-use Rattle.rule_pair.specs.Stays.{StandsWithin}
-use Rattle.rule_constraint.specs.Given.{reason_kind}
 use Rattle.rule_constraint.proofs.Public.{and-true, arrival, arrived, numbers, of_one, other-vm, own_present, same_present, vm_or}
-use Rattle.rule_constraint.specs.Broken.{of_kind}
 
 -- ---- one choice
 

@@ -1,7 +1,5 @@
 -- A table in which no stay is told.
-use Rattle.std.proofs.Common.{ℕ, arith}
-use Rattle.std.specs.Prelude.{replicate}
-use Rattle.base.proofs.Lists.{copies_at}
+use Rattle.base.proofs.Public.{ℕ, arith, replicate, copies_at}
 use Rattle.rule_pair.specs.Longest.{AreOrdered, nobody}
 
 pub none_ordered : (n : ℕ) → AreOrdered (replicate n nobody)

@@ -1,15 +1,7 @@
 -- How long a machine stays that runs.
-use Rattle.std.proofs.Common.{◌≡◌, ℕ, ◌≤◌, true, max, unwrap_or, Option, None, List, [], ◌∷◌, refl, arith}
-use Rattle.std.specs.List.{filter}
-use Rattle.base.specs.Least.{least, lowest}
-use Rattle.cluster.specs.declared.choices.Choice.{Choice}
-use Rattle.catalogue.specs.Instance.{Instance}
-use Rattle.domains.specs.Choices.{DomainView, choices}
-use Rattle.domains.specs.Parts.{stays}
-use Rattle.profiles.specs.declared.standing.numbers.Standing.{Standing}
-use Rattle.profiles.specs.Standing.Standings.{IsStanding, leave_of}
+use Rattle.base.proofs.Public.{◌≡◌, ℕ, ◌≤◌, true, max, unwrap_or, Option, None, List, [], ◌∷◌, refl, arith, filter}
+use Rattle.rule_pair.specs.Prelude.{Choice, choices, DomainView, Instance, IsStanding, least, leave_of, lowest, Standing, StandsWithin, stays}
 use Rattle.profiles.proofs.Public.{all_stay}
-use Rattle.rule_pair.specs.Stays.{StandsWithin}
 
 -- one that may stay has not come elsewhere, and is not told too short how long it stays
 pub idle_stands : (p : Instance) (v : ℕ) (d : DomainView) (k : Standing) → d.idle ≡ true → least (leave_of p v) (choices d) ≤ k.leave → k.come ≡ None → StandsWithin p v (choices d) k

@@ -1,17 +1,9 @@
 -- Helping only: where a machine may surely be up to the horizon, and who keeps off.
 use Rattle.std.specs.Prelude.{◌≡◌, ◌≢◌, ◌⊎◌, ℕ, ◌<◌, ◌≤◌, false, List, [], Option, Some, None, IsTrue}
+use Rattle.rule_constraint.specs.Prelude.{Instance, IsEnd, one, present_at, Separates, Separation, Sets, sure, vm}
 use Rattle.cluster.specs.declared.choices.Choice.{Choice}
 use Rattle.cluster.specs.declared.choices.Place.{Place}
 use Rattle.cluster.specs.declared.choices.Place.TheVariants.{Nowhere, At}
-use Rattle.catalogue.specs.Instance.{Instance}
-use Rattle.slices.specs.Elements.{vm}
-use Rattle.slices.specs.Forms.{Separation}
-use Rattle.slices.specs.Holds.{Separates}
-use Rattle.slices.specs.Snapshots.{present_at}
-use Rattle.slices.specs.Stages.{one}
-use Rattle.domains.specs.Sets.{Sets}
-use Rattle.reasons.specs.Closed.{IsEnd}
-use Rattle.reasons.specs.Sure.{sure}
 use Rattle.rule_pair.specs.declared.longest.Longest.{Longest}
 use Rattle.rule_pair.specs.declared.posts.Post.{Post}
 use Rattle.rule_pair.specs.declared.posts.Posts.{Posts}

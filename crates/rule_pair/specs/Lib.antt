@@ -4,3 +4,4 @@ pub mod Covers
 pub mod Apart
 pub mod Longest
 pub mod Stays
+pub mod Prelude

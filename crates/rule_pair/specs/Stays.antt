@@ -1,10 +1,8 @@
 -- Helping only: how long a machine may stay on its host.
 use Rattle.std.specs.Prelude.{◌≡◌, ℕ, ◌≤◌, List}
-use Rattle.base.specs.Least.{least}
+use Rattle.rule_constraint.specs.Prelude.{comes_by, have_come, Instance, least, leave_of}
 use Rattle.cluster.specs.declared.choices.Choice.{Choice}
-use Rattle.catalogue.specs.Instance.{Instance}
 use Rattle.profiles.specs.declared.standing.numbers.Standing.{Standing}
-use Rattle.profiles.specs.Standing.Standings.{comes_by, have_come, leave_of}
 
 -- machine v surely keeps its host no longer than by this number, and comes to the node, if there is one, to which all these choices go
 pub record StandsWithin (p : Instance) (v : ℕ) (cs : List Choice) (k : Standing) : Type 0 where

@@ -1,19 +1,7 @@
 //! Whether a constraint is kept, told for all instants up to the horizon at once.
 ghost use Rattle.std.specs.Prelude.{◌≡◌, ◌≢◌, ℕ, ◌<◌, ◌≤◌, nat_lt, true, length, slice_index_or, IfNone, IsTrue};
 ghost use Rattle.std.specs.List.{list_all};
-ghost use Rattle.catalogue.specs.Faults.{are_below, is_rule};
-ghost use Rattle.catalogue.specs.Instance.{inventory_of};
-ghost use Rattle.slices.specs.Elements.{machine_count, state_of};
-ghost use Rattle.slices.specs.Forms.{separated, separation_seen};
-ghost use Rattle.slices.specs.Holds.{IsInPart, IsMember};
-ghost use Rattle.slices.specs.Stages.{one};
-ghost use Rattle.domains.specs.Choices.{no_row};
-ghost use Rattle.domains.specs.Sets.{sets};
-ghost use Rattle.relax.specs.Areas.{IsSized, hosted_in};
-ghost use Rattle.closing.specs.Kinds.{rule_watch};
-ghost use Rattle.closing.specs.Looks.{IsClean};
-ghost use Rattle.rule_pair.specs.Apart.{AreClear, IsLate, IsTold, KeepsClear, KeepsOff, OnClear, part_of as the_part_of};
-ghost use Rattle.rule_pair.specs.Longest.{AreLonger, AreOrdered, told_until};
+ghost use Rattle.rule_pair.specs.Prelude.{are_below, AreClear, AreLonger, AreOrdered, hosted_in, inventory_of, is_rule, IsClean, IsInPart, IsLate, IsMember, IsSized, IsTold, KeepsClear, KeepsOff, machine_count, no_row, OnClear, one, part_of as the_part_of, rule_watch, separated, separation_seen, sets, state_of, told_until};
 
 use crate::longest::{NOBODY, Stay, Table, stay_after, tell};
 use crate::pairs::separation_of;

@@ -1,12 +1,8 @@
 //! Machines that are to be on different nodes, and are more than the nodes that are left to them.
 ghost use Rattle.std.specs.Prelude.{◌≡◌, ◌<◌, IfSome, length, nat_lt, true};
 ghost use Rattle.std.specs.List.{list_all};
-ghost use Rattle.catalogue.specs.Faults.{are_below};
-ghost use Rattle.domains.specs.Sets.{sets};
-ghost use Rattle.slices.specs.Elements.{machine_count};
-ghost use Rattle.slices.specs.Forms.{separated, separation_seen};
+ghost use Rattle.rule_pair.specs.Prelude.{are_below, IsSized, machine_count, separated, separation_seen, sets};
 ghost use Rattle.prop_core.specs.Propagators.{FailHolds};
-ghost use Rattle.relax.specs.Areas.{IsSized};
 
 use crate::pairs::separation_of;
 use catalogue::Problem;

@@ -1,7 +1,6 @@
 //! By node, how long machines of different parts surely stay there.
 ghost use Rattle.std.specs.Prelude.{◌≡◌, ◌≢◌, ℕ, ◌<◌, ◌≤◌, IsTrue, IfNone};
-ghost use Rattle.rule_pair.specs.Apart.{IsAt};
-ghost use Rattle.rule_pair.specs.Longest.{AreLonger, AreOrdered, IsOrdered, of_others as the_of_others, told_until};
+ghost use Rattle.rule_pair.specs.Prelude.{AreLonger, AreOrdered, IsAt, IsOrdered, of_others as the_of_others, told_until};
 
 use crate::posts::Post;
 use cluster::limits::MAX_NODES;

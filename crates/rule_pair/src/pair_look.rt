@@ -1,13 +1,6 @@
 //! A look at a constraint that tells quickly whether it is kept, and where two machines are not kept apart.
 ghost use Rattle.std.specs.Prelude.{◌≡◌, ◌<◌, ◌≤◌, IfSome, IsTrue, length};
-ghost use Rattle.slices.specs.Elements.{machine_count, node_count, vm};
-ghost use Rattle.domains.specs.Choices.{choices};
-ghost use Rattle.domains.specs.Sets.{setting, sets};
-ghost use Rattle.reasons.specs.Closed.{IsEnd};
-ghost use Rattle.reasons.specs.Sure.{sure};
-ghost use Rattle.relax.specs.Areas.{IsSized};
-ghost use Rattle.closing.specs.Kinds.{constraint_watch};
-ghost use Rattle.closing.specs.Looks.{IsLook, IsMetWith, broken_at};
+ghost use Rattle.rule_pair.specs.Prelude.{broken_at, choices, constraint_watch, IsEnd, IsLook, IsMetWith, IsSized, machine_count, node_count, sets, setting, sure, vm};
 
 use crate::clear::{Doubt, Seen, look_over};
 use catalogue::Problem;

@@ -1,15 +1,6 @@
 //! Two machines on one node that a constraint keeps apart, looked for.
 ghost use Rattle.std.specs.Prelude.{◌≡◌, ℕ, ◌<◌, ◌≤◌, false, true, length, IfNone, IfSome, IsTrue};
-ghost use Rattle.catalogue.specs.Faults.{are_below, is_rule};
-ghost use Rattle.catalogue.specs.Instance.{Instance, inventory_of};
-ghost use Rattle.slices.specs.Elements.{machine_count, node_count};
-ghost use Rattle.domains.specs.Views.{seen};
-ghost use Rattle.reasons.specs.Reasons.{Applies, IsPair};
-ghost use Rattle.reasons.specs.Sure.{sure};
-ghost use Rattle.relax.specs.Areas.{IsSized};
-ghost use Rattle.slices.specs.Forms.{Apart, form_of as the_form_of, separated, separation_seen};
-ghost use Rattle.slices.specs.Holds.{ForbidsPair, IsInPart, Separates};
-ghost use Rattle.closing.specs.Kinds.{HasPair};
+ghost use Rattle.rule_pair.specs.Prelude.{Apart, Applies, are_below, ForbidsPair, form_of as the_form_of, HasPair, Instance, inventory_of, is_rule, IsInPart, IsPair, IsSized, machine_count, node_count, seen, separated, Separates, separation_seen, sure};
 ghost use Rattle.prop_core.specs.Propagators.{FailHolds};
 
 use catalogue::{Constraint, Problem, Vms};

@@ -1,13 +1,6 @@
 //! Where a machine may surely be, told for all instants up to the horizon at once.
 ghost use Rattle.std.specs.Prelude.{◌≡◌, ◌≢◌, ℕ, ◌<◌, ◌≤◌, ◌&&◌, nat_lt, [], Some, IfNone, IfSome, IsTrue};
-ghost use Rattle.slices.specs.Elements.{machine_count, state_of};
-ghost use Rattle.slices.specs.Stages.{one};
-ghost use Rattle.domains.specs.Sets.{sets};
-ghost use Rattle.relax.specs.Areas.{IsSized, hosted_in};
-ghost use Rattle.domains.specs.Choices.{choices};
-ghost use Rattle.profiles.specs.Standing.Standings.{comes_by};
-ghost use Rattle.rule_pair.specs.Apart.{HasPosts, IsAt};
-ghost use Rattle.rule_pair.specs.Stays.{StandsWithin};
+ghost use Rattle.rule_pair.specs.Prelude.{choices, comes_by, HasPosts, hosted_in, IsAt, IsSized, machine_count, one, sets, StandsWithin, state_of};
 
 use crate::stays::leave_or_later;
 use catalogue::Problem;

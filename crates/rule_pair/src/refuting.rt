@@ -1,9 +1,6 @@
 //! Whether a reason is seen to refute a region with what is inside a part of an element's choices.
 ghost use Rattle.std.specs.Prelude.{IsTrue};
-ghost use Rattle.domains.specs.Parts.{in_part};
-ghost use Rattle.domains.specs.Sets.{keeping, sets};
-ghost use Rattle.reasons.specs.Reasons.{Refutes};
-ghost use Rattle.relax.specs.Areas.{IsSized};
+ghost use Rattle.rule_pair.specs.Prelude.{in_part, IsSized, keeping, Refutes, sets};
 
 use catalogue::Problem;
 use cluster::Element;

@@ -1,12 +1,7 @@
 //! How long a machine stays on its host.
 ghost use Rattle.std.specs.Prelude.{◌≤◌, IfSome, IsTrue, max};
-ghost use Rattle.base.specs.Least.{least};
+ghost use Rattle.rule_constraint.specs.Prelude.{AreLeaves, choices, IsElement, least, leave_of, vm};
 ghost use Rattle.cluster.specs.declared.choices.Choice.{Choice as AnyChoice};
-ghost use Rattle.catalogue.specs.Instance.{IsElement};
-ghost use Rattle.slices.specs.Elements.{vm};
-ghost use Rattle.domains.specs.Choices.{choices};
-ghost use Rattle.profiles.specs.Standing.Leaves.{AreLeaves};
-ghost use Rattle.profiles.specs.Standing.Standings.{leave_of};
 
 use catalogue::Problem;
 use cluster::{Choice, Element, VmId};

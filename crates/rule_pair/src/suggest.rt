@@ -1,10 +1,7 @@
 //! Cuts that are worth a try after one was found of a machine that is kept apart from another one.
 ghost use Rattle.std.specs.Prelude.{◌≡◌, ◌<◌, length, nat_lt, true};
 ghost use Rattle.std.specs.List.{list_all};
-ghost use Rattle.catalogue.specs.Faults.{are_below};
-ghost use Rattle.slices.specs.Elements.{machine_count};
-ghost use Rattle.slices.specs.Forms.{separated, separation_seen};
-ghost use Rattle.relax.specs.Areas.{IsSized};
+ghost use Rattle.rule_pair.specs.Prelude.{are_below, IsSized, machine_count, separated, separation_seen};
 
 use crate::pairs::separation_of;
 use base::Memory;

@@ -1,40 +1,13 @@
 -- Machines that are nowhere that a constraint forbids to them.
-use Rattle.std.proofs.Common.{◌≡◌, ◌≢◌, ◌⊎◌, inl, inr, ℕ, ◌<◌, ◌≤◌, Bool, true, false, ◌&&◌, ◌||◌, ◌==◌, nat_lt, IsTrue, List, [], length, slice_index_or, Some, refl, sym, ◌∙◌, arith}
-use Rattle.std.proofs.lemmas.Bool.{and_parts, eqb-true, false≢true}
-use Rattle.std.proofs.lemmas.Bool.Decides.{nat_tests}
-use Rattle.cluster.specs.declared.choices.Choice.{Choice}
-use Rattle.cluster.specs.declared.choices.Choice.TheVariants.{Idle, Act}
+use Rattle.std.proofs.Common.{IsTrue, slice_index_or}
+use Rattle.base.proofs.Public.{◌≡◌, ◌≢◌, ◌⊎◌, inl, inr, ℕ, ◌<◌, ◌≤◌, Bool, true, false, ◌&&◌, ◌||◌, ◌==◌, nat_lt, List, [], length, Some, refl, sym, ◌∙◌, arith, and_parts, eqb-true, false≢true, nat_tests}
+use Rattle.rule_place.specs.Prelude.{Act, Allowed, are_below, At, Choice, choices, Climbs, Constraint, DomainView, Element, ForbidsPlace, form_of, has_come, hosted_in, Instance, inventory_of, is_continuous, is_rule, IsAllowed, IsClean, IsDue, IsEnd, IsMember, IsOffHost, leave_of, machine_count, MayGo, never, no_row, Nodes, Nowhere, of_kind, one, Place as PlaceKind, Places, Presence, present_at, reason_kind, Row, rule_watch, Sets, setting, state_of, sure, vm, VmId}
+use Rattle.cluster.specs.declared.choices.Choice.TheVariants.{Idle}
 use Rattle.cluster.specs.declared.choices.Place.{Place}
-use Rattle.cluster.specs.declared.choices.Place.TheVariants.{Nowhere, At}
-use Rattle.cluster.specs.declared.ids.Element.{Element}
-use Rattle.cluster.specs.declared.ids.VmId.{VmId}
-use Rattle.catalogue.specs.declared.constraint.Constraint.{Constraint}
-use Rattle.catalogue.specs.Faults.{are_below, is_rule}
-use Rattle.catalogue.specs.Instance.{Instance, inventory_of}
-use Rattle.catalogue.specs.Kinds.{is_continuous}
-use Rattle.slices.specs.declared.slice.Weight.TheVariants.{Presence}
-use Rattle.slices.specs.Elements.{machine_count, state_of, vm}
-use Rattle.slices.specs.Forms.{Allowed, Places, form_of}
 use Rattle.slices.proofs.Public.{sound_form}
-use Rattle.slices.specs.Holds.{ForbidsPlace, IsMember}
-use Rattle.slices.specs.Snapshots.{present_at}
-use Rattle.slices.specs.Stages.{Nodes, one}
-use Rattle.domains.specs.Choices.{Climbs, DomainView, choices, no_row}
-use Rattle.domains.specs.declared.parts.Row.{Row}
-use Rattle.domains.specs.Sets.{Sets, setting}
 use Rattle.domains.proofs.Public.{surely_each}
-use Rattle.reasons.specs.Closed.{IsEnd}
-use Rattle.reasons.specs.declared.reason.ReasonKind.TheVariants.{Place as PlaceKind}
-use Rattle.reasons.specs.Sure.{sure}
 use Rattle.reasons.proofs.Public.{end_is_choice, ends_of_rows, some_end}
-use Rattle.relax.specs.Areas.{hosted_in}
-use Rattle.closing.specs.Kinds.{rule_watch}
-use Rattle.closing.specs.Looks.{IsClean}
-use Rattle.rule_constraint.specs.Given.{reason_kind}
-use Rattle.profiles.specs.Standing.Standings.{has_come, leave_of, never}
-use Rattle.rule_place.specs.Allowed.{IsAllowed, IsDue, IsOffHost, MayGo}
 use Rattle.rule_constraint.proofs.Public.{own_present, same_present, vm_or}
-use Rattle.rule_constraint.specs.Broken.{of_kind}
 use Rattle.rule_place.proofs.ShutdownLemmas.{holds_none}
 
 -- ---- the host

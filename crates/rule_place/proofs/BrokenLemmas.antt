@@ -1,18 +1,7 @@
 -- Why a constraint is broken that the rule watches.
-use Rattle.std.proofs.Common.{◌≡◌, ℕ, true}
-use Rattle.std.specs.Prelude.{slice_get}
-use Rattle.catalogue.specs.declared.constraint.Constraint.{Constraint}
-use Rattle.catalogue.specs.Instance.{Instance}
-use Rattle.slices.specs.Snapshots.{Snapshot}
-use Rattle.reasons.specs.declared.reason.ReasonKind.{ReasonKind}
-use Rattle.reasons.specs.declared.reason.ReasonKind.TheVariants.{Empty, Bound, Load, Pair, Place, Group, SetLoad, Power, Usable, Hall}
-use Rattle.reasons.specs.Reasons.{Applies}
-use Rattle.closing.specs.Looks.{broken_at}
-use Rattle.closing.specs.Kinds.{HasPlace}
-use Rattle.rule_constraint.specs.Given.{IsBrokenBy}
-use Rattle.rule_constraint.specs.Watches.{watch_at}
+use Rattle.base.proofs.Public.{◌≡◌, ℕ, true, slice_get}
+use Rattle.rule_place.specs.Prelude.{Applies, Bound, broken_at, Constraint, Empty, forbidden_kinds, Group, Hall, HasPlace, Instance, IsBrokenBy, Load, Pair, Place, Power, ReasonKind, SetLoad, Snapshot, Usable, watch_at}
 use Rattle.rule_constraint.proofs.Public.{kept_applies}
-use Rattle.rule_place.specs.Covers.{forbidden_kinds}
 
 by : (p : Instance) (b : Snapshot) (k : Constraint) (kind : ReasonKind) → forbidden_kinds kind ≡ true → IsBrokenBy p b k kind → HasPlace p b k
 by p b k Empty on x = cc

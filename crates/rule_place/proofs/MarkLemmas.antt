@@ -1,23 +1,8 @@
 -- Marks on the watches of nodes.
-use Rattle.std.proofs.Common.{◌≡◌, ◌≢◌, ◌⊎◌, inl, inr, ℕ, ◌+◌, ◌-◌, ◌<◌, ◌≤◌, Bool, true, false, List, length, get_or, set, refl, sym, ◌∙◌, arith, nat_lt}
-use Rattle.std.proofs.lemmas.Bool.{cases_eq, cases_lt, false≢true}
-use Rattle.std.proofs.lemmas.Bool.Decides.{nat_tests}
-use Rattle.std.proofs.lemmas.List.{get_or-set_other, length-set}
-use Rattle.std.proofs.lemmas.Grind.{get_or-set_at}
-use Rattle.cluster.specs.declared.choices.Choice.{Choice}
-use Rattle.cluster.specs.declared.ids.Element.{Element}
-use Rattle.cluster.specs.declared.ids.Element.TheVariants.{Node as TheNode}
-use Rattle.cluster.specs.declared.ids.NodeId.{NodeId}
-use Rattle.catalogue.specs.Instance.{Instance}
-use Rattle.closing.specs.Kinds.{usable_watch}
-use Rattle.rule_frame.specs.Changes.{IsDisturbed, IsStill}
-use Rattle.rule_constraint.specs.Indexes.{AreLooking}
-use Rattle.rule_frame.specs.Levels.{Levels}
+use Rattle.base.proofs.Public.{◌≡◌, ◌≢◌, ◌⊎◌, inl, inr, ℕ, ◌+◌, ◌-◌, ◌<◌, ◌≤◌, Bool, true, false, List, length, get_or, set, refl, sym, ◌∙◌, arith, nat_lt, cases_eq, cases_lt, false≢true, nat_tests, get_or-set_other, length-set, get_or-set_at}
+use Rattle.rule_place.specs.Prelude.{AreLooking, AreMarkedFrom, AreNodesMarked, Choice, Element, forbidden_kinds, Instance, IsDisturbed, IsStill, Levels, Node as TheNode, NodeId, place_watch, usable_watch}
 use Rattle.rule_frame.proofs.Public.{unseen_still}
-use Rattle.rule_place.specs.Marking.{AreMarkedFrom, AreNodesMarked}
 use Rattle.rule_constraint.proofs.Public.{kept_still}
-use Rattle.rule_place.specs.Covers.{forbidden_kinds}
-use Rattle.rule_place.specs.Nodes.{place_watch}
 
 -- ---- one mark more
 

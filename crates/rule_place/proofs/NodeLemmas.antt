@@ -1,35 +1,11 @@
 -- The watches of nodes on which a change of a machine does not weigh.
-use Rattle.std.proofs.Common.{◌≡◌, ◌≢◌, ◌⊎◌, inl, inr, ℕ, ◌+◌, ◌-◌, ◌<◌, ◌≤◌, Bool, true, false, List, [], ◌∷◌, length, set, IsTrue, refl, sym, ◌∙◌, arith}
-use Rattle.std.specs.List.{Contains, filter}
-use Rattle.std.proofs.lemmas.Bool.{and_parts, eqb-true, false≢true}
-use Rattle.std.proofs.lemmas.Bool.Decides.{nat_tests}
-use Rattle.std.proofs.lemmas.List.{length-set}
-use Rattle.cluster.specs.declared.choices.Choice.{Choice}
-use Rattle.cluster.specs.declared.choices.Choice.TheVariants.{Idle as Stay, Act}
+use Rattle.std.proofs.Common.{IsTrue}
+use Rattle.base.proofs.Public.{◌≡◌, ◌≢◌, ◌⊎◌, inl, inr, ℕ, ◌+◌, ◌-◌, ◌<◌, ◌≤◌, Bool, true, false, List, [], ◌∷◌, length, set, refl, sym, ◌∙◌, arith, Contains, filter, and_parts, eqb-true, false≢true, nat_tests, length-set}
+use Rattle.rule_place.specs.Prelude.{Act, AreMarkedFrom, AreNodesMarked, AreSpared, At, Choice, From, goes_in, hosted_in, Idle, in_part, Inside, Instance, IsEnd, IsLess, IsMachineLess, IsStill, IsUntouched, Levels, node_count, NodeId, Nowhere, on_side, one, Outside, Part, Presence, present_at, same_place, Side, state_of, Upto, usable_watch, Vm, VmId}
+use Rattle.cluster.specs.declared.choices.Choice.TheVariants.{Idle as Stay}
 use Rattle.cluster.specs.declared.choices.Place.{Place}
-use Rattle.cluster.specs.declared.choices.Place.TheVariants.{Nowhere, At}
-use Rattle.cluster.specs.declared.ids.Element.TheVariants.{Vm}
-use Rattle.cluster.specs.declared.ids.NodeId.{NodeId}
-use Rattle.cluster.specs.declared.ids.VmId.{VmId}
-use Rattle.catalogue.specs.Instance.{Instance}
-use Rattle.slices.specs.declared.slice.Weight.TheVariants.{Presence}
-use Rattle.slices.specs.Elements.{node_count, state_of}
-use Rattle.slices.specs.Snapshots.{present_at}
-use Rattle.slices.specs.Stages.{one}
-use Rattle.domains.specs.Choices.{same_place}
-use Rattle.domains.specs.declared.parts.Part.{Part}
-use Rattle.domains.specs.declared.parts.Part.TheVariants.{Idle, Upto, From}
-use Rattle.domains.specs.declared.parts.Side.{Side}
-use Rattle.domains.specs.declared.parts.Side.TheVariants.{Inside, Outside}
-use Rattle.domains.specs.Parts.{in_part, on_side}
 use Rattle.domains.proofs.Public.{contains_filter, filter_contains, surely_each}
-use Rattle.reasons.specs.Closed.{IsEnd}
-use Rattle.relax.specs.Areas.{goes_in, hosted_in}
 use Rattle.relax.proofs.Public.{away, away_least}
-use Rattle.closing.specs.Kinds.{usable_watch}
-use Rattle.rule_frame.specs.Changes.{IsLess, IsMachineLess, IsStill}
-use Rattle.rule_frame.specs.Levels.{Levels}
-use Rattle.rule_place.specs.Marking.{AreMarkedFrom, AreNodesMarked, AreSpared, IsUntouched}
 use Rattle.rule_place.proofs.MarkLemmas.{other}
 
 -- ---- marks

@@ -1,37 +1,12 @@
 -- Nodes that shut down after what is there has left.
-use Rattle.std.proofs.Common.{◌≡◌, ◌≢◌, ◌⊎◌, inl, inr, ℕ, ◌<◌, ◌≤◌, Bool, true, false, ◌&&◌, ◌||◌, nat_le, nat_lt, IsTrue, List, [], ◌∷◌, length, slice_index_or, refl, sym, ap, ◌∙◌, arith}
-use Rattle.std.specs.List.{Contains}
-use Rattle.std.proofs.lemmas.Bool.{cases_eq, cases_lt, false≢true}
-use Rattle.std.proofs.lemmas.Bool.Decides.{nat_tests}
-use Rattle.cluster.specs.declared.choices.Choice.{Choice}
-use Rattle.cluster.specs.declared.choices.Choice.TheVariants.{Idle, Act}
+use Rattle.std.proofs.Common.{IsTrue, slice_index_or}
+use Rattle.base.proofs.Public.{◌≡◌, ◌≢◌, ◌⊎◌, inl, inr, ℕ, ◌<◌, ◌≤◌, Bool, true, false, ◌&&◌, ◌||◌, nat_le, nat_lt, List, [], ◌∷◌, length, refl, sym, ap, ◌∙◌, arith, Contains, cases_eq, cases_lt, false≢true, nat_tests}
+use Rattle.rule_place.specs.Prelude.{Act, Choice, choices, Climbs, comes_by, DomainView, Element, has_come, held_at, hosted_in, Image, Instance, IsClean, IsElement, IsEnd, IsMachineUnder, IsNeeded, IsSameMachine, IsShutdown, kept_use, leave_of, LetsGo, machine_count, never, no_row, node, Node as TheNode, NodeId, one, Presence, present_at, Row, row_at, Sets, setting, Shutdown, Snapshot, stage_at, stands_on, StandsUnder, state_of, sure, usable_at, usable_watch, Vm, vm, Weight}
+use Rattle.cluster.specs.declared.choices.Choice.TheVariants.{Idle}
 use Rattle.cluster.specs.declared.choices.Place.{Place}
-use Rattle.cluster.specs.declared.ids.Element.{Element}
-use Rattle.cluster.specs.declared.ids.Element.TheVariants.{Vm, Node as TheNode}
-use Rattle.cluster.specs.declared.ids.NodeId.{NodeId}
-use Rattle.catalogue.specs.Instance.{Instance, IsElement}
-use Rattle.slices.specs.declared.slice.Weight.{Weight}
-use Rattle.slices.specs.declared.slice.Weight.TheVariants.{Image, Presence}
-use Rattle.slices.specs.Elements.{machine_count, node, state_of, vm}
-use Rattle.slices.specs.Snapshots.{Snapshot, held_at, present_at, stage_at, stands_on, usable_at}
-use Rattle.slices.specs.Stages.{one}
-use Rattle.domains.specs.Choices.{Climbs, DomainView, choices, no_row}
-use Rattle.domains.specs.declared.parts.Row.{Row}
-use Rattle.domains.specs.Sets.{Sets, setting}
 use Rattle.domains.proofs.Public.{least_of_each, may_each, surely_each}
-use Rattle.reasons.specs.Closed.{IsEnd}
-use Rattle.reasons.specs.Regions.{row_at}
-use Rattle.reasons.specs.Settings.{IsMachineUnder, IsSameMachine}
-use Rattle.reasons.specs.Sure.{sure}
 use Rattle.reasons.proofs.Public.{end_is_choice, ends_of_rows, setting_sets, some_end}
-use Rattle.relax.specs.Areas.{hosted_in}
-use Rattle.profiles.specs.Standing.Standings.{comes_by, has_come, kept_use, leave_of, never}
 use Rattle.profiles.proofs.Public.{kept_law}
-use Rattle.closing.specs.Kinds.{IsNeeded, usable_watch}
-use Rattle.closing.specs.Looks.{IsClean}
-use Rattle.closing.specs.Parts.{StandsUnder}
-use Rattle.rule_place.specs.declared.shutdowns.Shutdown.{Shutdown}
-use Rattle.rule_place.specs.Shutdowns.{IsShutdown, LetsGo}
 use Rattle.rule_constraint.proofs.Public.{arrival, arrived, numbers, of_one, other-vm}
 
 -- ---- the node

@@ -1,15 +1,6 @@
 -- The watches of forbidden places and of nodes, by their numbers.
-use Rattle.std.proofs.Common.{◌≡◌, ℕ, ◌-◌, ◌<◌, ◌≤◌, true, false, length, nat_lt, arith}
-use Rattle.std.proofs.lemmas.Bool.Decides.{nat_tests}
-use Rattle.catalogue.specs.Instance.{Instance}
-use Rattle.slices.specs.Snapshots.{Snapshot}
-use Rattle.domains.specs.Sets.{Sets}
-use Rattle.closing.specs.declared.look.Look.{Look}
-use Rattle.closing.specs.Kinds.{usable_watch}
-use Rattle.closing.specs.Looks.{IsLook, broken_at}
-use Rattle.rule_constraint.specs.Watches.{watch_at}
-use Rattle.rule_place.specs.Covers.{forbidden_kinds}
-use Rattle.rule_place.specs.Nodes.{place_watch}
+use Rattle.base.proofs.Public.{◌≡◌, ℕ, ◌-◌, ◌<◌, ◌≤◌, true, false, length, nat_lt, arith, nat_tests}
+use Rattle.rule_place.specs.Prelude.{broken_at, forbidden_kinds, Instance, IsLook, Look, place_watch, Sets, Snapshot, usable_watch, watch_at}
 
 module _ (p : Instance) (i : ℕ) where
   pub early_look : (s : Sets) (look : Look) → i < length p.constraints → IsLook (watch_at forbidden_kinds p i) p s look → IsLook (place_watch p i) p s look

@@ -1,19 +1,10 @@
 -- Helping only: which machines are nowhere that a constraint forbids to them, up to the horizon.
 use Rattle.std.specs.Prelude.{◌≡◌, ◌≢◌, ℕ, ◌≤◌, ◌&&◌, ◌||◌, ◌==◌, false, nat_lt, List, [], IsTrue}
+use Rattle.rule_constraint.specs.Prelude.{ForbidsPlace, hosted_in, Instance, is_continuous, IsEnd, leave_of, one, present_at, Sets, state_of, vm}
 use Rattle.cluster.specs.declared.choices.Choice.{Choice}
 use Rattle.cluster.specs.declared.choices.Place.{Place}
 use Rattle.cluster.specs.declared.choices.Place.TheVariants.{Nowhere, At}
 use Rattle.catalogue.specs.declared.constraint.Constraint.{Constraint}
-use Rattle.catalogue.specs.Instance.{Instance}
-use Rattle.catalogue.specs.Kinds.{is_continuous}
-use Rattle.slices.specs.Elements.{state_of, vm}
-use Rattle.slices.specs.Holds.{ForbidsPlace}
-use Rattle.slices.specs.Snapshots.{present_at}
-use Rattle.slices.specs.Stages.{one}
-use Rattle.domains.specs.Sets.{Sets}
-use Rattle.reasons.specs.Closed.{IsEnd}
-use Rattle.relax.specs.Areas.{hosted_in}
-use Rattle.profiles.specs.Standing.Standings.{leave_of}
 
 -- an action there goes to no node that the constraint forbids to machine v
 abbrev pub MayGo : Instance → Constraint → ℕ → Place → Type 0

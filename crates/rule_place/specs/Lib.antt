@@ -7,3 +7,4 @@ pub mod Allowed
 pub mod Shutdowns
 -- what the trait of watchers asks a proof of
 pub mod Quiet
+pub mod Prelude

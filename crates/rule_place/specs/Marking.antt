@@ -1,17 +1,10 @@
 -- What is marked where a change may weigh on the watches of nodes.
 use Rattle.std.specs.Prelude.{◌≡◌, ℕ, ◌-◌, ◌<◌, ◌≤◌, true, false, List, length, slice_index_or, IsTrue}
 use Rattle.std.specs.List.{Contains}
+use Rattle.rule_constraint.specs.Prelude.{goes_in, hosted_in, in_part, Instance, IsStill, Levels, one, state_of, usable_watch}
 use Rattle.cluster.specs.declared.choices.Choice.{Choice}
 use Rattle.cluster.specs.declared.ids.Element.{Element}
-use Rattle.catalogue.specs.Instance.{Instance}
-use Rattle.slices.specs.Elements.{state_of}
-use Rattle.slices.specs.Stages.{one}
 use Rattle.domains.specs.declared.parts.Part.{Part}
-use Rattle.domains.specs.Parts.{in_part}
-use Rattle.relax.specs.Areas.{goes_in, hosted_in}
-use Rattle.closing.specs.Kinds.{usable_watch}
-use Rattle.rule_frame.specs.Changes.{IsStill}
-use Rattle.rule_frame.specs.Levels.{Levels}
 
 -- those from `first` on and before `end` are marked, and no mark is gone
 pub record AreMarkedFrom (first end : ℕ) (m n : Levels) : Type 0 where

@@ -1,10 +1,6 @@
 -- The watches of forbidden places, and of nodes that are needed.
 use Rattle.std.specs.Prelude.{ℕ, ◌+◌, ◌-◌, nat_lt, length}
-use Rattle.catalogue.specs.Instance.{Instance}
-use Rattle.slices.specs.Elements.{node_count}
-use Rattle.closing.specs.Kinds.{usable_watch}
-use Rattle.closing.specs.Watches.{Watch}
-use Rattle.rule_constraint.specs.Watches.{choose, watch_at}
+use Rattle.rule_constraint.specs.Prelude.{choose, Instance, node_count, usable_watch, Watch, watch_at}
 use Rattle.rule_place.specs.Covers.{forbidden_kinds}
 
 -- a watch for each constraint, and after them one for each node: whether it is usable where it is needed

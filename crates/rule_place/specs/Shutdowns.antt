@@ -1,13 +1,7 @@
 -- Helping only: nodes that shut down after what is there has left.
 use Rattle.std.specs.Prelude.{◌≡◌, ℕ, ◌<◌, ◌≤◌, true, false}
+use Rattle.rule_constraint.specs.Prelude.{Instance, IsEnd, node, Sets, stands_on, StandsUnder, sure, usable_at, vm}
 use Rattle.cluster.specs.declared.choices.Choice.{Choice}
-use Rattle.catalogue.specs.Instance.{Instance}
-use Rattle.slices.specs.Elements.{node, vm}
-use Rattle.slices.specs.Snapshots.{stands_on, usable_at}
-use Rattle.domains.specs.Sets.{Sets}
-use Rattle.reasons.specs.Closed.{IsEnd}
-use Rattle.reasons.specs.Sure.{sure}
-use Rattle.closing.specs.Parts.{StandsUnder}
 use Rattle.rule_place.specs.declared.shutdowns.Shutdown.{Shutdown}
 
 -- node n is usable under each end of its choices before the first start, and may be usable before the last

@@ -1,17 +1,7 @@
 //! Whether machines are only where a constraint lets them be, told for all instants up to the horizon at once.
 ghost use Rattle.std.specs.Prelude.{◌≡◌, ℕ, ◌<◌, ◌≤◌, ◌&&◌, ◌||◌, ◌==◌, false, length, nat_lt, true, slice_index_or, IsTrue};
 ghost use Rattle.std.specs.List.{list_all};
-ghost use Rattle.cluster.specs.declared.choices.Choice.{Choice as AnyChoice};
-ghost use Rattle.catalogue.specs.Faults.{is_rule};
-ghost use Rattle.catalogue.specs.Instance.{inventory_of};
-ghost use Rattle.slices.specs.Elements.{machine_count};
-ghost use Rattle.slices.specs.Holds.{ForbidsPlace, IsMember};
-ghost use Rattle.domains.specs.Choices.{choices, no_row};
-ghost use Rattle.domains.specs.Sets.{sets};
-ghost use Rattle.relax.specs.Areas.{IsSized};
-ghost use Rattle.closing.specs.Kinds.{rule_watch};
-ghost use Rattle.closing.specs.Looks.{IsClean};
-ghost use Rattle.rule_place.specs.Allowed.{IsAllowed, IsOffHost, MayGo};
+ghost use Rattle.rule_place.specs.Prelude.{Choice as AnyChoice, choices, ForbidsPlace, inventory_of, is_rule, IsAllowed, IsClean, IsMember, IsOffHost, IsSized, machine_count, MayGo, no_row, rule_watch, sets};
 
 use crate::leaving::leaves_by;
 use crate::places::limits_of;

@@ -1,11 +1,6 @@
 //! Whether a machine leaves its host by an instant.
 ghost use Rattle.std.specs.Prelude.{◌≤◌, IfSome, IsTrue};
-ghost use Rattle.cluster.specs.declared.choices.Choice.{Choice as AnyChoice};
-ghost use Rattle.catalogue.specs.Instance.{IsElement};
-ghost use Rattle.domains.specs.Choices.{choices};
-ghost use Rattle.reasons.specs.Closed.{IsEnd};
-ghost use Rattle.profiles.specs.Standing.Leaves.{AreLeaves};
-ghost use Rattle.profiles.specs.Standing.Standings.{leave_of};
+ghost use Rattle.rule_place.specs.Prelude.{AreLeaves, Choice as AnyChoice, choices, IsElement, IsEnd, leave_of};
 
 use catalogue::Problem;
 use cluster::{Choice, Element, Instant, VmId};

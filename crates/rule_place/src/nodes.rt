@@ -1,16 +1,7 @@
 //! Marks on the watches of nodes, which stand after those of the constraints.
 ghost use Rattle.std.specs.Prelude.{◌≡◌, ◌≢◌, ◌+◌, ◌-◌, ◌<◌, ◌≤◌, ℕ, false, filter, IfNone, IfSome, IsTrue, List, [], length};
 ghost use Rattle.std.specs.List.{Contains};
-ghost use Rattle.cluster.specs.declared.choices.Choice.{Choice as AnyChoice};
-ghost use Rattle.catalogue.specs.Instance.{IsElement};
-ghost use Rattle.slices.specs.Elements.{machine_count, node_count, state_of};
-ghost use Rattle.slices.specs.Stages.{one};
-ghost use Rattle.domains.specs.Choices.{choices};
-ghost use Rattle.domains.specs.Parts.{in_part, on_side};
-ghost use Rattle.domains.specs.Sets.{sets};
-ghost use Rattle.prop_core.specs.Propagators.{IsRegionOf};
-ghost use Rattle.relax.specs.Areas.{goes_in, hosted_in};
-ghost use Rattle.rule_place.specs.Marking.{AreMarkedFrom, AreNodesMarked, AreSpared};
+ghost use Rattle.rule_place.specs.Prelude.{AreMarkedFrom, AreNodesMarked, AreSpared, Choice as AnyChoice, choices, goes_in, hosted_in, in_part, IsElement, IsRegionOf, machine_count, node_count, on_side, one, sets, state_of};
 
 use catalogue::Problem;
 use cluster::{Choice, Element, NodeId, Place, VmId};

@@ -1,15 +1,6 @@
 //! A machine where a constraint lets it not be, and one that needs a node that is not usable, looked for.
 ghost use Rattle.std.specs.Prelude.{◌≡◌, ℕ, ◌<◌, ◌≤◌, false, length, IfNone, IfSome, IsTrue};
-ghost use Rattle.catalogue.specs.Instance.{Instance};
-ghost use Rattle.slices.specs.Elements.{machine_count, node_count};
-ghost use Rattle.slices.specs.Forms.{Allowed, form_of as the_form_of, places_seen};
-ghost use Rattle.slices.specs.Holds.{ForbidsPlace};
-ghost use Rattle.domains.specs.Views.{seen};
-ghost use Rattle.reasons.specs.Reasons.{Applies, IsPlace, IsUnusable};
-ghost use Rattle.reasons.specs.Sure.{sure};
-ghost use Rattle.relax.specs.Areas.{IsSized};
-ghost use Rattle.closing.specs.Kinds.{HasPlace, IsNeeded, usable_watch};
-ghost use Rattle.closing.specs.Looks.{broken_at};
+ghost use Rattle.rule_place.specs.Prelude.{Allowed, Applies, broken_at, ForbidsPlace, form_of as the_form_of, HasPlace, Instance, IsNeeded, IsPlace, IsSized, IsUnusable, machine_count, node_count, places_seen, seen, sure, usable_watch};
 ghost use Rattle.prop_core.specs.Propagators.{FailHolds};
 
 use catalogue::{Constraint, Problem, Vms};

@@ -1,15 +1,7 @@
 //! Nodes that shut down after what is there has left, told for all instants up to the horizon at once.
 ghost use Rattle.std.specs.Prelude.{◌≡◌, ℕ, ◌<◌, ◌≤◌, false, [], IfSome, IsTrue};
 ghost use Rattle.std.specs.List.{Contains};
-ghost use Rattle.cluster.specs.declared.choices.Choice.{Choice as AnyChoice};
-ghost use Rattle.slices.specs.Elements.{machine_count, node_count};
-ghost use Rattle.domains.specs.Choices.{choices};
-ghost use Rattle.domains.specs.Sets.{sets};
-ghost use Rattle.relax.specs.Areas.{IsSized};
-ghost use Rattle.profiles.specs.Standing.Standings.{has_come, leave_of};
-ghost use Rattle.closing.specs.Kinds.{usable_watch};
-ghost use Rattle.closing.specs.Looks.{IsClean};
-ghost use Rattle.rule_place.specs.Shutdowns.{IsShutdown, LetsGo};
+ghost use Rattle.rule_place.specs.Prelude.{Choice as AnyChoice, choices, has_come, IsClean, IsShutdown, IsSized, leave_of, LetsGo, machine_count, node_count, sets, usable_watch};
 
 use crate::leaving::leaves_by;
 use catalogue::Problem;

@@ -1,10 +1,6 @@
 //! The watches of forbidden places and, after them, of nodes that are needed.
 ghost use Rattle.std.specs.Prelude.{◌≡◌, ◌+◌, ◌-◌, ◌<◌, ◌≤◌, IfNone, IfSome, length};
-ghost use Rattle.slices.specs.Elements.{node_count};
-ghost use Rattle.domains.specs.Sets.{sets};
-ghost use Rattle.relax.specs.Areas.{IsSized};
-ghost use Rattle.closing.specs.Kinds.{usable_watch};
-ghost use Rattle.closing.specs.Looks.{IsLook};
+ghost use Rattle.rule_constraint.specs.Prelude.{IsLook, IsSized, node_count, sets, usable_watch};
 ghost use Rattle.rule_place.specs.Covers.{place_kinds};
 ghost use Rattle.rule_place.specs.Nodes.{place_count, place_watch};
 ghost use Rattle.rule_place.specs.Quiet.{places_are_local, places_are_quiet};

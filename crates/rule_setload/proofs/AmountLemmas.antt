@@ -1,45 +1,14 @@
 -- What all machines have at present, what those hold more that may not stay, and that both stay within an amount.
-use Rattle.std.proofs.Common.{◌≡◌, inl, inr, ℕ, zero, suc, ◌+◌, ◌-◌, ◌<◌, ◌≤◌, max, Bool, true, false, ◌&&◌, ◌==◌, nat_le, nat_lt, cond, Option, Some, None, List, [], ◌∷◌, ◌++◌, length, get_or, take, refl, ap, subst, ◌∙◌, arith}
-use Rattle.std.specs.Prelude.{slice_index_or}
-use Rattle.std.specs.List.{Contains, flat_map, sum_by}
-use Rattle.std.proofs.lemmas.Bool.{cases_eq, cases_lt, ne_eqb}
-use Rattle.std.proofs.lemmas.List.{take_all}
-use Rattle.std.proofs.Math.Seq.{take-suc}
-use Rattle.std.proofs.lemmas.List.Sums.{sum_by_push}
-use Rattle.base.specs.Sums.{sum_to}
-use Rattle.base.proofs.Sums.{sum_to-add, sum_to-le, sum_to-none, sum_to-one, sum_to-term}
-use Rattle.cluster.specs.Limits.{max_amount}
-use Rattle.cluster.specs.declared.choices.Choice.{Choice}
-use Rattle.cluster.specs.declared.choices.Choice.TheVariants.{Idle, Act}
+use Rattle.base.proofs.Public.{◌≡◌, inl, inr, ℕ, zero, suc, ◌+◌, ◌-◌, ◌<◌, ◌≤◌, max, Bool, true, false, ◌&&◌, ◌==◌, nat_le, nat_lt, cond, Option, Some, None, List, [], ◌∷◌, ◌++◌, length, get_or, take, refl, ap, subst, ◌∙◌, arith, slice_index_or, Contains, flat_map, sum_by, cases_eq, cases_lt, ne_eqb, take_all, take-suc, sum_by_push, sum_to-add, sum_to-le, sum_to-none, sum_to-one, sum_to-term}
+use Rattle.rule_setload.specs.Prelude.{Act, Amount, AreExtra, AreMovers, AreStayersTo, At, base, brought, Choice, choices, Climbs, comes_by, Demand, DomainView, gain, goes_in, Gone, held_at, hosted_in, Idle, if_so, Image, Init, Instance, IsExtra, IsInstance, kept_use, kind_of, leave_of, machine_count, max_amount, never, no_row, node_count, Nodes, Nowhere, one, Presence, Raise, Ready, Row, row_choices, Running, Sets, Sleeping, State, state_of, stay_of, Stayers, StaysIn, sum_to, sure, unit_of, Use, vm, Weight, weight_if, What}
 use Rattle.cluster.specs.declared.choices.Place.{Place}
-use Rattle.cluster.specs.declared.choices.Place.TheVariants.{Nowhere, At}
-use Rattle.cluster.specs.declared.states.State.{State}
-use Rattle.cluster.specs.declared.states.State.TheVariants.{Init, Ready, Running, Sleeping, Gone}
-use Rattle.catalogue.specs.Instance.{Instance, IsInstance}
+use Rattle.slices.specs.declared.slice.What.TheVariants.{Image as OfImage}
 use Rattle.catalogue.proofs.Public.{use_of_le}
-use Rattle.slices.specs.declared.slice.Weight.{Weight}
-use Rattle.slices.specs.declared.slice.Weight.TheVariants.{Amount, Presence, Image}
-use Rattle.slices.specs.declared.slice.What.{What}
-use Rattle.slices.specs.declared.slice.What.TheVariants.{Use, Demand, Raise, Image as OfImage}
-use Rattle.slices.specs.Actions.{kind_of}
-use Rattle.slices.specs.Elements.{machine_count, node_count, state_of, vm}
-use Rattle.slices.specs.Snapshots.{held_at}
-use Rattle.slices.specs.Stages.{Nodes, one}
 use Rattle.slices.proofs.Public.{held_by_node}
-use Rattle.domains.specs.declared.parts.Row.{Row}
-use Rattle.domains.specs.Choices.{Climbs, DomainView, choices, no_row, row_choices}
-use Rattle.domains.specs.Sets.{Sets}
 use Rattle.domains.proofs.Public.{contains_here, least_of_each}
-use Rattle.reasons.specs.Sure.{sure}
 use Rattle.reasons.proofs.Public.{end_is_choice}
-use Rattle.relax.specs.Areas.{goes_in, hosted_in}
 use Rattle.profiles.proofs.Public.{all_over}
-use Rattle.closing.specs.Most.{if_so, unit_of}
-use Rattle.profiles.specs.Movers.{AreMovers}
-use Rattle.profiles.specs.Standing.Standings.{base, brought, comes_by, gain, kept_use, leave_of, never, weight_if}
 use Rattle.profiles.proofs.Public.{kept_law}
-use Rattle.rule_setload.specs.declared.stayers.Stayers.{Stayers}
-use Rattle.rule_setload.specs.Amounts.{AreExtra, AreStayersTo, IsExtra, StaysIn, stay_of}
 use Rattle.rule_constraint.proofs.Public.{arrival, numbers, of_one, row_end}
 
 -- ---- one machine on one node

@@ -1,43 +1,10 @@
 -- A constraint whose bound is kept at every instant is broken at none; and what is kept beside its rule stays right.
-use Rattle.std.proofs.Common.{◌≡◌, inl, inr, ℕ, ◌+◌, ◌<◌, ◌≤◌, Bool, true, false, List, [], ◌∷◌, ◌++◌, Some, refl, sym, ap, ◌∙◌, arith}
-use Rattle.std.specs.Prelude.{slice_get}
-use Rattle.std.proofs.lemmas.List.{length-append}
-use Rattle.cluster.specs.Sets.{has_node}
-use Rattle.cluster.specs.declared.choices.Choice.{Choice}
-use Rattle.cluster.specs.declared.ids.Element.{Element}
-use Rattle.cluster.specs.declared.ids.Element.TheVariants.{Vm, Node as TheNode}
-use Rattle.cluster.specs.declared.sets.NodeSet.{NodeSet}
-use Rattle.catalogue.specs.declared.constraint.Constraint.{Constraint}
-use Rattle.catalogue.specs.Instance.{Instance, IsElement}
-use Rattle.slices.specs.declared.slice.Weight.{Weight}
-use Rattle.slices.specs.Elements.{machine_count, node}
-use Rattle.slices.specs.Forms.{Form, Apart, Allowed, Together, Ordered, InTurn, Bounded, Powered, Settled, form_of}
-use Rattle.slices.specs.Snapshots.{Snapshot, total}
-use Rattle.slices.specs.Stages.{Nodes}
-use Rattle.domains.specs.declared.undo.Before.{Before}
-use Rattle.domains.specs.Choices.{DomainView, choices}
-use Rattle.domains.specs.Sets.{RegionView, Sets, domain_at, setting, sets}
-use Rattle.domains.specs.Undo.{domain_before}
-use Rattle.reasons.specs.Closed.{IsEnd}
-use Rattle.reasons.specs.Sure.{sure}
-use Rattle.reasons.proofs.Public.{node_change, setting_agrees, setting_total}
-use Rattle.closing.specs.Kinds.{IsBroken, rule_watch}
-use Rattle.closing.specs.Looks.{IsClean, IsFreeOf}
-use Rattle.closing.specs.Watches.{Watch}
-use Rattle.rule_constraint.specs.Given.{reason_kind}
-use Rattle.rule_constraint.specs.Broken.{of_kind}
-use Rattle.reasons.specs.declared.reason.ReasonKind.TheVariants.{SetLoad}
+use Rattle.base.proofs.Public.{◌≡◌, inl, inr, ℕ, ◌+◌, ◌<◌, ◌≤◌, Bool, true, false, List, [], ◌∷◌, ◌++◌, Some, refl, sym, ap, ◌∙◌, arith, slice_get, length-append}
+use Rattle.rule_setload.specs.Prelude.{Allowed, Apart, AreAllStayers, AreAmountsKept, AreStayersOf, Before, Bound, bound_in, bound_of, Bounded, cache_of, Choice, choices, choose, Constraint, domain_at, domain_before, DomainView, Element, Form, form_of, has_node, Instance, InTurn, IsBroken, IsCacheTold, IsClean, IsElement, IsEnd, IsFreeOf, IsGrown, IsToldOf, Lists, machine_count, no_stayers, no_watch, node, Node as TheNode, Nodes, NodeSet, of_kind, Ordered, passes, Powered, reason_kind, RegionView, rule_watch, set_kinds, SetLoad, Sets, sets, setting, Settled, Snapshot, Stayers, StaysIn, sure, Together, total, Vm, Watch, watch_at, Weight}
 use Rattle.domains.specs.SetsBefore.{sets_before}
-use Rattle.rule_frame.specs.Caches.{IsCacheTold}
-use Rattle.rule_constraint.specs.Indexes.{Lists}
-use Rattle.profiles.specs.Movers.{IsGrown, IsToldOf}
+use Rattle.reasons.proofs.Public.{node_change, setting_agrees, setting_total}
 use Rattle.profiles.proofs.Public.{movers_grown, movers_told}
 use Rattle.profiles.proofs.Public.{each_push}
-use Rattle.rule_setload.specs.declared.bounds.Bound.{Bound}
-use Rattle.rule_setload.specs.declared.stayers.Stayers.{Stayers}
-use Rattle.rule_setload.specs.Amounts.{AreAllStayers, AreAmountsKept, AreStayersOf, StaysIn, bound_in, bound_of, cache_of, no_stayers}
-use Rattle.rule_setload.specs.Covers.{set_kinds}
-use Rattle.rule_constraint.specs.Watches.{choose, no_watch, passes, watch_at}
 
 -- ---- the bound of a constraint
 

@@ -1,17 +1,7 @@
 -- Why a constraint is broken that the rule watches.
-use Rattle.std.proofs.Common.{◌≡◌, ℕ, true, Option, Some, None, subst}
-use Rattle.std.specs.Prelude.{slice_get}
-use Rattle.catalogue.specs.declared.constraint.Constraint.{Constraint}
-use Rattle.catalogue.specs.Instance.{Instance}
-use Rattle.slices.specs.Snapshots.{Snapshot}
-use Rattle.reasons.specs.declared.reason.ReasonKind.{ReasonKind}
-use Rattle.reasons.specs.declared.reason.ReasonKind.TheVariants.{SetLoad, Power}
-use Rattle.reasons.specs.Reasons.{Applies, IsPower, IsSetLoad}
-use Rattle.closing.specs.Looks.{broken_at}
-use Rattle.rule_constraint.specs.Given.{IsBrokenBy, reason_kind}
-use Rattle.rule_constraint.specs.Watches.{passes, watch_at}
+use Rattle.base.proofs.Public.{◌≡◌, ℕ, true, Option, Some, None, subst, slice_get}
+use Rattle.rule_setload.specs.Prelude.{Applies, broken_at, Constraint, Instance, IsBrokenBy, IsPower, IsSetLoad, passes, Power, reason_kind, ReasonKind, set_kinds, SetLoad, Snapshot, watch_at}
 use Rattle.rule_constraint.proofs.Public.{kept_applies}
-use Rattle.rule_setload.specs.Covers.{set_kinds}
 
 -- the constraint gives reasons of a kind that the rule covers, and is broken by what they say
 abbrev IsKnown : Instance → Snapshot → Constraint → Type 0

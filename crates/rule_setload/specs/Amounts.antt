@@ -1,26 +1,10 @@
 -- Helping only: what machines hold on the nodes of a constraint while they stay as they are, and what they may hold more.
 use Rattle.std.specs.Prelude.{◌≡◌, ℕ, ◌+◌, ◌-◌, ◌*◌, ◌<◌, ◌≤◌, List, length, Option, Some, None, slice_get, slice_index_or}
 use Rattle.std.specs.List.{sum_by}
-use Rattle.cluster.specs.Limits.{max_amount}
-use Rattle.cluster.specs.Sets.{has_node}
+use Rattle.rule_constraint.specs.Prelude.{Allowed, Apart, AreMovers, base, Bounded, Cache, Form, form_of, has_node, held_at, hosted_in, if_so, Instance, InTurn, IsEnd, IsIndexOf, Lists, machine_count, max_amount, Nodes, Ordered, Powered, Sets, Settled, state_of, sum_to, sure, Together, unit_of, vm}
 use Rattle.cluster.specs.declared.choices.Choice.{Choice}
 use Rattle.catalogue.specs.declared.constraint.Constraint.{Constraint}
-use Rattle.catalogue.specs.Instance.{Instance}
-use Rattle.base.specs.Sums.{sum_to}
 use Rattle.slices.specs.declared.slice.Weight.{Weight}
-use Rattle.slices.specs.Elements.{machine_count, state_of, vm}
-use Rattle.slices.specs.Forms.{Form, Apart, Allowed, Together, Ordered, InTurn, Bounded, Powered, Settled, form_of}
-use Rattle.slices.specs.Snapshots.{held_at}
-use Rattle.slices.specs.Stages.{Nodes}
-use Rattle.domains.specs.Sets.{Sets}
-use Rattle.reasons.specs.Closed.{IsEnd}
-use Rattle.reasons.specs.Sure.{sure}
-use Rattle.relax.specs.Areas.{hosted_in}
-use Rattle.closing.specs.Most.{if_so, unit_of}
-use Rattle.rule_frame.specs.Caches.{Cache}
-use Rattle.rule_constraint.specs.Indexes.{IsIndexOf, Lists}
-use Rattle.profiles.specs.Movers.{AreMovers}
-use Rattle.profiles.specs.Standing.Standings.{base}
 use Rattle.rule_setload.specs.declared.bounds.Bound.{Bound}
 use Rattle.rule_setload.specs.declared.stayers.Stayers.{Stayers}
 

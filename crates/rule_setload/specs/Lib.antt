@@ -2,3 +2,4 @@
 pub mod Covers
 -- what the code says beside it
 pub mod Amounts
+pub mod Prelude

@@ -1,13 +1,7 @@
 //! The watches of constraints on amounts, looked at with the help of what all machines hold while they stay.
 ghost use Rattle.std.specs.Prelude.{◌≡◌, ◌<◌, IsTrue, length};
-ghost use Rattle.domains.specs.Sets.{sets};
-ghost use Rattle.relax.specs.Areas.{IsSized};
-ghost use Rattle.rule_frame.specs.Caches.{IsCacheFor};
-ghost use Rattle.closing.specs.Kinds.{constraint_watch};
-ghost use Rattle.closing.specs.Looks.{IsClean};
+ghost use Rattle.rule_constraint.specs.Prelude.{constraint_watch, IsCacheFor, IsClean, IsSized, kinds_are_quiet, sets, watch_at, watch_count, watches_are_local};
 ghost use Rattle.rule_setload.specs.Covers.{set_kinds};
-ghost use Rattle.rule_constraint.specs.Watches.{watch_at, watch_count};
-ghost use Rattle.rule_constraint.specs.Quiet.{kinds_are_quiet, watches_are_local};
 
 use crate::bounds::bound_of;
 use crate::movers_hold::stays_within;

@@ -1,10 +1,7 @@
 //! What a constraint bounds: what machines hold on the nodes of a set.
 ghost use Rattle.std.specs.Prelude.{◌≡◌, IfSome, true};
-ghost use Rattle.catalogue.specs.Faults.{is_rule};
-ghost use Rattle.catalogue.specs.Instance.{inventory_of};
-ghost use Rattle.slices.specs.Forms.{form_of as the_form_of};
+ghost use Rattle.rule_setload.specs.Prelude.{bound_of as the_bound_of, form_of as the_form_of, inventory_of, is_rule};
 ghost use Rattle.slices.specs.Snapshots.{IsWeight};
-ghost use Rattle.rule_setload.specs.Amounts.{bound_of as the_bound_of};
 
 use catalogue::{Constraint, Problem};
 use cluster::NodeSet;

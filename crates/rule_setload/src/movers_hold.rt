@@ -1,15 +1,6 @@
 //! What the machines may hold more that may not stay as they are, and whether all together stay within an amount.
 ghost use Rattle.std.specs.Prelude.{◌≡◌, ◌*◌, ◌<◌, ◌≤◌, IfSome, IsTrue, false, length, slice_index_or};
-ghost use Rattle.cluster.specs.Limits.{max_amount, max_machines};
-ghost use Rattle.cluster.specs.Sets.{has_node};
-ghost use Rattle.cluster.specs.declared.choices.Choice.{Choice as AnyChoice};
-ghost use Rattle.slices.specs.Elements.{machine_count};
-ghost use Rattle.domains.specs.Choices.{no_row};
-ghost use Rattle.domains.specs.Sets.{sets};
-ghost use Rattle.profiles.specs.Near.{AreMachines};
-ghost use Rattle.relax.specs.Areas.{IsSized, IsWeight, goes_in};
-ghost use Rattle.profiles.specs.Movers.{AreMovers};
-ghost use Rattle.rule_setload.specs.Amounts.{AreExtra, AreStayersTo, IsExtra, StaysIn};
+ghost use Rattle.rule_setload.specs.Prelude.{AreExtra, AreMachines, AreMovers, AreStayersTo, Choice as AnyChoice, goes_in, has_node, IsExtra, IsSized, IsWeight, machine_count, max_amount, max_machines, no_row, sets, StaysIn};
 
 use crate::bounds::Bound;
 use crate::stayers::{Stayers, unit};

@@ -1,14 +1,6 @@
 //! What all machines have on the nodes of a constraint at present: no change of a region changes it.
 ghost use Rattle.std.specs.Prelude.{◌≡◌, ◌+◌, ◌*◌, ◌<◌, ◌≤◌, IfOk, length, true};
-ghost use Rattle.cluster.specs.Limits.{max_amount};
-ghost use Rattle.cluster.specs.Sets.{has_node};
-ghost use Rattle.catalogue.specs.Faults.{is_rule};
-ghost use Rattle.catalogue.specs.Instance.{inventory_of};
-ghost use Rattle.slices.specs.Elements.{machine_count};
-ghost use Rattle.slices.specs.Forms.{form_of};
-ghost use Rattle.relax.specs.Areas.{IsWeight};
-ghost use Rattle.closing.specs.Most.{unit_of};
-ghost use Rattle.rule_setload.specs.Amounts.{AreAllStayers, AreStayersOf, AreStayersTo, bound_of as the_bound_of, stay_of};
+ghost use Rattle.rule_setload.specs.Prelude.{AreAllStayers, AreStayersOf, AreStayersTo, bound_of as the_bound_of, form_of, has_node, inventory_of, is_rule, IsWeight, machine_count, max_amount, stay_of, unit_of};
 
 use crate::bounds::{Bound, bound_of};
 use base::Memory;

@@ -1,15 +1,8 @@
 -- The rules that the program hands in cover the seven standard kinds.
 use Rattle.std.proofs.Common.{◌≡◌, ◌∙◌, ap, sym, refl, subst, List, [], ◌∷◌, ◌++◌, Bool, true, false, ◌||◌}
 use Rattle.std.specs.declared.dyn_box.DynBox.{DynBox}
-use Rattle.reasons.specs.declared.reason.ReasonKind.{ReasonKind}
+use Rattle.rule_solver.specs.Prelude.{Covered, forbidden_kinds, group_kinds, is_covered, is_load, IsStandard, Meaning, pair_kinds, place_kinds, ReasonKind, set_kinds}
 use Rattle.reasons.specs.declared.reason.ReasonKind.TheVariants as kind
-use Rattle.prop_core.specs.Lists.{Covered, is_covered}
-use Rattle.prop_core.specs.Propagators.{IsStandard, Meaning}
-use Rattle.rule_group.specs.Covers.{group_kinds}
-use Rattle.rule_pair.specs.Covers.{pair_kinds}
-use Rattle.rule_place.specs.Covers.{forbidden_kinds, place_kinds}
-use Rattle.rule_setload.specs.Covers.{set_kinds}
-use Rattle.rule_load.specs.Watched.{is_load}
 
 -- what a box covers, by the type behind it
 covers_of : {V A : Type 0} {D : V → Type 0} (m : DynBox V A D → Meaning) (b : DynBox V A D) (a : V) (kinds : ReasonKind → Bool) → b.vtable ≡ a →

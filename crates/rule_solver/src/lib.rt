@@ -2,11 +2,7 @@
 #![tactic(auto)]
 
 ghost use Rattle.std.specs.Prelude.{◌≡◌, IsTrue, IfOk};
-ghost use Rattle.plan_io.specs.Causes.{CountsWrites};
-ghost use Rattle.plan_io.specs.Files.{OthersStay};
-ghost use Rattle.search.specs.Answers.{IsTrueOf};
-ghost use Rattle.search.specs.Staying.{MayStay};
-ghost use Rattle.commands.specs.Planning.{IsCertificateCut, IsCertified, IsToStay};
+ghost use Rattle.rule_solver.specs.Prelude.{CountsWrites, IsCertificateCut, IsCertified, IsToStay, IsTrueOf, MayStay, OthersStay};
 
 use branching::brancher::Brancher;
 use branching::stay_first::StayFirst;

@@ -1,8 +1,6 @@
 //! The hosts of machines.
 ghost use Rattle.std.specs.Prelude.{◌≡◌, ◌<◌};
-ghost use Rattle.slices.specs.Elements.{machine_count, state_of};
-ghost use Rattle.slices.specs.Stages.{one};
-ghost use Rattle.relax.specs.Areas.{hosted_in, nodes_of};
+ghost use Rattle.closing.specs.Prelude.{hosted_in, machine_count, nodes_of, one, state_of};
 
 use catalogue::Problem;
 use cluster::{NodeId, State, VmId};

@@ -1,15 +1,7 @@
 //! The most that a machine holds on the nodes of an area, at any instant.
 ghost use Rattle.std.specs.Prelude.{◌≡◌, ℕ, ◌+◌, ◌<◌, ◌≤◌, ◌*◌, ◌^◌, [], false, IfNone, IfSome, length, slice_index_or};
 ghost use Rattle.std.specs.List.{Contains};
-ghost use Rattle.cluster.specs.Limits.{max_amount};
-ghost use Rattle.cluster.specs.declared.choices.Choice.{Choice as AnyChoice};
-ghost use Rattle.catalogue.specs.Instance.{IsElement};
-ghost use Rattle.slices.specs.Elements.{machine_count, vm};
-ghost use Rattle.slices.specs.Snapshots.{held_at};
-ghost use Rattle.domains.specs.Choices.{choices, no_row};
-ghost use Rattle.domains.specs.Sets.{sets};
-ghost use Rattle.relax.specs.Areas.{IsSized, IsWeight, goes_in, nodes_of};
-ghost use Rattle.closing.specs.Most.{IsMostOf, IsMostSure, if_so, unit_of};
+ghost use Rattle.closing.specs.Prelude.{Choice as AnyChoice, choices, goes_in, held_at, if_so, IsElement, IsMostOf, IsMostSure, IsSized, IsWeight, machine_count, max_amount, no_row, nodes_of, sets, unit_of, vm};
 
 use crate::base::hosts::is_hosted;
 use catalogue::Problem;

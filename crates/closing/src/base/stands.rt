@@ -1,13 +1,7 @@
 //! On which nodes a machine surely is.
 ghost use Rattle.std.specs.Prelude.{◌≡◌, ℕ, ◌<◌, ◌&&◌, [], None, Some, IfNone, IfSome, IsTrue, false};
 ghost use Rattle.std.specs.List.{Contains};
-ghost use Rattle.slices.specs.Elements.{machine_count, node_count, vm};
-ghost use Rattle.slices.specs.Holdings.{IsHeldWithin, is_in};
-ghost use Rattle.slices.specs.Stages.{one};
-ghost use Rattle.domains.specs.Choices.{choices};
-ghost use Rattle.domains.specs.Sets.{sets};
-ghost use Rattle.reasons.specs.Sure.{sure};
-ghost use Rattle.relax.specs.Areas.{IsSized};
+ghost use Rattle.relax.specs.Prelude.{choices, is_in, IsHeldWithin, IsSized, machine_count, node_count, one, sets, sure, vm};
 ghost use Rattle.closing.specs.Parts.{FailAtEnds, IsEndThat};
 ghost use Rattle.closing.specs.declared.base.stands.Stands.{Stands as AnyStands};
 ghost use Rattle.closing.specs.Stands.{AreWithin, IsOn, IsWithin, has_node_of, is_node};

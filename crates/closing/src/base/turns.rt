@@ -1,13 +1,7 @@
 //! The instants at which what is sure in a region can grow.
 ghost use Rattle.std.specs.Prelude.{◌≡◌, ℕ, ◌+◌, ◌<◌, ◌≤◌, length, nat_lt, true};
 ghost use Rattle.std.specs.List.{list_all};
-ghost use Rattle.slices.specs.Elements.{machine_count, node, node_count, vm};
-ghost use Rattle.domains.specs.Sets.{HasElement, sets};
-ghost use Rattle.reasons.specs.Quiet.{IsTurn};
-ghost use Rattle.relax.specs.Areas.{IsSized};
-ghost use Rattle.closing.specs.Parts.{AreRowsPast, IsNotBetween, StartsPast};
-ghost use Rattle.closing.specs.Turns.{AreListed, turning};
-ghost use Rattle.closing.specs.Watches.{only_of};
+ghost use Rattle.closing.specs.Prelude.{AreListed, AreRowsPast, HasElement, IsNotBetween, IsSized, IsTurn, machine_count, node, node_count, only_of, sets, StartsPast, turning, vm};
 
 use crate::base::counts::{machines_of, nodes_of};
 use catalogue::Problem;

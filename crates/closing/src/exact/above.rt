@@ -1,13 +1,7 @@
 //! What a machine holds more under an end of its choices than at least.
 ghost use Rattle.std.specs.Prelude.{◌≡◌, ℕ, ◌+◌, ◌<◌, ◌≤◌, ◌*◌, ◌^◌, IfNone, IfSome};
-ghost use Rattle.cluster.specs.Limits.{max_amount};
-ghost use Rattle.catalogue.specs.Instance.{IsElement};
+ghost use Rattle.relax.specs.Prelude.{held_at, IsElement, IsSized, IsWeight, machine_count, max_amount, Nodes, nodes_of, sets, vm};
 ghost use Rattle.cluster.specs.declared.choices.Choice.{Choice as AnyChoice};
-ghost use Rattle.slices.specs.Elements.{machine_count, vm};
-ghost use Rattle.slices.specs.Snapshots.{held_at};
-ghost use Rattle.slices.specs.Stages.{Nodes};
-ghost use Rattle.domains.specs.Sets.{sets};
-ghost use Rattle.relax.specs.Areas.{IsSized, IsWeight, nodes_of};
 ghost use Rattle.closing.specs.Parts.{HoldsAbove as IsHeldAbove, IsAbove, IsSpared};
 
 use crate::base::counts::machines_of;

@@ -1,11 +1,6 @@
 //! What machines hold, and powered nodes, on the nodes of a constraint.
 ghost use Rattle.std.specs.Prelude.{◌≡◌, ℕ, ◌+◌, ◌<◌, ◌≤◌, false, IfNone, IfSome, IsTrue};
-ghost use Rattle.cluster.specs.Sets.{has_node};
-ghost use Rattle.slices.specs.Elements.{node, node_count};
-ghost use Rattle.slices.specs.Snapshots.{powered_nodes as powered_nodes_of, total as total_of};
-ghost use Rattle.domains.specs.Sets.{sets};
-ghost use Rattle.reasons.specs.Sure.{sure};
-ghost use Rattle.relax.specs.Areas.{IsSized, IsWeight};
+ghost use Rattle.relax.specs.Prelude.{has_node, IsSized, IsWeight, node, node_count, powered_nodes as powered_nodes_of, sets, sure, total as total_of};
 ghost use Rattle.closing.specs.Looks.{IsFound};
 ghost use Rattle.closing.specs.Parts.{FailAtEnds, IsEndThat, IsPoweredUnder};
 

@@ -1,15 +1,6 @@
 //! A look at one instant at one constraint, by its form.
 ghost use Rattle.std.specs.Prelude.{◌≡◌, ◌<◌, length, true};
-ghost use Rattle.catalogue.specs.Faults.{are_below, is_rule};
-ghost use Rattle.catalogue.specs.Instance.{inventory_of};
-ghost use Rattle.slices.specs.Elements.{machine_count};
-ghost use Rattle.slices.specs.Forms.{separated, separation_seen};
-ghost use Rattle.domains.specs.Sets.{sets};
-ghost use Rattle.relax.specs.Areas.{IsSized};
-ghost use Rattle.closing.specs.Forms.{HasSeparated};
-ghost use Rattle.closing.specs.Kinds.{IsBroken, constraint_watch, scope_of};
-ghost use Rattle.closing.specs.Looks.{IsFound, broken_at};
-ghost use Rattle.closing.specs.Turns.{AreListed, Suffice};
+ghost use Rattle.closing.specs.Prelude.{are_below, AreListed, broken_at, constraint_watch, HasSeparated, inventory_of, is_rule, IsBroken, IsFound, IsSized, machine_count, scope_of, separated, separation_seen, sets, Suffice};
 
 use crate::base::turns::Turns;
 use crate::exact::capacities::{amount_found, powered_found};

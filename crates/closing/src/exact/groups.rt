@@ -1,14 +1,7 @@
 //! Constraints on whole groups of machines.
 ghost use Rattle.std.specs.Prelude.{◌≡◌, ℕ, ◌<◌, nat_lt, true, IfNone, IfSome};
 ghost use Rattle.std.specs.List.{list_all};
-ghost use Rattle.catalogue.specs.Faults.{is_rule};
-ghost use Rattle.catalogue.specs.Instance.{inventory_of};
-ghost use Rattle.slices.specs.Elements.{machine_count, vm};
-ghost use Rattle.slices.specs.Forms.{form_of, members};
-ghost use Rattle.slices.specs.Holds.{IsMember};
-ghost use Rattle.domains.specs.Sets.{sets};
-ghost use Rattle.reasons.specs.Reasons.{IsGroup};
-ghost use Rattle.relax.specs.Areas.{IsSized};
+ghost use Rattle.relax.specs.Prelude.{form_of, inventory_of, is_rule, IsGroup, IsMember, IsSized, machine_count, members, sets, vm};
 ghost use Rattle.closing.specs.Looks.{IsFound};
 ghost use Rattle.closing.specs.Parts.{FailAtEnds, IsEndThat};
 ghost use Rattle.closing.specs.Stands.{IsGroupWith};

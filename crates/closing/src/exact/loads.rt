@@ -1,14 +1,6 @@
 //! Loads of nodes.
 ghost use Rattle.std.specs.Prelude.{◌≡◌, ℕ, ◌+◌, ◌<◌, ◌≤◌, ◌^◌, IfNone, IfSome, length};
-ghost use Rattle.slices.specs.Elements.{node_count};
-ghost use Rattle.slices.specs.Snapshots.{load as load_of, room as room_of};
-ghost use Rattle.domains.specs.Sets.{sets};
-ghost use Rattle.reasons.specs.Reasons.{IsOverload};
-ghost use Rattle.reasons.specs.Sure.{sure};
-ghost use Rattle.relax.specs.Areas.{IsSized, nodes_of};
-ghost use Rattle.closing.specs.Kinds.{IsOverloaded};
-ghost use Rattle.closing.specs.Looks.{IsFound};
-ghost use Rattle.closing.specs.Parts.{IsNodeMissed, IsNodeSpared};
+ghost use Rattle.closing.specs.Prelude.{IsFound, IsNodeMissed, IsNodeSpared, IsOverload, IsOverloaded, IsSized, load as load_of, node_count, nodes_of, room as room_of, sets, sure};
 
 use crate::base::counts::{nodes_of, resources_of};
 use crate::base::ends::end_that;

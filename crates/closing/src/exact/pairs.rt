@@ -1,11 +1,7 @@
 //! Machines that a constraint keeps apart.
 ghost use Rattle.std.specs.Prelude.{◌≡◌, ℕ, ◌<◌, nat_lt, true, length, slice_index_or, []};
 ghost use Rattle.std.specs.List.{list_all};
-ghost use Rattle.catalogue.specs.Faults.{is_member};
-ghost use Rattle.cluster.specs.Sets.{has_machine};
-ghost use Rattle.slices.specs.Elements.{machine_count};
-ghost use Rattle.domains.specs.Sets.{sets};
-ghost use Rattle.relax.specs.Areas.{IsSized};
+ghost use Rattle.relax.specs.Prelude.{has_machine, is_member, IsSized, machine_count, sets};
 ghost use Rattle.closing.specs.Looks.{IsFound};
 ghost use Rattle.closing.specs.Stands.{IsAnyOf, MeetsOtherPart, MeetsStranger, ShareNode};
 

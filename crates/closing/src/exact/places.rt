@@ -1,14 +1,7 @@
 //! Machines where a constraint lets them not be.
 ghost use Rattle.std.specs.Prelude.{◌≡◌, ℕ, ◌<◌, false, nat_lt, true, IsTrue};
 ghost use Rattle.std.specs.List.{list_all};
-ghost use Rattle.catalogue.specs.Instance.{Instance};
-ghost use Rattle.slices.specs.Elements.{machine_count, node_count};
-ghost use Rattle.slices.specs.Forms.{places_seen};
-ghost use Rattle.slices.specs.Holdings.{IsHeldWithin, is_in};
-ghost use Rattle.slices.specs.Holds.{IsOffLimits};
-ghost use Rattle.slices.specs.Stages.{one};
-ghost use Rattle.domains.specs.Sets.{sets};
-ghost use Rattle.relax.specs.Areas.{IsSized};
+ghost use Rattle.relax.specs.Prelude.{Instance, is_in, IsHeldWithin, IsOffLimits, IsSized, machine_count, node_count, one, places_seen, sets};
 ghost use Rattle.closing.specs.Looks.{IsFound};
 ghost use Rattle.closing.specs.Stands.{AreWithin, IsAnyOf, IsMisplaced, IsPlacedBadly, IsWithin, has_node_of, is_node};
 

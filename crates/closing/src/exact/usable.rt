@@ -1,11 +1,6 @@
 //! Nodes that are needed and may not be usable.
 ghost use Rattle.std.specs.Prelude.{◌≡◌, ℕ, ◌<◌, ◌≤◌, false, IfNone, IfSome, IsTrue};
-ghost use Rattle.catalogue.specs.Instance.{IsElement};
-ghost use Rattle.slices.specs.Elements.{machine_count, node, node_count, vm};
-ghost use Rattle.slices.specs.Snapshots.{stands_on};
-ghost use Rattle.domains.specs.Sets.{sets};
-ghost use Rattle.reasons.specs.Sure.{sure};
-ghost use Rattle.relax.specs.Areas.{IsSized};
+ghost use Rattle.relax.specs.Prelude.{IsElement, IsSized, machine_count, node, node_count, sets, stands_on, sure, vm};
 ghost use Rattle.closing.specs.Kinds.{IsNeeded};
 ghost use Rattle.closing.specs.Looks.{IsFound};
 ghost use Rattle.closing.specs.Parts.{FailAtEnds, IsEndThat, IsNotUsable, NoneAmong, StandsUnder};

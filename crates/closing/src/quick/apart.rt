@@ -1,13 +1,7 @@
 //! Whether machines keep apart, told by where each stands: this is quick where nothing is found.
 ghost use Rattle.std.specs.Prelude.{◌≡◌, ◌≢◌, ℕ, ◌<◌, nat_lt, true, IsTrue, length, slice_index_or, []};
 ghost use Rattle.std.specs.List.{list_all};
-ghost use Rattle.slices.specs.Elements.{machine_count};
-ghost use Rattle.slices.specs.Holds.{IsMember};
-ghost use Rattle.slices.specs.Stages.{one};
-ghost use Rattle.domains.specs.Sets.{sets};
-ghost use Rattle.reasons.specs.Sure.{sure};
-ghost use Rattle.relax.specs.Areas.{IsSized};
-ghost use Rattle.closing.specs.Stands.{AreApart, StaysClear, has_node_of};
+ghost use Rattle.closing.specs.Prelude.{AreApart, has_node_of, IsMember, IsSized, machine_count, one, sets, StaysClear, sure};
 
 use crate::base::stands::{Stands, end_beside, standing};
 use catalogue::{Problem, Vms};

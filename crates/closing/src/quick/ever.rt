@@ -1,11 +1,6 @@
 //! Constraints that are broken at no instant, whatever the starts are.
 ghost use Rattle.std.specs.Prelude.{ℕ, IsTrue};
-ghost use Rattle.catalogue.specs.Faults.{is_rule};
-ghost use Rattle.catalogue.specs.Instance.{inventory_of};
-ghost use Rattle.domains.specs.Sets.{sets};
-ghost use Rattle.relax.specs.Areas.{IsSized};
-ghost use Rattle.closing.specs.Kinds.{IsBroken};
-ghost use Rattle.closing.specs.Looks.{IsFreeOf};
+ghost use Rattle.closing.specs.Prelude.{inventory_of, is_rule, IsBroken, IsFreeOf, IsSized, sets};
 
 use crate::quick::within::stays_within;
 use catalogue::{Constraint, Problem};

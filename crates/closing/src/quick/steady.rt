@@ -1,16 +1,7 @@
 //! Nodes that stay usable, and loads that fit at every instant, whatever the starts are.
 ghost use Rattle.std.specs.Prelude.{◌≡◌, ℕ, ◌+◌, ◌<◌, ◌≤◌, ◌*◌, [], ◌∷◌, IsTrue, length};
+ghost use Rattle.closing.specs.Prelude.{choices, HasSteadyRoom, IsFreeOf, IsNeeded, IsOverload, IsOverloaded, IsSized, max_capacity, max_nodes, node, node_count, nodes_of, sets, StaysUsable};
 ghost use Rattle.cluster.specs.declared.choices.Choice.TheVariants.{Idle};
-ghost use Rattle.cluster.specs.Limits.{max_nodes};
-ghost use Rattle.catalogue.specs.Limits.{max_capacity};
-ghost use Rattle.slices.specs.Elements.{node, node_count};
-ghost use Rattle.domains.specs.Choices.{choices};
-ghost use Rattle.domains.specs.Sets.{sets};
-ghost use Rattle.reasons.specs.Reasons.{IsOverload};
-ghost use Rattle.relax.specs.Areas.{IsSized, nodes_of};
-ghost use Rattle.closing.specs.Kinds.{IsNeeded, IsOverloaded};
-ghost use Rattle.closing.specs.Looks.{IsFreeOf};
-ghost use Rattle.closing.specs.Most.{HasSteadyRoom, StaysUsable};
 
 use crate::base::counts::{nodes_of, resources_of};
 use crate::quick::within::stays_within;

@@ -1,10 +1,6 @@
 //! What machines hold together, within an amount at every instant.
 ghost use Rattle.std.specs.Prelude.{◌≡◌, ℕ, ◌+◌, ◌<◌, ◌≤◌, ◌*◌, IsTrue};
-ghost use Rattle.cluster.specs.Limits.{max_amount, max_machines};
-ghost use Rattle.slices.specs.Elements.{machine_count};
-ghost use Rattle.domains.specs.Sets.{sets};
-ghost use Rattle.relax.specs.Areas.{IsSized, IsWeight, nodes_of};
-ghost use Rattle.closing.specs.Most.{AreWithin, IsMostOf, IsMostSure, StaysWithin};
+ghost use Rattle.closing.specs.Prelude.{AreWithin, IsMostOf, IsMostSure, IsSized, IsWeight, machine_count, max_amount, max_machines, nodes_of, sets, StaysWithin};
 
 use crate::base::counts::machines_of;
 use crate::base::most::{most_ever, most_of, most_sure};

@@ -1,11 +1,9 @@
 -- What the bytes of a plan mean for a problem.
 use Rattle.std.specs.Prelude.{ℕ, List, Option, Some, None, Result, Ok, Err, codes}
-use Rattle.plan_io.specs.Files.{Files, bytes_of}
-use Rattle.catalogue.specs.Instance.{Instance, inventory_of}
-use Rattle.slices.specs.Plans.{Choices, PlanChoices, choices_of}
+use Rattle.cert_write.specs.Prelude.{choices_of, Files, PlanChoices}
+use Rattle.cert_check.specs.Prelude.{bytes_of, Choices, choices_handed, Instance, inventory_of}
 use Rattle.plan_json.specs.Plans.{plan_of}
 use Rattle.plan_json.specs.Texts.{fault_text}
-use Rattle.cert_model.specs.Walks.{choices_handed}
 use Rattle.plan_json.specs.declared.fault.PlanFault.{PlanFault}
 use Rattle.commands.specs.Inputs.{input_line}
 

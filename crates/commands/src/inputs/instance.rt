@@ -1,10 +1,8 @@
 //! The instance that a command reads.
 
 ghost use Rattle.std.specs.Prelude.{◌≡◌, ◌≢◌, Result, IsTrue, IfErr, Err};
+ghost use Rattle.commands.specs.Prelude.{instance_in, instance_line, IsOfReading, IsRefusal, ReadCauses, reading_of, Reads};
 ghost use Rattle.instance_json.specs.Texts.{fault_text};
-ghost use Rattle.commands.specs.Inputs.Instance.{reading_of, instance_in, instance_line};
-ghost use Rattle.commands.specs.Causes.{ReadCauses};
-ghost use Rattle.commands.specs.Endings.{Reads, IsRefusal, IsOfReading};
 
 use crate::fault::Fault;
 use crate::inputs::{bytes_at, refusal};

@@ -1,14 +1,8 @@
 //! The plan that a command reads, where there has to be one and where there may be none.
 
 ghost use Rattle.std.specs.Prelude.{◌≡◌, ◌≢◌, Result, IsTrue, IfOk, IfErr, IfSome, Err};
-ghost use Rattle.catalogue.specs.Instance.{inventory_of};
-ghost use Rattle.slices.specs.Plans.{IsPlanOf, choices_of};
+ghost use Rattle.commands.specs.Prelude.{any_plan_in, any_plan_reading_of, choices_handed, choices_of, inventory_of, IsOfReading, IsPlanOf, IsRefusal, plan_in, plan_line, plan_reading_of, ReadCauses, Reads};
 ghost use Rattle.plan_json.specs.Texts.{fault_text};
-ghost use Rattle.cert_model.specs.Walks.{choices_handed};
-ghost use Rattle.commands.specs.Inputs.Plan.{plan_reading_of, plan_in, plan_line};
-ghost use Rattle.commands.specs.Inputs.Plan.{any_plan_reading_of, any_plan_in};
-ghost use Rattle.commands.specs.Causes.{ReadCauses};
-ghost use Rattle.commands.specs.Endings.{Reads, IsRefusal, IsOfReading};
 
 use crate::fault::Fault;
 use crate::inputs::{bytes_at, refusal};

@@ -1,14 +1,6 @@
 -- Until when a machine stays, after some of its choices were lost.
-use Rattle.std.proofs.Common.{◌≡◌, ℕ, ◌<◌, ◌≤◌, max, List, [], ◌∷◌, Option, Some, None, unwrap_or, refl, ap, ◌∙◌, arith}
-use Rattle.std.specs.List.{Contains}
-use Rattle.std.proofs.lemmas.List.Elements.{Contains-append_right}
-use Rattle.base.specs.Least.{least, lowest}
-use Rattle.cluster.specs.declared.choices.Choice.{Choice}
-use Rattle.domains.specs.declared.undo.Lost.{Lost}
-use Rattle.domains.specs.Choices.{DomainView, choices}
-use Rattle.domains.specs.Laws.{AreFewer}
-use Rattle.domains.specs.Measures.{lower_option}
-use Rattle.domains.specs.Undo.{lost_choices, restored}
+use Rattle.base.proofs.Public.{◌≡◌, ℕ, ◌<◌, ◌≤◌, max, List, [], ◌∷◌, Option, Some, None, unwrap_or, refl, ap, ◌∙◌, arith, Contains, Contains-append_right}
+use Rattle.profiles.specs.Prelude.{AreFewer, Choice, choices, DomainView, least, Lost, lost_choices, lower_option, lowest, restored}
 use Rattle.domains.proofs.Public.{least_of_each, lowest_before}
 
 -- nothing was lost

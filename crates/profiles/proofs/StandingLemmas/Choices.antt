@@ -1,31 +1,11 @@
 -- What one choice holds on one node: what its machine has on the host until it is left, and what it brings.
-use Rattle.std.proofs.Common.{◌≡◌, ◌⊎◌, inl, inr, ℕ, ◌+◌, ◌<◌, Bool, true, false, not, ◌&&◌, ◌==◌, nat_lt, nat_le, cond, Option, Some, None, refl, sym, ap, subst, ◌∙◌, arith}
-use Rattle.std.proofs.lemmas.Bool.{false≢true, lt-ltb}
-use Rattle.std.proofs.lemmas.Bool.Decides.{Decides-eqb, nat_tests}
-use Rattle.cluster.specs.declared.choices.Choice.{Choice}
-use Rattle.cluster.specs.declared.choices.Choice.TheVariants.{Idle, Act}
+use Rattle.base.proofs.Public.{◌≡◌, ◌⊎◌, inl, inr, ℕ, ◌+◌, ◌<◌, Bool, true, false, not, ◌&&◌, ◌==◌, nat_lt, nat_le, cond, Option, Some, None, refl, sym, ap, subst, ◌∙◌, arith, false≢true, lt-ltb, Decides-eqb, nat_tests}
+use Rattle.profiles.specs.Prelude.{Act, acting_slices, action_duration, Allocate, Amount, At, base, Boot, brought, Choice, Demand, end_of, Forge, gain, Gone, had_there, has_come, held_at, held_by, hosted_in, idle_slices, Image, Init, Instance, is_place, is_raised, kept_until, Kill, Killed as ToKilled, Kind, kind_of, leave_of, machine_kind, Migrate, never, Nowhere, one, Presence, Ready as ToReady, Resume, Running as ToRunning, Shutdown, Sleeping as ToSleeping, Slices, slices_by, slices_of, Stage, stage_at, stage_from, State, state_of, Suspend, To, Use, vm, wanted_state, weigh, Weight, weight_if, weight_of, Wish}
+use Rattle.cluster.specs.declared.choices.Choice.TheVariants.{Idle}
 use Rattle.cluster.specs.declared.choices.Place.{Place}
-use Rattle.cluster.specs.declared.choices.Place.TheVariants.{Nowhere, At}
-use Rattle.cluster.specs.declared.kinds.Kind.{Kind}
-use Rattle.cluster.specs.declared.kinds.Kind.TheVariants.{Forge, Boot, Shutdown, Suspend, Resume, Migrate, Allocate, Kill}
-use Rattle.cluster.specs.declared.states.State.{State}
-use Rattle.cluster.specs.declared.states.State.TheVariants.{Init, Ready, Running, Sleeping, Gone}
-use Rattle.catalogue.specs.Instance.{Instance}
-use Rattle.catalogue.specs.declared.targets.Target.TheVariants.{Running as ToRunning, Sleeping as ToSleeping, Ready as ToReady, Killed as ToKilled}
-use Rattle.catalogue.specs.declared.targets.Wish.{Wish}
-use Rattle.catalogue.specs.declared.targets.Wish.TheVariants.{To}
-use Rattle.slices.specs.declared.slice.Slices.{Slices}
-use Rattle.slices.specs.declared.slice.Weight.{Weight}
-use Rattle.slices.specs.declared.slice.Weight.TheVariants.{Amount, Presence, Image}
-use Rattle.slices.specs.declared.slice.What.TheVariants.{Use, Demand, Image as OfImage}
-use Rattle.slices.specs.declared.stage.Stage.{Stage}
-use Rattle.slices.specs.Actions.{action_duration, end_of, is_raised, kind_of, machine_kind, wanted_state}
-use Rattle.slices.specs.Elements.{is_place, state_of, vm}
-use Rattle.slices.specs.Snapshots.{held_at, held_by, stage_at}
-use Rattle.slices.specs.Stages.{acting_slices, idle_slices, one, slices_by, slices_of, stage_from, weigh, weight_of}
+use Rattle.cluster.specs.declared.states.State.TheVariants.{Ready, Running, Sleeping}
+use Rattle.slices.specs.declared.slice.What.TheVariants.{Image as OfImage}
 use Rattle.slices.proofs.Public.{ends_by_duration}
-use Rattle.relax.specs.Areas.{hosted_in}
-use Rattle.profiles.specs.Standing.Standings.{base, brought, gain, had_there, has_come, kept_until, leave_of, never, weight_if}
 
 -- ---- which actions there are, and where
 

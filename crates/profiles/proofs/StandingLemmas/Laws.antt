@@ -1,30 +1,8 @@
 -- The laws, by the names of their statements in specs/.
-use Rattle.std.specs.Prelude.{slice_index_or}
-use Rattle.std.proofs.Common.{◌≡◌, ◌≢◌, ℕ, ◌+◌, ◌<◌, Bool, true, false, ◌&&◌, nat_lt, cond, List, [], ◌∷◌, refl, sym, ap, subst, ◌∙◌, arith}
-use Rattle.std.specs.List.{Contains}
-use Rattle.std.proofs.lemmas.Bool.{false≢true}
-use Rattle.std.proofs.lemmas.Bool.Decides.{Decides-eqb, nat_tests}
-use Rattle.base.specs.Least.{least}
-use Rattle.base.proofs.Sums.{sum_to-same}
-use Rattle.cluster.specs.declared.choices.Choice.{Choice}
-use Rattle.catalogue.specs.Instance.{Instance}
-use Rattle.slices.specs.declared.slice.Weight.{Weight}
-use Rattle.slices.specs.declared.slice.Weight.TheVariants.{Amount, Presence}
-use Rattle.slices.specs.Elements.{machine_count, state_of, vm}
-use Rattle.slices.specs.Snapshots.{held_at}
-use Rattle.slices.specs.Stages.{one}
-use Rattle.cluster.specs.declared.ids.Element.{Element}
-use Rattle.cluster.specs.declared.ids.Element.TheVariants.{Vm, Node}
-use Rattle.domains.specs.Choices.{choices}
-use Rattle.domains.specs.Sets.{same_element, sets}
-use Rattle.domains.specs.Laws.{AreFewer}
-use Rattle.domains.proofs.Public.{filter_is_fewer, least_grows, same_is, surely_stays}
-use Rattle.relax.specs.Areas.{hosted_in}
-use Rattle.reasons.specs.Sure.{sure}
-use Rattle.profiles.specs.Standing.Laws.{BeforeLaw, FewerLaw, GrowLaw, KeptLaw, LoadLaw, PresencesLaw, PresentLaw}
-use Rattle.profiles.specs.Standing.Standings.{base, gain, has_come, have_come, kept_use, leave_of, never}
+use Rattle.base.proofs.Public.{slice_index_or, ◌≡◌, ◌≢◌, ℕ, ◌+◌, ◌<◌, Bool, true, false, ◌&&◌, nat_lt, cond, List, [], ◌∷◌, refl, sym, ap, subst, ◌∙◌, arith, Contains, false≢true, Decides-eqb, nat_tests, sum_to-same}
+use Rattle.profiles.specs.Prelude.{Amount, AreFewer, base, BeforeLaw, Choice, choices, Element, FewerLaw, gain, GrowLaw, has_come, have_come, held_at, hosted_in, Instance, kept_use, KeptLaw, least, leave_of, LoadLaw, machine_count, never, no_standing, Node, one, Presence, PresencesLaw, PresentLaw, same_element, sets, state_of, sure, Vm, vm, Weight}
 use Rattle.domains.specs.SetsBefore.{sets_before}
-use Rattle.profiles.specs.Standing.Tables.{no_standing}
+use Rattle.domains.proofs.Public.{filter_is_fewer, least_grows, same_is, surely_stays}
 use Rattle.profiles.proofs.StandingLemmas.Choices.{apart, held_one}
 use Rattle.profiles.proofs.StandingLemmas.Lists.{in_parts, least_in_parts, least_same, positive_each}
 

@@ -1,24 +1,7 @@
 -- How a machine leaves that runs.
-use Rattle.std.proofs.Common.{◌≡◌, ◌≢◌, ℕ, ◌+◌, ◌<◌, ◌≤◌, Bool, true, false, ◌==◌, nat_lt, Option, Some, None, refl, sym, ap, ◌∙◌, arith}
-use Rattle.std.proofs.lemmas.Bool.{ne_eqb}
-use Rattle.std.proofs.lemmas.Bool.Decides.{nat_tests}
-use Rattle.cluster.specs.declared.choices.Choice.TheVariants.{Act}
-use Rattle.cluster.specs.declared.choices.Place.TheVariants.{At}
-use Rattle.cluster.specs.declared.ids.NodeId.{NodeId}
-use Rattle.cluster.specs.declared.kinds.Kind.{Kind}
-use Rattle.cluster.specs.declared.kinds.Kind.TheVariants.{Migrate}
-use Rattle.cluster.specs.declared.states.State.{State}
+use Rattle.base.proofs.Public.{◌≡◌, ◌≢◌, ℕ, ◌+◌, ◌<◌, ◌≤◌, Bool, true, false, ◌==◌, nat_lt, Option, Some, None, refl, sym, ap, ◌∙◌, arith, ne_eqb, nat_tests}
+use Rattle.profiles.specs.Prelude.{Act, action_duration, AreLeaves, At, Clash, duration_of, end_of, Instance, is_raised, Keep, Killed as ToKilled, Kind, kind_duration, kind_of, leave_of, Leaves, machine_kind, max_action, Migrate, node_count, NodeId, Offline as ToOffline, Online as ToOnline, Ready as ToReady, Running as ToRunning, Sleeping as ToSleeping, State, state_of, To, vm, wanted_state, Wish}
 use Rattle.cluster.specs.declared.states.State.TheVariants.{Running}
-use Rattle.catalogue.specs.declared.targets.Target.TheVariants.{Online as ToOnline, Offline as ToOffline, Running as ToRunning, Sleeping as ToSleeping, Ready as ToReady, Killed as ToKilled}
-use Rattle.catalogue.specs.declared.targets.Wish.{Wish}
-use Rattle.catalogue.specs.declared.targets.Wish.TheVariants.{Keep, To, Clash}
-use Rattle.catalogue.specs.Instance.{Instance}
-use Rattle.slices.specs.Actions.{action_duration, duration_of, end_of, is_raised, kind_duration, kind_of, machine_kind, wanted_state}
-use Rattle.slices.specs.Elements.{node_count, state_of, vm}
-use Rattle.slices.specs.Limits.{max_action}
-use Rattle.profiles.specs.Standing.Standings.{leave_of}
-use Rattle.profiles.specs.declared.standing.leaves.Leaves.{Leaves}
-use Rattle.profiles.specs.Standing.Leaves.{AreLeaves}
 
 -- ---- the kind of the action to another node
 

@@ -1,11 +1,7 @@
 -- The least over a list of what is had until an instant, which each item has for itself, and from when all items have come.
-use Rattle.std.proofs.Common.{◌≡◌, ◌≢◌, ◌⊎◌, inl, inr, ℕ, suc, ◌+◌, ◌≤◌, Bool, true, false, ◌&&◌, nat_lt, min, cond, List, [], ◌∷◌, refl, sym, ap, ◌∙◌, arith}
-use Rattle.std.specs.List.{Contains}
-use Rattle.std.proofs.lemmas.Bool.{false≢true, cases_lt, lt-ltb, ltb-true}
-use Rattle.std.proofs.lemmas.Bool.Decides.{nat_tests}
-use Rattle.base.specs.Least.{least, lowest}
-use Rattle.cluster.specs.declared.choices.Choice.{Choice}
-use Rattle.domains.specs.Sets.{surely}
+use Rattle.std.proofs.Common.{min}
+use Rattle.base.proofs.Public.{◌≡◌, ◌≢◌, ◌⊎◌, inl, inr, ℕ, suc, ◌+◌, ◌≤◌, Bool, true, false, ◌&&◌, nat_lt, cond, List, [], ◌∷◌, refl, sym, ap, ◌∙◌, arith, Contains, false≢true, cases_lt, lt-ltb, ltb-true, nat_tests}
+use Rattle.profiles.specs.Prelude.{Choice, least, lowest, surely}
 use Rattle.domains.proofs.Public.{contains_here, least_of_each, surely_each}
 
 later : (x : Choice) (xs : List Choice) (c : Choice) → Contains xs c → Contains (x ∷ xs) c

@@ -1,7 +1,6 @@
 -- When two pairs of numbers are the same.
 use Rattle.std.proofs.Common.{◌≡◌, Option, Some, None, sym, ◌∙◌}
-use Rattle.profiles.specs.declared.standing.numbers.Arrival.{Arrival}
-use Rattle.profiles.specs.declared.standing.numbers.Standing.{Standing}
+use Rattle.profiles.specs.Prelude.{Arrival, Standing}
 
 both : (a b : Standing) → a.leave ≡ b.leave → a.come ≡ b.come → a ≡ b
 both a b e f = λ i. record { leave = e i; come = f i }

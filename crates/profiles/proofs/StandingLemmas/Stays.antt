@@ -1,18 +1,7 @@
 -- How long a machine that may stay is on its host.
-use Rattle.std.proofs.Common.{◌≡◌, ℕ, ◌+◌, ◌<◌, Bool, true, false, ◌&&◌, ◌==◌, nat_lt, cond, None, [], refl, sym, ◌∙◌}
-use Rattle.std.proofs.lemmas.Bool.Decides.{Decides-eqb}
-use Rattle.base.specs.Least.{least}
-use Rattle.cluster.specs.declared.ids.NodeId.{NodeId}
+use Rattle.base.proofs.Public.{◌≡◌, ℕ, ◌+◌, ◌<◌, Bool, true, false, ◌&&◌, ◌==◌, nat_lt, cond, None, [], refl, sym, ◌∙◌, Decides-eqb}
+use Rattle.profiles.specs.Prelude.{choices, DomainView, Instance, IsStanding, kept_use, least, leave_of, never, NodeId, one, Presence, Sets, Standing, state_of, sure, vm}
 use Rattle.cluster.specs.declared.states.State.TheVariants.{Running}
-use Rattle.catalogue.specs.Instance.{Instance}
-use Rattle.slices.specs.declared.slice.Weight.TheVariants.{Presence}
-use Rattle.slices.specs.Elements.{state_of, vm}
-use Rattle.slices.specs.Stages.{one}
-use Rattle.domains.specs.Choices.{DomainView, choices}
-use Rattle.domains.specs.Sets.{Sets}
-use Rattle.reasons.specs.Sure.{sure}
-use Rattle.profiles.specs.declared.standing.numbers.Standing.{Standing}
-use Rattle.profiles.specs.Standing.Standings.{IsStanding, kept_use, leave_of, never}
 use Rattle.profiles.proofs.StandingLemmas.Laws.{present_law}
 
 -- one that may stay has not come elsewhere

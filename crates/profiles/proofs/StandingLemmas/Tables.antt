@@ -1,17 +1,7 @@
 -- The numbers of all machines after a change of one.
-use Rattle.std.proofs.Common.{◌≡◌, inl, inr, ℕ, zero, suc, ◌+◌, ◌<◌, ◌==◌, false, List, [], ◌∷◌, ◌++◌, length, get_or, refl, sym, ap, subst, ◌∙◌, arith}
-use Rattle.std.specs.Prelude.{slice_set, slice_index_or}
-use Rattle.std.proofs.Math.Seq.{get_or-append_seam}
-use Rattle.std.proofs.lemmas.List.{get_or_append_left, length-append, length-set, get_or-set_same, get_or-set_other}
-use Rattle.std.proofs.lemmas.Bool.{cases_eq, ne_eqb}
-use Rattle.cluster.specs.declared.choices.Choice.{Choice}
-use Rattle.catalogue.specs.Instance.{Instance}
-use Rattle.slices.specs.Elements.{machine_count, vm}
-use Rattle.domains.specs.Sets.{Sets}
-use Rattle.profiles.specs.declared.standing.numbers.Standing.{Standing}
-use Rattle.profiles.specs.Standing.Standings.{IsStanding}
+use Rattle.base.proofs.Public.{◌≡◌, inl, inr, ℕ, zero, suc, ◌+◌, ◌<◌, ◌==◌, false, List, [], ◌∷◌, ◌++◌, length, get_or, refl, sym, ap, subst, ◌∙◌, arith, slice_set, slice_index_or, get_or-append_seam, get_or_append_left, length-append, length-set, get_or-set_same, get_or-set_other, cases_eq, ne_eqb}
+use Rattle.profiles.specs.Prelude.{AreStanding, AreStandingUpTo, Choice, Instance, IsStanding, machine_count, no_standing, Sets, Standing, vm}
 use Rattle.domains.specs.SetsBefore.{putting}
-use Rattle.profiles.specs.Standing.Tables.{AreStanding, AreStandingUpTo, no_standing}
 
 -- what is there already changes nothing
 pub set_same : (top : List Standing) (v : ℕ) (k d : Standing) → k ≡ slice_index_or top v d → slice_set top v k ≡ top

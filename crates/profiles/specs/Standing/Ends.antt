@@ -1,14 +1,11 @@
 -- Helping only: of the choices at one place, one that starts later keeps the host no shorter.
 use Rattle.std.specs.Prelude.{ℕ, ◌≤◌, Option, Some, None}
 use Rattle.std.proofs.Common.{arith}
+use Rattle.relax.specs.Prelude.{end_of, Instance, IsLeastAtEnds, kind_of, vm}
 use Rattle.cluster.specs.declared.kinds.Kind.{Kind}
 use Rattle.cluster.specs.declared.kinds.Kind.TheVariants.{Forge, Boot, Shutdown, Suspend, Resume, Migrate, Allocate, Kill, NodeBoot, NodeShutdown}
 use Rattle.cluster.specs.declared.choices.Choice.TheVariants.{Act}
 use Rattle.cluster.specs.declared.choices.Place.{Place}
-use Rattle.catalogue.specs.Instance.{Instance}
-use Rattle.slices.specs.Actions.{end_of, kind_of}
-use Rattle.slices.specs.Elements.{vm}
-use Rattle.slices.specs.Ends.{IsLeastAtEnds}
 use Rattle.slices.proofs.Public.{ends_by_duration}
 use Rattle.profiles.specs.Standing.Standings.{kept_until, leave_of}
 

@@ -1,24 +1,14 @@
 -- The laws of the two numbers: what a machine surely has on one node at each instant is a function of them.
 use Rattle.std.specs.Prelude.{◌≡◌, ◌≢◌, ℕ, ◌<◌, ◌≤◌, Bool, List, [], nat_lt, slice_index_or, IsTrue}
+use Rattle.relax.specs.Prelude.{AreFewer, choices, domain_at, domain_before, DomainView, held_at, Instance, keeping, least, load, machine_count, one, presences, present_at, RegionView, Sets, sets, sum_to, sure, surely}
 use Rattle.cluster.specs.declared.choices.Choice.{Choice}
 use Rattle.cluster.specs.declared.ids.Element.{Element}
-use Rattle.catalogue.specs.Instance.{Instance}
-use Rattle.base.specs.Least.{least}
-use Rattle.base.specs.Sums.{sum_to}
 use Rattle.slices.specs.declared.slice.Weight.{Weight}
 use Rattle.slices.specs.declared.slice.Weight.TheVariants.{Amount, Presence}
-use Rattle.slices.specs.Elements.{machine_count}
-use Rattle.slices.specs.Snapshots.{held_at, load, present_at, presences}
-use Rattle.slices.specs.Stages.{one}
 use Rattle.domains.specs.declared.undo.Before.{Before}
-use Rattle.domains.specs.Choices.{DomainView, choices}
-use Rattle.domains.specs.Laws.{AreFewer}
-use Rattle.domains.specs.Sets.{RegionView, Sets, domain_at, keeping, sets, surely}
-use Rattle.domains.specs.Undo.{domain_before}
-use Rattle.reasons.specs.Sure.{sure}
+use Rattle.domains.specs.SetsBefore.{sets_before}
 use Rattle.profiles.specs.declared.standing.numbers.Standing.{Standing}
 use Rattle.profiles.specs.Standing.Standings.{IsStanding, comes_by, kept_use, never}
-use Rattle.domains.specs.SetsBefore.{sets_before}
 use Rattle.profiles.specs.Standing.Tables.{AreStanding, no_standing}
 
 -- the least that is held over the choices: amounts, presences and images, whatever the machine's state

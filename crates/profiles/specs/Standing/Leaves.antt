@@ -1,11 +1,9 @@
 -- Helping only: how a machine leaves its host that runs, by the one kind of action by which it goes to another node.
 use Rattle.std.specs.Prelude.{◌≡◌, ◌≢◌, ℕ, ◌+◌, ◌<◌, ◌≤◌}
+use Rattle.relax.specs.Prelude.{Instance, max_action, node_count}
 use Rattle.cluster.specs.declared.choices.Choice.TheVariants.{Act}
 use Rattle.cluster.specs.declared.choices.Place.TheVariants.{At}
 use Rattle.cluster.specs.declared.ids.NodeId.{NodeId}
-use Rattle.catalogue.specs.Instance.{Instance}
-use Rattle.slices.specs.Elements.{node_count}
-use Rattle.slices.specs.Limits.{max_action}
 use Rattle.profiles.specs.Standing.Standings.{leave_of}
 use Rattle.profiles.specs.declared.standing.leaves.Leaves.{Leaves}
 

@@ -1,5 +1,6 @@
 -- Where a machine surely stands on one node, by two numbers of its set of choices.
 use Rattle.std.specs.Prelude.{◌≡◌, ℕ, ◌+◌, Bool, false, ◌&&◌, nat_le, nat_lt, List, [], ◌∷◌, Option, Some, None, if◌then◌else◌}
+use Rattle.relax.specs.Prelude.{end_of, hosted_in, Instance, kind_of, least, one, state_of, surely, vm, weight_of}
 use Rattle.cluster.specs.declared.choices.Choice.{Choice}
 use Rattle.cluster.specs.declared.choices.Choice.TheVariants.{Idle, Act}
 use Rattle.cluster.specs.declared.choices.Place.TheVariants.{Nowhere, At}
@@ -7,16 +8,9 @@ use Rattle.cluster.specs.declared.kinds.Kind.{Kind}
 use Rattle.cluster.specs.declared.kinds.Kind.TheVariants.{Forge, Boot, Shutdown, Suspend, Resume, Migrate, Allocate, Kill, NodeBoot, NodeShutdown}
 use Rattle.cluster.specs.declared.states.State.{State}
 use Rattle.cluster.specs.declared.states.State.TheVariants.{Init, Ready, Running, Sleeping, Gone}
-use Rattle.catalogue.specs.Instance.{Instance}
-use Rattle.base.specs.Least.{least}
 use Rattle.slices.specs.declared.slice.Weight.{Weight}
 use Rattle.slices.specs.declared.slice.What.{What}
 use Rattle.slices.specs.declared.slice.What.TheVariants.{Use, Demand, Raise, Image}
-use Rattle.slices.specs.Actions.{end_of, kind_of}
-use Rattle.slices.specs.Elements.{state_of, vm}
-use Rattle.slices.specs.Stages.{one, weight_of}
-use Rattle.domains.specs.Sets.{surely}
-use Rattle.relax.specs.Areas.{hosted_in}
 use Rattle.profiles.specs.declared.standing.numbers.Arrival.{Arrival}
 use Rattle.profiles.specs.declared.standing.numbers.Standing.{Standing}
 

@@ -1,8 +1,6 @@
 -- The numbers of all machines, at the top and at each mark.
 use Rattle.std.specs.Prelude.{◌≡◌, ℕ, ◌<◌, List, length, None, slice_index_or}
-use Rattle.catalogue.specs.Instance.{Instance}
-use Rattle.slices.specs.Elements.{machine_count, vm}
-use Rattle.domains.specs.Sets.{Sets}
+use Rattle.relax.specs.Prelude.{Instance, machine_count, Sets, vm}
 use Rattle.profiles.specs.Levels.{Levels}
 use Rattle.profiles.specs.declared.standing.numbers.Standing.{Standing}
 use Rattle.profiles.specs.Standing.Standings.{IsStanding}

@@ -1,14 +1,6 @@
 //! The profile of one node and resource.
 ghost use Rattle.std.specs.Prelude.{◌≡◌, ◌<◌, [], length, OnOk, OnErr, IfOk};
-ghost use Rattle.catalogue.specs.Instance.{Instance, IsElement};
-ghost use Rattle.slices.specs.Snapshots.{load};
-ghost use Rattle.slices.specs.Stages.{one};
-ghost use Rattle.domains.specs.Choices.{choices};
-ghost use Rattle.domains.specs.Laws.{AreFewer};
-ghost use Rattle.domains.specs.Sets.{Sets, domain_at, sets};
-ghost use Rattle.domains.specs.Undo.{domain_before};
-ghost use Rattle.reasons.specs.Sure.{sure};
-ghost use Rattle.relax.specs.Areas.{IsSized};
+ghost use Rattle.relax.specs.Prelude.{AreFewer, choices, domain_at, domain_before, Instance, IsElement, IsSized, load, one, Sets, sets, sure};
 ghost use Rattle.profiles.specs.Levels.{IsBack, marked};
 ghost use Rattle.domains.specs.SetsBefore.{sets_before};
 ghost use Rattle.profiles.specs.NodeLoad.{IsProfile};

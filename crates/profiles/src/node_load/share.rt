@@ -1,9 +1,6 @@
 //! What one machine adds to the profile of a node.
 ghost use Rattle.std.specs.Prelude.{◌≡◌, ◌≤◌, ◌<◌, length, IfOk, slice_index_or};
-ghost use Rattle.catalogue.specs.Instance.{IsElement};
-ghost use Rattle.slices.specs.Elements.{machine_count};
-ghost use Rattle.profiles.specs.Standing.Tables.{no_standing};
-ghost use Rattle.profiles.specs.NodeLoad.{AreShares, AreSmall, IsShare, IsSmall, share_use as the_share_use, total_use as the_total_use};
+ghost use Rattle.profiles.specs.Prelude.{AreShares, AreSmall, IsElement, IsShare, IsSmall, machine_count, no_standing, share_use as the_share_use, total_use as the_total_use};
 
 use crate::host::is_host;
 use crate::standing::numbers::Standing;

@@ -1,10 +1,6 @@
 //! How a running machine leaves its host, told once and not for each place.
 ghost use Rattle.std.specs.Prelude.{◌≡◌, ◌≢◌, ℕ, ◌<◌, IfNone, IfSome, false};
-ghost use Rattle.catalogue.specs.Instance.{IsElement};
-ghost use Rattle.slices.specs.Elements.{state_of};
-ghost use Rattle.slices.specs.Holds.{runs_elsewhere};
-ghost use Rattle.profiles.specs.Standing.Leaves.{AreLeaves};
-ghost use Rattle.profiles.specs.Standing.Standings.{leave_of};
+ghost use Rattle.profiles.specs.Prelude.{AreLeaves, IsElement, leave_of, runs_elsewhere, state_of};
 
 use catalogue::Problem;
 use cluster::{Choice, Element, Kind, NodeId, Place, State, VmId};

@@ -1,13 +1,8 @@
 //! The two numbers of a machine.
 ghost use Rattle.std.specs.Prelude.{◌≡◌, ◌≤◌, ℕ, IfSome, IsTrue, max};
 ghost use Rattle.std.specs.List.{Contains};
+ghost use Rattle.relax.specs.Prelude.{AreFewer, choices, domain_before, IsElement, least, restored, vm};
 ghost use Rattle.cluster.specs.declared.choices.Choice.{Choice as AnyChoice};
-ghost use Rattle.base.specs.Least.{least};
-ghost use Rattle.catalogue.specs.Instance.{IsElement};
-ghost use Rattle.slices.specs.Elements.{vm};
-ghost use Rattle.domains.specs.Choices.{choices};
-ghost use Rattle.domains.specs.Laws.{AreFewer};
-ghost use Rattle.domains.specs.Undo.{domain_before, restored};
 ghost use Rattle.profiles.specs.Standing.Leaves.{AreLeaves};
 ghost use Rattle.profiles.specs.Standing.Standings.{IsStanding, comes_by, have_come, kept_until as the_kept_until, leave_of};
 

@@ -1,11 +1,6 @@
 //! Whether two machines that are to be kept apart surely are on a node.
 ghost use Rattle.std.specs.Prelude.{◌≡◌, ◌<◌, ◌≤◌, ◌↔◌, ℕ, IsTrue, Option as AnyOption, false, length};
-ghost use Rattle.catalogue.specs.Instance.{IsElement};
-ghost use Rattle.slices.specs.Elements.{machine_count, node_count};
-ghost use Rattle.domains.specs.Views.{seen};
-ghost use Rattle.reasons.specs.Reasons.{IsPair, Refutes};
-ghost use Rattle.reasons.specs.Sure.{sure};
-ghost use Rattle.relax.specs.Areas.{IsSized};
+ghost use Rattle.profiles.specs.Prelude.{IsElement, IsPair, IsSized, machine_count, node_count, Refutes, seen, sure};
 
 use crate::standing::stays::surely_at;
 use catalogue::{Constraint, Problem};

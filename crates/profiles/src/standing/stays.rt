@@ -1,12 +1,7 @@
 //! Whether a machine is on a node, by how long it stays on its host.
 ghost use Rattle.std.specs.Prelude.{◌≡◌, IsTrue, false, true};
+ghost use Rattle.profiles.specs.Prelude.{IsElement, IsSized, one, seen, state_of, sure};
 ghost use Rattle.cluster.specs.declared.states.State.TheVariants.{Running};
-ghost use Rattle.catalogue.specs.Instance.{IsElement};
-ghost use Rattle.slices.specs.Elements.{state_of};
-ghost use Rattle.slices.specs.Stages.{one};
-ghost use Rattle.domains.specs.Views.{seen};
-ghost use Rattle.reasons.specs.Sure.{sure};
-ghost use Rattle.relax.specs.Areas.{IsSized};
 
 use crate::seen::is_narrowed;
 use crate::standing::leaves::runs_on;

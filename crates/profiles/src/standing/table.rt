@@ -1,11 +1,6 @@
 //! The numbers of all machines, with levels.
 ghost use Rattle.std.specs.Prelude.{◌≡◌, ◌<◌, [], length, OnOk, OnErr, IfOk, slice_index_or, slice_set};
-ghost use Rattle.catalogue.specs.Instance.{IsElement};
-ghost use Rattle.domains.specs.Choices.{choices};
-ghost use Rattle.domains.specs.Laws.{AreFewer};
-ghost use Rattle.domains.specs.Sets.{domain_at, sets};
-ghost use Rattle.domains.specs.Undo.{domain_before};
-ghost use Rattle.relax.specs.Areas.{IsSized};
+ghost use Rattle.relax.specs.Prelude.{AreFewer, choices, domain_at, domain_before, IsElement, IsSized, sets};
 ghost use Rattle.profiles.specs.Levels.{IsBack, marked};
 ghost use Rattle.domains.specs.SetsBefore.{sets_before};
 ghost use Rattle.profiles.specs.Standing.Tables.{AreStanding, no_standing};

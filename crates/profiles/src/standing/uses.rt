@@ -1,9 +1,6 @@
 //! What a machine has on its host at present, what it brings to a node, and what its numbers say of both.
 ghost use Rattle.std.specs.Prelude.{◌≡◌, ◌≤◌};
-ghost use Rattle.catalogue.specs.Instance.{IsElement};
-ghost use Rattle.slices.specs.Elements.{state_of};
-ghost use Rattle.relax.specs.Areas.{IsWeight};
-ghost use Rattle.profiles.specs.Standing.Standings.{base as the_base, brought as the_brought, comes_by as the_comes_by, gain as the_gain, had_there as the_had_there, kept_use as the_kept_use, weight_if};
+ghost use Rattle.profiles.specs.Prelude.{base as the_base, brought as the_brought, comes_by as the_comes_by, gain as the_gain, had_there as the_had_there, IsElement, IsWeight, kept_use as the_kept_use, state_of, weight_if};
 
 use crate::host::is_host;
 use crate::standing::numbers::{Arrival, Standing};

@@ -1,8 +1,6 @@
 use Rattle.std.proofs.Common.{ap, arith, length}
+use Rattle.closing.specs.Prelude.{constraint_watch, IsClean, sets}
 use borrow.Author.Count.{below_more}
-use Rattle.domains.specs.Sets.{sets}
-use Rattle.closing.specs.Kinds.{constraint_watch}
-use Rattle.closing.specs.Looks.{IsClean}
 use Rattle.closing.proofs.ClosedLemmas.{clean_constraint, clean_by, found}
 use Rattle.closing.proofs.closed.are_constraints_clean.Goals as goal
 

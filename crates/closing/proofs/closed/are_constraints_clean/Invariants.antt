@@ -1,7 +1,5 @@
 use Rattle.std.proofs.Common.{ℕ, ◌<◌}
-use Rattle.domains.specs.Sets.{sets}
-use Rattle.closing.specs.Kinds.{constraint_watch}
-use Rattle.closing.specs.Looks.{IsClean}
+use Rattle.closing.specs.Prelude.{constraint_watch, IsClean, sets}
 use Rattle.closing.proofs.closed.are_constraints_clean.Given as goal
 
 abbrev pub invariant-loop-c : goal.invariant-loop-c

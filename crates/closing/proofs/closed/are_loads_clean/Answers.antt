@@ -1,8 +1,6 @@
 use Rattle.std.proofs.Common.{arith}
+use Rattle.closing.specs.Prelude.{IsClean, load_watch, sets}
 use borrow.Author.Count.{below_more}
-use Rattle.domains.specs.Sets.{sets}
-use Rattle.closing.specs.Kinds.{load_watch}
-use Rattle.closing.specs.Looks.{IsClean}
 use Rattle.closing.proofs.ClosedLemmas.{clean_load, clean_by, found}
 use Rattle.closing.proofs.closed.are_loads_clean.Goals as goal
 

@@ -1,7 +1,5 @@
 use Rattle.std.proofs.Common.{ℕ, ◌<◌}
-use Rattle.domains.specs.Sets.{sets}
-use Rattle.closing.specs.Kinds.{load_watch}
-use Rattle.closing.specs.Looks.{IsClean}
+use Rattle.closing.specs.Prelude.{IsClean, load_watch, sets}
 use Rattle.closing.proofs.closed.are_loads_clean.Given as goal
 
 abbrev pub invariant-loop-i : goal.invariant-loop-i

@@ -1,8 +1,6 @@
 use Rattle.std.proofs.Common.{arith}
+use Rattle.closing.specs.Prelude.{IsClean, sets, usable_watch}
 use borrow.Author.Count.{below_more}
-use Rattle.domains.specs.Sets.{sets}
-use Rattle.closing.specs.Kinds.{usable_watch}
-use Rattle.closing.specs.Looks.{IsClean}
 use Rattle.closing.proofs.ClosedLemmas.{clean_usable, clean_by, found}
 use Rattle.closing.proofs.closed.are_usable_clean.Goals as goal
 

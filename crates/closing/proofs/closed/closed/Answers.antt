@@ -1,5 +1,4 @@
-use Rattle.std.proofs.Common.{arith}
-use Rattle.std.proofs.lemmas.Bool.{true_from_ne_false}
+use Rattle.base.proofs.Public.{arith, true_from_ne_false}
 use Rattle.domains.specs.Sets.{sets}
 use Rattle.closing.proofs.ClosedLemmas.{closed_by_watches, some_element}
 use Rattle.closing.proofs.closed.closed.Goals as goal

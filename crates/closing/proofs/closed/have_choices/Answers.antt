@@ -1,6 +1,5 @@
 use Rattle.std.proofs.Common.{ap, arith, sym, ◌∙◌}
-use Rattle.domains.specs.Choices.{choices}
-use Rattle.slices.specs.Elements.{node, vm}
+use Rattle.closing.specs.Prelude.{choices, node, vm}
 use Rattle.closing.proofs.closed.have_choices.Goals as goal
 
 pub returns-then-is_empty-clause-no : goal.returns-then-is_empty-clause-no

@@ -1,6 +1,5 @@
 use Rattle.std.proofs.Common.{◌≢◌, ℕ, ◌<◌, []}
-use Rattle.slices.specs.Elements.{machine_count, node, vm}
-use Rattle.domains.specs.Sets.{sets}
+use Rattle.closing.specs.Prelude.{machine_count, node, sets, vm}
 use Rattle.closing.proofs.closed.have_choices.Given as goal
 
 abbrev pub invariant-loop-v : goal.invariant-loop-v

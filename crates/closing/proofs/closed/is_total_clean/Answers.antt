@@ -1,5 +1,4 @@
-use Rattle.domains.specs.Sets.{sets}
-use Rattle.closing.specs.Kinds.{total_load_watch}
+use Rattle.closing.specs.Prelude.{sets, total_load_watch}
 use Rattle.closing.proofs.ClosedLemmas.{clean_by, clean_total, found}
 use Rattle.closing.proofs.closed.is_total_clean.Goals as goal
 

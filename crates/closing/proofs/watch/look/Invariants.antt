@@ -1,8 +1,5 @@
 use Rattle.std.proofs.Common.{ℕ, ◌<◌, ◌≤◌, ◌+◌, ◌-◌}
-use Rattle.domains.specs.Sets.{sets}
-use Rattle.reasons.specs.Quiet.{IsTurn}
-use Rattle.closing.specs.Looks.{IsFreeOf, broken_at}
-use Rattle.closing.specs.Turns.{turning}
+use Rattle.closing.specs.Prelude.{broken_at, IsFreeOf, IsTurn, sets, turning}
 use Rattle.closing.proofs.watch.look.Given as goal
 
 abbrev pub invariant-instants : goal.invariant-instants

@@ -1,6 +1,4 @@
-use Rattle.std.proofs.Common.{◌≡◌, length, refl, Some}
-use Rattle.std.specs.Prelude.{slice_get}
-use Rattle.std.proofs.lemmas.Option.{slice_get_read}
+use Rattle.base.proofs.Public.{◌≡◌, length, refl, Some, slice_get, slice_get_read}
 use Rattle.domains.specs.Sets.{sets}
 use Rattle.closing.proofs.EverLemmas.{never_broken}
 use Rattle.closing.proofs.LocalLemmas.{constraint_is_local}

@@ -1,6 +1,4 @@
-use Rattle.std.proofs.Common.{◌≡◌, length, refl, Some, sym, ◌∙◌}
-use Rattle.std.specs.Prelude.{slice_get}
-use Rattle.std.proofs.lemmas.Option.{slice_get_read}
+use Rattle.base.proofs.Public.{◌≡◌, length, refl, Some, sym, ◌∙◌, slice_get, slice_get_read}
 use Rattle.domains.specs.Sets.{sets}
 use Rattle.closing.proofs.LocalLemmas.{last_look}
 use Rattle.closing.proofs.watch.look_at_constraint.Goals as goal

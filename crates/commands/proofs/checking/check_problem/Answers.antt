@@ -1,6 +1,5 @@
 use Rattle.std.proofs.Common.{◌≡◌, Ok}
-use Rattle.cert_model.specs.Walks.{choices_handed}
-use Rattle.commands.specs.Inputs.Plan.{any_plan_in}
+use Rattle.commands.specs.Prelude.{any_plan_in, choices_handed}
 use Rattle.commands.proofs.CheckAnswers.{checked}
 use Rattle.commands.proofs.ReplayAnswers.{value_is_no_fault}
 use Rattle.commands.proofs.checking.check_problem.Goals as goal

@@ -1,6 +1,5 @@
 use Rattle.std.proofs.Common.{◌≡◌, Ok}
-use Rattle.commands.specs.Demonstrating.{demo_instance}
-use Rattle.commands.specs.Inputs.Instance.{instance_in}
+use Rattle.commands.specs.Prelude.{demo_instance, instance_in}
 use Rattle.commands.proofs.DemoAnswers.{answered}
 use Rattle.commands.proofs.ReplayAnswers.{value_is_no_fault}
 use Rattle.commands.proofs.demonstrating.demo.Goals as goal

@@ -1,10 +1,6 @@
 use Rattle.std.proofs.Common.{◌≡◌, ℕ, List, ◌++◌, sym, ap, subst}
-use Rattle.slices.specs.Plans.{choices_of}
-use Rattle.slices.specs.Rules.{IsFirstBroken, IsValid}
-use Rattle.transcript.specs.declared.conclusion.ExecuteFault.TheVariants.{ReadFault, WriteFault, Memory}
-use Rattle.replay.specs.Lines.{broken_line}
-use Rattle.commands.specs.Answer.{outside, told}
-use Rattle.commands.specs.Executing.{Executes, TookBy, conclusion_line, conclusion_status, taking}
+use Rattle.commands.specs.Prelude.{broken_line, choices_of, conclusion_line, conclusion_status, Executes, IsFirstBroken, IsValid, outside, taking, told, TookBy, WriteFault}
+use Rattle.transcript.specs.declared.conclusion.ExecuteFault.TheVariants.{ReadFault, Memory}
 use Rattle.commands.specs.declared.status.Status.TheVariants as status
 use Rattle.commands.proofs.ExecuteAnswers.{executes_broken, executes_conclusion, part_of_broken, part_of_conclusion, part_of_fault, took_broken, took_conclusion, took_memory, took_read, took_write}
 use Rattle.commands.proofs.LastLines.{anyhow_with_line, ends_with_line}

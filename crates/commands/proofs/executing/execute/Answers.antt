@@ -1,9 +1,5 @@
 use Rattle.std.proofs.Common.{◌≡◌, Ok, Err, inl, inr, refl, ◌∙◌, subst, rules}
-use Rattle.plan_io.specs.Files.{Files}
-use Rattle.slices.specs.Plans.{choices_of}
-use Rattle.commands.specs.Answer.{outside}
-use Rattle.commands.specs.Inputs.Instance.{instance_in}
-use Rattle.commands.specs.Inputs.Plan.{plan_in}
+use Rattle.commands.specs.Prelude.{choices_of, Files, instance_in, outside, plan_in}
 use Rattle.commands.proofs.ExecuteAnswers.{concluded, part_printed, starts, takes_executed, takes_no_plan}
 use Rattle.commands.proofs.Causing.{causes_of_rest}
 use Rattle.commands.proofs.ReplayAnswers.{value_is_no_fault}

@@ -1,7 +1,5 @@
 use Rattle.std.proofs.Common.{◌≡◌, Ok}
-use Rattle.slices.specs.Plans.{choices_of}
-use Rattle.commands.specs.Inputs.Instance.{instance_in}
-use Rattle.commands.specs.Inputs.Plan.{plan_in}
+use Rattle.commands.specs.Prelude.{choices_of, instance_in, plan_in}
 use Rattle.commands.proofs.ReplayAnswers.{reported, value_is_no_fault}
 use Rattle.commands.proofs.replaying.replay.Goals as goal
 

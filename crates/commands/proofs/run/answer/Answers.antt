@@ -1,6 +1,5 @@
 use Rattle.std.proofs.Common.{◌≡◌, Option, Some, sym, subst, rules}
-use Rattle.commands.specs.Words.{Command, asked, check, execute, plan}
-use Rattle.commands.specs.Commands.{KeepsSource}
+use Rattle.commands.specs.Prelude.{asked, check, Command, execute, KeepsSource, plan}
 use Rattle.commands.proofs.LastLines.{check_takes, plan_takes}
 use Rattle.commands.proofs.run.answer.Goals as goal
 

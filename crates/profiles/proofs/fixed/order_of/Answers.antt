@@ -1,5 +1,4 @@
-use Rattle.std.proofs.Common.{rules}
-use Rattle.std.proofs.lemmas.List.Sorted.{IsNonDecreasingBy-from_sort_by_key}
+use Rattle.base.proofs.Public.{rules, IsNonDecreasingBy-from_sort_by_key}
 use Rattle.profiles.specs.declared.fixed.MostUse.{MostUse}
 use Rattle.profiles.proofs.FixedLemmas.{uses_ordered}
 use Rattle.profiles.proofs.fixed.order_of.Goals as goal

@@ -1,8 +1,5 @@
 use Rattle.std.proofs.Common.{◌≡◌, ◌*◌, ◌≤◌}
-use Rattle.cluster.specs.Limits.{max_amount}
-use Rattle.base.specs.Sums.{sum_to}
-use Rattle.slices.specs.declared.slice.Weight.TheVariants.{Amount}
-use Rattle.profiles.specs.Standing.Standings.{base}
+use Rattle.profiles.specs.Prelude.{Amount, base, max_amount, sum_to}
 use Rattle.profiles.proofs.fixed.total_base.Given as goal
 
 abbrev pub invariant-loop-i : goal.invariant-loop-i

@@ -1,5 +1,4 @@
-use Rattle.std.proofs.Common.{◌≡◌, ◌<◌, length, get_or, refl, subst}
-use Rattle.std.proofs.lemmas.Option.{slice_get_read}
+use Rattle.base.proofs.Public.{◌≡◌, ◌<◌, length, get_or, refl, subst, slice_get_read}
 use Rattle.rule_constraint.proofs.AddLemmas.{index_more}
 use Rattle.rule_constraint.proofs.index.lists_of.Goals as goal
 

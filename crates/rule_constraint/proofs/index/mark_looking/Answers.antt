@@ -1,7 +1,5 @@
-use Rattle.std.proofs.Common.{inl, inr, subst, arith}
-use Rattle.std.specs.List.{Contains}
-use Rattle.cluster.specs.declared.ids.Element.TheVariants.{Vm, Node as TheNode}
-use Rattle.closing.specs.Kinds.{constraint_watch}
+use Rattle.base.proofs.Public.{inl, inr, subst, arith, Contains}
+use Rattle.rule_constraint.specs.Prelude.{constraint_watch, Node as TheNode, Vm}
 use Rattle.rule_constraint.proofs.AddLemmas.{looking_machine, looking_node}
 use Rattle.rule_constraint.proofs.MarkLemmas.{looking_disturbs}
 use Rattle.rule_constraint.proofs.index.mark_looking.Goals as goal

@@ -1,6 +1,5 @@
 use Rattle.std.proofs.Common.{◌≡◌, ℕ, ◌<◌, slice_index_or}
-use Rattle.cluster.specs.declared.ids.VmId.{VmId}
-use Rattle.rule_constraint.specs.Indexes.{IsPut}
+use Rattle.rule_constraint.specs.Prelude.{IsPut, VmId}
 use Rattle.rule_constraint.proofs.index.put_machines.Given as goal
 
 abbrev pub invariant-loop-v : goal.invariant-loop-v

@@ -1,6 +1,5 @@
 use Rattle.std.proofs.Common.{◌<◌, IsTrue}
-use Rattle.cluster.specs.Sets.{has_node}
-use Rattle.rule_constraint.specs.Indexes.{IsPut}
+use Rattle.rule_constraint.specs.Prelude.{has_node, IsPut}
 use Rattle.rule_constraint.proofs.index.put_nodes.Given as goal
 
 abbrev pub invariant-loop-n : goal.invariant-loop-n

@@ -1,6 +1,5 @@
 use Rattle.std.proofs.Common.{ℕ, ◌<◌}
-use Rattle.slices.specs.Holds.{IsInPart}
-use Rattle.rule_constraint.specs.Indexes.{IsPut}
+use Rattle.rule_constraint.specs.Prelude.{IsInPart, IsPut}
 use Rattle.rule_constraint.proofs.index.put_parts.Given as goal
 
 abbrev pub invariant-loop-i : goal.invariant-loop-i

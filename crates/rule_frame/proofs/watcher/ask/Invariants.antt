@@ -1,5 +1,4 @@
-use Rattle.domains.specs.Sets.{sets}
-use Rattle.rule_frame.specs.Changes.{IsSettling}
+use Rattle.rule_frame.specs.Prelude.{IsSettling, sets}
 use Rattle.rule_frame.proofs.watcher.ask.Given as goal
 
 abbrev pub invariant-loop-i : goal.invariant-loop-i

@@ -1,7 +1,5 @@
 use Rattle.std.proofs.Common.{◌-◌}
-use Rattle.domains.specs.declared.parts.Part.TheVariants.{Upto}
-use Rattle.domains.specs.Sets.{sets}
-use Rattle.prop_core.specs.Propagators.{CutHolds}
+use Rattle.rule_frame.specs.Prelude.{CutHolds, sets, Upto}
 use Rattle.rule_frame.proofs.widen.from_the_first.Given as goal
 
 abbrev pub invariant-steps : goal.invariant-steps

@@ -1,7 +1,5 @@
 use Rattle.std.proofs.Common.{◌-◌}
-use Rattle.domains.specs.declared.parts.Part.TheVariants.{From}
-use Rattle.domains.specs.Sets.{sets}
-use Rattle.prop_core.specs.Propagators.{CutHolds}
+use Rattle.rule_frame.specs.Prelude.{CutHolds, From, sets}
 use Rattle.rule_frame.proofs.widen.up_to_the_last.Given as goal
 
 abbrev pub invariant-steps : goal.invariant-steps

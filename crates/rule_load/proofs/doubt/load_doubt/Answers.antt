@@ -1,6 +1,5 @@
 use Rattle.std.proofs.Common.{arith}
-use Rattle.slices.specs.Stages.{one}
-use Rattle.domains.specs.Sets.{sets}
+use Rattle.rule_load.specs.Prelude.{one, sets}
 use Rattle.rule_load.proofs.FreeLemmas.{all_free, free_more}
 use Rattle.rule_load.proofs.doubt.load_doubt.Goals as goal
 

@@ -1,8 +1,5 @@
 use Rattle.std.proofs.Common.{ℕ, ◌<◌}
-use Rattle.slices.specs.Stages.{one}
-use Rattle.domains.specs.Sets.{sets}
-use Rattle.reasons.specs.Reasons.{IsOverload}
-use Rattle.rule_load.specs.Periods.{IsFreeDuring}
+use Rattle.rule_load.specs.Prelude.{IsFreeDuring, IsOverload, one, sets}
 use Rattle.rule_load.proofs.doubt.load_doubt.Given as goal
 
 abbrev pub invariant-loop-r : goal.invariant-loop-r

@@ -1,7 +1,6 @@
-use Rattle.std.proofs.Common.{◌-◌, leb, leb-true, rules, arith}
-use Rattle.std.proofs.lemmas.List.Sorted.{IsPartitionPoint-from_clause, IsPartitionedBy-leb}
-use Rattle.domains.specs.Sets.{sets}
-use Rattle.profiles.specs.declared.fixed.MostUse.{MostUse}
+use Rattle.std.proofs.Common.{leb-true}
+use Rattle.base.proofs.Public.{◌-◌, leb, rules, arith, IsPartitionPoint-from_clause, IsPartitionedBy-leb}
+use Rattle.rule_load.specs.Prelude.{MostUse, sets}
 use Rattle.rule_load.proofs.DoubtLemmas.{fits_more, fits_order}
 use Rattle.rule_load.proofs.doubt.machine_doubt.Goals as goal
 

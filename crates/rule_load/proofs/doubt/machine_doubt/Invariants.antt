@@ -1,6 +1,5 @@
 use Rattle.std.proofs.Common.{ℕ, ◌<◌, ◌≤◌, length, slice_index_or}
-use Rattle.domains.specs.Sets.{sets}
-use Rattle.profiles.specs.declared.fixed.MostUse.{MostUse}
+use Rattle.rule_load.specs.Prelude.{MostUse, sets}
 use Rattle.rule_load.proofs.DoubtLemmas.{Fits}
 use Rattle.rule_load.proofs.doubt.machine_doubt.Given as goal
 

@@ -1,6 +1,5 @@
 use Rattle.std.proofs.Common.{sym, ◌∙◌}
-use Rattle.slices.specs.Elements.{vm}
-use Rattle.domains.specs.Sets.{sets}
+use Rattle.rule_load.specs.Prelude.{sets, vm}
 use Rattle.rule_load.proofs.StayLemmas.{none_at}
 use Rattle.rule_load.proofs.marking.acts_elsewhere.Goals as goal
 

@@ -1,5 +1,4 @@
-use Rattle.std.proofs.Common.{◌≤◌, arith}
-use Rattle.std.proofs.lemmas.Bool.Decides.{nat_tests}
+use Rattle.base.proofs.Public.{◌≤◌, arith, nat_tests}
 use Rattle.rule_load.proofs.StayLemmas.{row_came}
 use Rattle.rule_load.proofs.marking.came_by.Goals as goal
 

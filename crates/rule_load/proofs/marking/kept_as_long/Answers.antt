@@ -1,5 +1,4 @@
-use Rattle.std.proofs.Common.{◌≤◌, sym, ◌∙◌, arith}
-use Rattle.std.proofs.lemmas.Bool.Decides.{nat_tests}
+use Rattle.base.proofs.Public.{◌≤◌, sym, ◌∙◌, arith, nat_tests}
 use Rattle.profiles.specs.Standing.Standings.{leave_of}
 use Rattle.rule_load.proofs.StayLemmas.{least_was, least_was_so}
 use Rattle.rule_load.proofs.marking.kept_as_long.Goals as goal

@@ -1,9 +1,5 @@
 use Rattle.std.proofs.Common.{◌≢◌, subst}
-use Rattle.cluster.specs.declared.ids.Element.TheVariants.{Vm, Node as TheNode}
-use Rattle.domains.specs.Choices.{choices}
-use Rattle.domains.specs.Sets.{domain_at, sets}
-use Rattle.domains.specs.Undo.{domain_before}
-use Rattle.rule_load.specs.Marking.{AreSpared}
+use Rattle.rule_load.specs.Prelude.{AreSpared, choices, domain_at, domain_before, Node as TheNode, sets, Vm}
 use Rattle.rule_load.proofs.MarkLemmas.{disturbed, node_spared}
 use Rattle.rule_load.proofs.marking.mark_disturbed.Goals as goal
 

@@ -1,8 +1,5 @@
-use Rattle.cluster.specs.declared.ids.Element.TheVariants.{Vm}
 use Rattle.std.proofs.Common.{arith}
-use Rattle.domains.specs.Choices.{choices}
-use Rattle.domains.specs.Sets.{domain_at, sets}
-use Rattle.domains.specs.Undo.{domain_before}
+use Rattle.rule_load.specs.Prelude.{choices, domain_at, domain_before, sets, Vm}
 use Rattle.rule_load.proofs.MarkLemmas.{machine_spared}
 use Rattle.rule_load.proofs.marking.mark_machine.Goals as goal
 

@@ -1,7 +1,5 @@
 use Rattle.std.proofs.Common.{◌-◌, arith}
-use Rattle.slices.specs.Stages.{one}
-use Rattle.domains.specs.Sets.{sets}
-use Rattle.rule_load.specs.declared.period.Period.{Period}
+use Rattle.rule_load.specs.Prelude.{one, Period, sets}
 use Rattle.rule_load.proofs.FreeLemmas.{free_past}
 use Rattle.rule_load.proofs.node_look.first_doubt.Goals as goal
 

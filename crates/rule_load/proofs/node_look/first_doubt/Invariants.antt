@@ -1,8 +1,5 @@
 use Rattle.std.proofs.Common.{ℕ, ◌+◌, ◌-◌, ◌<◌, ◌≤◌}
-use Rattle.slices.specs.Stages.{one}
-use Rattle.domains.specs.Sets.{sets}
-use Rattle.closing.specs.Kinds.{IsOverloaded}
-use Rattle.closing.specs.Looks.{IsFreeOf}
+use Rattle.rule_load.specs.Prelude.{IsFreeOf, IsOverloaded, one, sets}
 use Rattle.rule_load.proofs.node_look.first_doubt.Given as goal
 
 abbrev pub invariant-periods : goal.invariant-periods

@@ -1,6 +1,5 @@
 use Rattle.std.proofs.Common.{◌∙◌, arith}
-use Rattle.domains.specs.Sets.{sets}
-use Rattle.domains.specs.Views.{seen}
+use Rattle.rule_load.specs.Prelude.{seen, sets}
 use Rattle.rule_load.proofs.OverLemmas.{kept_is_held}
 use Rattle.rule_load.proofs.over.near_one.Goals as goal
 

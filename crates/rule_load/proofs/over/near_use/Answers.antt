@@ -1,10 +1,5 @@
-use Rattle.std.proofs.Common.{get_or, refl, arith}
-use Rattle.std.proofs.lemmas.List.Elements.{Contains-get_or}
-use Rattle.slices.specs.declared.slice.Weight.TheVariants.{Amount}
-use Rattle.slices.specs.Elements.{machine_count}
-use Rattle.slices.specs.Stages.{one}
-use Rattle.domains.specs.Views.{seen}
-use Rattle.reasons.specs.Sure.{sure}
+use Rattle.base.proofs.Public.{get_or, refl, arith, Contains-get_or}
+use Rattle.rule_load.specs.Prelude.{Amount, machine_count, one, seen, sure}
 use Rattle.profiles.proofs.Public.{few_once, sum_whole}
 use Rattle.rule_load.proofs.OverLemmas.{sum_front}
 use Rattle.rule_load.proofs.over.near_use.Goals as goal

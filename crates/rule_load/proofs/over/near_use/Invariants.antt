@@ -1,10 +1,5 @@
-use Rattle.std.proofs.Common.{◌*◌, ◌≤◌, take}
-use Rattle.std.specs.List.{sum_by}
-use Rattle.slices.specs.declared.slice.Weight.TheVariants.{Amount}
-use Rattle.slices.specs.Limits.{max_held}
-use Rattle.slices.specs.Stages.{one}
-use Rattle.domains.specs.Views.{seen}
-use Rattle.reasons.specs.Sure.{sure}
+use Rattle.base.proofs.Public.{◌*◌, ◌≤◌, take, sum_by}
+use Rattle.rule_load.specs.Prelude.{Amount, max_held, one, seen, sure}
 use Rattle.rule_load.proofs.over.near_use.Given as goal
 
 abbrev pub invariant-loop-i : goal.invariant-loop-i

@@ -1,6 +1,5 @@
 use Rattle.std.proofs.Common.{rules}
-use Rattle.domains.specs.Views.{seen}
-use Rattle.reasons.specs.Sure.{sure}
+use Rattle.rule_load.specs.Prelude.{seen, sure}
 use Rattle.rule_load.proofs.OverLemmas.{near_alone, near_with}
 use Rattle.rule_load.proofs.over.use_beside.Goals as goal
 

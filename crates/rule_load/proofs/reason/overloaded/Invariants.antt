@@ -1,8 +1,5 @@
 use Rattle.std.proofs.Common.{ℕ, ◌<◌}
-use Rattle.cluster.specs.Sets.{has_node}
-use Rattle.domains.specs.Views.{seen}
-use Rattle.reasons.specs.Reasons.{IsOverload}
-use Rattle.reasons.specs.Sure.{sure}
+use Rattle.rule_load.specs.Prelude.{has_node, IsOverload, seen, sure}
 use Rattle.rule_load.proofs.reason.overloaded.Given as goal
 
 abbrev pub invariant-loop-r : goal.invariant-loop-r

@@ -1,6 +1,4 @@
-use Rattle.std.proofs.Common.{◌∙◌, ◌<◌, rules}
-use Rattle.std.proofs.lemmas.Bool.Decides.{Decides-eqb}
-use Rattle.std.proofs.lemmas.Slice.Eq.{slice_eq-Decides}
+use Rattle.base.proofs.Public.{◌∙◌, ◌<◌, rules, Decides-eqb, slice_eq-Decides}
 use Rattle.slices.specs.Elements.{node_count}
 use Rattle.rule_load.proofs.SetLemmas.{same_nodes}
 use Rattle.rule_load.proofs.refuting.only_node.Goals as goal

@@ -1,8 +1,5 @@
 use Rattle.std.proofs.Common.{sym, ap, ◌∙◌}
-use Rattle.slices.specs.Elements.{node}
-use Rattle.slices.specs.Snapshots.{usable_at}
-use Rattle.domains.specs.Laws.{is_above_none}
-use Rattle.domains.specs.Sets.{sets}
+use Rattle.rule_load.specs.Prelude.{is_above_none, node, sets, usable_at}
 use Rattle.domains.proofs.Public.{surely_by_least}
 use Rattle.rule_load.proofs.room.is_surely_usable.Goals as goal
 

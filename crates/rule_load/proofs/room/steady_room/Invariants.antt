@@ -1,9 +1,5 @@
 use Rattle.std.proofs.Common.{◌≡◌, ◌*◌, ◌≤◌, cond}
-use Rattle.base.specs.Sums.{sum_to}
-use Rattle.catalogue.specs.Limits.{max_capacity}
-use Rattle.catalogue.specs.Values.{capacity_of}
-use Rattle.domains.specs.Sets.{sets}
-use Rattle.rule_load.specs.Totals.{is_steady}
+use Rattle.rule_load.specs.Prelude.{capacity_of, is_steady, max_capacity, sets, sum_to}
 use Rattle.rule_load.proofs.room.steady_room.Given as goal
 
 abbrev pub invariant-loop-i : goal.invariant-loop-i

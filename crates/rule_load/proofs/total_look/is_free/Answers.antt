@@ -1,6 +1,5 @@
 use Rattle.std.proofs.Common.{◌≡◌, true, rules, arith}
-use Rattle.domains.specs.Sets.{sets}
-use Rattle.reasons.specs.Closed.{all_nodes}
+use Rattle.rule_load.specs.Prelude.{all_nodes, sets}
 use Rattle.rule_load.proofs.FreeLemmas.{all_free, free_more}
 use Rattle.rule_load.proofs.total_look.is_free.Goals as goal
 

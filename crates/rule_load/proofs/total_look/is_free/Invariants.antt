@@ -1,8 +1,5 @@
 use Rattle.std.proofs.Common.{ℕ, ◌<◌}
-use Rattle.domains.specs.Sets.{sets}
-use Rattle.reasons.specs.Closed.{all_nodes}
-use Rattle.reasons.specs.Reasons.{IsOverload}
-use Rattle.rule_load.specs.Periods.{IsFreeDuring}
+use Rattle.rule_load.specs.Prelude.{all_nodes, IsFreeDuring, IsOverload, sets}
 use Rattle.rule_load.proofs.total_look.is_free.Given as goal
 
 abbrev pub invariant-loop-r : goal.invariant-loop-r

@@ -1,8 +1,5 @@
 use Rattle.std.proofs.Common.{ℕ, ◌+◌, ◌-◌, ◌<◌, ◌≤◌}
-use Rattle.domains.specs.Sets.{sets}
-use Rattle.reasons.specs.Closed.{all_nodes}
-use Rattle.closing.specs.Kinds.{IsOverloaded}
-use Rattle.closing.specs.Looks.{IsFreeOf}
+use Rattle.rule_load.specs.Prelude.{all_nodes, IsFreeOf, IsOverloaded, sets}
 use Rattle.rule_load.proofs.total_look.is_free_by_periods.Given as goal
 
 abbrev pub invariant-periods : goal.invariant-periods

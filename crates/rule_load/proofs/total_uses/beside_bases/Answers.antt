@@ -1,5 +1,4 @@
-use Rattle.std.proofs.Common.{get_or, arith}
-use Rattle.std.proofs.lemmas.List.Elements.{Contains-get_or}
+use Rattle.base.proofs.Public.{get_or, arith, Contains-get_or}
 use Rattle.slices.specs.Elements.{machine_count}
 use Rattle.profiles.proofs.Public.{few_once, sum_whole}
 use Rattle.rule_load.proofs.total_uses.beside_bases.Goals as goal

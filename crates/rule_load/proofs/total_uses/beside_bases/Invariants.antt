@@ -1,11 +1,6 @@
-use Rattle.std.proofs.Common.{◌≡◌, ◌-◌, ◌*◌, ◌≤◌, slice_index_or, take}
-use Rattle.std.specs.List.{sum_by}
-use Rattle.cluster.specs.Limits.{max_amount}
-use Rattle.slices.specs.declared.slice.Weight.TheVariants.{Amount}
-use Rattle.domains.specs.Sets.{sets}
-use Rattle.profiles.specs.Standing.Standings.{base}
-use Rattle.profiles.specs.Standing.Tables.{no_standing}
-use Rattle.rule_load.specs.Totals.{may_wait, most_anywhere}
+use Rattle.std.proofs.Common.{slice_index_or}
+use Rattle.base.proofs.Public.{◌≡◌, ◌-◌, ◌*◌, ◌≤◌, take, sum_by}
+use Rattle.rule_load.specs.Prelude.{Amount, base, max_amount, may_wait, most_anywhere, no_standing, sets}
 use Rattle.rule_load.proofs.total_uses.beside_bases.Given as goal
 
 abbrev pub invariant-loop-i : goal.invariant-loop-i

@@ -1,12 +1,5 @@
 use Rattle.std.proofs.Common.{◌+◌, refl, slice_index_or, arith}
-use Rattle.catalogue.specs.Values.{demand_of}
-use Rattle.slices.specs.declared.slice.Weight.TheVariants.{Amount}
-use Rattle.slices.specs.Elements.{vm}
-use Rattle.domains.specs.Sets.{sets}
-use Rattle.reasons.specs.Closed.{all_nodes}
-use Rattle.profiles.specs.Standing.Standings.{base}
-use Rattle.profiles.specs.Standing.Tables.{no_standing}
-use Rattle.rule_load.specs.Totals.{may_wait, most_anywhere}
+use Rattle.rule_load.specs.Prelude.{all_nodes, Amount, base, demand_of, may_wait, most_anywhere, no_standing, sets, vm}
 use Rattle.rule_load.proofs.TotalLemmas.{ever_most}
 use Rattle.rule_load.proofs.total_uses.machines_fit.Goals as goal
 

@@ -1,10 +1,5 @@
 use Rattle.std.proofs.Common.{ℕ, ◌+◌, ◌<◌, slice_index_or}
-use Rattle.slices.specs.Elements.{vm}
-use Rattle.domains.specs.Sets.{sets}
-use Rattle.reasons.specs.Closed.{all_nodes}
-use Rattle.profiles.specs.Standing.Tables.{no_standing}
-use Rattle.rule_load.specs.Periods.{IsMost}
-use Rattle.rule_load.specs.Totals.{may_wait, most_anywhere}
+use Rattle.rule_load.specs.Prelude.{all_nodes, IsMost, may_wait, most_anywhere, no_standing, sets, vm}
 use Rattle.rule_load.proofs.total_uses.machines_fit.Given as goal
 
 abbrev pub invariant-loop-i : goal.invariant-loop-i

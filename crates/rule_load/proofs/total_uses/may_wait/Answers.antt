@@ -1,10 +1,6 @@
 use Rattle.std.proofs.Common.{sym, ap, ◌∙◌, ◌≤◌, arith}
-use Rattle.slices.specs.Elements.{vm}
-use Rattle.domains.specs.Choices.{DomainView}
-use Rattle.domains.specs.Laws.{is_nought}
-use Rattle.domains.specs.Sets.{domain_at, may, sets}
+use Rattle.rule_load.specs.Prelude.{domain_at, DomainView, is_nought, may, sets, vm, waits}
 use Rattle.domains.proofs.Public.{may_by_least}
-use Rattle.rule_load.specs.Totals.{waits}
 use Rattle.rule_load.proofs.WaitLemmas.{waits_idle}
 use Rattle.rule_load.proofs.total_uses.may_wait.Goals as goal
 

@@ -1,5 +1,4 @@
-use Rattle.std.proofs.Common.{get_or, arith}
-use Rattle.std.proofs.lemmas.List.Elements.{Contains-get_or}
+use Rattle.base.proofs.Public.{get_or, arith, Contains-get_or}
 use Rattle.rule_load.proofs.turns.next_change_anywhere.Goals as goal
 
 pub bounds-ks-machines : goal.bounds-ks-machines

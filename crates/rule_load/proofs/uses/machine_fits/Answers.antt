@@ -1,10 +1,6 @@
-use Rattle.std.proofs.Common.{◌+◌, ◌≤◌, arith, slice_index_or}
-use Rattle.std.proofs.lemmas.Bool.Decides.{nat_tests}
-use Rattle.slices.specs.declared.slice.Weight.TheVariants.{Amount}
-use Rattle.slices.specs.Elements.{vm}
-use Rattle.domains.specs.Sets.{sets}
-use Rattle.rule_load.specs.Periods.{most_kept}
-use Rattle.profiles.specs.Standing.Tables.{no_standing}
+use Rattle.std.proofs.Common.{slice_index_or}
+use Rattle.base.proofs.Public.{◌+◌, ◌≤◌, arith, nat_tests}
+use Rattle.rule_load.specs.Prelude.{Amount, most_kept, no_standing, sets, vm}
 use Rattle.rule_load.proofs.UseLemmas.{fits_now}
 use Rattle.rule_load.proofs.uses.machine_fits.Goals as goal
 

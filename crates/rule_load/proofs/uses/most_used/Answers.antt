@@ -1,11 +1,7 @@
-use Rattle.std.proofs.Common.{get_or, slice_index_or, arith}
-use Rattle.std.proofs.lemmas.List.Elements.{Contains-get_or}
-use Rattle.slices.specs.declared.slice.Weight.TheVariants.{Amount}
-use Rattle.slices.specs.Elements.{machine_count}
-use Rattle.domains.specs.Sets.{sets}
+use Rattle.std.proofs.Common.{slice_index_or}
+use Rattle.base.proofs.Public.{get_or, arith, Contains-get_or}
+use Rattle.rule_load.specs.Prelude.{Amount, machine_count, most_kept, no_standing, sets}
 use Rattle.profiles.proofs.Public.{few_once, sum_whole}
-use Rattle.profiles.specs.Standing.Tables.{no_standing}
-use Rattle.rule_load.specs.Periods.{most_kept}
 use Rattle.rule_load.proofs.DoubtLemmas.{near_sum}
 use Rattle.rule_load.proofs.uses.most_used.Goals as goal
 

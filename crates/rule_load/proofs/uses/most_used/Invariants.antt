@@ -1,9 +1,6 @@
-use Rattle.std.proofs.Common.{◌≡◌, ◌*◌, ◌≤◌, slice_index_or, take}
-use Rattle.std.specs.List.{sum_by}
-use Rattle.cluster.specs.Limits.{max_amount}
-use Rattle.slices.specs.declared.slice.Weight.TheVariants.{Amount}
-use Rattle.profiles.specs.Standing.Tables.{no_standing}
-use Rattle.rule_load.specs.Periods.{most_kept}
+use Rattle.std.proofs.Common.{slice_index_or}
+use Rattle.base.proofs.Public.{◌≡◌, ◌*◌, ◌≤◌, take, sum_by}
+use Rattle.rule_load.specs.Prelude.{Amount, max_amount, most_kept, no_standing}
 use Rattle.rule_load.proofs.uses.most_used.Given as goal
 
 abbrev pub invariant-loop-i : goal.invariant-loop-i

@@ -1,7 +1,6 @@
 use Rattle.std.proofs.Common.{◌∙◌}
+use Rattle.rule_pair.specs.Prelude.{machine_count, sets}
 use Rattle.catalogue.proofs.Public.{below_parts}
-use Rattle.slices.specs.Elements.{machine_count}
-use Rattle.domains.specs.Sets.{sets}
 use Rattle.rule_pair.proofs.ApartLemmas.{between_clear, each_clear, on_clear}
 use Rattle.rule_pair.proofs.clear.all_alone.Goals as goal
 

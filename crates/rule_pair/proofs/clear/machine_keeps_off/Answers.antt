@@ -1,7 +1,5 @@
-use Rattle.std.proofs.Common.{ap, arith, sym, ◌∙◌}
-use Rattle.std.proofs.lemmas.Bool.{false≢true}
-use Rattle.domains.specs.Choices.{choices}
-use Rattle.domains.specs.Sets.{sets}
+use Rattle.base.proofs.Public.{ap, arith, sym, ◌∙◌, false≢true}
+use Rattle.rule_pair.specs.Prelude.{choices, sets}
 use Rattle.rule_pair.proofs.ApartLemmas.{keeps_off}
 use Rattle.rule_pair.proofs.clear.machine_keeps_off.Goals as goal
 

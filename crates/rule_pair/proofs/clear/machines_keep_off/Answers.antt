@@ -1,6 +1,5 @@
 use Rattle.std.proofs.Common.{arith}
-use Rattle.domains.specs.Sets.{sets}
-use Rattle.rule_pair.specs.Apart.{KeepsOff, part_of}
+use Rattle.rule_pair.specs.Prelude.{KeepsOff, part_of, sets}
 use Rattle.rule_constraint.proofs.Public.{each_member}
 use Rattle.rule_pair.proofs.clear.machines_keep_off.Goals as goal
 

@@ -1,7 +1,5 @@
 use Rattle.std.proofs.Common.{ℕ, ◌<◌, get_or}
-use Rattle.cluster.specs.declared.ids.VmId.{VmId}
-use Rattle.domains.specs.Sets.{sets}
-use Rattle.rule_pair.specs.Apart.{KeepsOff, part_of}
+use Rattle.rule_pair.specs.Prelude.{KeepsOff, part_of, sets, VmId}
 use Rattle.rule_pair.proofs.clear.machines_keep_off.Given as goal
 
 abbrev pub invariant-loop-i : goal.invariant-loop-i

@@ -1,5 +1,4 @@
-use Rattle.cluster.specs.Limits.{max_nodes}
-use Rattle.domains.specs.Sets.{sets}
+use Rattle.rule_pair.specs.Prelude.{max_nodes, sets}
 use Rattle.rule_pair.proofs.ApartLemmas.{keeps_clear, on_clear}
 use Rattle.rule_pair.proofs.LongestLemmas.{none_ordered}
 use Rattle.rule_pair.proofs.clear.parts_alone.Goals as goal

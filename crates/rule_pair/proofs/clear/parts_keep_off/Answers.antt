@@ -1,6 +1,5 @@
 use Rattle.std.proofs.Common.{arith}
-use Rattle.domains.specs.Sets.{sets}
-use Rattle.rule_pair.specs.Apart.{KeepsOff}
+use Rattle.rule_pair.specs.Prelude.{KeepsOff, sets}
 use Rattle.rule_pair.proofs.ApartLemmas.{each_part, next_part}
 use Rattle.rule_pair.proofs.clear.parts_keep_off.Goals as goal
 

@@ -1,7 +1,5 @@
 use Rattle.std.proofs.Common.{ℕ, ◌<◌}
-use Rattle.slices.specs.Holds.{IsInPart}
-use Rattle.domains.specs.Sets.{sets}
-use Rattle.rule_pair.specs.Apart.{KeepsOff}
+use Rattle.rule_pair.specs.Prelude.{IsInPart, KeepsOff, sets}
 use Rattle.rule_pair.proofs.clear.parts_keep_off.Given as goal
 
 abbrev pub invariant-loop-j : goal.invariant-loop-j

@@ -1,6 +1,5 @@
 use Rattle.std.proofs.Common.{ℕ, ◌<◌, slice_index_or}
-use Rattle.domains.specs.Choices.{no_row}
-use Rattle.rule_pair.specs.Apart.{IsLate}
+use Rattle.rule_pair.specs.Prelude.{IsLate, no_row}
 use Rattle.rule_pair.proofs.clear.rows_met.Given as goal
 
 abbrev pub invariant-loop-i : goal.invariant-loop-i

@@ -1,7 +1,5 @@
 use Rattle.std.proofs.Common.{arith}
-use Rattle.cluster.specs.declared.ids.VmId.{VmId}
-use Rattle.domains.specs.Sets.{sets}
-use Rattle.rule_pair.specs.Apart.{IsTold, part_of}
+use Rattle.rule_pair.specs.Prelude.{IsTold, part_of, sets, VmId}
 use Rattle.rule_constraint.proofs.Public.{each_member, next_member}
 use Rattle.rule_pair.proofs.ApartLemmas.{longer_both, told_longer}
 use Rattle.rule_pair.proofs.clear.tell_machines.Goals as goal

@@ -1,7 +1,5 @@
 use Rattle.std.proofs.Common.{ℕ, ◌<◌, get_or}
-use Rattle.cluster.specs.declared.ids.VmId.{VmId}
-use Rattle.domains.specs.Sets.{sets}
-use Rattle.rule_pair.specs.Apart.{IsTold, part_of}
+use Rattle.rule_pair.specs.Prelude.{IsTold, part_of, sets, VmId}
 use Rattle.rule_pair.proofs.ApartLemmas.{AreTold}
 use Rattle.rule_pair.proofs.clear.tell_machines.Given as goal
 

@@ -1,7 +1,5 @@
 use Rattle.std.proofs.Common.{ℕ, ◌<◌}
-use Rattle.slices.specs.Holds.{IsInPart}
-use Rattle.domains.specs.Sets.{sets}
-use Rattle.rule_pair.specs.Apart.{IsTold}
+use Rattle.rule_pair.specs.Prelude.{IsInPart, IsTold, sets}
 use Rattle.rule_pair.proofs.ApartLemmas.{AreTold}
 use Rattle.rule_pair.proofs.clear.tell_parts.Given as goal
 

@@ -1,7 +1,5 @@
 use Rattle.std.proofs.Common.{ℕ, ◌<◌}
-use Rattle.domains.specs.Views.{seen}
-use Rattle.reasons.specs.Reasons.{IsPair}
-use Rattle.reasons.specs.Sure.{sure}
+use Rattle.rule_pair.specs.Prelude.{IsPair, seen, sure}
 use Rattle.rule_pair.proofs.pairs.other_on.Given as goal
 
 abbrev pub invariant-loop-i : goal.invariant-loop-i

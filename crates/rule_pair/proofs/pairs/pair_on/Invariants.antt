@@ -1,8 +1,5 @@
 use Rattle.std.proofs.Common.{ℕ, ◌<◌}
-use Rattle.slices.specs.Elements.{machine_count, node_count}
-use Rattle.domains.specs.Views.{seen}
-use Rattle.reasons.specs.Reasons.{IsPair}
-use Rattle.reasons.specs.Sure.{sure}
+use Rattle.rule_pair.specs.Prelude.{IsPair, machine_count, node_count, seen, sure}
 use Rattle.rule_pair.proofs.pairs.pair_on.Given as goal
 
 abbrev pub invariant-loop-i : goal.invariant-loop-i

@@ -1,5 +1,4 @@
-use Rattle.domains.specs.Choices.{choices}
-use Rattle.profiles.specs.Standing.Standings.{leave_of}
+use Rattle.rule_pair.specs.Prelude.{choices, leave_of}
 use Rattle.rule_pair.proofs.StayLemmas.{least_raised}
 use Rattle.rule_pair.proofs.stays.leave_or_later.Goals as goal
 

@@ -1,6 +1,5 @@
 use Rattle.std.proofs.Common.{arith}
-use Rattle.domains.specs.Sets.{sets}
-use Rattle.rule_place.specs.Allowed.{IsAllowed}
+use Rattle.rule_place.specs.Prelude.{IsAllowed, sets}
 use Rattle.rule_constraint.proofs.Public.{each_member}
 use Rattle.rule_place.proofs.allowed.are_allowed.Goals as goal
 

@@ -1,7 +1,5 @@
 use Rattle.std.proofs.Common.{ℕ, ◌<◌, get_or}
-use Rattle.cluster.specs.declared.ids.VmId.{VmId}
-use Rattle.domains.specs.Sets.{sets}
-use Rattle.rule_place.specs.Allowed.{IsAllowed}
+use Rattle.rule_place.specs.Prelude.{IsAllowed, sets, VmId}
 use Rattle.rule_place.proofs.allowed.are_allowed.Given as goal
 
 abbrev pub invariant-loop-i : goal.invariant-loop-i

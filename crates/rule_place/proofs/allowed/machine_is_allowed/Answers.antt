@@ -1,7 +1,5 @@
-use Rattle.std.proofs.Common.{ap, arith, sym, ◌∙◌}
-use Rattle.std.proofs.lemmas.Bool.{false≢true}
-use Rattle.domains.specs.Choices.{choices}
-use Rattle.domains.specs.Sets.{sets}
+use Rattle.base.proofs.Public.{ap, arith, sym, ◌∙◌, false≢true}
+use Rattle.rule_place.specs.Prelude.{choices, sets}
 use Rattle.rule_place.proofs.AllowedLemmas.{is_allowed}
 use Rattle.rule_place.proofs.allowed.machine_is_allowed.Goals as goal
 

@@ -1,6 +1,5 @@
 use Rattle.std.proofs.Common.{ℕ, ◌<◌, slice_index_or}
-use Rattle.domains.specs.Choices.{no_row}
-use Rattle.rule_place.specs.Allowed.{MayGo}
+use Rattle.rule_place.specs.Prelude.{MayGo, no_row}
 use Rattle.rule_place.proofs.allowed.rows_are_allowed.Given as goal
 
 abbrev pub invariant-loop-i : goal.invariant-loop-i

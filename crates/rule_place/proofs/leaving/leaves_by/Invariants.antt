@@ -1,7 +1,5 @@
 use Rattle.std.proofs.Common.{ℕ, ◌<◌, ◌≤◌, slice_index_or}
-use Rattle.cluster.specs.declared.choices.Choice.TheVariants.{Act}
-use Rattle.domains.specs.Choices.{no_row}
-use Rattle.profiles.specs.Standing.Standings.{leave_of}
+use Rattle.rule_place.specs.Prelude.{Act, leave_of, no_row}
 use Rattle.rule_place.proofs.leaving.leaves_by.Given as goal
 
 abbrev pub invariant-loop-i : goal.invariant-loop-i

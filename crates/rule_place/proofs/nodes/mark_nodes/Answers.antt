@@ -1,5 +1,4 @@
-use Rattle.cluster.specs.declared.ids.Element.TheVariants.{Vm}
-use Rattle.domains.specs.Sets.{sets}
+use Rattle.rule_place.specs.Prelude.{sets, Vm}
 use Rattle.rule_place.proofs.NodeLemmas.{nodes_spared, untouched}
 use Rattle.rule_place.proofs.nodes.mark_nodes.Goals as goal
 

@@ -1,7 +1,5 @@
 use Rattle.std.proofs.Common.{ℕ, ◌<◌}
-use Rattle.domains.specs.Views.{seen}
-use Rattle.reasons.specs.Reasons.{IsPlace}
-use Rattle.reasons.specs.Sure.{sure}
+use Rattle.rule_place.specs.Prelude.{IsPlace, seen, sure}
 use Rattle.rule_place.proofs.places.place_of.Given as goal
 
 abbrev pub invariant-loop-i : goal.invariant-loop-i

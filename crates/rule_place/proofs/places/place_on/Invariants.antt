@@ -1,8 +1,5 @@
 use Rattle.std.proofs.Common.{ℕ, ◌<◌}
-use Rattle.slices.specs.Elements.{node_count}
-use Rattle.domains.specs.Views.{seen}
-use Rattle.reasons.specs.Reasons.{IsPlace}
-use Rattle.reasons.specs.Sure.{sure}
+use Rattle.rule_place.specs.Prelude.{IsPlace, node_count, seen, sure}
 use Rattle.rule_place.proofs.places.place_on.Given as goal
 
 abbrev pub invariant-loop-i : goal.invariant-loop-i

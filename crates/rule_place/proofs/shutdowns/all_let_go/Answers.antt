@@ -1,5 +1,4 @@
-use Rattle.std.proofs.Common.{inl, inr, arith}
-use Rattle.std.proofs.lemmas.Bool.{cases_eq}
+use Rattle.base.proofs.Public.{inl, inr, arith, cases_eq}
 use Rattle.rule_place.proofs.shutdowns.all_let_go.Goals as goal
 
 pub loop-i-preserved : goal.loop-i-preserved

@@ -1,6 +1,5 @@
 use Rattle.std.proofs.Common.{ℕ, ◌<◌}
-use Rattle.domains.specs.Sets.{sets}
-use Rattle.rule_place.specs.Shutdowns.{LetsGo}
+use Rattle.rule_place.specs.Prelude.{LetsGo, sets}
 use Rattle.rule_place.proofs.shutdowns.all_let_go.Given as goal
 
 abbrev pub invariant-loop-i : goal.invariant-loop-i

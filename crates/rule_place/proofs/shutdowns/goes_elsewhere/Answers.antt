@@ -1,5 +1,4 @@
-use Rattle.cluster.specs.declared.ids.Element.TheVariants.{Vm}
-use Rattle.domains.specs.Sets.{sets}
+use Rattle.rule_place.specs.Prelude.{sets, Vm}
 use Rattle.rule_constraint.proofs.Public.{not_come}
 use Rattle.rule_place.proofs.shutdowns.goes_elsewhere.Goals as goal
 

@@ -1,7 +1,5 @@
-use Rattle.std.proofs.Common.{◌≢◌, [], sym, ◌∙◌, arith}
-use Rattle.std.proofs.lemmas.Bool.{false≢true}
-use Rattle.cluster.specs.declared.ids.Element.TheVariants.{Vm}
-use Rattle.domains.specs.Sets.{sets}
+use Rattle.base.proofs.Public.{◌≢◌, [], sym, ◌∙◌, arith, false≢true}
+use Rattle.rule_place.specs.Prelude.{sets, Vm}
 use Rattle.rule_place.proofs.ShutdownLemmas.{host_goes, other_goes}
 use Rattle.rule_place.proofs.shutdowns.lets_go.Goals as goal
 

@@ -1,6 +1,5 @@
 use Rattle.std.proofs.Common.{slice_index_or, arith}
-use Rattle.cluster.specs.declared.choices.Choice.TheVariants.{Act}
-use Rattle.domains.specs.Choices.{choices, no_row}
+use Rattle.rule_place.specs.Prelude.{Act, choices, no_row}
 use Rattle.reasons.proofs.Public.{end_is_choice}
 use Rattle.rule_constraint.proofs.Public.{row_end}
 use Rattle.rule_place.proofs.shutdowns.may_leave_by.Goals as goal

@@ -1,6 +1,5 @@
 use Rattle.std.proofs.Common.{sym, ap, ◌∙◌}
-use Rattle.domains.specs.Choices.{choices}
-use Rattle.domains.specs.Sets.{sets}
+use Rattle.rule_place.specs.Prelude.{choices, sets}
 use Rattle.rule_place.proofs.ShutdownLemmas.{shutdown_is}
 use Rattle.rule_place.proofs.shutdowns.shutdown_of.Goals as goal
 

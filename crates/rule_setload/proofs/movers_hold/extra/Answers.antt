@@ -1,6 +1,5 @@
 use Rattle.std.proofs.Common.{rules}
-use Rattle.cluster.specs.Sets.{has_node}
-use Rattle.domains.specs.Sets.{sets}
+use Rattle.rule_setload.specs.Prelude.{has_node, sets}
 use Rattle.rule_setload.proofs.AmountLemmas.{idle_extra, row_extra}
 use Rattle.rule_setload.proofs.movers_hold.extra.Goals as goal
 

@@ -1,8 +1,5 @@
-use Rattle.std.proofs.Common.{get_or, arith}
-use Rattle.std.proofs.lemmas.List.Elements.{Contains-get_or}
-use Rattle.cluster.specs.Sets.{has_node}
-use Rattle.slices.specs.Elements.{machine_count}
-use Rattle.domains.specs.Sets.{sets}
+use Rattle.base.proofs.Public.{get_or, arith, Contains-get_or}
+use Rattle.rule_setload.specs.Prelude.{has_node, machine_count, sets}
 use Rattle.profiles.proofs.Public.{few_once}
 use Rattle.rule_setload.proofs.AmountLemmas.{all_extra, take_extra}
 use Rattle.rule_setload.proofs.movers_hold.extra_of.Goals as goal

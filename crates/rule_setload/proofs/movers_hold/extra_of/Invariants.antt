@@ -1,8 +1,5 @@
 use Rattle.std.proofs.Common.{◌*◌, ◌≤◌, take}
-use Rattle.cluster.specs.Limits.{max_amount}
-use Rattle.cluster.specs.Sets.{has_node}
-use Rattle.domains.specs.Sets.{sets}
-use Rattle.rule_setload.specs.Amounts.{AreExtra}
+use Rattle.rule_setload.specs.Prelude.{AreExtra, has_node, max_amount, sets}
 use Rattle.rule_setload.proofs.movers_hold.extra_of.Given as goal
 
 abbrev pub invariant-loop-i : goal.invariant-loop-i

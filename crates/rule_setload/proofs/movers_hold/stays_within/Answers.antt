@@ -1,7 +1,5 @@
-use Rattle.std.proofs.Common.{arith}
-use Rattle.std.proofs.lemmas.Bool.Decides.{nat_tests}
-use Rattle.cluster.specs.Sets.{has_node}
-use Rattle.domains.specs.Sets.{sets}
+use Rattle.base.proofs.Public.{arith, nat_tests}
+use Rattle.rule_setload.specs.Prelude.{has_node, sets}
 use Rattle.rule_setload.proofs.AmountLemmas.{stays_in}
 use Rattle.rule_setload.proofs.movers_hold.stays_within.Goals as goal
 

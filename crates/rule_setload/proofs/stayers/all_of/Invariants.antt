@@ -1,5 +1,4 @@
-use Rattle.cluster.specs.Sets.{has_node}
-use Rattle.rule_setload.specs.Amounts.{AreStayersTo}
+use Rattle.rule_setload.specs.Prelude.{AreStayersTo, has_node}
 use Rattle.rule_setload.proofs.stayers.all_of.Given as goal
 
 abbrev pub invariant-loop-i : goal.invariant-loop-i

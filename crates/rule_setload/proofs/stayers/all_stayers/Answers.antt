@@ -1,6 +1,4 @@
-use Rattle.std.proofs.Common.{refl, rules, length, ◌≡◌, Some}
-use Rattle.std.specs.Prelude.{slice_get}
-use Rattle.std.proofs.lemmas.Option.{slice_get_read}
+use Rattle.base.proofs.Public.{refl, rules, length, ◌≡◌, Some, slice_get, slice_get_read}
 use Rattle.rule_setload.specs.Amounts.{AreStayersOf, bound_in}
 use Rattle.rule_setload.proofs.BoundLemmas.{next_stayers}
 use Rattle.rule_setload.proofs.stayers.all_stayers.Goals as goal

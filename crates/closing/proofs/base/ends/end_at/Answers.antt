@@ -1,10 +1,6 @@
-use Rattle.std.proofs.Common.{Option, Some, None, IfNone, IfSome}
-use Rattle.std.specs.List.{filter}
-use Rattle.cluster.specs.declared.choices.Choice.{Choice}
-use Rattle.domains.specs.Choices.{choices}
-use Rattle.domains.specs.declared.parts.Part.TheVariants.{From}
-use Rattle.domains.specs.Parts.{in_part}
-use Rattle.closing.specs.Parts.{FailAtEnds, IsEndThat}
+use Rattle.std.proofs.Common.{IfNone, IfSome}
+use Rattle.base.proofs.Public.{Option, Some, None, filter}
+use Rattle.closing.specs.Prelude.{Choice, choices, FailAtEnds, From, in_part, IsEndThat}
 use Rattle.closing.proofs.EndLemmas.{end_at_place, fails_at_place}
 use Rattle.closing.proofs.base.ends.end_at.Goals as goal
 

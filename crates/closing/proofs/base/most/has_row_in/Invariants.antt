@@ -1,7 +1,5 @@
 use Rattle.std.proofs.Common.{◌≡◌, ℕ, ◌<◌, false, slice_index_or}
-use Rattle.cluster.specs.declared.choices.Choice.TheVariants.{Act}
-use Rattle.domains.specs.Choices.{no_row}
-use Rattle.relax.specs.Areas.{goes_in, nodes_of}
+use Rattle.closing.specs.Prelude.{Act, goes_in, no_row, nodes_of}
 use Rattle.closing.proofs.base.most.has_row_in.Given as goal
 
 abbrev pub invariant-loop-row : goal.invariant-loop-row

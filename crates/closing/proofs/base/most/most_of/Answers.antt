@@ -1,7 +1,5 @@
 use Rattle.std.proofs.Common.{ap, sym}
-use Rattle.domains.specs.Choices.{choices}
-use Rattle.domains.specs.Sets.{sets}
-use Rattle.relax.specs.Areas.{nodes_of}
+use Rattle.closing.specs.Prelude.{choices, nodes_of, sets}
 use Rattle.closing.proofs.MostLemmas.{rows_most, stay_most}
 use Rattle.closing.proofs.base.most.most_of.Goals as goal
 

@@ -1,5 +1,4 @@
-use Rattle.domains.specs.Sets.{sets}
-use Rattle.relax.specs.Areas.{nodes_of}
+use Rattle.closing.specs.Prelude.{nodes_of, sets}
 use Rattle.closing.proofs.MostLemmas.{most_of_none, most_of_one}
 use Rattle.closing.proofs.base.most.most_sure.Goals as goal
 

@@ -1,10 +1,5 @@
 use Rattle.std.proofs.Common.{Option, Some, None, IfSome}
-use Rattle.cluster.specs.declared.choices.Choice.{Choice}
-use Rattle.slices.specs.Elements.{vm}
-use Rattle.domains.specs.Sets.{sets}
-use Rattle.closing.specs.declared.base.stands.Stands.TheVariants.{On}
-use Rattle.closing.specs.Parts.{IsEndThat}
-use Rattle.closing.specs.Stands.{IsOn, has_node_of}
+use Rattle.closing.specs.Prelude.{Choice, has_node_of, IsEndThat, IsOn, On, sets, vm}
 use Rattle.closing.proofs.StandLemmas.{end_on_second}
 use Rattle.closing.proofs.base.stands.end_beside.Goals as goal
 

@@ -1,9 +1,5 @@
 use Rattle.std.proofs.Common.{ap, sym, ◌∙◌}
-use Rattle.domains.specs.Choices.{choices}
-use Rattle.domains.specs.Sets.{sets}
-use Rattle.slices.specs.Holdings.{is_in}
-use Rattle.slices.specs.Stages.{one}
-use Rattle.closing.specs.Stands.{is_node}
+use Rattle.closing.specs.Prelude.{choices, is_in, is_node, one, sets}
 use Rattle.closing.proofs.StandLemmas.{empty_stands, stands_by}
 use Rattle.closing.proofs.base.stands.standing.Goals as goal
 

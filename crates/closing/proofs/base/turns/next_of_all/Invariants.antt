@@ -1,7 +1,5 @@
 use Rattle.std.proofs.Common.{ℕ, ◌<◌, ◌≤◌}
-use Rattle.slices.specs.Elements.{machine_count, node, vm}
-use Rattle.domains.specs.Sets.{sets}
-use Rattle.closing.specs.Parts.{StartsPast}
+use Rattle.closing.specs.Prelude.{machine_count, node, sets, StartsPast, vm}
 use Rattle.closing.proofs.base.turns.next_of_all.Given as goal
 
 abbrev pub invariant-loop-v : goal.invariant-loop-v

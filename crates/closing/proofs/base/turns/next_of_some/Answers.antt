@@ -1,7 +1,5 @@
 use Rattle.std.proofs.Common.{arith}
-use Rattle.slices.specs.Elements.{vm}
-use Rattle.domains.specs.Sets.{sets}
-use Rattle.closing.specs.Parts.{StartsPast}
+use Rattle.closing.specs.Prelude.{sets, StartsPast, vm}
 use Rattle.closing.proofs.EndLemmas.{no_turn_of}
 use Rattle.slices.proofs.Public.{each_member}
 use Rattle.closing.proofs.base.turns.next_of_some.Goals as goal

@@ -1,8 +1,5 @@
 use Rattle.std.proofs.Common.{ℕ, ◌<◌, ◌≤◌, get_or}
-use Rattle.cluster.specs.declared.ids.VmId.{VmId}
-use Rattle.slices.specs.Elements.{vm}
-use Rattle.domains.specs.Sets.{sets}
-use Rattle.closing.specs.Parts.{StartsPast}
+use Rattle.closing.specs.Prelude.{sets, StartsPast, vm, VmId}
 use Rattle.closing.proofs.base.turns.next_of_some.Given as goal
 
 abbrev pub invariant-loop-i : goal.invariant-loop-i

@@ -1,7 +1,5 @@
 use Rattle.std.proofs.Common.{ℕ, ◌<◌}
-use Rattle.domains.specs.Sets.{sets}
-use Rattle.relax.specs.Areas.{nodes_of}
-use Rattle.closing.specs.Parts.{IsSpared}
+use Rattle.closing.specs.Prelude.{IsSpared, nodes_of, sets}
 use Rattle.closing.proofs.exact.above.machine_above.Given as goal
 
 abbrev pub invariant-loop-i : goal.invariant-loop-i

@@ -1,9 +1,5 @@
 use Rattle.std.proofs.Common.{◌≡◌, ℕ, ◌<◌, false, IsTrue}
-use Rattle.cluster.specs.Sets.{has_node}
-use Rattle.slices.specs.Elements.{node}
-use Rattle.domains.specs.Sets.{sets}
-use Rattle.reasons.specs.Sure.{sure}
-use Rattle.closing.specs.Parts.{FailAtEnds, IsPoweredUnder}
+use Rattle.closing.specs.Prelude.{FailAtEnds, has_node, IsPoweredUnder, node, sets, sure}
 use Rattle.closing.proofs.exact.capacities.one_more_found.Given as goal
 
 abbrev pub invariant-loop-i : goal.invariant-loop-i

@@ -1,6 +1,5 @@
 use Rattle.std.proofs.Common.{arith}
-use Rattle.cluster.specs.Sets.{has_node}
-use Rattle.domains.specs.Sets.{sets}
+use Rattle.closing.specs.Prelude.{has_node, sets}
 use Rattle.closing.proofs.SettingLemmas.{few_free}
 use Rattle.closing.proofs.exact.capacities.powered_found.Goals as goal
 

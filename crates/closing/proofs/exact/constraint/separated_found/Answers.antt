@@ -1,7 +1,6 @@
 use Rattle.std.proofs.Common.{◌∙◌}
+use Rattle.closing.specs.Prelude.{machine_count, sets}
 use Rattle.catalogue.proofs.Public.{below_parts}
-use Rattle.slices.specs.Elements.{machine_count}
-use Rattle.domains.specs.Sets.{sets}
 use Rattle.closing.proofs.RuleLemmas.{between_found, each_found, from_others_found}
 use Rattle.closing.proofs.exact.constraint.separated_found.Goals as goal
 

@@ -1,6 +1,5 @@
 use Rattle.std.proofs.Common.{arith}
-use Rattle.domains.specs.Sets.{sets}
-use Rattle.closing.specs.Looks.{IsFreeOf}
+use Rattle.closing.specs.Prelude.{IsFreeOf, sets}
 use Rattle.slices.proofs.Public.{each_member}
 use Rattle.closing.proofs.MemberLemmas.{any_free}
 use Rattle.closing.proofs.exact.each.found_in.Goals as goal

@@ -1,7 +1,5 @@
 use Rattle.std.proofs.Common.{ℕ, ◌<◌, get_or}
-use Rattle.cluster.specs.declared.ids.VmId.{VmId}
-use Rattle.domains.specs.Sets.{sets}
-use Rattle.closing.specs.Looks.{IsFreeOf}
+use Rattle.closing.specs.Prelude.{IsFreeOf, sets, VmId}
 use Rattle.closing.proofs.exact.each.found_in.Given as goal
 
 abbrev pub invariant-loop-i : goal.invariant-loop-i

@@ -1,8 +1,5 @@
 use Rattle.std.proofs.Common.{arith}
-use Rattle.slices.specs.Elements.{vm}
-use Rattle.domains.specs.Sets.{sets}
-use Rattle.closing.specs.Parts.{FailAtEnds}
-use Rattle.closing.specs.Stands.{IsGroupWith}
+use Rattle.closing.specs.Prelude.{FailAtEnds, IsGroupWith, sets, vm}
 use Rattle.slices.proofs.Public.{each_member}
 use Rattle.closing.proofs.exact.groups.member_with.Goals as goal
 

@@ -1,9 +1,5 @@
 use Rattle.std.proofs.Common.{ℕ, ◌<◌, get_or}
-use Rattle.cluster.specs.declared.ids.VmId.{VmId}
-use Rattle.slices.specs.Elements.{vm}
-use Rattle.domains.specs.Sets.{sets}
-use Rattle.closing.specs.Parts.{FailAtEnds}
-use Rattle.closing.specs.Stands.{IsGroupWith}
+use Rattle.closing.specs.Prelude.{FailAtEnds, IsGroupWith, sets, vm, VmId}
 use Rattle.closing.proofs.exact.groups.member_with.Given as goal
 
 abbrev pub invariant-loop-i : goal.invariant-loop-i

@@ -1,6 +1,5 @@
 use Rattle.std.proofs.Common.{refl}
-use Rattle.domains.specs.Sets.{sets}
-use Rattle.relax.specs.Areas.{nodes_of}
+use Rattle.closing.specs.Prelude.{nodes_of, sets}
 use Rattle.closing.proofs.SumLemmas.{fits-free, machine-breaks, node-breaks}
 use Rattle.closing.proofs.exact.loads.found_by_ends.Goals as goal
 

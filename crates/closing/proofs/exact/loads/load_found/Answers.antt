@@ -1,8 +1,5 @@
 use Rattle.std.proofs.Common.{arith}
-use Rattle.domains.specs.Sets.{sets}
-use Rattle.reasons.specs.Reasons.{IsOverload}
-use Rattle.relax.specs.Areas.{nodes_of}
-use Rattle.closing.specs.Looks.{IsFreeOf}
+use Rattle.closing.specs.Prelude.{IsFreeOf, IsOverload, nodes_of, sets}
 use Rattle.closing.proofs.MemberLemmas.{one_more}
 use Rattle.closing.proofs.SumLemmas.{resources-free}
 use Rattle.closing.proofs.exact.loads.load_found.Goals as goal

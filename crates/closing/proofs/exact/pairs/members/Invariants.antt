@@ -1,6 +1,5 @@
 use Rattle.std.proofs.Common.{◌≡◌, ℕ, take}
-use Rattle.catalogue.specs.Faults.{is_member}
-use Rattle.cluster.specs.Sets.{has_machine}
+use Rattle.closing.specs.Prelude.{has_machine, is_member}
 use Rattle.closing.proofs.exact.pairs.members.Given as goal
 
 abbrev pub invariant-loop-v : goal.invariant-loop-v

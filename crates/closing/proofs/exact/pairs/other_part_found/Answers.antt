@@ -1,7 +1,5 @@
 use Rattle.std.proofs.Common.{◌≢◌, [], slice_index_or, subst, sym, arith}
-use Rattle.domains.specs.Sets.{sets}
-use Rattle.closing.specs.Looks.{IsFreeOf}
-use Rattle.closing.specs.Stands.{IsAnyOf, ShareNode}
+use Rattle.closing.specs.Prelude.{IsAnyOf, IsFreeOf, sets, ShareNode}
 use Rattle.closing.proofs.MemberLemmas.{is_part, one_more}
 use Rattle.closing.proofs.PairLemmas.{others_free}
 use Rattle.closing.proofs.exact.pairs.other_part_found.Goals as goal

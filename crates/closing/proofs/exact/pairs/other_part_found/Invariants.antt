@@ -1,7 +1,5 @@
 use Rattle.std.proofs.Common.{◌≢◌, ℕ, ◌<◌, [], slice_index_or}
-use Rattle.domains.specs.Sets.{sets}
-use Rattle.closing.specs.Looks.{IsFreeOf}
-use Rattle.closing.specs.Stands.{IsAnyOf, ShareNode}
+use Rattle.closing.specs.Prelude.{IsAnyOf, IsFreeOf, sets, ShareNode}
 use Rattle.closing.proofs.exact.pairs.other_part_found.Given as goal
 
 abbrev pub invariant-loop-j : goal.invariant-loop-j

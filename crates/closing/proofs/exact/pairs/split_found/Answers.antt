@@ -1,8 +1,5 @@
 use Rattle.std.proofs.Common.{[], slice_index_or, subst, arith}
-use Rattle.domains.specs.Sets.{sets}
-use Rattle.reasons.specs.Sure.{sure}
-use Rattle.closing.specs.Looks.{IsFreeOf, IsMetWith}
-use Rattle.closing.specs.Stands.{IsAnyOf, MeetsOtherPart}
+use Rattle.closing.specs.Prelude.{IsAnyOf, IsFreeOf, IsMetWith, MeetsOtherPart, sets, sure}
 use Rattle.closing.proofs.ApartLemmas.{split_free}
 use Rattle.closing.proofs.MemberLemmas.{is_part, one_more}
 use Rattle.closing.proofs.PairLemmas.{parts_free, parts_met}

@@ -1,7 +1,5 @@
 use Rattle.std.proofs.Common.{ℕ, ◌<◌, [], slice_index_or}
-use Rattle.domains.specs.Sets.{sets}
-use Rattle.closing.specs.Looks.{IsFreeOf}
-use Rattle.closing.specs.Stands.{IsAnyOf, MeetsOtherPart}
+use Rattle.closing.specs.Prelude.{IsAnyOf, IsFreeOf, MeetsOtherPart, sets}
 use Rattle.closing.proofs.exact.pairs.split_found.Given as goal
 
 abbrev pub invariant-loop-i : goal.invariant-loop-i

@@ -1,8 +1,5 @@
 use Rattle.std.proofs.Common.{◌≡◌, ℕ, ◌<◌, false}
-use Rattle.cluster.specs.Sets.{has_machine}
-use Rattle.domains.specs.Sets.{sets}
-use Rattle.closing.specs.Looks.{IsFreeOf}
-use Rattle.closing.specs.Stands.{ShareNode}
+use Rattle.closing.specs.Prelude.{has_machine, IsFreeOf, sets, ShareNode}
 use Rattle.closing.proofs.exact.pairs.stranger_found.Given as goal
 
 abbrev pub invariant-loop-i : goal.invariant-loop-i

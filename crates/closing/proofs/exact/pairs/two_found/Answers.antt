@@ -1,6 +1,5 @@
 use Rattle.std.proofs.Common.{refl}
-use Rattle.domains.specs.Sets.{sets}
-use Rattle.closing.specs.Stands.{has_node_of}
+use Rattle.closing.specs.Prelude.{has_node_of, sets}
 use Rattle.closing.proofs.SettingLemmas.{first_met, second_met, shared_free}
 use Rattle.closing.proofs.exact.pairs.two_found.Goals as goal
 

@@ -1,6 +1,5 @@
 use Rattle.std.proofs.Common.{ℕ, ◌<◌}
-use Rattle.slices.specs.Forms.{places_seen}
-use Rattle.slices.specs.Holds.{IsOffLimits}
+use Rattle.closing.specs.Prelude.{IsOffLimits, places_seen}
 use Rattle.closing.proofs.exact.places.forbids_any.Given as goal
 
 abbrev pub invariant-loop-i : goal.invariant-loop-i

@@ -1,7 +1,5 @@
-use Rattle.std.proofs.Common.{refl, sym, ◌∙◌}
-use Rattle.std.proofs.lemmas.Bool.{false≢true}
-use Rattle.slices.specs.Forms.{places_seen}
-use Rattle.domains.specs.Sets.{sets}
+use Rattle.base.proofs.Public.{refl, sym, ◌∙◌, false≢true}
+use Rattle.closing.specs.Prelude.{places_seen, sets}
 use Rattle.closing.proofs.SettingLemmas.{placed_free, placed_met}
 use Rattle.closing.proofs.exact.places.member_found.Goals as goal
 

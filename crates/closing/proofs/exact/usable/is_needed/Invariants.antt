@@ -1,7 +1,5 @@
 use Rattle.std.proofs.Common.{◌≡◌, ℕ, ◌<◌, false}
-use Rattle.slices.specs.Snapshots.{stands_on}
-use Rattle.domains.specs.Sets.{sets}
-use Rattle.reasons.specs.Sure.{sure}
+use Rattle.closing.specs.Prelude.{sets, stands_on, sure}
 use Rattle.closing.proofs.exact.usable.is_needed.Given as goal
 
 abbrev pub invariant-loop-i : goal.invariant-loop-i

@@ -1,5 +1,4 @@
-use Rattle.domains.specs.Sets.{sets}
-use Rattle.closing.specs.Parts.{NoneAmong}
+use Rattle.closing.specs.Prelude.{NoneAmong, sets}
 use Rattle.closing.proofs.exact.usable.machine_among.Given as goal
 
 abbrev pub invariant-loop-i : goal.invariant-loop-i

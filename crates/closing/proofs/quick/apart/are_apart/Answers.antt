@@ -1,7 +1,5 @@
 use Rattle.std.proofs.Common.{◌≢◌, ℕ, arith}
-use Rattle.slices.specs.Holds.{IsMember}
-use Rattle.domains.specs.Sets.{sets}
-use Rattle.closing.specs.Stands.{StaysClear}
+use Rattle.closing.specs.Prelude.{IsMember, sets, StaysClear}
 use Rattle.slices.proofs.Public.{each_member, each_more}
 use Rattle.closing.proofs.quick.apart.are_apart.Goals as goal
 

@@ -1,8 +1,5 @@
 use Rattle.std.proofs.Common.{◌≢◌, ℕ, ◌<◌, get_or}
-use Rattle.cluster.specs.declared.ids.VmId.{VmId}
-use Rattle.slices.specs.Holds.{IsMember}
-use Rattle.domains.specs.Sets.{sets}
-use Rattle.closing.specs.Stands.{StaysClear}
+use Rattle.closing.specs.Prelude.{IsMember, sets, StaysClear, VmId}
 use Rattle.closing.proofs.quick.apart.are_apart.Given as goal
 
 abbrev pub invariant-loop-i : goal.invariant-loop-i

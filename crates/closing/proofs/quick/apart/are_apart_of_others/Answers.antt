@@ -1,6 +1,5 @@
 use Rattle.std.proofs.Common.{◌≢◌, [], slice_index_or, subst, sym}
-use Rattle.domains.specs.Sets.{sets}
-use Rattle.closing.specs.Stands.{AreApart}
+use Rattle.closing.specs.Prelude.{AreApart, sets}
 use Rattle.closing.proofs.MemberLemmas.{is_part, one_more}
 use Rattle.closing.proofs.quick.apart.are_apart_of_others.Goals as goal
 use Rattle.closing.proofs.quick.apart.are_apart_of_others.Goals.{else-j-part-via-then-j-part+else-not-are_apart, else-j-part-via-else-j-part}

@@ -1,6 +1,5 @@
 use Rattle.std.proofs.Common.{◌≢◌, ℕ, ◌<◌, [], slice_index_or}
-use Rattle.domains.specs.Sets.{sets}
-use Rattle.closing.specs.Stands.{AreApart}
+use Rattle.closing.specs.Prelude.{AreApart, sets}
 use Rattle.closing.proofs.quick.apart.are_apart_of_others.Given as goal
 
 abbrev pub invariant-loop-j : goal.invariant-loop-j

@@ -1,6 +1,5 @@
 use Rattle.std.proofs.Common.{◌≢◌, sym, arith}
-use Rattle.domains.specs.Sets.{sets}
-use Rattle.closing.specs.Stands.{StaysClear}
+use Rattle.closing.specs.Prelude.{sets, StaysClear}
 use Rattle.slices.proofs.Public.{each_member, each_more}
 use Rattle.closing.proofs.quick.apart.keeps_clear.Goals as goal
 use Rattle.closing.proofs.quick.apart.keeps_clear.Goals.{else-w-v-via-then-w-v+else-not-stays_clear, else-w-v-via-else-w-v}

@@ -1,7 +1,5 @@
 use Rattle.std.proofs.Common.{◌≢◌, ℕ, ◌<◌, get_or}
-use Rattle.cluster.specs.declared.ids.VmId.{VmId}
-use Rattle.domains.specs.Sets.{sets}
-use Rattle.closing.specs.Stands.{StaysClear}
+use Rattle.closing.specs.Prelude.{sets, StaysClear, VmId}
 use Rattle.closing.proofs.quick.apart.keeps_clear.Given as goal
 
 abbrev pub invariant-loop-i : goal.invariant-loop-i

@@ -1,8 +1,5 @@
-use Rattle.std.proofs.Common.{ap, sym, ◌∙◌}
-use Rattle.std.proofs.lemmas.Bool.{false≢true}
-use Rattle.slices.specs.Elements.{vm}
-use Rattle.domains.specs.Choices.{choices}
-use Rattle.domains.specs.Sets.{sets}
+use Rattle.base.proofs.Public.{ap, sym, ◌∙◌, false≢true}
+use Rattle.closing.specs.Prelude.{choices, sets, vm}
 use Rattle.reasons.proofs.Public.{some_end}
 use Rattle.closing.proofs.ApartLemmas.{clear_by}
 use Rattle.closing.proofs.quick.apart.stays_clear.Goals as goal

@@ -1,6 +1,5 @@
 use Rattle.std.proofs.Common.{◌∙◌, ap, sym}
-use Rattle.slices.specs.Forms.{form_seen}
-use Rattle.domains.specs.Sets.{sets}
+use Rattle.closing.specs.Prelude.{form_seen, sets}
 use Rattle.closing.proofs.EverLemmas.{bounded_unbroken}
 use Rattle.closing.proofs.quick.ever.is_never_broken.Goals as goal
 

@@ -1,5 +1,4 @@
-use Rattle.domains.specs.Sets.{sets}
-use Rattle.relax.specs.Areas.{nodes_of}
+use Rattle.closing.specs.Prelude.{nodes_of, sets}
 use Rattle.closing.proofs.SteadyLemmas.{steady_fits}
 use Rattle.closing.proofs.quick.steady.fits.Goals as goal
 

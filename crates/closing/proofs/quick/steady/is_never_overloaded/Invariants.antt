@@ -1,8 +1,5 @@
 use Rattle.std.proofs.Common.{ℕ, ◌<◌}
-use Rattle.domains.specs.Sets.{sets}
-use Rattle.reasons.specs.Reasons.{IsOverload}
-use Rattle.relax.specs.Areas.{nodes_of}
-use Rattle.closing.specs.Looks.{IsFreeOf}
+use Rattle.closing.specs.Prelude.{IsFreeOf, IsOverload, nodes_of, sets}
 use Rattle.closing.proofs.quick.steady.is_never_overloaded.Given as goal
 
 abbrev pub invariant-loop-r : goal.invariant-loop-r

@@ -1,8 +1,5 @@
 use Rattle.std.proofs.Common.{◌*◌, ◌≤◌}
-use Rattle.catalogue.specs.Limits.{max_capacity}
-use Rattle.domains.specs.Sets.{sets}
-use Rattle.relax.specs.Areas.{nodes_of}
-use Rattle.closing.specs.Most.{HasSteadyRoom}
+use Rattle.closing.specs.Prelude.{HasSteadyRoom, max_capacity, nodes_of, sets}
 use Rattle.closing.proofs.quick.steady.steady_room.Given as goal
 
 abbrev pub invariant-loop-i : goal.invariant-loop-i

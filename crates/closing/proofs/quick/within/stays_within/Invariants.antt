@@ -1,8 +1,5 @@
 use Rattle.std.proofs.Common.{◌+◌, ◌*◌, ◌≤◌}
-use Rattle.cluster.specs.Limits.{max_amount}
-use Rattle.domains.specs.Sets.{sets}
-use Rattle.relax.specs.Areas.{nodes_of}
-use Rattle.closing.specs.Most.{AreWithin}
+use Rattle.closing.specs.Prelude.{AreWithin, max_amount, nodes_of, sets}
 use Rattle.closing.proofs.quick.within.stays_within.Given as goal
 
 abbrev pub invariant-loop-i : goal.invariant-loop-i

@@ -1,8 +1,5 @@
 use Rattle.std.proofs.Common.{ap, slice_set, subst, sym, ℕ}
-use Rattle.domains.specs.Choices.{choices}
-use Rattle.domains.specs.Sets.{sets}
-use Rattle.profiles.specs.Levels.{Levels}
-use Rattle.profiles.specs.Firsts.{AreFirsts, IsNoLater}
+use Rattle.profiles.specs.Prelude.{AreFirsts, choices, IsNoLater, Levels, sets}
 use Rattle.profiles.proofs.FirstLemmas.{firsts_put}
 use Rattle.profiles.proofs.firsts.Firsts.put.Goals as goal
 

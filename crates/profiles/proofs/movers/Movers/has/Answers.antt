@@ -1,5 +1,4 @@
-use Rattle.std.proofs.Common.{◌≡◌, ◌<◌, false, get_or, length, ◌∙◌, arith}
-use Rattle.std.proofs.lemmas.List.{get_or_default}
+use Rattle.base.proofs.Public.{◌≡◌, ◌<◌, false, get_or, length, ◌∙◌, arith, get_or_default}
 use Rattle.profiles.proofs.FlagLemmas.{flag_tells, past_tells}
 use Rattle.profiles.proofs.movers.Movers.has.Goals as goal
 

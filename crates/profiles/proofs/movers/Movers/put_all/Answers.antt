@@ -1,6 +1,5 @@
 use Rattle.std.proofs.Common.{rules, ◌≤◌, arith}
-use Rattle.slices.specs.Elements.{machine_count}
-use Rattle.domains.specs.Sets.{sets}
+use Rattle.profiles.specs.Prelude.{machine_count, sets}
 use Rattle.profiles.proofs.MoverLemmas.{all_told}
 use Rattle.profiles.proofs.movers.Movers.put_all.Goals as goal
 

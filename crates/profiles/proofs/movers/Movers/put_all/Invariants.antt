@@ -1,7 +1,5 @@
 use Rattle.std.proofs.Common.{ℕ, ◌<◌}
-use Rattle.domains.specs.Sets.{sets}
-use Rattle.profiles.specs.Near.{AreMachines}
-use Rattle.profiles.specs.Movers.{IsListedOrStays}
+use Rattle.profiles.specs.Prelude.{AreMachines, IsListedOrStays, sets}
 use Rattle.profiles.proofs.movers.Movers.put_all.Given as goal
 
 abbrev pub invariant-loop-i : goal.invariant-loop-i

@@ -1,7 +1,5 @@
 use Rattle.std.proofs.Common.{◌≡◌, ◌*◌, ◌≤◌, slice_index_or}
-use Rattle.base.specs.Sums.{sum_to}
-use Rattle.profiles.specs.Standing.Tables.{no_standing}
-use Rattle.profiles.specs.NodeLoad.{no_share, share_use}
+use Rattle.profiles.specs.Prelude.{no_share, no_standing, share_use, sum_to}
 use Rattle.profiles.proofs.node_load.share.total_use.Given as goal
 
 abbrev pub invariant-loop-i : goal.invariant-loop-i

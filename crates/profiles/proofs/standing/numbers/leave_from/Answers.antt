@@ -1,8 +1,5 @@
 use Rattle.std.proofs.Common.{ℕ, max, ap, ◌∙◌}
-use Rattle.cluster.specs.declared.choices.Choice.{Choice}
-use Rattle.base.specs.Least.{lowest}
-use Rattle.domains.specs.Choices.{choices}
-use Rattle.profiles.specs.Standing.Standings.{leave_of}
+use Rattle.profiles.specs.Prelude.{Choice, choices, leave_of, lowest}
 use Rattle.profiles.proofs.StandingLemmas.Changes.{least_from}
 use Rattle.profiles.proofs.StandingLemmas.Rows.{all_stay}
 use Rattle.profiles.proofs.standing.numbers.leave_from.Goals as goal

@@ -1,7 +1,5 @@
-use Rattle.domains.specs.Choices.{choices}
-use Rattle.domains.specs.Laws.{AreFewer}
-use Rattle.domains.specs.Undo.{domain_before}
 use Rattle.std.proofs.Common.{subst}
+use Rattle.profiles.specs.Prelude.{AreFewer, choices, domain_before}
 use Rattle.profiles.proofs.standing.numbers.standing_after.Goals as goal
 
 pub leave_after-leave-requires-clause-fewer : goal.leave_after-leave-requires-clause-fewer

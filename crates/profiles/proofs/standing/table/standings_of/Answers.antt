@@ -1,7 +1,5 @@
 use Rattle.std.proofs.Common.{subst}
-use Rattle.domains.specs.Choices.{choices}
-use Rattle.domains.specs.Sets.{sets}
-use Rattle.profiles.specs.Standing.Standings.{IsStanding}
+use Rattle.profiles.specs.Prelude.{choices, IsStanding, sets}
 use Rattle.profiles.proofs.StandingLemmas.Tables.{first_push}
 use Rattle.profiles.proofs.standing.table.standings_of.Goals as goal
 

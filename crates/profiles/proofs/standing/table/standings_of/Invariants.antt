@@ -1,5 +1,4 @@
-use Rattle.domains.specs.Sets.{sets}
-use Rattle.profiles.specs.Standing.Tables.{AreStandingUpTo}
+use Rattle.profiles.specs.Prelude.{AreStandingUpTo, sets}
 use Rattle.profiles.proofs.standing.table.standings_of.Given as goal
 
 abbrev pub invariant-loop-i : goal.invariant-loop-i

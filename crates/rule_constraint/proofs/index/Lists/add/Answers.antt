@@ -1,7 +1,5 @@
 use Rattle.std.proofs.Common.{◌≡◌, ◌⊎◌, ◌∙◌, inl, inr, refl, sym, ap}
-use Rattle.slices.specs.Forms.{Apart, Between, Each, Ordered, Powered, form_of, form_seen}
-use Rattle.slices.specs.Holds.{IsInPart, IsMember}
-use Rattle.closing.specs.Kinds.{scope_of}
+use Rattle.rule_constraint.specs.Prelude.{Apart, Between, Each, form_of, form_seen, IsInPart, IsMember, Ordered, Powered, scope_of}
 use Rattle.rule_constraint.proofs.AddLemmas.{LooksAtMachines, actions_look, added_machines, added_nodes, presences_look}
 use Rattle.rule_constraint.proofs.IndexLemmas.{put_then}
 use Rattle.rule_constraint.proofs.index.Lists.add.Goals as goal

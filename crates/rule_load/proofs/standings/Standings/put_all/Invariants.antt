@@ -1,7 +1,5 @@
 use Rattle.std.proofs.Common.{◌≡◌, ℕ, ◌<◌, slice_index_or}
-use Rattle.profiles.specs.Near.{IsNear}
-use Rattle.profiles.specs.Standing.Tables.{no_standing}
-use Rattle.rule_load.specs.Kept.{IsListedBy}
+use Rattle.rule_load.specs.Prelude.{IsListedBy, IsNear, no_standing}
 use Rattle.rule_load.proofs.standings.Standings.put_all.Given as goal
 
 abbrev pub invariant-loop-i : goal.invariant-loop-i

@@ -1,13 +1,8 @@
-use Rattle.std.proofs.Common.{subst, refl}
-use Rattle.std.specs.List.{Contains}
-use Rattle.domains.specs.Choices.{choices}
-use Rattle.domains.specs.Parts.{on_side}
-use Rattle.slices.specs.Elements.{machine_count}
-use Rattle.domains.specs.Sets.{domain_at, sets}
-use Rattle.domains.specs.Undo.{domain_before}
+use Rattle.base.proofs.Public.{subst, refl, Contains}
+use Rattle.rule_load.specs.Prelude.{choices, domain_at, domain_before, machine_count, on_side, sets}
+use Rattle.domains.specs.SetsBefore.{sets_before}
 use Rattle.domains.proofs.Public.{filter_is_fewer}
 use Rattle.profiles.proofs.Public.{movers_told}
-use Rattle.domains.specs.SetsBefore.{sets_before}
 use Rattle.rule_load.proofs.KeptLemmas.{cache_told, come_told, kept_fewer}
 use Rattle.rule_load.proofs.standings.StandingsKeeper.told.Goals as goal
 

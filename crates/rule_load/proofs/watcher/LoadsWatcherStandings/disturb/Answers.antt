@@ -1,9 +1,5 @@
-use Rattle.std.proofs.Common.{subst}
-use Rattle.std.specs.List.{Contains}
-use Rattle.domains.specs.Choices.{choices}
-use Rattle.domains.specs.Parts.{on_side}
-use Rattle.domains.specs.Sets.{domain_at}
-use Rattle.domains.specs.Undo.{domain_before}
+use Rattle.base.proofs.Public.{subst, Contains}
+use Rattle.rule_load.specs.Prelude.{choices, domain_at, domain_before, on_side}
 use Rattle.domains.proofs.Public.{filter_is_fewer}
 use Rattle.rule_load.proofs.watcher.LoadsWatcherStandings.disturb.Goals as goal
 

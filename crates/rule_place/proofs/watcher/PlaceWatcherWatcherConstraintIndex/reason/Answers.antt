@@ -1,5 +1,4 @@
-use Rattle.domains.specs.Views.{seen}
-use Rattle.reasons.specs.Sure.{sure}
+use Rattle.rule_place.specs.Prelude.{seen, sure}
 use Rattle.rule_place.proofs.WatchLemmas.{early_broken, node_broken}
 use Rattle.rule_place.proofs.watcher.PlaceWatcherWatcherConstraintIndex.reason.Goals as goal
 

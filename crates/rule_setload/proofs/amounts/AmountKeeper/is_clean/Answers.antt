@@ -1,6 +1,4 @@
-use Rattle.std.proofs.Common.{refl, length, ◌≡◌, Some, sym, ◌∙◌}
-use Rattle.std.specs.Prelude.{slice_get}
-use Rattle.std.proofs.lemmas.Option.{slice_get_read}
+use Rattle.base.proofs.Public.{refl, length, ◌≡◌, Some, sym, ◌∙◌, slice_get, slice_get_read}
 use Rattle.domains.specs.Sets.{sets}
 use Rattle.rule_setload.proofs.BoundLemmas.{bound_clean}
 use Rattle.rule_setload.proofs.amounts.AmountKeeper.is_clean.Goals as goal

@@ -1,8 +1,5 @@
 use Rattle.std.proofs.Common.{subst}
-use Rattle.domains.specs.Choices.{choices}
-use Rattle.domains.specs.Laws.{AreFewer}
-use Rattle.domains.specs.Sets.{domain_at, sets}
-use Rattle.domains.specs.Undo.{domain_before}
+use Rattle.profiles.specs.Prelude.{AreFewer, choices, domain_at, domain_before, sets}
 use Rattle.profiles.proofs.standing.table.Table.told.Goals as goal
 
 pub told_machine-requires-clause-fewer : goal.told_machine-requires-clause-fewer

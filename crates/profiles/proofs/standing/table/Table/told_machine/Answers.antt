@@ -1,7 +1,5 @@
 use Rattle.std.proofs.Common.{sym, subst}
-use Rattle.domains.specs.Choices.{choices}
-use Rattle.domains.specs.Laws.{AreFewer}
-use Rattle.domains.specs.Undo.{domain_before}
+use Rattle.profiles.specs.Prelude.{AreFewer, choices, domain_before}
 use Rattle.profiles.proofs.standing.table.Table.told_machine.Goals as goal
 
 pub standing_after-k-requires-clause-fewer : goal.standing_after-k-requires-clause-fewer

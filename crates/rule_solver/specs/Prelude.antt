@@ -1,0 +1,9 @@
+-- What is cited together of this crate and of those below it, passed on from one place. Declares nothing.
+pub use Rattle.prop_core.specs.Prelude.{is_covered, IsStandard}
+pub use Rattle.commands.specs.Prelude.{CountsWrites, Covered, IsCertificateCut, IsCertified, IsToStay, IsTrueOf, MayStay, Meaning, OthersStay}
+pub use Rattle.reasons.specs.declared.reason.ReasonKind.{ReasonKind}
+pub use Rattle.rule_load.specs.Watched.{is_load}
+pub use Rattle.rule_group.specs.Covers.{group_kinds}
+pub use Rattle.rule_pair.specs.Covers.{pair_kinds}
+pub use Rattle.rule_place.specs.Covers.{forbidden_kinds, place_kinds}
+pub use Rattle.rule_setload.specs.Covers.{set_kinds}
