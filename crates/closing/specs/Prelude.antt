@@ -37,9 +37,9 @@ pub use Rattle.closing.specs.Parts.{AreRowsPast, FailAtEnds, FailAtRows, IsAbove
 pub use Rattle.closing.specs.Stands.{AreApart, has_node_of, is_node, IsAnyOf, IsGroupWith, IsMisplaced, IsOn, IsPlacedBadly, IsWithin, MeetsOtherPart, MeetsStranger, ShareNode, StaysClear}
 pub use Rattle.closing.specs.Turns.{AreListed, Suffice, turning}
 pub use Rattle.closing.specs.Watches.{is_among, IsLocal, IsPartWithin, IsUnseen, only_of, Scope, SeesOnly, Watch}
-pub use Rattle.closing.specs.declared.base.stands.Stands.{Stands}
-pub use Rattle.closing.specs.declared.base.stands.Stands.TheVariants.{On}
-pub use Rattle.closing.specs.declared.base.turns.Turns.{Turns}
-pub use Rattle.closing.specs.declared.base.turns.Turns.TheVariants.{Of, OfAll}
+pub use Rattle.closing.specs.declared.shared.stands.Stands.{Stands}
+pub use Rattle.closing.specs.declared.shared.stands.Stands.TheVariants.{On}
+pub use Rattle.closing.specs.declared.shared.turns.Turns.{Turns}
+pub use Rattle.closing.specs.declared.shared.turns.Turns.TheVariants.{Of, OfAll}
 pub use Rattle.closing.specs.declared.look.Look.{Look}
 pub use Rattle.closing.specs.declared.look.Look.TheVariants.{Clean, Cut, Fail}

@@ -6,8 +6,8 @@ use Rattle.cluster.specs.declared.ids.NodeId.{NodeId}
 use Rattle.cluster.specs.declared.ids.VmId.{VmId}
 use Rattle.catalogue.specs.declared.constraint.Constraint.{Constraint}
 use Rattle.closing.specs.Parts.{FailAtEnds}
-use Rattle.closing.specs.declared.base.stands.Stands.{Stands}
-use Rattle.closing.specs.declared.base.stands.Stands.TheVariants.{Everywhere, On}
+use Rattle.closing.specs.declared.shared.stands.Stands.{Stands}
+use Rattle.closing.specs.declared.shared.stands.Stands.TheVariants.{Everywhere, On}
 
 abbrev pub is_node : Option NodeId → ℕ → Bool
 is_node None n = false

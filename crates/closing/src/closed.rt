@@ -2,8 +2,8 @@
 ghost use Rattle.std.specs.Prelude.{◌≡◌, ◌≢◌, ◌↔◌, ℕ, ◌+◌, ◌<◌, ◌≤◌, [], false, IsTrue, length};
 ghost use Rattle.closing.specs.Prelude.{AreClean, constraint_watch, HasElement, HaveChoices, IsClean, IsClosed, IsElement, IsSized, load_watch, machine_count, node, node_count, sets, total_load_watch, usable_watch, vm};
 
-use crate::base::counts::{machines_of, nodes_of};
 use crate::look::Look;
+use crate::shared::counts::{machines_of, nodes_of};
 use crate::watch::{look_at_constraint, look_at_load, look_at_total_load, look_at_usable};
 use catalogue::Problem;
 use cluster::{Element, NodeId, VmId};

@@ -6,13 +6,13 @@ ghost use Rattle.closing.specs.Looks.{IsFound, IsLook, broken_at};
 ghost use Rattle.closing.specs.Turns.{AreListed, Suffice};
 ghost use Rattle.closing.specs.Watches.{IsLocal, Watch};
 
-use crate::base::turns::{Turns, next_turn};
 use crate::exact::constraint::{constraint_found, turns_of};
 use crate::exact::loads::load_found;
 use crate::exact::usable::usable_found;
 use crate::look::Look;
 use crate::quick::ever::is_never_broken;
 use crate::quick::steady::{is_never_overloaded, stays_usable};
+use crate::shared::turns::{Turns, next_turn};
 use catalogue::Problem;
 use cluster::{Instant, NodeId};
 use domains::Region;

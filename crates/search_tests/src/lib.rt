@@ -1,5 +1,11 @@
-//! Tests of the search, on small problems that were worked out by hand.
+//! Tests of the rules, of branchers and searches, and of the verdict on certificates.
 #![tactic(auto)]
 
 #[cfg(test)]
-mod tests;
+mod branchers;
+#[cfg(test)]
+mod rules;
+#[cfg(test)]
+mod searches;
+#[cfg(test)]
+mod verdicts;

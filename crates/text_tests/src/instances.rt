@@ -1,5 +1,7 @@
 //! Texts of instances, with the line that each gives.
 
+use cluster::Instant;
+use fixtures::problem;
 use instance_json::read_instance;
 use std::alloc::Global;
 use std::test::Fail;
@@ -340,18 +342,20 @@ fn whole_texts(rt: HostRuntime) -> Result<(), Fail> {
     Ok(())
 }
 
-#[test]
-fn what_is_read(rt: HostRuntime) -> Result<(), Fail> {
-    let Ok(problem) = read_instance(rt.alloc(), GOOD.as_bytes()) else {
-        return Err("a fault".into());
-    };
-    let cluster = problem.cluster();
+/// The horizon, and how many nodes, machines and constraints are read.
+fn counts(alloc: Global) -> Result<(Instant, [usize; 3]), Fail> {
+    let p = problem(alloc, GOOD)?;
+    let cluster = p.cluster();
     let counts = [
         cluster.nodes().len(),
         cluster.machines().len(),
-        problem.constraints().len(),
+        p.constraints().len(),
     ];
-    assert_eq!(rt; problem.horizon(), 9);
-    assert_eq!(rt; counts, [3, 3, 1]);
+    Ok((p.horizon(), counts))
+}
+
+#[test]
+fn what_is_read(rt: HostRuntime) -> Result<(), Fail> {
+    assert_eq!(rt; counts(rt.alloc())?, (9, [3, 3, 1]));
     Ok(())
 }

@@ -1,6 +1,7 @@
 //! Texts of problems that are printed as they were read, and some places of generated ones.
 
-use instance_json::read_instance;
+use catalogue::Problem;
+use fixtures::problem;
 use instance_make::{generate, print_instance};
 use std::alloc::Global;
 use std::test::Fail;
@@ -12,12 +13,16 @@ const WHOLE: [&str; 2] = [
     r#"{"constraints":[],"durations":{"allocate":{"base":1},"boot":{"base":1},"forge":{"base":1},"kill":{"base":1},"migrate":{"base":1},"node_boot":{"base":1},"node_shutdown":{"base":1},"resume":{"base":1},"shutdown":{"base":1},"suspend":{"base":1}},"horizon":0,"machines":[],"nodes":[],"resources":[]}"#,
 ];
 
-/// What a text's problem is printed as, or the text's first fault.
+/// The text of a problem.
+fn text_of(alloc: Global, p: &Problem) -> Result<String, Fail> {
+    let bytes = print_instance(alloc, p)?;
+    Ok(String::from_utf8(bytes)?)
+}
+
+/// What a text's problem is printed as.
 fn printed(alloc: Global, text: &str) -> Result<String, Fail> {
-    match read_instance(alloc, text.as_bytes()) {
-        Ok(problem) => Ok(String::from_utf8(print_instance(alloc, &problem)?)?),
-        Err(fault) => Ok(fault.text(alloc)?),
-    }
+    let p = problem(alloc, text)?;
+    text_of(alloc, &p)
 }
 
 #[test]
@@ -32,8 +37,8 @@ fn printed_as_read(rt: HostRuntime) -> Result<(), Fail> {
 
 /// The text of a generated problem.
 fn generated(alloc: Global, seed: u64) -> Result<String, Fail> {
-    let bytes = print_instance(alloc, &generate(alloc, seed)?)?;
-    Ok(String::from_utf8(bytes)?)
+    let p = generate(alloc, seed)?;
+    text_of(alloc, &p)
 }
 
 /// What stands in the text of a generated problem, by its seed.

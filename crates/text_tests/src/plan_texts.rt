@@ -1,62 +1,18 @@
 //! Texts of plans for one small problem, with the line that each gives.
-use base::Memory;
-use catalogue::{Constraint, Problem, Vms};
-use cluster::{Cluster, Duration, Machine, Name, Node, NodeId, State, VmId};
+
+use catalogue::Problem;
+use fixtures::problem;
 use plan_json::{print_plan, read_plan};
 use std::alloc::Global;
 use std::test::Fail;
 
-fn node(alloc: Global, name: &[u8]) -> Result<Node, Fail> {
-    Ok(Node {
-        name: Name::new(alloc, name)?,
-        online: true,
-        capacity: [0; 8],
-        own: [None; 10],
-    })
-}
+/// Two nodes; v0 runs on n0, and v1 is ready, and has to run at the end, which is 20.
+const INSTANCE: &str = r#"{"horizon":20,"resources":[],"nodes":[{"name":"n0"},{"name":"n1"}],
+"machines":[{"name":"v0","state":"running","node":"n0"},{"name":"v1","state":"ready"}],
+"constraints":[{"kind":"running","machines":["v1"]}]}"#;
 
-fn machine(alloc: Global, name: &[u8], state: State) -> Result<Machine, Fail> {
-    Ok(Machine {
-        name: Name::new(alloc, name)?,
-        state,
-        usage: [0; 8],
-        own: [None; 10],
-    })
-}
-
-/// Two nodes; v0 runs on n0, and v1 is ready.
-fn cluster(alloc: Global) -> Result<Cluster, Fail> {
-    let one = Duration {
-        base: 1,
-        per: 0,
-        resource: None,
-    };
-    let mut cluster = Cluster::new(alloc, Vec::new(alloc), [one; 10])?;
-    add_elements(alloc, &mut cluster)?;
-    Ok(cluster)
-}
-
-fn add_elements(alloc: Global, cluster: &mut Cluster) -> Result<(), Fail> {
-    cluster.add_node(node(alloc, b"n0")?)?;
-    cluster.add_node(node(alloc, b"n1")?)?;
-    cluster.add_machine(machine(alloc, b"v0", State::Running(NodeId(0)))?)?;
-    cluster.add_machine(machine(alloc, b"v1", State::Ready)?)?;
-    Ok(())
-}
-
-/// v1 has to run at the end, which is 20.
-fn problem(alloc: Global) -> Result<Problem, Fail> {
-    let mut p = Problem::new(alloc, cluster(alloc)?, 20);
-    let mut list = Vec::new(alloc);
-    list.push(VmId(1))?;
-    p.add(Constraint::Running {
-        machines: Vms::new(list),
-    })?;
-    Ok(p)
-}
-
-/// What a text gives: the plan printed again, or its first fault.
-fn line(alloc: Global, p: &Problem, text: &str) -> Result<String, Fail> {
+/// What a text gives for a problem: the plan printed again, or its first fault.
+fn line_of(alloc: Global, p: &Problem, text: &str) -> Result<String, Fail> {
     match read_plan(alloc, p, text.as_bytes()) {
         Ok(plan) => {
             let bytes = print_plan(alloc, p, plan.as_ref())?;
@@ -64,6 +20,11 @@ fn line(alloc: Global, p: &Problem, text: &str) -> Result<String, Fail> {
         }
         Err(fault) => Ok(fault.text(alloc, p)?),
     }
+}
+
+fn line(alloc: Global, text: &str) -> Result<String, Fail> {
+    let p = problem(alloc, INSTANCE)?;
+    line_of(alloc, &p, text)
 }
 
 const WHOLE: &str = r#"nul => not json
@@ -106,17 +67,16 @@ const SECOND: &str = r#"{"element":"v1","kind":"kill","start":0,"z":0} => action
 {"element":"v0","kind":"kill","start":0} => actions[1] not legal"#;
 
 /// Whether a row `MIDDLE => LINE` holds: the text of these three parts gives that line.
-fn holds(alloc: Global, p: &Problem, front: &str, row: &str, end: &str) -> Result<bool, Fail> {
+fn holds(alloc: Global, front: &str, row: &str, end: &str) -> Result<bool, Fail> {
     let Some((middle, want)) = row.split_once(" => ") else {
         return Ok(false);
     };
     let text = format!(in alloc; "{front}{middle}{end}")?;
-    Ok(line(alloc, p, text.as_str())?.as_str() == want)
+    Ok(line(alloc, text.as_str())?.as_str() == want)
 }
 
 #[test]
 fn faults(rt: HostRuntime) -> Result<(), Fail> {
-    let p = problem(rt.alloc())?;
     let boot = r#"{"actions":[{"element":"v1","kind":"boot","place":"n1","start":2},"#;
     let tables = [
         ("", WHOLE, ""),
@@ -126,7 +86,7 @@ fn faults(rt: HostRuntime) -> Result<(), Fail> {
     ];
     for (front, table, end) in tables {
         for row in table.lines() {
-            assert!(rt; holds(rt.alloc(), &p, front, row, end)?, "at {row}");
+            assert!(rt; holds(rt.alloc(), front, row, end)?, "at {row}");
         }
     }
     Ok(())
@@ -134,7 +94,6 @@ fn faults(rt: HostRuntime) -> Result<(), Fail> {
 
 #[test]
 fn plans(rt: HostRuntime) -> Result<(), Fail> {
-    let p = problem(rt.alloc())?;
     let cases = [
         ("null", "null\n"),
         (
@@ -151,7 +110,7 @@ fn plans(rt: HostRuntime) -> Result<(), Fail> {
         ),
     ];
     for (text, want) in cases {
-        assert_eq!(rt; line(rt.alloc(), &p, text)?.as_str(), want, "at {text}");
+        assert_eq!(rt; line(rt.alloc(), text)?.as_str(), want, "at {text}");
     }
     Ok(())
 }
@@ -159,7 +118,6 @@ fn plans(rt: HostRuntime) -> Result<(), Fail> {
 /// What the text with so many pieces between front and end gives.
 fn of_many(
     alloc: Global,
-    p: &Problem,
     front: &str,
     piece: &str,
     count: usize,
@@ -167,19 +125,18 @@ fn of_many(
 ) -> Result<String, Fail> {
     let pieces = piece.repeat(alloc, count)?;
     let text = format!(in alloc; "{front}{pieces}{end}")?;
-    line(alloc, p, text.as_str())
+    line(alloc, text.as_str())
 }
 
 #[test]
 fn limits(rt: HostRuntime) -> Result<(), Fail> {
-    let p = problem(rt.alloc())?;
     let cases = [
         ("{\"actions\":[", "0,", 4607, "0]}", "actions[0] wrong kind"),
         ("{\"actions\":[", "0,", 4608, "0]}", "actions out of range"),
         ("", " ", 67_108_865, "", "too long"),
     ];
     for (front, piece, count, end, want) in cases {
-        let got = of_many(rt.alloc(), &p, front, piece, count, end)?;
+        let got = of_many(rt.alloc(), front, piece, count, end)?;
         assert_eq!(rt; got.as_str(), want);
     }
     Ok(())

@@ -4,9 +4,9 @@ ghost use Rattle.relax.specs.Prelude.{held_at, IsElement, IsSized, IsWeight, mac
 ghost use Rattle.cluster.specs.declared.choices.Choice.{Choice as AnyChoice};
 ghost use Rattle.closing.specs.Parts.{HoldsAbove as IsHeldAbove, IsAbove, IsSpared};
 
-use crate::base::counts::machines_of;
-use crate::base::ends::{Test, end_that};
-use crate::base::most::{most_ever, most_of};
+use crate::shared::counts::machines_of;
+use crate::shared::ends::{Test, end_that};
+use crate::shared::most::{most_ever, most_of};
 use catalogue::Problem;
 use cluster::{Choice, Element, Instant, VmId};
 use domains::{Lens, Region, View};

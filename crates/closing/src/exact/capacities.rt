@@ -4,10 +4,10 @@ ghost use Rattle.relax.specs.Prelude.{has_node, IsSized, IsWeight, node, node_co
 ghost use Rattle.closing.specs.Looks.{IsFound};
 ghost use Rattle.closing.specs.Parts.{FailAtEnds, IsEndThat, IsPoweredUnder};
 
-use crate::base::counts::nodes_of;
-use crate::base::ends::{Test, end_that};
 use crate::exact::above::machine_above;
 use crate::look::Look;
+use crate::shared::counts::nodes_of;
+use crate::shared::ends::{Test, end_that};
 use catalogue::Problem;
 use cluster::{Choice, Element, Instant, NodeId, NodeSet};
 use domains::{Lens, Region, View};

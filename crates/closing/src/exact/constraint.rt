@@ -2,12 +2,12 @@
 ghost use Rattle.std.specs.Prelude.{◌≡◌, ◌<◌, length, true};
 ghost use Rattle.closing.specs.Prelude.{are_below, AreListed, broken_at, constraint_watch, HasSeparated, inventory_of, is_rule, IsBroken, IsFound, IsSized, machine_count, scope_of, separated, separation_seen, sets, Suffice};
 
-use crate::base::turns::Turns;
 use crate::exact::capacities::{amount_found, powered_found};
 use crate::exact::groups::group_found;
 use crate::exact::pairs::{lonely_found, split_found, spread_found};
 use crate::exact::places::placed_found;
 use crate::look::Look;
+use crate::shared::turns::Turns;
 use catalogue::{Constraint, Problem};
 use cluster::Instant;
 use domains::Region;

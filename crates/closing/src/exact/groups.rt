@@ -6,8 +6,8 @@ ghost use Rattle.closing.specs.Looks.{IsFound};
 ghost use Rattle.closing.specs.Parts.{FailAtEnds, IsEndThat};
 ghost use Rattle.closing.specs.Stands.{IsGroupWith};
 
-use crate::base::ends::{Test, end_that};
 use crate::look::Look;
+use crate::shared::ends::{Test, end_that};
 use catalogue::{Constraint, Problem};
 use cluster::{Choice, Element, Instant, VmId};
 use domains::{Lens, Region, View};

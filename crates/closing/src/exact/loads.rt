@@ -2,11 +2,11 @@
 ghost use Rattle.std.specs.Prelude.{◌≡◌, ℕ, ◌+◌, ◌<◌, ◌≤◌, ◌^◌, IfNone, IfSome, length};
 ghost use Rattle.closing.specs.Prelude.{IsFound, IsNodeMissed, IsNodeSpared, IsOverload, IsOverloaded, IsSized, load as load_of, node_count, nodes_of, room as room_of, sets, sure};
 
-use crate::base::counts::{nodes_of, resources_of};
-use crate::base::ends::end_that;
 use crate::exact::above::machine_above;
 use crate::exact::usable::NotUsable;
 use crate::look::Look;
+use crate::shared::counts::{nodes_of, resources_of};
+use crate::shared::ends::end_that;
 use catalogue::Problem;
 use cluster::{Choice, Element, Instant, NodeId};
 use domains::{Lens, Region, View};

@@ -5,11 +5,11 @@ ghost use Rattle.relax.specs.Prelude.{has_machine, is_member, IsSized, machine_c
 ghost use Rattle.closing.specs.Looks.{IsFound};
 ghost use Rattle.closing.specs.Stands.{IsAnyOf, MeetsOtherPart, MeetsStranger, ShareNode};
 
-use crate::base::counts::machines_of;
-use crate::base::stands::{are_beside, end_beside, standing};
 use crate::exact::each::{OfMachine, found_in};
 use crate::look::Look;
 use crate::quick::apart::{are_apart, are_parts_apart};
+use crate::shared::counts::machines_of;
+use crate::shared::stands::{are_beside, end_beside, standing};
 use catalogue::{Problem, Vms};
 use cluster::{Element, Instant, MachineSet, VmId};
 use domains::Region;

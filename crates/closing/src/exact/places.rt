@@ -5,11 +5,11 @@ ghost use Rattle.relax.specs.Prelude.{Instance, is_in, IsHeldWithin, IsOffLimits
 ghost use Rattle.closing.specs.Looks.{IsFound};
 ghost use Rattle.closing.specs.Stands.{AreWithin, IsAnyOf, IsMisplaced, IsPlacedBadly, IsWithin, has_node_of, is_node};
 
-use crate::base::counts::nodes_of;
-use crate::base::ends::{Test, end_that};
-use crate::base::stands::{Stands, standing};
 use crate::exact::each::{OfMachine, found_in};
 use crate::look::Look;
+use crate::shared::counts::nodes_of;
+use crate::shared::ends::{Test, end_that};
+use crate::shared::stands::{Stands, standing};
 use catalogue::Problem;
 use cluster::{Choice, Element, Instant, NodeId, VmId};
 use domains::Region;

@@ -5,10 +5,10 @@ ghost use Rattle.closing.specs.Kinds.{IsNeeded};
 ghost use Rattle.closing.specs.Looks.{IsFound};
 ghost use Rattle.closing.specs.Parts.{FailAtEnds, IsEndThat, IsNotUsable, NoneAmong, StandsUnder};
 
-use crate::base::counts::machines_of;
-use crate::base::ends::{Test, end_at, end_that};
-use crate::base::hosts::is_host;
 use crate::look::Look;
+use crate::shared::counts::machines_of;
+use crate::shared::ends::{Test, end_at, end_that};
+use crate::shared::hosts::is_host;
 use catalogue::Problem;
 use cluster::{Choice, Element, Instant, NodeId, Place, VmId};
 use domains::{Lens, Region, View};

@@ -3,7 +3,7 @@ ghost use Rattle.std.specs.Prelude.{◌≡◌, ◌≢◌, ℕ, ◌<◌, nat_lt, 
 ghost use Rattle.std.specs.List.{list_all};
 ghost use Rattle.closing.specs.Prelude.{AreApart, has_node_of, IsMember, IsSized, machine_count, one, sets, StaysClear, sure};
 
-use crate::base::stands::{Stands, end_beside, standing};
+use crate::shared::stands::{Stands, end_beside, standing};
 use catalogue::{Problem, Vms};
 use cluster::{Element, Instant, VmId};
 use domains::Region;

@@ -3,8 +3,8 @@ ghost use Rattle.std.specs.Prelude.{◌≡◌, ℕ, ◌+◌, ◌<◌, ◌≤◌,
 ghost use Rattle.closing.specs.Prelude.{choices, HasSteadyRoom, IsFreeOf, IsNeeded, IsOverload, IsOverloaded, IsSized, max_capacity, max_nodes, node, node_count, nodes_of, sets, StaysUsable};
 ghost use Rattle.cluster.specs.declared.choices.Choice.TheVariants.{Idle};
 
-use crate::base::counts::{nodes_of, resources_of};
 use crate::quick::within::stays_within;
+use crate::shared::counts::{nodes_of, resources_of};
 use catalogue::Problem;
 use cluster::{Choice, Element, NodeId};
 use domains::{Domain, Region};

@@ -2,8 +2,8 @@
 ghost use Rattle.std.specs.Prelude.{◌≡◌, ℕ, ◌+◌, ◌<◌, ◌≤◌, ◌*◌, IsTrue};
 ghost use Rattle.closing.specs.Prelude.{AreWithin, IsMostOf, IsMostSure, IsSized, IsWeight, machine_count, max_amount, max_machines, nodes_of, sets, StaysWithin};
 
-use crate::base::counts::machines_of;
-use crate::base::most::{most_ever, most_of, most_sure};
+use crate::shared::counts::machines_of;
+use crate::shared::most::{most_ever, most_of, most_sure};
 use catalogue::Problem;
 use cluster::VmId;
 use domains::Region;

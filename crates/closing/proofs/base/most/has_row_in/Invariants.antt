@@ -1,6 +1,0 @@
-use Rattle.std.proofs.Common.{◌≡◌, ℕ, ◌<◌, false, slice_index_or}
-use Rattle.closing.specs.Prelude.{Act, goes_in, no_row, nodes_of}
-use Rattle.closing.proofs.base.most.has_row_in.Given as goal
-
-abbrev pub invariant-loop-row : goal.invariant-loop-row
-invariant-loop-row l = (k : ℕ) → k < l.row-index → goes_in (Act (slice_index_or l.rows k no_row).place (slice_index_or l.rows k no_row).lo) (nodes_of l.p.given l.area) ≡ false

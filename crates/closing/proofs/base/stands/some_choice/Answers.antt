@@ -1,6 +1,0 @@
-use Rattle.std.proofs.Common.{arith}
-use Rattle.closing.proofs.EndLemmas.{row_choice_at}
-use Rattle.closing.proofs.base.stands.some_choice.Goals as goal
-
-pub returns-in-len1-up-clause-some : goal.returns-in-len1-up-clause-some
-returns-in-len1-up-clause-some c = row_choice_at c.args.domain.now c.rows.result.now 0 c.rows.ensures.items c.rows.ensures.climbs (omega (arith, c.in-len1-up.len_at_least))

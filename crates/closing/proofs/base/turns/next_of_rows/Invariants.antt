@@ -1,6 +1,0 @@
-use Rattle.std.proofs.Common.{◌<◌, ◌≤◌}
-use Rattle.closing.specs.Parts.{AreRowsPast}
-use Rattle.closing.proofs.base.turns.next_of_rows.Given as goal
-
-abbrev pub invariant-loop-i : goal.invariant-loop-i
-invariant-loop-i l = record { later : l.after < l.next; less : l.next ≤ l.best; past : AreRowsPast l.after l.next l.i l.rows }

@@ -1,0 +1,10 @@
+use Rattle.std.proofs.Common.{sym, ◌∙◌}
+use Rattle.slices.specs.Elements.{node_count}
+use Rattle.closing.proofs.StandLemmas.{first_there, second_there}
+use Rattle.closing.proofs.shared.stands.is_anywhere.Goals as goal
+
+pub returns-then-is_some-clause-yes : goal.returns-then-is_some-clause-yes
+returns-then-is_some-clause-yes c = λ h. first_there (node_count c.args.p.now.given) c.args.stands c.in-On.a c.in-On.b c.in-On.is c.requires.within (sym c.is_some.ensures ∙ h)
+
+pub returns-else-is_some-clause-yes : goal.returns-else-is_some-clause-yes
+returns-else-is_some-clause-yes c = λ h. second_there (node_count c.args.p.now.given) c.args.stands c.in-On.a c.in-On.b c.in-On.is c.requires.within (sym c.is_some-else-is_some.ensures ∙ h)

@@ -1,9 +1,0 @@
-//! Tests of files, streams and JSON texts.
-#![tactic(auto)]
-
-#[cfg(test)]
-mod files;
-#[cfg(test)]
-mod printed;
-#[cfg(test)]
-mod values;
