@@ -1,7 +1,9 @@
 -- A constraint in the lists of all that it looks at.
 use Rattle.std.proofs.Common.{IsTrue}
 use Rattle.base.proofs.Public.{◌≡◌, ◌⊎◌, inl, inr, ℕ, zero, suc, ◌+◌, ◌<◌, ◌≤◌, false, List, [], ◌∷◌, length, Some, None, refl, sym, subst, ◌∙◌, arith, slice_get, slice_index_or, Contains, cases_eq, cases_lt}
-use Rattle.rule_constraint.specs.Prelude.{actions_of, AreLooking, AreMarked, Constraint, constraint_watch, Element, has_node, HasList, Instance, IsAdded, IsElement, IsIndexOf, IsListed, IsMachineUnseen, IsNodeUnseen, IsPut, IsUnseen, Levels, Lists, Node as TheNode, NodeId, NodeSet, nothing, powered_in_set, presences_of, Scope, scope_of, Vm, VmId, watch_of}
+use Rattle.rule_constraint.specs.Prelude.{actions_of, AreLooking, AreMarked, Constraint, constraint_watch, Element, has_node, HasList, Instance, IsAdded, IsElement, IsIndexOf, IsListed, IsPut, IsUnseen, Levels, Lists, Node as TheNode, NodeId, NodeSet, nothing, presences_of, Scope, scope_of, Vm, VmId, watch_of}
+use Rattle.closing.specs.Kinds.{powered_in_set}
+use Rattle.closing.specs.Watches.{IsMachineUnseen, IsNodeUnseen}
 
 -- ---- by where a constraint looks
 

@@ -17,11 +17,8 @@ pub use Rattle.domains.specs.declared.parts.Part.TheVariants.{Upto}
 pub use Rattle.domains.specs.declared.parts.Row.{Row}
 pub use Rattle.slices.specs.Holds.{ForbidsPlace}
 pub use Rattle.reasons.specs.declared.reason.ReasonKind.{ReasonKind}
-pub use Rattle.closing.specs.Kinds.{powered_in_set}
-pub use Rattle.closing.specs.Watches.{IsMachineUnseen, IsNodeUnseen}
 pub use Rattle.profiles.specs.declared.standing.numbers.Arrival.{Arrival}
 pub use Rattle.profiles.specs.declared.standing.numbers.Standing.{Standing}
-pub use Rattle.rule_frame.specs.Caches.{Cache}
 pub use Rattle.rule_constraint.specs.Broken.{broken_by}
 pub use Rattle.rule_constraint.specs.Given.{IsBrokenBy, kind_of, reason_kind}
 pub use Rattle.rule_constraint.specs.Indexes.{AreLooking, AreMarked, HasList, IsAdded, IsIndexOf, IsListed, IsPut, Lists}

@@ -1,7 +1,7 @@
 -- Machines that are told to keep apart at all instants.
 use Rattle.std.proofs.Common.{if◌then◌else◌, IsTrue, slice_index_or}
 use Rattle.base.proofs.Public.{◌≡◌, ◌≢◌, ◌⊎◌, inl, inr, ℕ, zero, suc, ◌+◌, ◌<◌, ◌≤◌, Bool, true, false, ◌&&◌, nat_lt, List, [], ◌∷◌, length, get_or, Some, refl, sym, ◌∙◌, arith, and_parts, both_ways, cases_eq, cases_lt, eqb-true, false≢true, nat_tests, get_or_default, get_or_past}
-use Rattle.rule_pair.specs.Prelude.{Act, Apart, are_below, AreClear, AreLonger, AreOrdered, At, base, Between, Choice, choices, Clear, Climbs, comes_by, Constraint, DomainView, Doubtful, Each, Element, form_of, gain, has_come, HasPosts, hosted_in, Idle, Instance, inventory_of, is_rule, IsAt, IsClean, IsEnd, IsInPart, IsLate, IsMember, IsStanding, IsTold, KeepsClear, KeepsOff, kept_use, least, leave_of, Longest, machine_count, never, no_row, Nowhere, of_kind, OnClear, one, Pair, place_index, Posts, Presence, present_at, reason_kind, Row, row_at, rule_watch, Seen, separated, Separation, Sets, setting, Standing, StandsWithin, state_of, sure, told_until, Unknown, vm, VmId}
+use Rattle.rule_pair.specs.Prelude.{Act, Apart, are_below, AreClear, AreLonger, AreOrdered, At, base, Between, Choice, choices, Clear, Climbs, comes_by, Constraint, DomainView, Doubtful, Each, Element, form_of, gain, has_come, HasPosts, hosted_in, Idle, Instance, inventory_of, is_member, is_rule, IsAt, IsClean, IsEnd, IsInPart, IsLate, IsMember, IsStanding, IsTold, KeepsClear, KeepsOff, kept_use, least, leave_of, Longest, machine_count, never, no_row, Nowhere, of_kind, OnClear, one, Pair, place_index, Posts, Presence, present_at, reason_kind, Row, row_at, rule_watch, Seen, separated, Separation, Sets, setting, Standing, StandsWithin, state_of, sure, told_until, Unknown, vm, VmId}
 use Rattle.cluster.specs.declared.choices.Place.{Place}
 use Rattle.slices.proofs.Public.{sound_form}
 use Rattle.domains.proofs.Public.{surely_each}

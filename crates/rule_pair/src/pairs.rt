@@ -1,6 +1,6 @@
 //! Two machines on one node that a constraint keeps apart, looked for.
-ghost use Rattle.std.specs.Prelude.{◌≡◌, ℕ, ◌<◌, ◌≤◌, false, true, length, IfNone, IfSome, IsTrue};
-ghost use Rattle.rule_pair.specs.Prelude.{Apart, Applies, are_below, ForbidsPair, form_of as the_form_of, HasPair, Instance, inventory_of, is_rule, IsInPart, IsPair, IsSized, machine_count, node_count, seen, separated, Separates, separation_seen, sure};
+ghost use Rattle.std.specs.Prelude.{◌≡◌, ℕ, ◌<◌, ◌≤◌, false, length, IfNone, IfSome, IsTrue};
+ghost use Rattle.rule_pair.specs.Prelude.{Apart, Applies, ForbidsPair, form_of as the_form_of, HasPair, IsInPart, IsPair, IsSized, machine_count, node_count, seen, Separates, separation_seen, sure};
 ghost use Rattle.prop_core.specs.Propagators.{FailHolds};
 
 use catalogue::{Constraint, Problem, Vms};
@@ -17,8 +17,6 @@ use slices::form::{Separation, form_of};
 pub fn separation_of(constraint: &Constraint) -> Option<Separation<'_>>
     ensures none { IfNone result ((v w : ℕ) → ¬ ForbidsPair constraint.now v w) }
     ensures some { IfSome result (λ s. the_form_of constraint.now ≡ Apart (separation_seen s)) }
-    ensures listed { (p : Instance) → is_rule (inventory_of p) constraint.now ≡ true
-        → IfSome result (λ s. are_below (machine_count p) (separated (separation_seen s)) ≡ true) }
 {
     match form_of(constraint) {
         Form::Apart(separation) => Some(separation),

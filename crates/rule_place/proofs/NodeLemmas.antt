@@ -1,9 +1,10 @@
 -- The watches of nodes on which a change of a machine does not weigh.
 use Rattle.std.proofs.Common.{IsTrue}
 use Rattle.base.proofs.Public.{◌≡◌, ◌≢◌, ◌⊎◌, inl, inr, ℕ, ◌+◌, ◌-◌, ◌<◌, ◌≤◌, Bool, true, false, List, [], ◌∷◌, length, set, refl, sym, ◌∙◌, arith, Contains, filter, and_parts, eqb-true, false≢true, nat_tests, length-set}
-use Rattle.rule_place.specs.Prelude.{Act, AreMarkedFrom, AreNodesMarked, AreSpared, At, Choice, From, goes_in, hosted_in, Idle, in_part, Inside, Instance, IsEnd, IsLess, IsMachineLess, IsStill, IsUntouched, Levels, node_count, NodeId, Nowhere, on_side, one, Outside, Part, Presence, present_at, same_place, Side, state_of, Upto, usable_watch, Vm, VmId}
+use Rattle.rule_place.specs.Prelude.{Act, AreMarkedFrom, AreNodesMarked, AreSpared, At, Choice, From, goes_in, hosted_in, Idle, in_part, Inside, Instance, IsEnd, IsLess, IsStill, IsUntouched, Levels, node_count, NodeId, Nowhere, on_side, one, Outside, Part, Presence, present_at, same_place, Side, state_of, Upto, usable_watch, Vm, VmId}
 use Rattle.cluster.specs.declared.choices.Choice.TheVariants.{Idle as Stay}
 use Rattle.cluster.specs.declared.choices.Place.{Place}
+use Rattle.rule_frame.specs.Changes.{IsMachineLess}
 use Rattle.domains.proofs.Public.{contains_filter, filter_contains, surely_each}
 use Rattle.relax.proofs.Public.{away, away_least}
 use Rattle.rule_place.proofs.MarkLemmas.{other}

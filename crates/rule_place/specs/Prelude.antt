@@ -25,7 +25,6 @@ pub use Rattle.reasons.specs.Reasons.{Applies, IsPlace, IsUnusable}
 pub use Rattle.reasons.specs.declared.reason.ReasonKind.{ReasonKind}
 pub use Rattle.reasons.specs.declared.reason.ReasonKind.TheVariants.{Bound, Empty, Group, Hall, Load, Pair, Place, Power, SetLoad, Usable}
 pub use Rattle.closing.specs.declared.look.Look.{Look}
-pub use Rattle.rule_frame.specs.Changes.{IsMachineLess}
 pub use Rattle.rule_constraint.specs.Broken.{of_kind}
 pub use Rattle.rule_place.specs.Allowed.{IsAllowed, IsDue, IsOffHost, MayGo}
 pub use Rattle.rule_place.specs.Covers.{forbidden_kinds}

@@ -1,10 +1,11 @@
 -- Helping only: what machines hold on the nodes of a constraint while they stay as they are, and what they may hold more.
 use Rattle.std.specs.Prelude.{◌≡◌, ℕ, ◌+◌, ◌-◌, ◌*◌, ◌<◌, ◌≤◌, List, length, Option, Some, None, slice_get, slice_index_or}
 use Rattle.std.specs.List.{sum_by}
-use Rattle.rule_constraint.specs.Prelude.{Allowed, Apart, AreMovers, base, Bounded, Cache, Form, form_of, has_node, held_at, hosted_in, if_so, Instance, InTurn, IsEnd, IsIndexOf, Lists, machine_count, max_amount, Nodes, Ordered, Powered, Sets, Settled, state_of, sum_to, sure, Together, unit_of, vm}
+use Rattle.rule_constraint.specs.Prelude.{Allowed, Apart, AreMovers, base, Bounded, Form, form_of, has_node, held_at, hosted_in, if_so, Instance, InTurn, IsEnd, IsIndexOf, Lists, machine_count, max_amount, Nodes, Ordered, Powered, Sets, Settled, state_of, sum_to, sure, Together, unit_of, vm}
 use Rattle.cluster.specs.declared.choices.Choice.{Choice}
 use Rattle.catalogue.specs.declared.constraint.Constraint.{Constraint}
 use Rattle.slices.specs.declared.slice.Weight.{Weight}
+use Rattle.rule_frame.specs.Caches.{Cache}
 use Rattle.rule_setload.specs.declared.bounds.Bound.{Bound}
 use Rattle.rule_setload.specs.declared.stayers.Stayers.{Stayers}
 

@@ -24,7 +24,6 @@ pub use Rattle.slices.specs.declared.slice.What.{What}
 pub use Rattle.slices.specs.declared.slice.What.TheVariants.{Demand, Raise, Use}
 pub use Rattle.reasons.specs.declared.reason.ReasonKind.{ReasonKind}
 pub use Rattle.reasons.specs.declared.reason.ReasonKind.TheVariants.{Power, SetLoad}
-pub use Rattle.rule_frame.specs.Caches.{IsCacheTold}
 pub use Rattle.rule_constraint.specs.Broken.{of_kind}
 pub use Rattle.rule_setload.specs.Amounts.{AreAllStayers, AreAmountsKept, AreExtra, AreStayersOf, AreStayersTo, bound_in, bound_of, cache_of, IsExtra, no_stayers, stay_of, StaysIn}
 pub use Rattle.rule_setload.specs.Covers.{set_kinds}

@@ -1,0 +1,7 @@
+use Rattle.std.proofs.Common.{rules}
+use Rattle.slices.specs.Forms.{separation_seen}
+use Rattle.rule_pair.proofs.ApartLemmas.{apart_listed}
+use Rattle.rule_pair.proofs.suggest.suggest_pairs.Goals as goal
+
+pub suggest_apart-requires-clause-machines : goal.suggest_apart-requires-clause-machines
+suggest_apart-requires-clause-machines c = apart_listed c.args.p.now.given c.index-constraints-c.result (separation_seen c.in-Some-separation_of.separation) c.in-Some-separation_of.ensures.some (search rules)
