@@ -99,8 +99,8 @@ fn next_apart(p: &Problem, plan: &Plan, separation: &Separation, t: Instant, nex
     ensures { IsNext (choices_of plan.now) (Matters p.now.given (Apart (separation_seen separation.now))) t next result }
 {
     match separation {
-        Separation::Each(machines) => next_member(p, plan, machines, t, next),
-        Separation::Between(parts) => next_in_parts(p, plan, parts, t, next),
+        Separation::Each(machines) => next_member(p, plan, machines.items(), t, next),
+        Separation::Between(parts) => next_in_parts(p, plan, parts.items(), t, next),
         Separation::FromOthers(_) => next_machine(p, plan, t, next),
     }
 }
@@ -117,7 +117,7 @@ pub(crate) fn next_that_matters(p: &Problem, plan: &Plan, form: &Form, t: Instan
     match form {
         Form::Apart(separation) => next_apart(p, plan, separation, t, past),
         Form::Allowed(machines, _) | Form::Together(machines, _) | Form::InTurn(machines) => {
-            next_member(p, plan, machines, t, past)
+            next_member(p, plan, machines.items(), t, past)
         }
         Form::Ordered(_, after) => sooner(p, plan, Element::Vm(*after), t, past),
         Form::Bounded(..) => next_machine(p, plan, t, past),

@@ -152,8 +152,8 @@ pub fn are_apart(p: &Problem, plan: &Plan, separation: &Separation, t: Instant) 
     ensures { IsTrue result ↔ AreApart p.now.given (snapshot_at p.now.given (choices_of plan.now) t) (separation_seen separation.now) }
 {
     match separation {
-        Separation::Each(machines) => is_spread(p, plan, machines, t),
-        Separation::Between(parts) => is_split(p, plan, parts, t),
-        Separation::FromOthers(machines) => is_lonely(p, plan, machines, t),
+        Separation::Each(machines) => is_spread(p, plan, machines.items(), t),
+        Separation::Between(parts) => is_split(p, plan, parts.items(), t),
+        Separation::FromOthers(machines) => is_lonely(p, plan, machines.items(), t),
     }
 }

@@ -20,10 +20,10 @@ fn is_kept(p: &Problem, plan: &Plan, form: &Form, t: Instant) -> bool
 {
     match form {
         Form::Apart(separation) => are_apart(p, plan, separation, t),
-        Form::Allowed(machines, places) => are_allowed(p, plan, machines, places, t),
-        Form::Together(machines, groups) => are_grouped(p, plan, machines, groups, t),
+        Form::Allowed(machines, places) => are_allowed(p, plan, machines.items(), places, t),
+        Form::Together(machines, groups) => are_grouped(p, plan, machines.items(), groups, t),
         Form::Ordered(before, after) => is_in_order(p, plan, *before, *after, t),
-        Form::InTurn(machines) => take_turns(p, plan, machines, t),
+        Form::InTurn(machines) => take_turns(p, plan, machines.items(), t),
         Form::Bounded(weight, nodes, amount) => total_on(p, plan, *weight, nodes, t) <= *amount,
         Form::Powered(nodes, amount) => powered_in(p, plan, nodes, t) <= *amount,
         Form::Settled => true,

@@ -99,7 +99,7 @@ pub fn are_grouped(p: &Problem, plan: &Plan, machines: &[VmId], groups: &Groups,
     match first_node(&nodes, count) {
         Some(first) => match groups {
             Groups::AnyNode => is_inside(&nodes, &only(first), count),
-            Groups::AnyOf(sets) => is_inside_some(&nodes, sets, count),
+            Groups::AnyOf(sets) => is_inside_some(&nodes, sets.items(), count),
         },
         None => true,
     }
