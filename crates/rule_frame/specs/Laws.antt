@@ -5,7 +5,6 @@ use Rattle.cluster.specs.declared.choices.Choice.{Choice}
 use Rattle.cluster.specs.declared.ids.Element.{Element}
 use Rattle.domains.specs.SetsBefore.{putting}
 use Rattle.rule_frame.specs.Changes.{IsDisturbed, IsStill}
-use Rattle.rule_frame.specs.Indexes.{AreLooking}
 use Rattle.rule_frame.specs.Levels.{Levels}
 
 -- a clean watch stays clean where a change does not weigh on it

@@ -14,7 +14,7 @@ pub returns-in-AnyOf : goal.returns-in-AnyOf
 returns-in-AnyOf c =
     let p = c.args.p.now.given in
     let same = among p (snapshot_at p (choices_of c.args.plan.now) c.args.t) c.args.machines.now c.reached-nodes.result c.requires.machines c.reached-nodes.ensures c.in-AnyOf.sets.now c.in-Some.first.0 (rw c.nodes_of-count.ensures at c.in-Some.ensures.0) c.in-Some.ensures.1 in
-    let inside = rw c.nodes_of-count.ensures at c.is_inside_some.ensures in
+    let inside = rw (c.nodes_of-count.ensures, c.items.ensures) at c.is_inside_some.ensures in
     rw c.in-AnyOf.is (λ b. same.0 (inside.0 b), λ grouped. inside.1 (same.1 grouped))
 
 pub returns-in-None : goal.returns-in-None
