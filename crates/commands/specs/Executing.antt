@@ -2,7 +2,8 @@
 use Rattle.std.specs.Prelude.{◌≡◌, ◌⊎◌, ℕ, List, ◌++◌, Option, Some, None, Ok, codes}
 use Rattle.std.specs.Fmt.{decimal}
 use Rattle.std.specs.Io.{StartsWith}
-use Rattle.profiles.specs.Prelude.{IsFirstBroken, name_of}
+use Rattle.cluster.specs.Inventory.{name_of}
+use Rattle.slices.specs.Rules.{IsFirstBroken}
 use Rattle.transcript.specs.Prelude.{Choices, first_point, Instance, inventory_of, IsValid, StopsInEvent, StopsInStart}
 use Rattle.slices.specs.declared.rule.Broken.{Broken}
 use Rattle.replay.specs.Lines.{broken_line}
