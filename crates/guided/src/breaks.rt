@@ -1,0 +1,296 @@
+//! Branching on what breaks: which constraints and capacities do not hold at the horizon if all stays that may stay,
+//! and whose staying would cost the others most.
+
+use crate::elements::{mover_at, server_at};
+use crate::numbers::{at, cell, is_up, list_at, node, real};
+use crate::outlook::Outlook;
+use crate::race::Race;
+use crate::rules::{Amount, Group, Power, Spots};
+use crate::tables::Tables;
+use base::Memory;
+use cluster::{Element, VmId};
+use std::alloc::Global;
+
+/// A machine that may stay and may act, with what it uses and its least end.
+#[derive(Clone, Copy)]
+struct Stayer {
+    machine: usize,
+    amount: u64,
+    cost: u64,
+}
+
+/// What is looked at to find what breaks.
+#[derive(Drop)]
+pub struct Breaks<'a> {
+    pub alloc: Global,
+    pub tables: &'a Tables,
+    pub outlook: &'a Outlook,
+    /// Machines and nodes, by number, that are not split yet.
+    pub is_put_off: &'a [bool],
+}
+
+impl<'a> Breaks<'a> {
+    /// Enters all elements that break something by staying.
+    pub fn enter_all(&self, race: &mut Race) -> Result<(), Memory> {
+        let tables = self.tables;
+        for n in 0..tables.nodes.len() {
+            self.enter_node(n, race)?;
+        }
+        for amount in &tables.rules.amounts {
+            self.enter_amount(amount, race)?;
+        }
+        for members in &tables.rules.spreads {
+            self.enter_clashes(members, None, race)?;
+        }
+        for group in &tables.rules.groups {
+            self.enter_clashes(&group.members, Some(group), race)?;
+        }
+        for power in &tables.rules.powers {
+            self.enter_power(power, race);
+        }
+        Ok(())
+    }
+
+    // each resource of which a node has too little
+    fn enter_node(&self, n: usize, race: &mut Race) -> Result<(), Memory> {
+        let tables = self.tables;
+        let is_on = self.may_be_on(n);
+        for r in 0..tables.width {
+            let capacity = if is_on { tables.capacity(n, r) } else { 0 };
+            let used = at(&self.outlook.load, cell(n, self.columns(), r));
+            if used > capacity {
+                let mut stayers = Vec::new(self.alloc);
+                self.note_stayers(n, Some(r), &mut stayers)?;
+                self.enter_over(stayers, used - capacity, race)?;
+            }
+        }
+        Ok(())
+    }
+
+    // whether a node may be usable at the horizon
+    fn may_be_on(&self, n: usize) -> bool {
+        let left = self.outlook.node(n);
+        if server_at(&self.tables.nodes, n).is_on {
+            left.may_stay
+        } else {
+            left.rows > 0
+        }
+    }
+
+    fn columns(&self) -> usize {
+        self.tables.width.saturating_add(1)
+    }
+
+    fn enter_amount(&self, amount: &Amount, race: &mut Race) -> Result<(), Memory> {
+        let column = amount.resource.unwrap_or(self.tables.width);
+        let mut used: u64 = 0;
+        for n in &amount.nodes {
+            used = used.saturating_add(at(&self.outlook.load, cell(*n, self.columns(), column)));
+        }
+        if used <= amount.most {
+            return Ok(());
+        }
+        let mut stayers = Vec::new(self.alloc);
+        for n in &amount.nodes {
+            self.note_stayers(*n, amount.resource, &mut stayers)?;
+        }
+        self.enter_over(stayers, used - amount.most, race)
+    }
+
+    // the machines on a node that may stay and may act, with what they use; of no resource each counts one
+    fn note_stayers(
+        &self,
+        n: usize,
+        resource: Option<usize>,
+        stayers: &mut Vec<Stayer>,
+    ) -> Result<(), Memory> {
+        for v in list_at(&self.tables.running, n) {
+            let left = self.outlook.machine(*v);
+            let amount = match resource {
+                Some(r) => self.tables.usage(*v, r),
+                None => 1,
+            };
+            if left.is_torn() && amount > 0 {
+                stayers.push(Stayer {
+                    machine: *v,
+                    amount,
+                    cost: left.least,
+                })?;
+            }
+        }
+        Ok(())
+    }
+
+    // machines of which some must go, so that so much is no longer used: the staying of each costs what the others pay
+    fn enter_over(&self, stayers: Vec<Stayer>, need: u64, race: &mut Race) -> Result<(), Memory> {
+        let mut stayers = stayers;
+        stayers.sort_unstable_by_key(|s| (price(*s), s.machine));
+        let whole = covering(&stayers, None, need);
+        let (first, second) = two_least(&stayers);
+        for i in 0..stayers.len() {
+            if let Some(stayer) = stayers.get(i).copied() {
+                let rest = if i <= whole.used {
+                    covering(&stayers, Some(i), need).cost
+                } else {
+                    whole.cost
+                };
+                let other = if stayer.cost == first { second } else { first };
+                let other = real(other);
+                let stays = if rest > other { rest } else { other };
+                self.enter_machine(stayer.machine, stays, race);
+            }
+        }
+        Ok(())
+    }
+
+    fn enter_machine(&self, v: usize, stays: f64, race: &mut Race) {
+        if is_up(self.is_put_off, v) {
+            return;
+        }
+        if let Ok(id) = u32::try_from(v) {
+            let acts = real(self.outlook.machine(v).least);
+            race.enter(Element::Vm(VmId(id)), stays, acts);
+        }
+    }
+
+    // members that cannot all stay: the staying of one makes all others act that clash with it
+    fn enter_clashes(
+        &self,
+        members: &[usize],
+        group: Option<&Group>,
+        race: &mut Race,
+    ) -> Result<(), Memory> {
+        let mut torn = Vec::new(self.alloc);
+        for v in members {
+            let mover = mover_at(&self.tables.machines, *v);
+            if let Some(host) = mover.host {
+                if mover.runs && self.outlook.machine(*v).is_torn() {
+                    torn.push((*v, host))?;
+                }
+            }
+        }
+        for (v, host) in &torn {
+            let mut sum: u64 = 0;
+            let mut clashes = false;
+            for (w, other) in &torn {
+                if v != w && do_clash(group, *host, *other) {
+                    sum = sum.saturating_add(self.outlook.machine(*w).least);
+                    clashes = true;
+                }
+            }
+            if clashes {
+                self.enter_machine(*v, real(sum), race);
+            }
+        }
+        Ok(())
+    }
+
+    // nodes of which too many stay on
+    fn enter_power(&self, power: &Power, race: &mut Race) {
+        let mut on: u64 = 0;
+        for n in &power.nodes {
+            let is_on = server_at(&self.tables.nodes, *n).is_on;
+            if is_on == self.outlook.node(*n).may_stay {
+                on = on.saturating_add(1);
+            }
+        }
+        if on <= power.most {
+            return;
+        }
+        for n in &power.nodes {
+            if self.may_go_off(*n) {
+                let mut cheapest = u64::MAX;
+                for k in &power.nodes {
+                    if k != n && self.may_go_off(*k) {
+                        cheapest = cheapest.min(self.outlook.node(*k).least);
+                    }
+                }
+                self.enter_server(*n, real(cheapest), race);
+            }
+        }
+    }
+
+    fn may_go_off(&self, n: usize) -> bool {
+        server_at(&self.tables.nodes, n).is_on && self.outlook.node(n).is_torn()
+    }
+
+    fn enter_server(&self, n: usize, stays: f64, race: &mut Race) {
+        let number = self.tables.machines.len().saturating_add(n);
+        if !is_up(self.is_put_off, number) {
+            let acts = real(self.outlook.node(n).least);
+            race.enter(Element::Node(node(n)), stays, acts);
+        }
+    }
+}
+
+// what one unit costs
+fn price(stayer: Stayer) -> u64 {
+    let cost = stayer.cost.saturating_mul(1000).saturating_add(1);
+    cost.saturating_mul(4_294_967_296) / stayer.amount.max(1)
+}
+
+/// What covers a need, and up to which place of a list.
+#[derive(Clone, Copy)]
+struct Cover {
+    cost: f64,
+    used: usize,
+}
+
+// the least cost, in fractions, of machines in order of price, but for one, that cover a need
+fn covering(stayers: &[Stayer], but: Option<usize>, need: u64) -> Cover {
+    let mut cost = 0.0;
+    let mut rest = need;
+    for i in 0..stayers.len() {
+        if let Some(stayer) = stayers.get(i).copied() {
+            if but == Some(i) {
+                continue;
+            }
+            if stayer.amount >= rest {
+                let part = real(stayer.cost) * real(rest) / real(stayer.amount.max(1));
+                return Cover {
+                    cost: cost + part,
+                    used: i,
+                };
+            }
+            cost = cost + real(stayer.cost);
+            rest = rest.saturating_sub(stayer.amount);
+        }
+    }
+    Cover {
+        cost: real(u64::MAX),
+        used: stayers.len(),
+    }
+}
+
+// the two least costs
+fn two_least(stayers: &[Stayer]) -> (u64, u64) {
+    let mut first = u64::MAX;
+    let mut second = u64::MAX;
+    for stayer in stayers {
+        if stayer.cost < first {
+            second = first;
+            first = stayer.cost;
+        } else if stayer.cost < second {
+            second = stayer.cost;
+        }
+    }
+    (first, second)
+}
+
+// whether two members may not stay on two hosts: on the same one, or for a group on two that no spot has
+fn do_clash(group: Option<&Group>, a: usize, b: usize) -> bool {
+    match group {
+        None => a == b,
+        Some(group) => match &group.spots {
+            Spots::Single => a != b,
+            Spots::Sets(sets) => {
+                for set in sets {
+                    if set.has(node(a)) && set.has(node(b)) {
+                        return false;
+                    }
+                }
+                true
+            }
+        },
+    }
+}
