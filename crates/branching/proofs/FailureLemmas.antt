@@ -1,6 +1,6 @@
 -- The most failures among elements, one after another.
-use Rattle.std.proofs.Common.{◌≡◌, ◌⊎◌, inl, inr, ℕ, ◌+◌, ◌<◌, ◌≤◌, length, refl, sym, ap, ◌∙◌, subst, arith}
-use Rattle.branching.specs.Prelude.{ComesBefore, Element, element_at, element_count, element_number, HasElement, HasMostFailures, Instance, Inventory, inventory_of, IsBetter, IsFirstUnfixed, IsFixedAt, IsListed, IsSized, IsUnfixed, Node, RegionView, Vm}
+use Rattle.std.proofs.Common.{◌≡◌, ◌⊎◌, inl, inr, ℕ, ◌+◌, ◌<◌, ◌≤◌, sym, ap, ◌∙◌, subst, arith}
+use Rattle.branching.specs.Prelude.{ComesBefore, Element, element_at, element_count, element_number, HasElement, HasMostFailures, Instance, Inventory, inventory_of, IsBetter, IsFirstUnfixed, IsListed, IsSized, IsUnfixed, Node, RegionView, Vm}
 use Rattle.cluster.proofs.Public.{element_at-element_number, element_number-element_at, element_number-lt}
 
 -- of the elements of the first so many numbers none has more, and none before the best one as many

@@ -1,7 +1,6 @@
 -- Parts of a domain with two choices that hold one and leave one out.
-use Rattle.std.proofs.Common.{slice_index_or}
-use Rattle.base.proofs.Public.{◌≡◌, ◌≢◌, ◌⊎◌, inl, inr, ℕ, zero, suc, ◌+◌, ◌-◌, ◌/◌, ◌<◌, ◌≤◌, ◌==◌, ◌&&◌, nat_le, not, Bool, true, false, cond, List, [], ◌∷◌, ◌++◌, length, refl, sym, ap, ◌∙◌, arith, Contains, filter, flat_map, nat_tests}
-use Rattle.branching.specs.Prelude.{Act, Choice, choices, Climbs, DomainView, first_start, From, Idle, in_part, IsOpen, no_row, out_of_part, Part, Place, place_index, Row, row_choices, row_of, same_place, Splits, starts_from, Upto}
+use Rattle.base.proofs.Public.{◌≡◌, ◌≢◌, ◌⊎◌, inl, inr, ℕ, zero, suc, ◌+◌, ◌-◌, ◌/◌, ◌<◌, ◌≤◌, ◌==◌, ◌&&◌, nat_le, not, Bool, true, false, cond, List, [], ◌∷◌, ◌++◌, length, refl, arith, Contains, filter, flat_map, nat_tests}
+use Rattle.branching.specs.Prelude.{Act, Choice, choices, Climbs, DomainView, first_start, Idle, in_part, IsOpen, out_of_part, Place, place_index, Row, row_choices, row_of, Splits, Upto}
 use Rattle.cluster.specs.declared.choices.Choice.TheVariants.{Idle as Stay}
 use Rattle.domains.proofs.Public.{contains_filter}
 use Rattle.reasons.proofs.Public.{ends_of_rows}

@@ -17,7 +17,14 @@ use slices::Plan;
 pub struct FirstFree;
 
 impl Brancher for FirstFree {
-    fn choose(&mut self, p: &Problem, g: &Region) -> (Element, Part) {
+    fn choose(&mut self, p: &Problem, g: &Region) -> (Element, Part)
+        requires sized { IsSized p.now.given g.now }
+        requires inhabited { HaveChoices p.now.given (sets g.now) }
+        requires free { ¬ IsFixed g.now }
+        ensures element { IsFirstUnfixed g.now result.0 }
+        ensures part { IsFirstFree (domain_at g.now result.0) result.1 }
+        ensures split { IsSplit p.now.given (sets g.now) result.0 result.1 }
+    {
         first_free(p, g)
     }
 

@@ -101,7 +101,15 @@ impl MostFailures {
 }
 
 impl Brancher for MostFailures {
-    fn choose(&mut self, p: &Problem, g: &Region) -> (Element, Part) {
+    fn choose(&mut self, p: &Problem, g: &Region) -> (Element, Part)
+        requires sized { IsSized p.now.given g.now }
+        requires inhabited { HaveChoices p.now.given (sets g.now) }
+        requires free { ¬ IsFixed g.now }
+        ensures element { HasMostFailures (failures_of self.old) g.now result.0 }
+        ensures part { IsLeastStart (domain_at g.now result.0) result.1 }
+        ensures kept { self.new ≡ self.old }
+        ensures split { IsSplit p.now.given (sets g.now) result.0 result.1 }
+    {
         self.most_failures(p, g)
     }
 

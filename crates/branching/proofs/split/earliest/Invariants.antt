@@ -1,4 +1,3 @@
-use Rattle.base.proofs.Public.{◌<◌, take}
 use Rattle.branching.proofs.SplitLemmas.{StartsFirstUpto}
 use Rattle.branching.proofs.split.earliest.Given as goal
 
