@@ -1,10 +1,5 @@
 -- A machine holds nothing on nodes of which none is its host and none is where it goes.
-use Rattle.base.proofs.Public.{◌≡◌, ℕ, zero, suc, ◌+◌, ◌-◌, ◌<◌, true, false, cond, Option, Some, None, List, [], ◌∷◌, length, get_or, refl, arith, Contains, flat_map, Contains-append_right}
-use Rattle.relax.specs.Prelude.{Act, acting_slices, Allocate, At, Boot, Choice, choices, Climbs, DomainView, goes_in, Gone, held_at, held_by, hosted_in, idle_slices, Init, Instance, Kill, Kind, kind_of, least, Migrate, Nodes, Nowhere, place_index, Resume, Row, row_choices, Shutdown, Slice, Slices, slices_by, slices_of, Stage, stage_at, State, state_of, Suspend, vm, weigh, Weight}
-use Rattle.cluster.specs.declared.choices.Choice.TheVariants.{Idle}
-use Rattle.cluster.specs.declared.choices.Place.{Place}
-use Rattle.cluster.specs.declared.states.State.TheVariants.{Ready, Running, Sleeping}
-use Rattle.domains.proofs.Public.{least_of_each}
+use Rattle.relax.proofs.Prelude.{◌≡◌, ℕ, zero, suc, ◌+◌, ◌-◌, ◌<◌, true, false, cond, Option, Some, None, List, [], ◌∷◌, length, get_or, refl, arith, Contains, flat_map, Contains-append_right, Act, acting_slices, Allocate, At, Boot, Choice, choices, Climbs, DomainView, goes_in, Gone, held_at, held_by, hosted_in, idle_slices, Init, Instance, Kill, Kind, kind_of, least, Migrate, Nodes, Nowhere, place_index, Resume, Row, row_choices, Shutdown, Slice, Slices, slices_by, slices_of, Stage, stage_at, State, state_of, Suspend, vm, weigh, Weight, Idle, Place, Ready, Running, Sleeping, least_of_each}
 
 -- the slice, if there is one, is on no node of the set
 abbrev IsOutside : Nodes → Option Slice → Type 0

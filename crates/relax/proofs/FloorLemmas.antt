@@ -1,11 +1,6 @@
 -- The least that a machine holds on all nodes, where it runs and is to run: what it uses at present.
-use Rattle.base.proofs.Public.{◌≡◌, ◌≢◌, ◌⊎◌, inl, inr, ℕ, zero, suc, ◌+◌, ◌-◌, ◌<◌, ◌≤◌, ◌==◌, max, Bool, true, false, not, nat_lt, nat_le, cond, Option, Some, None, is_some, List, [], ◌∷◌, length, get_or, subst, refl, sym, ap, ◌∙◌, arith, All, Contains, flat_map, cases_eq, false≢true, lt-ltb, ltb-true, nat_tests, All-append, All-contains, All-nil, get_or_default, slice_get_cases}
-use Rattle.relax.specs.Prelude.{Act, action_duration, all_nodes, Allocate, Amount, At, Choice, choices, Climbs, Demand, DomainView, Gone, held_at, held_by, host_is_online, Image, Instance, is_raised, IsInstance, Kind, kind_of, lowest, Migrate, no_row, node_count, NodeId, Nowhere, place_index, Presence, Row, row_choices, Running as ToRunning, slices_by, slices_of, stage_at, starts_from, state_in, state_of, To, Use, vm, wanted_state, Weight, weight_of}
-use Rattle.cluster.specs.declared.choices.Choice.TheVariants.{Idle}
-use Rattle.cluster.specs.declared.choices.Place.{Place}
-use Rattle.cluster.specs.declared.states.State.TheVariants.{Running}
-use Rattle.cluster.proofs.Public.{is_online-lt}
-use Rattle.catalogue.proofs.Public.{use_of_le}
+use Rattle.relax.proofs.Prelude.{◌≡◌, ◌≢◌, ◌⊎◌, inl, inr, ℕ, zero, suc, ◌+◌, ◌-◌, ◌<◌, ◌≤◌, ◌==◌, max, Bool, true, false, not, nat_lt, nat_le, cond, Option, Some, None, is_some, List, [], ◌∷◌, length, get_or, subst, refl, sym, ap, ◌∙◌, arith, All, Contains, flat_map, cases_eq, false≢true, lt-ltb, ltb-true, nat_tests, All-append, All-contains, All-nil, get_or_default, slice_get_cases, Act, action_duration, all_nodes, Allocate, Amount, At, Choice, choices, Climbs, Demand, DomainView, Gone, held_at, held_by, host_is_online, Image, Instance, is_raised, IsInstance, Kind, kind_of, lowest, Migrate, no_row, node_count, NodeId, Nowhere, place_index, Presence, Row, row_choices, slices_by, slices_of, stage_at, starts_from, state_in, state_of, To, Use, vm, wanted_state, Weight, weight_of, Idle, Place, Running, is_online-lt, use_of_le}
+use Rattle.relax.specs.Prelude.{Running as ToRunning}
 
 -- ---- one choice
 

@@ -1,9 +1,5 @@
 -- Surely so, where a number is above 0; how great a least value is; none at all.
-use Rattle.std.proofs.Common.{IsTrue}
-use Rattle.base.proofs.Public.{◌≡◌, ◌≢◌, ℕ, ◌≤◌, ◌&&◌, nat_lt, Bool, true, false, Option, Some, None, List, [], ◌∷◌, refl, arith, Contains, nat_tests}
-use Rattle.relax.specs.Prelude.{Act, Amount, Choice, Element, end_of, held_at, Image, Instance, is_above_none, is_legal, IsInstance, least, lower, lowest, max_held, Nodes, Presence, surely, Weight}
-use Rattle.cluster.specs.declared.choices.Choice.TheVariants.{Idle}
-use Rattle.slices.proofs.Public.{held_is_small, legal_acts_last}
+use Rattle.relax.proofs.Prelude.{IsTrue, ◌≡◌, ◌≢◌, ℕ, ◌≤◌, ◌&&◌, nat_lt, Bool, true, false, Option, Some, None, List, [], ◌∷◌, refl, arith, Contains, nat_tests, Act, Amount, Choice, Element, end_of, held_at, Image, Instance, is_above_none, is_legal, IsInstance, least, lower, lowest, max_held, Nodes, Presence, surely, Weight, Idle, held_is_small, legal_acts_last}
 
 and_true : (b : Bool) → (b && true) ≡ b
 and_true true = refl

@@ -1,7 +1,5 @@
 -- The machines of a list, by their places in it; of those that act, one at a time.
-use Rattle.std.proofs.Common.{IfSome, IsTrue, slice_index_or, map}
-use Rattle.base.proofs.Public.{◌≡◌, inl, inr, ℕ, zero, suc, ◌+◌, ◌<◌, ◌≤◌, false, not, ◌==◌, List, [], ◌∷◌, length, get_or, Option, Some, None, refl, sym, ap, subst, ◌∙◌, arith, All, range_with_len, both_ways, or_cases, eqb-true, eq-eqb, cases_eq, cases_lt, get_or-map, get_or_default, get_or_past, length-map, get_or-map-range_with_len, length-map-range_with_len, list_any_at}
-use Rattle.relax.specs.Prelude.{Acting, AreAllOut, AreBothActing, AreScattered, has_node, HasOutside, is_member, IsInPart, IsMember, Nodes, NodeSet, one, Snapshot, VmId}
+use Rattle.relax.proofs.Prelude.{IfSome, IsTrue, slice_index_or, map, ◌≡◌, inl, inr, ℕ, zero, suc, ◌+◌, ◌<◌, ◌≤◌, false, not, ◌==◌, List, [], ◌∷◌, length, get_or, Option, Some, None, refl, sym, ap, subst, ◌∙◌, arith, All, range_with_len, both_ways, or_cases, eqb-true, eq-eqb, cases_eq, cases_lt, get_or-map, get_or_default, get_or_past, length-map, get_or-map-range_with_len, length-map-range_with_len, list_any_at, Acting, AreAllOut, AreBothActing, AreScattered, has_node, HasOutside, is_member, IsInPart, IsMember, Nodes, NodeSet, one, Snapshot, VmId}
 
 -- a part with a member is listed
 pub part_listed : (parts : List (List VmId)) (i v : ℕ) → IsInPart parts i v → i < length parts

@@ -1,11 +1,7 @@
 -- A machine that runs on a node of a set and is to run: when it has moved out, and until when it keeps what it uses.
-use Rattle.base.proofs.Public.{◌≡◌, ◌⊎◌, inl, inr, ℕ, ◌+◌, ◌<◌, ◌≤◌, ◌==◌, Bool, true, false, not, nat_lt, nat_le, cond, Option, Some, None, is_some, List, length, get_or, refl, sym, ap, ◌∙◌, arith, Contains, cases_lt, false≢true, Decides-eqb, nat_tests}
-use Rattle.relax.specs.Prelude.{Act, action_duration, Allocate, At, Choice, choices, Demand, DomainView, duration_of, goes_in, held_at, held_by, Instance, is_raised, Kind, kind_duration, kind_of, least, Migrate, no_row, node_count, NodeId, Nodes, Nowhere, Running as ToRunning, slices_by, slices_of, stage_at, state_of, To, Use, vm, wanted_state, Weight, weight_of}
-use Rattle.cluster.specs.declared.choices.Choice.TheVariants.{Idle}
-use Rattle.cluster.specs.declared.choices.Place.{Place}
-use Rattle.cluster.specs.declared.states.State.TheVariants.{Running}
-use Rattle.domains.proofs.Public.{least_of_each}
+use Rattle.relax.proofs.Prelude.{◌≡◌, ◌⊎◌, inl, inr, ℕ, ◌+◌, ◌<◌, ◌≤◌, ◌==◌, Bool, true, false, not, nat_lt, nat_le, cond, Option, Some, None, is_some, List, length, get_or, refl, sym, ap, ◌∙◌, arith, Contains, cases_lt, false≢true, Decides-eqb, nat_tests, Act, action_duration, Allocate, At, Choice, choices, Demand, DomainView, duration_of, goes_in, held_at, held_by, Instance, is_raised, Kind, kind_duration, kind_of, least, Migrate, no_row, node_count, NodeId, Nodes, Nowhere, slices_by, slices_of, stage_at, state_of, To, Use, vm, wanted_state, Weight, weight_of, Idle, Place, Running, least_of_each}
 use Rattle.relax.proofs.FloorLemmas.{at-row, moved, run-kind, use-le}
+use Rattle.relax.specs.Prelude.{Running as ToRunning}
 
 -- ---- it has moved out
 

@@ -1,7 +1,5 @@
 -- Sets of one node, what a machine has there, and the room there.
-use Rattle.std.proofs.Common.{IsTrue}
-use Rattle.base.proofs.Public.{◌≡◌, ◌≢◌, inl, inr, ℕ, zero, suc, ◌+◌, ◌<◌, ◌≤◌, ◌==◌, Bool, true, false, not, cond, List, length, refl, sym, subst, arith, slice_index_or, Contains, cases_eq, cases_lt, false≢true, ne_eqb, Decides-eqb, sum_to-change, sum_to-none, sum_to-zero}
-use Rattle.relax.specs.Prelude.{Act, capacity_of, Choice, choices, Climbs, DomainView, goes_in, has_node, Instance, IsFirstFrom, IsWithin, node_count, NodeSet, one, room, Row, Snapshot, sum_to}
+use Rattle.relax.proofs.Prelude.{IsTrue, ◌≡◌, ◌≢◌, inl, inr, ℕ, zero, suc, ◌+◌, ◌<◌, ◌≤◌, ◌==◌, Bool, true, false, not, cond, List, length, refl, sym, subst, arith, slice_index_or, Contains, cases_eq, cases_lt, false≢true, ne_eqb, Decides-eqb, sum_to-change, sum_to-none, sum_to-zero, Act, capacity_of, Choice, choices, Climbs, DomainView, goes_in, has_node, Instance, IsFirstFrom, IsWithin, node_count, NodeSet, one, room, Row, Snapshot, sum_to}
 use Rattle.relax.proofs.AwayLemmas.{start_in}
 
 -- a set with no node before its first one, and none after it, has that alone

@@ -1,10 +1,5 @@
 -- The one choice of a domain, and the plan of a region that is fixed.
-use Rattle.std.proofs.Common.{slice_index_or}
-use Rattle.base.proofs.Public.{◌≡◌, inl, inr, ℕ, suc, ◌+◌, ◌-◌, ◌<◌, ◌≤◌, Bool, true, false, cond, List, [], ◌∷◌, ◌++◌, length, get_or, take, drop, refl, ap, arith, Contains, flat_map, cases_lt, le-ltb, lt-ltb, get_or-drop, get_or-take, get_or_past, length-drop, length-take-le}
-use Rattle.relax.specs.Prelude.{Act, AreLegal, Choice, choices, choices_of, Climbs, DomainView, element_at, element_count, Instance, inventory_of, IsOnly, IsPlanOf, IsSized, machine_count, Node as TheNode, node_count, parted, RegionView, Row, row_choices, sets, starts_from, Vm}
-use Rattle.cluster.specs.declared.choices.Choice.TheVariants.{Idle}
-use Rattle.cluster.proofs.Public.{IsListed-element_at}
-use Rattle.slices.proofs.Public.{legal_is_plan}
+use Rattle.relax.proofs.Prelude.{slice_index_or, ◌≡◌, inl, inr, ℕ, suc, ◌+◌, ◌-◌, ◌<◌, ◌≤◌, Bool, true, false, cond, List, [], ◌∷◌, ◌++◌, length, get_or, take, drop, refl, ap, arith, Contains, flat_map, cases_lt, le-ltb, lt-ltb, get_or-drop, get_or-take, get_or_past, length-drop, length-take-le, Act, AreLegal, Choice, choices, choices_of, Climbs, DomainView, element_at, element_count, Instance, inventory_of, IsOnly, IsPlanOf, IsSized, machine_count, Node as TheNode, node_count, parted, RegionView, Row, row_choices, sets, starts_from, Vm, Idle, IsListed-element_at, legal_is_plan}
 
 -- ---- one choice
 

@@ -1,10 +1,5 @@
 -- The legal choices of an element, place by place, and a region of them.
-use Rattle.std.proofs.Common.{IfSome, map, slice_index_or}
-use Rattle.base.proofs.Public.{◌≡◌, inl, inr, ℕ, zero, suc, ◌+◌, ◌-◌, ◌<◌, Bool, true, false, cond, nat_le, Option, Some, None, List, [], ◌∷◌, ◌++◌, length, append-nil, refl, sym, ap, ◌∙◌, arith, All, filter, flat_map, range_with_len, cases_lt, lt-ltb, le-ltb, nat_tests, get_or_past, flat_map-append, All-nil, All-push, All-weaker, filter-append, map-range_with_len_more}
-use Rattle.relax.specs.Prelude.{Act, action_duration, AreLegal, At, Choice, choices, ComesAfter, DomainView, duration_of, Element, end_of, Instance, is_element, is_legal, IsElement, IsRowAt, Kind, kind_duration, kind_of, machine_count, node, Node as TheNode, node_count, Nowhere, option_choices, place_index, RegionView, Row, row_choices, rows_of, Sets, sets, start_sets, starts_from, staying, Vm, vm}
-use Rattle.cluster.specs.declared.choices.Choice.TheVariants.{Idle}
-use Rattle.cluster.specs.declared.choices.Place.{Place}
-use Rattle.reasons.proofs.Public.{start_is_legal}
+use Rattle.relax.proofs.Prelude.{IfSome, map, slice_index_or, ◌≡◌, inl, inr, ℕ, zero, suc, ◌+◌, ◌-◌, ◌<◌, Bool, true, false, cond, nat_le, Option, Some, None, List, [], ◌∷◌, ◌++◌, length, append-nil, refl, sym, ap, ◌∙◌, arith, All, filter, flat_map, range_with_len, cases_lt, lt-ltb, le-ltb, nat_tests, get_or_past, flat_map-append, All-nil, All-push, All-weaker, filter-append, map-range_with_len_more, Act, action_duration, AreLegal, At, Choice, choices, ComesAfter, DomainView, duration_of, Element, end_of, Instance, is_element, is_legal, IsElement, IsRowAt, Kind, kind_duration, kind_of, machine_count, node, Node as TheNode, node_count, Nowhere, option_choices, place_index, RegionView, Row, row_choices, rows_of, Sets, sets, start_sets, starts_from, staying, Vm, vm, Idle, Place, start_is_legal}
 
 -- ---- the legal starts at a place
 

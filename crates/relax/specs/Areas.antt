@@ -2,15 +2,9 @@
 use Rattle.std.specs.Prelude.{◌≡◌, Bool, false, not, length, IsTrue, Option, Some, None}
 use Rattle.std.specs.List.{Contains}
 use Rattle.reasons.specs.Prelude.{all_nodes, has_node, host_of, Instance, is_legal, IsElement, machine_count, node_count, Nodes, one, RegionView, Sets}
-use Rattle.cluster.specs.declared.choices.Choice.{Choice}
-use Rattle.cluster.specs.declared.choices.Choice.TheVariants.{Idle, Act}
-use Rattle.cluster.specs.declared.choices.Place.TheVariants.{Nowhere, At}
-use Rattle.cluster.specs.declared.ids.Element.{Element}
-use Rattle.cluster.specs.declared.ids.NodeId.{NodeId}
-use Rattle.cluster.specs.declared.states.State.{State}
+use Rattle.cluster.specs.declared.{choices.Choice.Choice, choices.Choice.TheVariants.Idle, choices.Choice.TheVariants.Act, choices.Place.TheVariants.Nowhere, choices.Place.TheVariants.At, ids.Element.Element, ids.NodeId.NodeId, states.State.State}
+use Rattle.relax.specs.declared.area.Area.{Area, TheVariants.One, TheVariants.All, TheVariants.In, TheVariants.OutsideOne, TheVariants.Outside}
 pub use Rattle.slices.specs.Snapshots.{IsWeight}
-use Rattle.relax.specs.declared.area.Area.{Area}
-use Rattle.relax.specs.declared.area.Area.TheVariants.{One, All, In, OutsideOne, Outside}
 
 -- the nodes of an area
 abbrev pub nodes_of : Instance → Area → Nodes

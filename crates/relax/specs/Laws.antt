@@ -1,9 +1,7 @@
 -- Helping only: regions whose choices are all legal.
 use Rattle.std.specs.Prelude.{Bool}
 use Rattle.reasons.specs.Prelude.{Instance, keeping, Sets}
-use Rattle.cluster.specs.declared.choices.Choice.{Choice}
-use Rattle.cluster.specs.declared.ids.Element.{Element}
-use Rattle.relax.specs.Areas.{AreLegal}
+use Rattle.{cluster.specs.declared.choices.Choice.Choice, cluster.specs.declared.ids.Element.Element, relax.specs.Areas.AreLegal}
 
 -- where an element keeps some of its choices, legal ones stay legal
 abbrev pub LegalStays : Type 0

@@ -1,8 +1,7 @@
 //! How little a machine may hold in an area, as far as its state, its wish and its rows tell.
 ghost use Rattle.std.specs.Prelude.{◌≡◌, ◌≢◌, ℕ, ◌+◌, ◌-◌, ◌<◌, ◌≤◌, true, List, length, slice_index_or, is_some, IsTrue};
-ghost use Rattle.std.specs.List.{Contains};
+ghost use Rattle.{std.specs.List.Contains, cluster.specs.declared.choices.Place.Place as AnyPlace};
 ghost use Rattle.relax.specs.Prelude.{Act, all_nodes, Choice as AnyChoice, choices, Climbs, held_at, IsElement, IsSized, IsWeight, kind_of as the_kind_of, max_nodes, no_row, node_count, NodeId as AnyNode, nodes_of, place_index, Row as AnyRow, seen, sight_of, state_of, Use, vm, wanted_state, Weight as AnyWeight, weight_of};
-ghost use Rattle.cluster.specs.declared.choices.Place.{Place as AnyPlace};
 
 use crate::area::{Area, has, node_total};
 use crate::moves::{is_out_by, is_to_run, move_time};

@@ -1,8 +1,7 @@
 //! What can be asked of one choice, as measures: over the starts at one place each is least at the first or the last.
 ghost use Rattle.std.specs.Prelude.{◌≡◌, ◌≤◌, ◌+◌, ◌^◌, ℕ, max, false};
 ghost use Rattle.reasons.specs.Prelude.{action_count, amount_in, count_in, end_of, held_at, image_in, IsElement, max_action, max_amount, node, powered_count, state_of, unusable_count, vm};
-ghost use Rattle.slices.specs.declared.slice.Weight.{Weight as AnyWeight};
-ghost use Rattle.slices.specs.declared.slice.Weight.TheVariants.{Amount as AmountOf};
+ghost use Rattle.slices.specs.declared.slice.Weight.{Weight as AnyWeight, TheVariants.Amount as AmountOf};
 ghost use Rattle.relax.specs.Areas.{IsWeight, goes_in as the_goes_in, hosted_in, nodes_of};
 
 use crate::area::{Area, has};
@@ -127,8 +126,7 @@ pub struct HeldIn<'a> {
 }
 
 impl Measure for HeldIn<'_> {
-    ghost use Rattle.slices.proofs.Public.{held_at_ends};
-    ghost use Rattle.std.proofs.Common.{arith};
+    ghost use Rattle.{slices.proofs.Public.held_at_ends, std.proofs.Common.arith};
 
     ghost ready = { λ m. IsElement m.problem.now.given (vm m.machine.0) × IsWeight m.problem.now.given m.weight };
 
@@ -165,8 +163,7 @@ pub struct HeldFrom<'a> {
 }
 
 impl Measure for HeldFrom<'_> {
-    ghost use Rattle.slices.proofs.Public.{held_at_ends};
-    ghost use Rattle.std.proofs.Common.{arith};
+    ghost use Rattle.{slices.proofs.Public.held_at_ends, std.proofs.Common.arith};
 
     ghost ready = { λ m. IsElement m.held.problem.now.given (vm m.held.machine.0) × IsWeight m.held.problem.now.given m.held.weight };
 
@@ -195,8 +192,7 @@ pub struct EndOf<'a> {
 }
 
 impl Measure for EndOf<'_> {
-    ghost use Rattle.slices.proofs.Public.{ends_by_duration};
-    ghost use Rattle.std.proofs.Common.{arith};
+    ghost use Rattle.{slices.proofs.Public.ends_by_duration, std.proofs.Common.arith};
 
     ghost ready = { λ m. IsElement m.problem.now.given m.element };
 
@@ -231,8 +227,7 @@ pub struct IsUnusable<'a> {
 }
 
 impl Measure for IsUnusable<'_> {
-    ghost use Rattle.slices.proofs.Public.{unusable_at_ends};
-    ghost use Rattle.std.proofs.Common.{arith};
+    ghost use Rattle.{slices.proofs.Public.unusable_at_ends, std.proofs.Common.arith};
 
     ghost ready = { λ m. IsElement m.problem.now.given (node m.node.0) };
 
@@ -262,8 +257,7 @@ pub struct IsPowered<'a> {
 }
 
 impl Measure for IsPowered<'_> {
-    ghost use Rattle.slices.proofs.Public.{powered_at_ends};
-    ghost use Rattle.std.proofs.Common.{arith};
+    ghost use Rattle.{slices.proofs.Public.powered_at_ends, std.proofs.Common.arith};
 
     ghost ready = { λ m. IsElement m.problem.now.given (node m.node.0) };
 
@@ -294,8 +288,7 @@ pub struct IsSoFar<'a> {
 }
 
 impl Measure for IsSoFar<'_> {
-    ghost use Rattle.slices.proofs.Public.{action_at_ends};
-    ghost use Rattle.std.proofs.Common.{arith};
+    ghost use Rattle.{slices.proofs.Public.action_at_ends, std.proofs.Common.arith};
 
     ghost ready = { λ m. IsElement m.problem.now.given (vm m.machine.0) };
 

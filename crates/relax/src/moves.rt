@@ -1,8 +1,7 @@
 //! Whether a machine that runs in an area, and is to run, may have moved out of it by an instant.
 ghost use Rattle.std.specs.Prelude.{◌≡◌, ℕ, ◌+◌, ◌<◌, ◌≤◌, false, length, slice_index_or, IsTrue};
-ghost use Rattle.std.specs.List.{Contains};
+ghost use Rattle.{std.specs.List.Contains, cluster.specs.declared.choices.Place.Place as AnyPlace};
 ghost use Rattle.relax.specs.Prelude.{Act, duration_of, goes_in as the_goes_in, held_at, IsElement, IsSized, least, max_action, no_row, NodeId as AnyNode, nodes_of, seen, state_of, vm, wanted_state, Weight as AnyWeight};
-ghost use Rattle.cluster.specs.declared.choices.Place.{Place as AnyPlace};
 
 use crate::area::{Area, has};
 use crate::measures::goes_in;

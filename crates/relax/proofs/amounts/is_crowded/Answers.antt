@@ -1,4 +1,4 @@
-use Rattle.std.proofs.lemmas.Bool.{lt-ltb, ltb-true}
+use Rattle.relax.proofs.Prelude.{lt-ltb, ltb-true}
 use Rattle.relax.proofs.amounts.is_crowded.Goals as goal
 
 pub returns-in-Each : goal.returns-in-Each

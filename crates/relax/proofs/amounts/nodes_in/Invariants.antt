@@ -1,5 +1,4 @@
-use Rattle.std.proofs.Common.{◌≡◌, ◌≤◌, cond}
-use Rattle.relax.specs.Prelude.{has_node, sum_to}
+use Rattle.relax.proofs.Prelude.{◌≡◌, ◌≤◌, cond, has_node, sum_to}
 use Rattle.relax.proofs.amounts.nodes_in.Given as goal
 
 abbrev pub invariant-loop-n : goal.invariant-loop-n

@@ -1,5 +1,4 @@
-use Rattle.base.proofs.Public.{◌≡◌, ◌≤◌, length, take, filter}
-use Rattle.relax.specs.Prelude.{nodes_of, seen, sure}
+use Rattle.relax.proofs.Prelude.{◌≡◌, ◌≤◌, length, take, filter, nodes_of, seen, sure}
 use Rattle.relax.proofs.amounts.present_in.Given as goal
 
 abbrev pub invariant-loop-v : goal.invariant-loop-v

@@ -1,5 +1,4 @@
-use Rattle.std.proofs.Common.{ℕ, ◌<◌, IsTrue}
-use Rattle.cluster.specs.Sets.{has_node}
+use Rattle.relax.proofs.Prelude.{ℕ, ◌<◌, IsTrue, has_node}
 use Rattle.relax.proofs.area.has_each.Given as goal
 
 abbrev pub invariant-loop-n : goal.invariant-loop-n

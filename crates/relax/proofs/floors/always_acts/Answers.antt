@@ -1,5 +1,4 @@
-use Rattle.base.proofs.Public.{◌-◌, ◌<◌, ◌≤◌, ◌∙◌, inl, inr, length, get_or, sym, arith, nat_tests}
-use Rattle.relax.specs.Prelude.{no_row, node_count, place_index}
+use Rattle.relax.proofs.Prelude.{◌-◌, ◌<◌, ◌≤◌, ◌∙◌, inl, inr, length, get_or, sym, arith, nat_tests, no_row, node_count, place_index}
 use Rattle.relax.proofs.FloorLemmas.{place_acts}
 use Rattle.relax.proofs.floors.always_acts.Goals as goal
 

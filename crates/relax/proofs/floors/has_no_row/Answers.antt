@@ -1,5 +1,4 @@
-use Rattle.base.proofs.Public.{◌+◌, ◌-◌, inl, inr, length, arith, cases_lt}
-use Rattle.domains.specs.Choices.{no_row}
+use Rattle.relax.proofs.Prelude.{◌+◌, ◌-◌, inl, inr, length, arith, cases_lt, no_row}
 use Rattle.relax.proofs.FloorLemmas.{not_there}
 use Rattle.relax.proofs.floors.has_no_row.Goals as goal
 

@@ -1,5 +1,4 @@
-use Rattle.std.proofs.Common.{◌≢◌, ℕ, ◌+◌, ◌-◌, ◌<◌, ◌≤◌, length, get_or}
-use Rattle.relax.specs.Prelude.{place_index, Row}
+use Rattle.relax.proofs.Prelude.{◌≢◌, ℕ, ◌+◌, ◌-◌, ◌<◌, ◌≤◌, length, get_or, place_index, Row}
 use Rattle.relax.proofs.floors.has_no_row.Given as goal
 
 abbrev pub invariant-loop-k : goal.invariant-loop-k

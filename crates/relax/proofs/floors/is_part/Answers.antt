@@ -1,5 +1,4 @@
-use Rattle.domains.specs.Parts.{in_part, out_of_part}
-use Rattle.domains.proofs.Public.{filter_is_fewer}
+use Rattle.relax.proofs.Prelude.{in_part, out_of_part, filter_is_fewer}
 use Rattle.relax.proofs.floors.is_part.Goals as goal
 
 pub returns-in-In : goal.returns-in-In

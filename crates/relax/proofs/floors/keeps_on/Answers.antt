@@ -1,5 +1,4 @@
-use Rattle.base.proofs.Public.{◌≡◌, ◌∙◌, Bool, true, false, not, refl, sym, Contains}
-use Rattle.relax.specs.Prelude.{nodes_of, sets, vm}
+use Rattle.relax.proofs.Prelude.{◌≡◌, ◌∙◌, Bool, true, false, not, refl, sym, Contains, nodes_of, sets, vm}
 use Rattle.relax.proofs.MoveLemmas.{all_stay}
 use Rattle.relax.proofs.floors.keeps_on.Goals as goal
 

@@ -1,6 +1,4 @@
-use Rattle.std.specs.List.{Contains}
-use Rattle.relax.specs.Prelude.{sets, vm}
-use Rattle.relax.proofs.FloorLemmas.{all_up, host_there}
+use Rattle.relax.proofs.{Prelude.Contains, Prelude.sets, Prelude.vm, FloorLemmas.all_up, FloorLemmas.host_there}
 use Rattle.relax.proofs.floors.runs_on.Goals as goal
 
 pub returns : goal.returns

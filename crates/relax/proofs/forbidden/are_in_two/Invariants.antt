@@ -1,5 +1,4 @@
-use Rattle.std.proofs.Common.{◌≢◌, ℕ, ◌<◌}
-use Rattle.slices.specs.Holds.{IsInPart}
+use Rattle.relax.proofs.Prelude.{◌≢◌, ℕ, ◌<◌, IsInPart}
 use Rattle.relax.proofs.forbidden.are_in_two.Given as goal
 
 abbrev pub invariant-loop-i : goal.invariant-loop-i

@@ -1,5 +1,4 @@
-use Rattle.std.proofs.Common.{◌≢◌, ℕ, ◌<◌}
-use Rattle.slices.specs.Holds.{IsInPart}
+use Rattle.relax.proofs.Prelude.{◌≢◌, ℕ, ◌<◌, IsInPart}
 use Rattle.relax.proofs.forbidden.is_in_other.Given as goal
 
 abbrev pub invariant-loop-j : goal.invariant-loop-j

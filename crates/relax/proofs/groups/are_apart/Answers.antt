@@ -1,6 +1,4 @@
-use Rattle.std.proofs.Common.{arith, ltb-true}
-use Rattle.relax.specs.Prelude.{HasOutside, node_count, one, seen, sure}
-use borrow.Author.Count.{below_more}
+use Rattle.relax.proofs.Prelude.{arith, ltb-true, HasOutside, node_count, one, seen, sure, below_more}
 use Rattle.relax.proofs.MemberLemmas.{nodes_not_scattered, nodes_scattered}
 use Rattle.relax.proofs.groups.are_apart.Goals as goal
 

@@ -1,5 +1,4 @@
-use Rattle.std.proofs.Common.{ℕ, ◌<◌}
-use Rattle.relax.specs.Prelude.{HasOutside, one, seen, sure}
+use Rattle.relax.proofs.Prelude.{ℕ, ◌<◌, HasOutside, one, seen, sure}
 use Rattle.relax.proofs.groups.are_apart.Given as goal
 
 abbrev pub invariant-loop-n : goal.invariant-loop-n

@@ -1,5 +1,4 @@
-use Rattle.base.proofs.Public.{◌∙◌, arith, sym, iff_false}
-use Rattle.relax.specs.Prelude.{seen, sure}
+use Rattle.relax.proofs.Prelude.{◌∙◌, arith, sym, iff_false, seen, sure}
 use Rattle.relax.proofs.MemberLemmas.{meet, none_meet}
 use Rattle.relax.proofs.groups.are_both_acting.Goals as goal
 

@@ -1,5 +1,4 @@
-use Rattle.relax.specs.Prelude.{seen, sure}
-use Rattle.relax.proofs.MemberLemmas.{IsAlone}
+use Rattle.relax.proofs.{Prelude.seen, Prelude.sure, MemberLemmas.IsAlone}
 use Rattle.relax.proofs.groups.are_both_acting.Given as goal
 
 abbrev pub invariant-loop-v : goal.invariant-loop-v

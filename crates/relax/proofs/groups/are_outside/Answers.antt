@@ -1,6 +1,4 @@
-use Rattle.std.proofs.Common.{arith, ltb-true}
-use Rattle.relax.specs.Prelude.{seen, sure}
-use Rattle.relax.proofs.MemberLemmas.{more_outside, sets_not_scattered, sets_scattered}
+use Rattle.relax.proofs.{Prelude.arith, Prelude.ltb-true, Prelude.seen, Prelude.sure, MemberLemmas.more_outside, MemberLemmas.sets_not_scattered, MemberLemmas.sets_scattered}
 use Rattle.relax.proofs.groups.are_outside.Goals as goal
 
 pub returns-in-None-clause-no : goal.returns-in-None-clause-no

@@ -1,5 +1,4 @@
-use Rattle.std.proofs.Common.{ℕ, ◌<◌, get_or}
-use Rattle.relax.specs.Prelude.{has_node, HasOutside, NodeSet, seen, sure}
+use Rattle.relax.proofs.Prelude.{ℕ, ◌<◌, get_or, has_node, HasOutside, NodeSet, seen, sure}
 use Rattle.relax.proofs.groups.are_outside.Given as goal
 
 abbrev pub invariant-loop-group : goal.invariant-loop-group

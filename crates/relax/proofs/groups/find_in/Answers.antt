@@ -1,6 +1,4 @@
-use Rattle.std.proofs.Common.{arith}
-use Rattle.relax.specs.Prelude.{nodes_of, seen, sure}
-use Rattle.relax.proofs.MemberLemmas.{none_in}
+use Rattle.relax.proofs.{Prelude.arith, Prelude.nodes_of, Prelude.seen, Prelude.sure, MemberLemmas.none_in}
 use Rattle.relax.proofs.groups.find_in.Goals as goal
 
 pub returns-clause-none : goal.returns-clause-none

@@ -1,5 +1,4 @@
-use Rattle.std.proofs.Common.{◌≡◌, ℕ, ◌<◌, false, get_or}
-use Rattle.relax.specs.Prelude.{nodes_of, seen, sure, VmId}
+use Rattle.relax.proofs.Prelude.{◌≡◌, ℕ, ◌<◌, false, get_or, nodes_of, seen, sure, VmId}
 use Rattle.relax.proofs.groups.find_in.Given as goal
 
 abbrev pub invariant-loop-i : goal.invariant-loop-i

@@ -1,6 +1,4 @@
-use Rattle.std.proofs.Common.{◌∙◌, sym}
-use Rattle.relax.specs.Areas.{nodes_of}
-use Rattle.relax.proofs.AwayLemmas.{away}
+use Rattle.relax.proofs.{Prelude.◌∙◌, Prelude.sym, Prelude.nodes_of, AwayLemmas.away}
 use Rattle.relax.proofs.measures.is_near.Goals as goal
 
 pub returns-else-is_hosted_in : goal.returns-else-is_hosted_in

@@ -1,5 +1,4 @@
-use Rattle.std.proofs.Common.{◌≡◌, ℕ, ◌+◌, ◌<◌, ◌≤◌, false, get_or}
-use Rattle.relax.specs.Prelude.{Act, goes_in, no_row, nodes_of}
+use Rattle.relax.proofs.Prelude.{◌≡◌, ℕ, ◌+◌, ◌<◌, ◌≤◌, false, get_or, Act, goes_in, no_row, nodes_of}
 use Rattle.relax.proofs.moves.is_out_by.Given as goal
 
 abbrev pub invariant-loop-row : goal.invariant-loop-row

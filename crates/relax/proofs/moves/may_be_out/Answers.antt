@@ -1,5 +1,4 @@
-use Rattle.std.proofs.Common.{◌∙◌, sym}
-use Rattle.relax.specs.Prelude.{nodes_of, seen, vm}
+use Rattle.relax.proofs.Prelude.{◌∙◌, sym, nodes_of, seen, vm}
 use Rattle.relax.proofs.MoveLemmas.{left_least}
 use Rattle.relax.proofs.moves.may_be_out.Goals as goal
 

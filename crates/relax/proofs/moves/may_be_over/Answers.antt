@@ -1,5 +1,4 @@
-use Rattle.base.proofs.Public.{get_or, Contains}
-use Rattle.relax.specs.Prelude.{Act, choices, no_row}
+use Rattle.relax.proofs.Prelude.{get_or, Contains, Act, choices, no_row}
 use Rattle.relax.proofs.AwayLemmas.{start_in}
 use Rattle.relax.proofs.moves.may_be_over.Goals as goal
 

@@ -1,5 +1,4 @@
-use Rattle.base.proofs.Public.{◌∙◌, sym, subst, Contains}
-use Rattle.relax.specs.Prelude.{choices, one, sets, vm}
+use Rattle.relax.proofs.Prelude.{◌∙◌, sym, subst, Contains, choices, one, sets, vm}
 use Rattle.relax.proofs.AwayLemmas.{away_least}
 use Rattle.relax.proofs.one_node.is_elsewhere.Goals as goal
 

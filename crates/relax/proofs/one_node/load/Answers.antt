@@ -1,6 +1,4 @@
-use Rattle.std.proofs.Common.{sym, arith}
-use Rattle.relax.specs.Prelude.{Amount, sure}
-use Rattle.relax.proofs.OneNodeLemmas.{sum_of_more, sum_of_next}
+use Rattle.relax.proofs.{Prelude.sym, Prelude.arith, Prelude.Amount, Prelude.sure, OneNodeLemmas.sum_of_more, OneNodeLemmas.sum_of_next}
 use Rattle.relax.proofs.one_node.load.Goals as goal
 
 pub loop-i-init : goal.loop-i-init

@@ -1,5 +1,4 @@
-use Rattle.std.proofs.Common.{◌≡◌, ◌*◌, ◌-◌, ◌≤◌}
-use Rattle.relax.specs.Prelude.{Amount, machine_count, max_held, one, seen, sum_to, sure}
+use Rattle.relax.proofs.Prelude.{◌≡◌, ◌*◌, ◌-◌, ◌≤◌, Amount, machine_count, max_held, one, seen, sum_to, sure}
 use Rattle.relax.proofs.one_node.load.Given as goal
 
 abbrev pub invariant-loop-i : goal.invariant-loop-i

@@ -1,5 +1,4 @@
-use Rattle.std.proofs.Common.{◌≡◌, ℕ, ◌≤◌, ◌<◌}
-use Rattle.relax.specs.Prelude.{held_at, least, one, seen, vm, Weight}
+use Rattle.relax.proofs.Prelude.{◌≡◌, ℕ, ◌≤◌, ◌<◌, held_at, least, one, seen, vm, Weight}
 use Rattle.relax.proofs.one_node.next_near.Given as goal
 
 abbrev pub invariant-loop-i : goal.invariant-loop-i

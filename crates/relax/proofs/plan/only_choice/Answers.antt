@@ -1,6 +1,4 @@
-use Rattle.std.proofs.Common.{◌≡◌, ap, ◌∙◌}
-use Rattle.domains.specs.Sets.{domain_at}
-use Rattle.relax.proofs.PlanLemmas.{one_start}
+use Rattle.relax.proofs.{Prelude.◌≡◌, Prelude.ap, Prelude.◌∙◌, Prelude.domain_at, PlanLemmas.one_start}
 use Rattle.relax.proofs.plan.only_choice.Goals as goal
 
 pub returns-in-len1-up : goal.returns-in-len1-up

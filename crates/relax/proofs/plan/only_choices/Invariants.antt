@@ -1,6 +1,4 @@
-use Rattle.std.proofs.Common.{◌≡◌, ℕ, ◌<◌, [], ◌∷◌, length, slice_index_or}
-use Rattle.relax.specs.Prelude.{element_at, inventory_of, sets}
-use Rattle.cluster.specs.declared.choices.Choice.TheVariants.{Idle}
+use Rattle.relax.proofs.Prelude.{◌≡◌, ℕ, ◌<◌, [], ◌∷◌, length, slice_index_or, element_at, inventory_of, sets, Idle}
 use Rattle.relax.proofs.plan.only_choices.Given as goal
 
 abbrev pub invariant-loop-x : goal.invariant-loop-x

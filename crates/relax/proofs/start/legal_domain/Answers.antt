@@ -1,6 +1,4 @@
-use Rattle.std.proofs.Common.{◌≡◌, arith}
-use Rattle.slices.specs.Elements.{node_count}
-use Rattle.relax.proofs.StartLemmas.{all_held, more_held}
+use Rattle.relax.proofs.{Prelude.◌≡◌, Prelude.arith, Prelude.node_count, StartLemmas.all_held, StartLemmas.more_held}
 use Rattle.relax.proofs.start.legal_domain.Goals as goal
 
 pub loop-n-preserved : goal.loop-n-preserved

@@ -1,5 +1,4 @@
-use Rattle.std.proofs.Common.{sym, ◌∙◌}
-use Rattle.relax.proofs.StartLemmas.{legal_starts, no_legal_starts}
+use Rattle.relax.proofs.{Prelude.sym, Prelude.◌∙◌, StartLemmas.legal_starts, StartLemmas.no_legal_starts}
 use Rattle.relax.proofs.start.legal_row.Goals as goal
 
 pub returns-in-None-clause-set : goal.returns-in-None-clause-set

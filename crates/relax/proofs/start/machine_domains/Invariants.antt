@@ -1,5 +1,4 @@
-use Rattle.std.proofs.Common.{◌≡◌, ℕ, ◌<◌, length, slice_index_or}
-use Rattle.relax.specs.Prelude.{choices, start_sets, staying, vm}
+use Rattle.relax.proofs.Prelude.{◌≡◌, ℕ, ◌<◌, length, slice_index_or, choices, start_sets, staying, vm}
 use Rattle.relax.proofs.start.machine_domains.Given as goal
 
 abbrev pub invariant-loop-v : goal.invariant-loop-v

@@ -1,5 +1,4 @@
-use Rattle.std.proofs.Common.{◌≡◌, ℕ, ◌<◌, length, slice_index_or}
-use Rattle.relax.specs.Prelude.{choices, node, start_sets, staying}
+use Rattle.relax.proofs.Prelude.{◌≡◌, ℕ, ◌<◌, length, slice_index_or, choices, node, start_sets, staying}
 use Rattle.relax.proofs.start.node_domains.Given as goal
 
 abbrev pub invariant-loop-n : goal.invariant-loop-n

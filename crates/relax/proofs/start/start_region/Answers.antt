@@ -1,5 +1,4 @@
-use Rattle.domains.specs.Sets.{sets}
-use Rattle.relax.proofs.StartLemmas.{start_legal, start_of_domains}
+use Rattle.relax.proofs.{Prelude.sets, StartLemmas.start_legal, StartLemmas.start_of_domains}
 use Rattle.relax.proofs.start.start_region.Goals as goal
 
 pub returns-clause-sets : goal.returns-clause-sets

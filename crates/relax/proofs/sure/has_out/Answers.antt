@@ -1,5 +1,4 @@
-use Rattle.domains.specs.Choices.{no_row}
-use Rattle.relax.proofs.AwayLemmas.{start_in}
+use Rattle.relax.proofs.{Prelude.no_row, AwayLemmas.start_in}
 use Rattle.relax.proofs.sure.has_out.Goals as goal
 
 pub returns-else-idle : goal.returns-else-idle

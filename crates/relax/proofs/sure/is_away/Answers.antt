@@ -1,5 +1,4 @@
-use Rattle.std.proofs.Common.{◌∙◌, sym}
-use Rattle.relax.specs.Prelude.{nodes_of, seen, vm}
+use Rattle.relax.proofs.Prelude.{◌∙◌, sym, nodes_of, seen, vm}
 use Rattle.relax.proofs.AwayLemmas.{away_least}
 use Rattle.relax.proofs.sure.is_away.Goals as goal
 

@@ -1,5 +1,4 @@
-use Rattle.std.proofs.Common.{◌∙◌, ap, unwrap_or}
-use Rattle.relax.specs.Prelude.{held_at, nodes_of, seen, vm}
+use Rattle.relax.proofs.Prelude.{◌∙◌, ap, unwrap_or, held_at, nodes_of, seen, vm}
 use Rattle.relax.proofs.FloorLemmas.{least_from}
 use Rattle.relax.proofs.sure.least_from.Goals as goal
 

@@ -1,6 +1,4 @@
-use Rattle.std.proofs.Common.{ap, sym, ◌∙◌}
-use Rattle.relax.specs.Prelude.{is_nought, node, seen, sure, usable_at}
-use Rattle.domains.proofs.Public.{may_by_least}
+use Rattle.relax.proofs.Prelude.{ap, sym, ◌∙◌, is_nought, node, seen, sure, usable_at, may_by_least}
 use Rattle.relax.proofs.sure.may_be_usable.Goals as goal
 
 pub returns : goal.returns

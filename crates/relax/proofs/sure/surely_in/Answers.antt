@@ -1,5 +1,4 @@
-use Rattle.std.proofs.Common.{ap, sym, ◌∙◌}
-use Rattle.relax.specs.Prelude.{held_at, is_above_none, nodes_of, Presence, seen, sure, vm}
+use Rattle.relax.proofs.Prelude.{ap, sym, ◌∙◌, held_at, is_above_none, nodes_of, Presence, seen, sure, vm}
 use Rattle.relax.proofs.LeastLemmas.{surely_positive}
 use Rattle.relax.proofs.sure.surely_in.Goals as goal
 

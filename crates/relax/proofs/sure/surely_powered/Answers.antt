@@ -1,6 +1,4 @@
-use Rattle.std.proofs.Common.{ap, sym, ◌∙◌}
-use Rattle.relax.specs.Prelude.{is_above_none, node, powered_at, seen, sure}
-use Rattle.domains.proofs.Public.{surely_by_least}
+use Rattle.relax.proofs.Prelude.{ap, sym, ◌∙◌, is_above_none, node, powered_at, seen, sure, surely_by_least}
 use Rattle.relax.proofs.sure.surely_powered.Goals as goal
 
 pub returns : goal.returns

@@ -1,6 +1,4 @@
-use Rattle.std.proofs.Common.{ap, sym, ◌∙◌}
-use Rattle.relax.specs.Prelude.{action_at, is_above_none, seen, sure, vm}
-use Rattle.domains.proofs.Public.{surely_by_least}
+use Rattle.relax.proofs.Prelude.{ap, sym, ◌∙◌, action_at, is_above_none, seen, sure, vm, surely_by_least}
 use Rattle.relax.proofs.sure.surely_so_far.Goals as goal
 
 pub returns : goal.returns

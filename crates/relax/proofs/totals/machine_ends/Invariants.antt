@@ -1,5 +1,4 @@
-use Rattle.std.proofs.Common.{◌≡◌, ◌*◌, ◌^◌, ◌≤◌}
-use Rattle.relax.specs.Prelude.{end_of, least, seen, sum_to, vm}
+use Rattle.relax.proofs.Prelude.{◌≡◌, ◌*◌, ◌^◌, ◌≤◌, end_of, least, seen, sum_to, vm}
 use Rattle.relax.proofs.totals.machine_ends.Given as goal
 
 abbrev pub invariant-loop-v : goal.invariant-loop-v

@@ -1,5 +1,4 @@
-use Rattle.std.proofs.Common.{◌≡◌, ◌*◌, ◌^◌, ◌≤◌}
-use Rattle.relax.specs.Prelude.{end_of, least, node, seen, sum_to}
+use Rattle.relax.proofs.Prelude.{◌≡◌, ◌*◌, ◌^◌, ◌≤◌, end_of, least, node, seen, sum_to}
 use Rattle.relax.proofs.totals.node_ends.Given as goal
 
 abbrev pub invariant-loop-n : goal.invariant-loop-n

@@ -1,5 +1,4 @@
-use Rattle.std.proofs.Common.{◌≡◌, ◌≤◌, cond}
-use Rattle.relax.specs.Prelude.{nodes_of, seen, sum_to, sure}
+use Rattle.relax.proofs.Prelude.{◌≡◌, ◌≤◌, cond, nodes_of, seen, sum_to, sure}
 use Rattle.relax.proofs.totals.powered_nodes.Given as goal
 
 abbrev pub invariant-loop-n : goal.invariant-loop-n

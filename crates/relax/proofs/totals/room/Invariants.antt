@@ -1,5 +1,4 @@
-use Rattle.std.proofs.Common.{◌≡◌, ◌*◌, ◌≤◌, cond}
-use Rattle.relax.specs.Prelude.{capacity_of, max_capacity, nodes_of, seen, sum_to, sure}
+use Rattle.relax.proofs.Prelude.{◌≡◌, ◌*◌, ◌≤◌, cond, capacity_of, max_capacity, nodes_of, seen, sum_to, sure}
 use Rattle.relax.proofs.totals.room.Given as goal
 
 abbrev pub invariant-loop-n : goal.invariant-loop-n

@@ -1,5 +1,4 @@
-use Rattle.std.proofs.Common.{◌≡◌, ◌*◌, ◌≤◌}
-use Rattle.relax.specs.Prelude.{max_held, nodes_of, seen, sum_to, sure}
+use Rattle.relax.proofs.Prelude.{◌≡◌, ◌*◌, ◌≤◌, max_held, nodes_of, seen, sum_to, sure}
 use Rattle.relax.proofs.totals.total.Given as goal
 
 abbrev pub invariant-loop-v : goal.invariant-loop-v

@@ -1,5 +1,4 @@
-use Rattle.std.proofs.Common.{◌≤◌, ◌∙◌, sym, arith, Some, ◌≡◌}
-use Rattle.relax.specs.Prelude.{end_of, lowest, sets}
+use Rattle.relax.proofs.Prelude.{◌≤◌, ◌∙◌, sym, arith, Some, ◌≡◌, end_of, lowest, sets}
 use Rattle.relax.proofs.LeastLemmas.{least_end_small}
 use Rattle.relax.proofs.whole.least_end.Goals as goal
 
