@@ -1,7 +1,5 @@
 -- Instants before which no machine starts at a node.
-use Rattle.base.proofs.Public.{◌≡◌, ◌≢◌, ◌⊎◌, inl, inr, ℕ, ◌*◌, ◌<◌, ◌≤◌, true, List, [], ◌∷◌, length, take, drop, refl, ap, subst, ◌∙◌, arith, Option, Some, None, slice_index_or, slice_set, unwrap_or, Contains, filter, cases_eq, nat_tests, row_fits, length-set, length-take, length-drop, get_or-set_same, get_or-set_other, get_or-take, get_or-drop}
-use Rattle.profiles.specs.Prelude.{Act, AreFirstAt, AreFirsts, At, Choice, From, in_part, Instance, IsNoLater, least, lowest, machine_count, node_count, Sets, slot_of, start_count, stays, vm}
-use Rattle.domains.proofs.Public.{contains_filter, least_of_each}
+use Rattle.profiles.proofs.Prelude.{◌≡◌, ◌≢◌, ◌⊎◌, inl, inr, ℕ, ◌*◌, ◌<◌, ◌≤◌, true, List, [], ◌∷◌, length, take, drop, refl, ap, subst, ◌∙◌, arith, Option, Some, None, slice_index_or, slice_set, unwrap_or, Contains, filter, cases_eq, nat_tests, row_fits, length-set, length-take, length-drop, get_or-set_same, get_or-set_other, get_or-take, get_or-drop, Act, AreFirstAt, AreFirsts, At, Choice, From, in_part, Instance, IsNoLater, least, lowest, machine_count, node_count, Sets, slot_of, start_count, stays, vm, contains_filter, least_of_each}
 
 -- ---- the first start of some choices
 

@@ -1,8 +1,7 @@
 -- Hosts, and the most that is used, by lists.
-use Rattle.std.proofs.Common.{Vec}
-use Rattle.base.proofs.Public.{◌≡◌, inl, inr, ℕ, ◌+◌, ◌<◌, Bool, List, [], ◌∷◌, ◌++◌, Option, Some, None, get_or, sym, ap, subst, ◌∙◌, arith, IsNonDecreasingBy, IsPermutation, Global, cases_eq, get_or-map, length-append, length-map, map-append, All-push, All-weaker, Contains-append_left, Contains-push, All-permutation, Contains-permutation}
-use Rattle.profiles.specs.Prelude.{AreHosts, AreMostUses, AreOrders, AreTotalBases, AreUses, hosted_in, HostIs, Instance, IsMostUse, IsOrder, IsTotalBase, lists_of, machine_count, most_use, MostUse, NodeId, one, state_of}
+use Rattle.profiles.proofs.Prelude.{Vec, ◌≡◌, inl, inr, ℕ, ◌+◌, ◌<◌, Bool, List, [], ◌∷◌, ◌++◌, Option, Some, None, get_or, sym, ap, subst, ◌∙◌, arith, IsNonDecreasingBy, IsPermutation, cases_eq, get_or-map, length-append, length-map, map-append, All-push, All-weaker, Contains-append_left, Contains-push, All-permutation, Contains-permutation, AreHosts, AreMostUses, AreOrders, AreTotalBases, AreUses, hosted_in, HostIs, Instance, IsMostUse, IsOrder, IsTotalBase, lists_of, machine_count, most_use, MostUse, NodeId, one, state_of}
 use Rattle.profiles.proofs.StandingLemmas.Tables.{each_push}
+use Rattle.base.proofs.Public.{Global}
 
 -- both tell whether the node is the host
 pub host_tells : (h : Option NodeId) (n : ℕ) (a b : Bool) → HostIs h n a → HostIs h n b → a ≡ b

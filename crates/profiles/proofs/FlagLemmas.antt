@@ -1,6 +1,5 @@
 -- Flags of the numbers of a list.
-use Rattle.base.proofs.Public.{◌≡◌, ◌≢◌, inl, inr, ℕ, zero, suc, ◌<◌, ◌≤◌, ◌||◌, Bool, true, false, List, [], ◌∷◌, ◌++◌, length, get_or, set, refl, sym, ◌∙◌, ◌↔◌, IsTrue, nat_eq, Contains, cases_eq, eqb-true, ne_eqb, Decides-eqb, nat_eq_equiv, get_or-set_same, get_or-set_other, get_or_past, list_any-append, Contains-from_any, list_any-from_Contains}
-use Rattle.profiles.specs.Flags.{AreFlags, is_in}
+use Rattle.profiles.proofs.Prelude.{◌≡◌, ◌≢◌, inl, inr, ℕ, zero, suc, ◌<◌, ◌≤◌, ◌||◌, Bool, true, false, List, [], ◌∷◌, ◌++◌, length, get_or, set, refl, sym, ◌∙◌, ◌↔◌, IsTrue, nat_eq, Contains, cases_eq, eqb-true, ne_eqb, Decides-eqb, nat_eq_equiv, get_or-set_same, get_or-set_other, get_or_past, list_any-append, Contains-from_any, list_any-from_Contains, AreFlags, is_in}
 
 -- the test tells what is in the list
 in-tells : (xs : List ℕ) (v : ℕ) → is_in xs v ≡ true → Contains xs v

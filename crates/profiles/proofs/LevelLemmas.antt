@@ -1,7 +1,5 @@
 -- What a log tells after one entry more.
-use Rattle.std.proofs.Common.{reverse}
-use Rattle.base.proofs.Public.{◌≡◌, ◌≢◌, ℕ, zero, suc, ◌-◌, ◌<◌, ◌≤◌, List, [], ◌∷◌, ◌++◌, length, refl, sym, ap, ◌∙◌, arith, slice_set, slice_index_or, get_or_append_left, get_or-append_right, length-append, length-reverse, reverse-append}
-use Rattle.profiles.specs.Prelude.{Entry, IsLog, level_at, Levels, Mark, olders, Undo}
+use Rattle.profiles.proofs.Prelude.{reverse, ◌≡◌, ◌≢◌, ℕ, zero, suc, ◌-◌, ◌<◌, ◌≤◌, List, [], ◌∷◌, ◌++◌, length, refl, sym, ap, ◌∙◌, arith, slice_set, slice_index_or, get_or_append_left, get_or-append_right, length-append, length-reverse, reverse-append, Entry, IsLog, level_at, Levels, Mark, olders, Undo}
 
 module _ {T : Type 0} where
   -- what was there before is there again

@@ -1,9 +1,5 @@
 -- The list of the machines that may not stay, with one machine more.
-use Rattle.base.proofs.Public.{◌≡◌, inl, inr, ℕ, ◌+◌, ◌<◌, Bool, true, false, List, [], ◌∷◌, ◌++◌, sym, subst, ◌∙◌, arith, Contains, flat_map, cases_eq, ne_eqb, Contains-append_left, Contains-push, Contains-push_cases}
-use Rattle.profiles.specs.Prelude.{AreMachines, AreMovers, Choice, choices, DomainView, Element, Instance, IsGrown, IsListedOrStays, IsToldOf, machine_count, Node, row_choices, same_element, Sets, Vm, vm}
-use Rattle.cluster.specs.declared.choices.Choice.TheVariants.{Idle}
-use Rattle.domains.specs.SetsBefore.{putting}
-use Rattle.domains.proofs.Public.{contains_here}
+use Rattle.profiles.proofs.Prelude.{◌≡◌, inl, inr, ℕ, ◌+◌, ◌<◌, Bool, true, false, List, [], ◌∷◌, ◌++◌, sym, subst, ◌∙◌, arith, Contains, flat_map, cases_eq, ne_eqb, Contains-append_left, Contains-push, Contains-push_cases, AreMachines, AreMovers, Choice, choices, DomainView, Element, Instance, IsGrown, IsListedOrStays, IsToldOf, machine_count, Node, row_choices, same_element, Sets, Vm, vm, Idle, putting, contains_here}
 use Rattle.profiles.proofs.SumLemmas.{once_more}
 
 -- ---- whether Idle is a choice

@@ -1,6 +1,5 @@
 -- Lists of machines that grow.
-use Rattle.base.proofs.Public.{◌≡◌, ◌≢◌, ◌⊎◌, inl, inr, ℕ, ◌+◌, ◌<◌, ◌≤◌, nat_lt, true, false, List, [], ◌∷◌, ◌++◌, length, replicate, refl, sym, subst, ◌∙◌, arith, slice_set, Contains, cases_Bool, cases_eq, false≢true, nat_tests, get_or-replicate, get_or-set_same, get_or-set_other, get_or_past, length-replicate, length-set, Contains-append_left, Contains-push, Contains-push_cases}
-use Rattle.profiles.specs.Prelude.{AreMachines, AreNear, hosted_in, Instance, IsEachOnce, IsNear, IsPut, list_at, machine_count, node_count, one, state_of}
+use Rattle.profiles.proofs.Prelude.{◌≡◌, ◌≢◌, ◌⊎◌, inl, inr, ℕ, ◌+◌, ◌<◌, ◌≤◌, nat_lt, true, false, List, [], ◌∷◌, ◌++◌, length, replicate, refl, sym, subst, ◌∙◌, arith, slice_set, Contains, cases_Bool, cases_eq, false≢true, nat_tests, get_or-replicate, get_or-set_same, get_or-set_other, get_or_past, length-replicate, length-set, Contains-append_left, Contains-push, Contains-push_cases, AreMachines, AreNear, hosted_in, Instance, IsEachOnce, IsNear, IsPut, list_at, machine_count, node_count, one, state_of}
 use Rattle.profiles.proofs.SumLemmas.{once_more}
 
 -- ---- one machine more

@@ -1,6 +1,5 @@
 -- What is added up is the load of the node.
-use Rattle.base.proofs.Public.{◌≡◌, ℕ, ◌+◌, ◌<◌, Bool, true, false, ◌&&◌, nat_lt, cond, refl, sym, ap, ◌∙◌, slice_index_or, sum_to-same}
-use Rattle.profiles.specs.Prelude.{Amount, base, comes_by, gain, hosted_in, Instance, IsProfile, IsShare, kept_use, load, machine_count, never, no_share, no_standing, one, ProfileView, Sets, Share, share_use, Standing, state_of, sum_to, sure, total_use}
+use Rattle.profiles.proofs.Prelude.{◌≡◌, ℕ, ◌+◌, ◌<◌, Bool, true, false, ◌&&◌, nat_lt, cond, refl, sym, ap, ◌∙◌, slice_index_or, sum_to-same, Amount, base, comes_by, gain, hosted_in, Instance, IsProfile, IsShare, kept_use, load, machine_count, never, no_share, no_standing, one, ProfileView, Sets, Share, share_use, Standing, state_of, sum_to, sure, total_use}
 use Rattle.profiles.proofs.StandingLemmas.Laws.{load_law}
 
 -- a machine's share is what it surely has

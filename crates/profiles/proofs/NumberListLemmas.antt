@@ -1,6 +1,5 @@
 -- Lists behind vectors.
-use Rattle.std.proofs.Common.{◌≡◌, ℕ, ◌+◌, ◌<◌, List, [], ◌∷◌, ◌++◌, length, map, get_or, set, replicate, sym, ap, ◌∙◌, arith}
-use Rattle.std.proofs.lemmas.List.{get_or-map, length-map, map-append, map-set, replicate-append-replicate}
+use Rattle.profiles.proofs.Prelude.{◌≡◌, ℕ, ◌+◌, ◌<◌, List, [], ◌∷◌, ◌++◌, length, map, get_or, set, replicate, sym, ap, ◌∙◌, arith, get_or-map, length-map, map-append, map-set, replicate-append-replicate}
 
 module _ {A : Type 0} (view : A → List ℕ) where
   -- one list is longer by a number

@@ -1,7 +1,5 @@
 -- The room of one node.
-use Rattle.base.proofs.Public.{◌≡◌, ◌≢◌, ℕ, ◌<◌, ◌==◌, true, false, cond, refl, arith, ne_eqb, Decides-eqb, sum_to-change, sum_to-zero}
-use Rattle.profiles.specs.Prelude.{capacity_of, domain_at, idle_seen, Instance, is_online, Lens, node, node_count, one, RegionView, room, seen, sight_at, Snapshot, sum_to, sure, usable_at}
-use Rattle.domains.proofs.Public.{seen_by_rows}
+use Rattle.profiles.proofs.Prelude.{◌≡◌, ◌≢◌, ℕ, ◌<◌, ◌==◌, true, false, cond, refl, arith, ne_eqb, Decides-eqb, sum_to-change, sum_to-zero, capacity_of, domain_at, idle_seen, Instance, is_online, Lens, node, node_count, one, RegionView, room, seen, sight_at, Snapshot, sum_to, sure, usable_at, seen_by_rows}
 
 -- of a sum over one node there is one term
 sum-of-one : (count n : ℕ) (f : ℕ → ℕ) → n < count → sum_to count (λ k. cond (one n k) (f k) 0) ≡ f n

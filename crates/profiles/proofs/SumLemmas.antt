@@ -1,6 +1,5 @@
 -- Sums over the numbers of a list in place of all below a bound.
-use Rattle.base.proofs.Public.{◌≡◌, ◌≢◌, inl, inr, ◌⊎◌, ℕ, zero, suc, ◌+◌, ◌-◌, ◌<◌, ◌≤◌, ◌==◌, true, false, cond, List, [], ◌∷◌, ◌++◌, length, refl, sym, subst, take, ◌∙◌, arith, Contains, sum_by, cases_eq, Decides-eqb, nat_tests, take_all, Contains-append_right, Contains-append_cases, Contains-push_cases, sum_by-cons, sum_to-change, sum_to-none}
-use Rattle.profiles.specs.Prelude.{IsEachOnce, sum_to}
+use Rattle.profiles.proofs.Prelude.{◌≡◌, ◌≢◌, inl, inr, ◌⊎◌, ℕ, zero, suc, ◌+◌, ◌-◌, ◌<◌, ◌≤◌, ◌==◌, true, false, cond, List, [], ◌∷◌, ◌++◌, length, refl, sym, subst, take, ◌∙◌, arith, Contains, sum_by, cases_eq, Decides-eqb, nat_tests, take_all, Contains-append_right, Contains-append_cases, Contains-push_cases, sum_by-cons, sum_to-change, sum_to-none, IsEachOnce, sum_to}
 
 -- ---- lists
 

@@ -1,10 +1,7 @@
 -- No later than when each machine first starts at each node.
 use Rattle.std.specs.Prelude.{◌≡◌, ℕ, ◌+◌, ◌*◌, ◌<◌, ◌≤◌, List, length, slice_index_or}
-use Rattle.std.specs.List.{Contains}
+use Rattle.{std.specs.List.Contains, cluster.specs.declared.choices.Choice.Choice, cluster.specs.declared.choices.Choice.TheVariants.Idle, cluster.specs.declared.choices.Choice.TheVariants.Act, cluster.specs.declared.choices.Place.TheVariants.At}
 use Rattle.relax.specs.Prelude.{Instance, machine_count, node_count, Sets, vm}
-use Rattle.cluster.specs.declared.choices.Choice.{Choice}
-use Rattle.cluster.specs.declared.choices.Choice.TheVariants.{Idle, Act}
-use Rattle.cluster.specs.declared.choices.Place.TheVariants.{At}
 
 -- when a choice starts its action, 0 for Idle
 abbrev pub start_count : Choice → ℕ

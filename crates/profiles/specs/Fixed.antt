@@ -1,14 +1,11 @@
 -- What no change of a region changes.
 use Rattle.std.specs.Prelude.{◌≡◌, ℕ, ◌+◌, ◌*◌, ◌<◌, ◌≤◌, List, [], length, map, Option, None, Vec, slice_index_or}
-use Rattle.std.specs.List.{All, Contains}
-use Rattle.std.specs.List.Sorted.{IsNonDecreasingBy}
+use Rattle.std.specs.List.{All, Contains, Sorted.IsNonDecreasingBy}
 use Rattle.std.specs.declared.alloc.Global.{Global}
 use Rattle.relax.specs.Prelude.{demand_of, hosted_in, Instance, machine_count, max_amount, max_machines, one, state_of, sum_to}
 use Rattle.cluster.specs.declared.ids.NodeId.{NodeId}
 use Rattle.slices.specs.declared.slice.Weight.TheVariants.{Amount}
-use Rattle.profiles.specs.Hosts.{HostIs}
-use Rattle.profiles.specs.Standing.Standings.{base}
-use Rattle.profiles.specs.declared.fixed.MostUse.{MostUse}
+use Rattle.profiles.specs.{Hosts.HostIs, Standing.Standings.base, declared.fixed.MostUse.MostUse}
 
 -- what a contract sees of it: the host of each machine, and by resource the most that any machine has and brings, what all have at
 -- present, and the machines by what each has and brings

@@ -1,8 +1,7 @@
 -- A list with levels, and how they are kept.
 use Rattle.std.specs.Prelude.{◌≡◌, ℕ, List, [], ◌∷◌, ◌++◌, length, slice_index_or, slice_set, refl}
 use Rattle.std.specs.Coded.{Coded, code_by, coded×, coded_list}
-use Rattle.profiles.specs.declared.levels.Entry.{Entry}
-use Rattle.profiles.specs.declared.levels.Entry.TheVariants.{Mark, Undo}
+use Rattle.profiles.specs.declared.levels.Entry.{Entry, TheVariants.Mark, TheVariants.Undo}
 
 -- what a contract sees of a `Levelled`: the items of each level below the top, the lowest first, and those of the top
 pub record Levels (T : Type 0) : Type 0 where

@@ -2,9 +2,7 @@
 use Rattle.std.specs.Prelude.{◌≡◌, ℕ, ◌<◌, List}
 use Rattle.std.specs.List.{Contains}
 use Rattle.relax.specs.Prelude.{Instance, machine_count, Sets, vm}
-use Rattle.cluster.specs.declared.choices.Choice.TheVariants.{Idle}
-use Rattle.cluster.specs.declared.ids.Element.{Element}
-use Rattle.cluster.specs.declared.ids.Element.TheVariants.{Vm, Node}
+use Rattle.cluster.specs.declared.{choices.Choice.TheVariants.Idle, ids.Element.Element, ids.Element.TheVariants.Vm, ids.Element.TheVariants.Node}
 use Rattle.profiles.specs.Near.{AreMachines}
 
 -- any machine that is not in the list may stay as it is; no machine is there twice

@@ -1,8 +1,7 @@
 //! No later than when each machine first starts at each node, kept with levels.
 ghost use Rattle.std.specs.Prelude.{◌≡◌, ◌+◌, ◌*◌, ◌<◌, [], length, OnErr, OnOk};
 ghost use Rattle.relax.specs.Prelude.{choices, IsElement, IsSized, machine_count, node_count, sets};
-ghost use Rattle.profiles.specs.Levels.{IsBack, marked};
-ghost use Rattle.profiles.specs.Firsts.{AreFirstAt, AreFirsts, IsNoLater, slot_of as the_slot_of, start_count};
+ghost use Rattle.profiles.specs.{Levels.IsBack, Levels.marked, Firsts.AreFirstAt, Firsts.AreFirsts, Firsts.IsNoLater, Firsts.slot_of as the_slot_of, Firsts.start_count};
 
 use crate::levels::Levelled;
 use base::Memory;

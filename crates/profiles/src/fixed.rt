@@ -38,9 +38,7 @@ pub struct MostUse {
 
 impl Model for Fixed {
     ghost use Rattle.std.specs.Prelude.{Vec, map};
-    ghost use Rattle.std.specs.declared.alloc.Global.{Global};
-    ghost use Rattle.profiles.specs.Fixed.{FixedView};
-    ghost use Rattle.profiles.specs.declared.fixed.MostUse.{MostUse};
+    ghost use Rattle.{std.specs.declared.alloc.Global.Global, profiles.specs.Fixed.FixedView, profiles.specs.declared.fixed.MostUse.MostUse};
 
     ghost Value = { FixedView };
 

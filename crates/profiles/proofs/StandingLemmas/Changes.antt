@@ -1,7 +1,5 @@
 -- Until when a machine stays, after some of its choices were lost.
-use Rattle.base.proofs.Public.{◌≡◌, ℕ, ◌<◌, ◌≤◌, max, List, [], ◌∷◌, Option, Some, None, unwrap_or, refl, ap, ◌∙◌, arith, Contains, Contains-append_right}
-use Rattle.profiles.specs.Prelude.{AreFewer, Choice, choices, DomainView, least, Lost, lost_choices, lower_option, lowest, restored}
-use Rattle.domains.proofs.Public.{least_of_each, lowest_before}
+use Rattle.profiles.proofs.Prelude.{◌≡◌, ℕ, ◌<◌, ◌≤◌, max, List, [], ◌∷◌, Option, Some, None, unwrap_or, refl, ap, ◌∙◌, arith, Contains, Contains-append_right, AreFewer, Choice, choices, DomainView, least, Lost, lost_choices, lower_option, lowest, restored, least_of_each, lowest_before}
 
 -- nothing was lost
 pub least_kept : (f : Choice → ℕ) (lost : Lost) (d : DomainView) (old : ℕ) → AreFewer (choices d) (choices (restored lost d)) → old ≡ least f (choices (restored lost d)) → lowest f (lost_choices lost) ≡ None → old ≡ least f (choices d)

@@ -1,11 +1,8 @@
 -- What one choice holds on one node: what its machine has on the host until it is left, and what it brings.
-use Rattle.base.proofs.Public.{◌≡◌, ◌⊎◌, inl, inr, ℕ, ◌+◌, ◌<◌, Bool, true, false, not, ◌&&◌, ◌==◌, nat_lt, nat_le, cond, Option, Some, None, refl, sym, ap, subst, ◌∙◌, arith, false≢true, lt-ltb, Decides-eqb, nat_tests}
-use Rattle.profiles.specs.Prelude.{Act, acting_slices, action_duration, Allocate, Amount, At, base, Boot, brought, Choice, Demand, end_of, Forge, gain, Gone, had_there, has_come, held_at, held_by, hosted_in, idle_slices, Image, Init, Instance, is_place, is_raised, kept_until, Kill, Killed as ToKilled, Kind, kind_of, leave_of, machine_kind, Migrate, never, Nowhere, one, Presence, Ready as ToReady, Resume, Running as ToRunning, Shutdown, Sleeping as ToSleeping, Slices, slices_by, slices_of, Stage, stage_at, stage_from, State, state_of, Suspend, To, Use, vm, wanted_state, weigh, Weight, weight_if, weight_of, Wish}
-use Rattle.cluster.specs.declared.choices.Choice.TheVariants.{Idle}
-use Rattle.cluster.specs.declared.choices.Place.{Place}
-use Rattle.cluster.specs.declared.states.State.TheVariants.{Ready, Running, Sleeping}
+use Rattle.profiles.proofs.Prelude.{◌≡◌, ◌⊎◌, inl, inr, ℕ, ◌+◌, ◌<◌, Bool, true, false, not, ◌&&◌, ◌==◌, nat_lt, nat_le, cond, Option, Some, None, refl, sym, ap, subst, ◌∙◌, arith, false≢true, lt-ltb, Decides-eqb, nat_tests, Act, acting_slices, action_duration, Allocate, Amount, At, base, Boot, brought, Choice, Demand, end_of, Forge, gain, Gone, had_there, has_come, held_at, held_by, hosted_in, idle_slices, Image, Init, Instance, is_place, is_raised, kept_until, Kill, Killed as ToKilled, Kind, kind_of, leave_of, machine_kind, Migrate, never, Nowhere, one, Presence, Ready as ToReady, Resume, Shutdown, Sleeping as ToSleeping, Slices, slices_by, slices_of, Stage, stage_at, stage_from, State, state_of, Suspend, To, Use, vm, wanted_state, weigh, Weight, weight_if, weight_of, Wish, Idle, Place, Running, ends_by_duration}
+use Rattle.profiles.specs.Prelude.{Running as ToRunning}
+use Rattle.cluster.specs.declared.states.State.TheVariants.{Ready, Sleeping}
 use Rattle.slices.specs.declared.slice.What.TheVariants.{Image as OfImage}
-use Rattle.slices.proofs.Public.{ends_by_duration}
 
 -- ---- which actions there are, and where
 

@@ -1,10 +1,6 @@
 -- The laws, by the names of their statements in specs/.
-use Rattle.base.proofs.Public.{slice_index_or, ◌≡◌, ◌≢◌, ℕ, ◌+◌, ◌<◌, Bool, true, false, ◌&&◌, nat_lt, cond, List, [], ◌∷◌, refl, sym, ap, subst, ◌∙◌, arith, Contains, false≢true, Decides-eqb, nat_tests, sum_to-same}
-use Rattle.profiles.specs.Prelude.{Amount, AreFewer, base, BeforeLaw, Choice, choices, Element, FewerLaw, gain, GrowLaw, has_come, have_come, held_at, hosted_in, Instance, kept_use, KeptLaw, least, leave_of, LoadLaw, machine_count, never, no_standing, Node, one, Presence, PresencesLaw, PresentLaw, same_element, sets, state_of, sure, Vm, vm, Weight}
-use Rattle.domains.specs.SetsBefore.{sets_before}
-use Rattle.domains.proofs.Public.{filter_is_fewer, least_grows, same_is, surely_stays}
-use Rattle.profiles.proofs.StandingLemmas.Choices.{apart, held_one}
-use Rattle.profiles.proofs.StandingLemmas.Lists.{in_parts, least_in_parts, least_same, positive_each}
+use Rattle.profiles.proofs.Prelude.{slice_index_or, ◌≡◌, ◌≢◌, ℕ, ◌+◌, ◌<◌, Bool, true, false, ◌&&◌, nat_lt, cond, List, [], ◌∷◌, refl, sym, ap, subst, ◌∙◌, arith, Contains, false≢true, Decides-eqb, nat_tests, sum_to-same, Amount, AreFewer, base, BeforeLaw, Choice, choices, Element, FewerLaw, gain, GrowLaw, has_come, have_come, held_at, hosted_in, Instance, kept_use, KeptLaw, least, leave_of, LoadLaw, machine_count, never, no_standing, Node, one, Presence, PresencesLaw, PresentLaw, same_element, sets, state_of, sure, Vm, vm, Weight, sets_before, filter_is_fewer, least_grows, same_is, surely_stays}
+use Rattle.profiles.proofs.StandingLemmas.{Choices.apart, Choices.held_one, Lists.in_parts, Lists.least_in_parts, Lists.least_same, Lists.positive_each}
 
 -- what is held at the least, by the set itself
 by-set : (p : Instance) (v : ℕ) (w : Weight) (n t : ℕ) (cs : List Choice) → t < never → least (held_at p v w (one n) t) cs ≡ cond (hosted_in (state_of p v) (one n) && nat_lt t (least (leave_of p v) cs)) (base p v w) 0 + cond (have_come n t cs) (gain p v w n) 0

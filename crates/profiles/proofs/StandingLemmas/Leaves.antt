@@ -1,7 +1,6 @@
 -- How a machine leaves that runs.
-use Rattle.base.proofs.Public.{◌≡◌, ◌≢◌, ℕ, ◌+◌, ◌<◌, ◌≤◌, Bool, true, false, ◌==◌, nat_lt, Option, Some, None, refl, sym, ap, ◌∙◌, arith, ne_eqb, nat_tests}
-use Rattle.profiles.specs.Prelude.{Act, action_duration, AreLeaves, At, Clash, duration_of, end_of, Instance, is_raised, Keep, Killed as ToKilled, Kind, kind_duration, kind_of, leave_of, Leaves, machine_kind, max_action, Migrate, node_count, NodeId, Offline as ToOffline, Online as ToOnline, Ready as ToReady, Running as ToRunning, Sleeping as ToSleeping, State, state_of, To, vm, wanted_state, Wish}
-use Rattle.cluster.specs.declared.states.State.TheVariants.{Running}
+use Rattle.profiles.proofs.Prelude.{◌≡◌, ◌≢◌, ℕ, ◌+◌, ◌<◌, ◌≤◌, Bool, true, false, ◌==◌, nat_lt, Option, Some, None, refl, sym, ap, ◌∙◌, arith, ne_eqb, nat_tests, Act, action_duration, AreLeaves, At, Clash, duration_of, end_of, Instance, is_raised, Keep, Killed as ToKilled, Kind, kind_duration, kind_of, leave_of, Leaves, machine_kind, max_action, Migrate, node_count, NodeId, Offline as ToOffline, Online as ToOnline, Ready as ToReady, Sleeping as ToSleeping, State, state_of, To, vm, wanted_state, Wish, Running}
+use Rattle.profiles.specs.Prelude.{Running as ToRunning}
 
 -- ---- the kind of the action to another node
 

@@ -1,8 +1,5 @@
 -- The least over a list of what is had until an instant, which each item has for itself, and from when all items have come.
-use Rattle.std.proofs.Common.{min}
-use Rattle.base.proofs.Public.{◌≡◌, ◌≢◌, ◌⊎◌, inl, inr, ℕ, suc, ◌+◌, ◌≤◌, Bool, true, false, ◌&&◌, nat_lt, cond, List, [], ◌∷◌, refl, sym, ap, ◌∙◌, arith, Contains, false≢true, cases_lt, lt-ltb, ltb-true, nat_tests}
-use Rattle.profiles.specs.Prelude.{Choice, least, lowest, surely}
-use Rattle.domains.proofs.Public.{contains_here, least_of_each, surely_each}
+use Rattle.profiles.proofs.Prelude.{min, ◌≡◌, ◌≢◌, ◌⊎◌, inl, inr, ℕ, suc, ◌+◌, ◌≤◌, Bool, true, false, ◌&&◌, nat_lt, cond, List, [], ◌∷◌, refl, sym, ap, ◌∙◌, arith, Contains, false≢true, cases_lt, lt-ltb, ltb-true, nat_tests, Choice, least, lowest, surely, contains_here, least_of_each, surely_each}
 
 later : (x : Choice) (xs : List Choice) (c : Choice) → Contains xs c → Contains (x ∷ xs) c
 later x xs c h = (suc h.0, omega (arith, h.1), h.2)

@@ -1,6 +1,5 @@
 -- When two pairs of numbers are the same.
-use Rattle.std.proofs.Common.{◌≡◌, Option, Some, None, sym, ◌∙◌}
-use Rattle.profiles.specs.Prelude.{Arrival, Standing}
+use Rattle.profiles.proofs.Prelude.{◌≡◌, Option, Some, None, sym, ◌∙◌, Arrival, Standing}
 
 both : (a b : Standing) → a.leave ≡ b.leave → a.come ≡ b.come → a ≡ b
 both a b e f = λ i. record { leave = e i; come = f i }

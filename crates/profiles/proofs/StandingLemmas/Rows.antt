@@ -1,10 +1,5 @@
 -- Where all choices of a domain go, by its rows.
-use Rattle.std.proofs.Common.{slice_index_or}
-use Rattle.base.proofs.Public.{◌≡◌, inl, ℕ, zero, suc, ◌+◌, ◌-◌, ◌<◌, ◌≤◌, Bool, true, false, ◌&&◌, ◌==◌, nat_le, cond, Option, Some, None, List, [], ◌∷◌, ◌++◌, length, refl, sym, ap, ◌∙◌, arith, Contains, filter, flat_map, false≢true, Decides-eqb, nat_tests}
-use Rattle.profiles.specs.Prelude.{Act, Arrival, At, Choice, choices, Climbs, comes_by, DomainView, has_come, have_come, no_row, NodeId, Nowhere, one, place_index, Row, row_choices, starts_from, stays, surely}
-use Rattle.cluster.specs.declared.choices.Choice.TheVariants.{Idle}
-use Rattle.cluster.specs.declared.choices.Place.{Place}
-use Rattle.reasons.proofs.Public.{ends_of_rows}
+use Rattle.profiles.proofs.Prelude.{slice_index_or, ◌≡◌, inl, ℕ, zero, suc, ◌+◌, ◌-◌, ◌<◌, ◌≤◌, Bool, true, false, ◌&&◌, ◌==◌, nat_le, cond, Option, Some, None, List, [], ◌∷◌, ◌++◌, length, refl, sym, ap, ◌∙◌, arith, Contains, filter, flat_map, false≢true, Decides-eqb, nat_tests, Act, Arrival, At, Choice, choices, Climbs, comes_by, DomainView, has_come, have_come, no_row, NodeId, Nowhere, one, place_index, Row, row_choices, starts_from, stays, surely, Idle, Place, ends_of_rows}
 
 -- where the rows tell that all choices go, and the last start there
 abbrev pub come_at : Place → ℕ → Option Arrival

@@ -1,7 +1,5 @@
 -- How long a machine that may stay is on its host.
-use Rattle.base.proofs.Public.{◌≡◌, ℕ, ◌+◌, ◌<◌, Bool, true, false, ◌&&◌, ◌==◌, nat_lt, cond, None, [], refl, sym, ◌∙◌, Decides-eqb}
-use Rattle.profiles.specs.Prelude.{choices, DomainView, Instance, IsStanding, kept_use, least, leave_of, never, NodeId, one, Presence, Sets, Standing, state_of, sure, vm}
-use Rattle.cluster.specs.declared.states.State.TheVariants.{Running}
+use Rattle.profiles.proofs.Prelude.{◌≡◌, ℕ, ◌+◌, ◌<◌, Bool, true, false, ◌&&◌, ◌==◌, nat_lt, cond, None, [], refl, sym, ◌∙◌, Decides-eqb, choices, DomainView, Instance, IsStanding, kept_use, least, leave_of, never, NodeId, one, Presence, Sets, Standing, state_of, sure, vm, Running}
 use Rattle.profiles.proofs.StandingLemmas.Laws.{present_law}
 
 -- one that may stay has not come elsewhere

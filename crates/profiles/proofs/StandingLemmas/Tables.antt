@@ -1,7 +1,5 @@
 -- The numbers of all machines after a change of one.
-use Rattle.base.proofs.Public.{◌≡◌, inl, inr, ℕ, zero, suc, ◌+◌, ◌<◌, ◌==◌, false, List, [], ◌∷◌, ◌++◌, length, get_or, refl, sym, ap, subst, ◌∙◌, arith, slice_set, slice_index_or, get_or-append_seam, get_or_append_left, length-append, length-set, get_or-set_same, get_or-set_other, cases_eq, ne_eqb}
-use Rattle.profiles.specs.Prelude.{AreStanding, AreStandingUpTo, Choice, Instance, IsStanding, machine_count, no_standing, Sets, Standing, vm}
-use Rattle.domains.specs.SetsBefore.{putting}
+use Rattle.profiles.proofs.Prelude.{◌≡◌, inl, inr, ℕ, zero, suc, ◌+◌, ◌<◌, ◌==◌, false, List, [], ◌∷◌, ◌++◌, length, get_or, refl, sym, ap, subst, ◌∙◌, arith, slice_set, slice_index_or, get_or-append_seam, get_or_append_left, length-append, length-set, get_or-set_same, get_or-set_other, cases_eq, ne_eqb, AreStanding, AreStandingUpTo, Choice, Instance, IsStanding, machine_count, no_standing, Sets, Standing, vm, putting}
 
 -- what is there already changes nothing
 pub set_same : (top : List Standing) (v : ℕ) (k d : Standing) → k ≡ slice_index_or top v d → slice_set top v k ≡ top

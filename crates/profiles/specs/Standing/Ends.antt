@@ -2,10 +2,7 @@
 use Rattle.std.specs.Prelude.{ℕ, ◌≤◌, Option, Some, None}
 use Rattle.std.proofs.Common.{arith}
 use Rattle.relax.specs.Prelude.{end_of, Instance, IsLeastAtEnds, kind_of, vm}
-use Rattle.cluster.specs.declared.kinds.Kind.{Kind}
-use Rattle.cluster.specs.declared.kinds.Kind.TheVariants.{Forge, Boot, Shutdown, Suspend, Resume, Migrate, Allocate, Kill, NodeBoot, NodeShutdown}
-use Rattle.cluster.specs.declared.choices.Choice.TheVariants.{Act}
-use Rattle.cluster.specs.declared.choices.Place.{Place}
+use Rattle.cluster.specs.declared.{kinds.Kind.Kind, kinds.Kind.TheVariants.Forge, kinds.Kind.TheVariants.Boot, kinds.Kind.TheVariants.Shutdown, kinds.Kind.TheVariants.Suspend, kinds.Kind.TheVariants.Resume, kinds.Kind.TheVariants.Migrate, kinds.Kind.TheVariants.Allocate, kinds.Kind.TheVariants.Kill, kinds.Kind.TheVariants.NodeBoot, kinds.Kind.TheVariants.NodeShutdown, choices.Choice.TheVariants.Act, choices.Place.Place}
 use Rattle.slices.proofs.Public.{ends_by_duration}
 use Rattle.profiles.specs.Standing.Standings.{kept_until, leave_of}
 

@@ -1,15 +1,11 @@
 -- The laws of the two numbers: what a machine surely has on one node at each instant is a function of them.
 use Rattle.std.specs.Prelude.{◌≡◌, ◌≢◌, ℕ, ◌<◌, ◌≤◌, Bool, List, [], nat_lt, slice_index_or, IsTrue}
 use Rattle.relax.specs.Prelude.{AreFewer, choices, domain_at, domain_before, DomainView, held_at, Instance, keeping, least, load, machine_count, one, presences, present_at, RegionView, Sets, sets, sum_to, sure, surely}
-use Rattle.cluster.specs.declared.choices.Choice.{Choice}
-use Rattle.cluster.specs.declared.ids.Element.{Element}
-use Rattle.slices.specs.declared.slice.Weight.{Weight}
-use Rattle.slices.specs.declared.slice.Weight.TheVariants.{Amount, Presence}
+use Rattle.cluster.specs.declared.{choices.Choice.Choice, ids.Element.Element}
+use Rattle.slices.specs.declared.slice.Weight.{Weight, TheVariants.Amount, TheVariants.Presence}
 use Rattle.domains.specs.declared.undo.Before.{Before}
 use Rattle.domains.specs.SetsBefore.{sets_before}
-use Rattle.profiles.specs.declared.standing.numbers.Standing.{Standing}
-use Rattle.profiles.specs.Standing.Standings.{IsStanding, comes_by, kept_use, never}
-use Rattle.profiles.specs.Standing.Tables.{AreStanding, no_standing}
+use Rattle.profiles.specs.{declared.standing.numbers.Standing.Standing, Standing.Standings.IsStanding, Standing.Standings.comes_by, Standing.Standings.kept_use, Standing.Standings.never, Standing.Tables.AreStanding, Standing.Tables.no_standing}
 
 -- the least that is held over the choices: amounts, presences and images, whatever the machine's state
 abbrev pub KeptLaw : Type 0

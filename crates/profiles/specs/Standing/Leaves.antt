@@ -1,11 +1,7 @@
 -- Helping only: how a machine leaves its host that runs, by the one kind of action by which it goes to another node.
 use Rattle.std.specs.Prelude.{◌≡◌, ◌≢◌, ℕ, ◌+◌, ◌<◌, ◌≤◌}
 use Rattle.relax.specs.Prelude.{Instance, max_action, node_count}
-use Rattle.cluster.specs.declared.choices.Choice.TheVariants.{Act}
-use Rattle.cluster.specs.declared.choices.Place.TheVariants.{At}
-use Rattle.cluster.specs.declared.ids.NodeId.{NodeId}
-use Rattle.profiles.specs.Standing.Standings.{leave_of}
-use Rattle.profiles.specs.declared.standing.leaves.Leaves.{Leaves}
+use Rattle.{cluster.specs.declared.choices.Choice.TheVariants.Act, cluster.specs.declared.choices.Place.TheVariants.At, cluster.specs.declared.ids.NodeId.NodeId, profiles.specs.Standing.Standings.leave_of, profiles.specs.declared.standing.leaves.Leaves.Leaves}
 
 -- machine v keeps its host for so long after each start at another node of the problem
 pub record AreLeaves (p : Instance) (v : ℕ) (x : Leaves) : Type 0 where

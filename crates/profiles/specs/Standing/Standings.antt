@@ -1,18 +1,9 @@
 -- Where a machine surely stands on one node, by two numbers of its set of choices.
 use Rattle.std.specs.Prelude.{◌≡◌, ℕ, ◌+◌, Bool, false, ◌&&◌, nat_le, nat_lt, List, [], ◌∷◌, Option, Some, None, if◌then◌else◌}
 use Rattle.relax.specs.Prelude.{end_of, hosted_in, Instance, kind_of, least, one, state_of, surely, vm, weight_of}
-use Rattle.cluster.specs.declared.choices.Choice.{Choice}
-use Rattle.cluster.specs.declared.choices.Choice.TheVariants.{Idle, Act}
-use Rattle.cluster.specs.declared.choices.Place.TheVariants.{Nowhere, At}
-use Rattle.cluster.specs.declared.kinds.Kind.{Kind}
-use Rattle.cluster.specs.declared.kinds.Kind.TheVariants.{Forge, Boot, Shutdown, Suspend, Resume, Migrate, Allocate, Kill, NodeBoot, NodeShutdown}
-use Rattle.cluster.specs.declared.states.State.{State}
-use Rattle.cluster.specs.declared.states.State.TheVariants.{Init, Ready, Running, Sleeping, Gone}
-use Rattle.slices.specs.declared.slice.Weight.{Weight}
-use Rattle.slices.specs.declared.slice.What.{What}
-use Rattle.slices.specs.declared.slice.What.TheVariants.{Use, Demand, Raise, Image}
-use Rattle.profiles.specs.declared.standing.numbers.Arrival.{Arrival}
-use Rattle.profiles.specs.declared.standing.numbers.Standing.{Standing}
+use Rattle.cluster.specs.declared.{choices.Choice.Choice, choices.Choice.TheVariants.Idle, choices.Choice.TheVariants.Act, choices.Place.TheVariants.Nowhere, choices.Place.TheVariants.At, kinds.Kind.Kind, kinds.Kind.TheVariants.Forge, kinds.Kind.TheVariants.Boot, kinds.Kind.TheVariants.Shutdown, kinds.Kind.TheVariants.Suspend, kinds.Kind.TheVariants.Resume, kinds.Kind.TheVariants.Migrate, kinds.Kind.TheVariants.Allocate, kinds.Kind.TheVariants.Kill, kinds.Kind.TheVariants.NodeBoot, kinds.Kind.TheVariants.NodeShutdown, states.State.State, states.State.TheVariants.Init, states.State.TheVariants.Ready, states.State.TheVariants.Running, states.State.TheVariants.Sleeping, states.State.TheVariants.Gone}
+use Rattle.slices.specs.declared.slice.{Weight.Weight, What.What, What.TheVariants.Use, What.TheVariants.Demand, What.TheVariants.Raise, What.TheVariants.Image}
+use Rattle.profiles.specs.declared.standing.numbers.{Arrival.Arrival, Standing.Standing}
 
 -- past every instant, which has 32 bits
 abbrev pub never : ℕ

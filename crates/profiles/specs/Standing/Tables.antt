@@ -1,9 +1,7 @@
 -- The numbers of all machines, at the top and at each mark.
 use Rattle.std.specs.Prelude.{◌≡◌, ℕ, ◌<◌, List, length, None, slice_index_or}
 use Rattle.relax.specs.Prelude.{Instance, machine_count, Sets, vm}
-use Rattle.profiles.specs.Levels.{Levels}
-use Rattle.profiles.specs.declared.standing.numbers.Standing.{Standing}
-use Rattle.profiles.specs.Standing.Standings.{IsStanding}
+use Rattle.profiles.specs.{Levels.Levels, declared.standing.numbers.Standing.Standing, Standing.Standings.IsStanding}
 
 -- what a contract sees of a `Table`: the numbers of each level
 abbrev pub Tables : Type 0

@@ -1,9 +1,7 @@
 //! The profile of one node and resource.
 ghost use Rattle.std.specs.Prelude.{◌≡◌, ◌<◌, [], length, OnOk, OnErr, IfOk};
 ghost use Rattle.relax.specs.Prelude.{AreFewer, choices, domain_at, domain_before, Instance, IsElement, IsSized, load, one, Sets, sets, sure};
-ghost use Rattle.profiles.specs.Levels.{IsBack, marked};
-ghost use Rattle.domains.specs.SetsBefore.{sets_before};
-ghost use Rattle.profiles.specs.NodeLoad.{IsProfile};
+ghost use Rattle.{profiles.specs.Levels.IsBack, profiles.specs.Levels.marked, profiles.specs.NodeLoad.IsProfile, domains.specs.SetsBefore.sets_before};
 
 use crate::node_load::share::{Share, shares_of, total_use};
 use crate::standing::table::Table;

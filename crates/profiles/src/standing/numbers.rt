@@ -3,8 +3,7 @@ ghost use Rattle.std.specs.Prelude.{◌≡◌, ◌≤◌, ℕ, IfSome, IsTrue, m
 ghost use Rattle.std.specs.List.{Contains};
 ghost use Rattle.relax.specs.Prelude.{AreFewer, choices, domain_before, IsElement, least, restored, vm};
 ghost use Rattle.cluster.specs.declared.choices.Choice.{Choice as AnyChoice};
-ghost use Rattle.profiles.specs.Standing.Leaves.{AreLeaves};
-ghost use Rattle.profiles.specs.Standing.Standings.{IsStanding, comes_by, have_come, kept_until as the_kept_until, leave_of};
+ghost use Rattle.profiles.specs.Standing.{Leaves.AreLeaves, Standings.IsStanding, Standings.comes_by, Standings.have_come, Standings.kept_until as the_kept_until, Standings.leave_of};
 
 use crate::standing::leaves::{Leaves, leaves_of, left_by};
 use catalogue::Problem;
@@ -109,8 +108,7 @@ fn left_as_known(p: &Problem, v: VmId, leaves: Option<Leaves>, c: Choice) -> Opt
 }
 
 impl Measure for Leaving<'_> {
-    ghost use Rattle.profiles.specs.Standing.Ends.{leave_at_ends};
-    ghost use Rattle.std.proofs.Common.{arith};
+    ghost use Rattle.{profiles.specs.Standing.Ends.leave_at_ends, std.proofs.Common.arith};
 
     ghost ready = { λ m. IsElement m.problem.now.given (vm m.machine.0) × IfSome m.leaves (AreLeaves m.problem.now.given m.machine.0) };
 
@@ -147,8 +145,7 @@ pub struct LeavingFrom<'a> {
 }
 
 impl Measure for LeavingFrom<'_> {
-    ghost use Rattle.profiles.specs.Standing.Ends.{leave_at_ends};
-    ghost use Rattle.std.proofs.Common.{arith};
+    ghost use Rattle.{profiles.specs.Standing.Ends.leave_at_ends, std.proofs.Common.arith};
 
     ghost ready = { λ m. IsElement m.leaving.problem.now.given (vm m.leaving.machine.0) × IfSome m.leaving.leaves (AreLeaves m.leaving.problem.now.given m.leaving.machine.0) };
 

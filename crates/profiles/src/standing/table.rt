@@ -1,9 +1,7 @@
 //! The numbers of all machines, with levels.
 ghost use Rattle.std.specs.Prelude.{◌≡◌, ◌<◌, [], length, OnOk, OnErr, IfOk, slice_index_or, slice_set};
 ghost use Rattle.relax.specs.Prelude.{AreFewer, choices, domain_at, domain_before, IsElement, IsSized, sets};
-ghost use Rattle.profiles.specs.Levels.{IsBack, marked};
-ghost use Rattle.domains.specs.SetsBefore.{sets_before};
-ghost use Rattle.profiles.specs.Standing.Tables.{AreStanding, no_standing};
+ghost use Rattle.{profiles.specs.Levels.IsBack, profiles.specs.Levels.marked, profiles.specs.Standing.Tables.AreStanding, profiles.specs.Standing.Tables.no_standing, domains.specs.SetsBefore.sets_before};
 
 use crate::levels::Levelled;
 use crate::standing::numbers::{Standing, is_same, standing_after, standing_of};

@@ -1,6 +1,4 @@
-use Rattle.std.proofs.Common.{arith, sym, ◌∙◌}
-use Rattle.domains.specs.Choices.{choices}
-use Rattle.profiles.proofs.FirstLemmas.{some_first}
+use Rattle.profiles.proofs.{Prelude.arith, Prelude.sym, Prelude.◌∙◌, Prelude.choices, FirstLemmas.some_first}
 use Rattle.profiles.proofs.firsts.first_at.Goals as goal
 
 pub returns : goal.returns

@@ -1,4 +1,4 @@
-use Rattle.profiles.specs.Fixed.{AreHosts}
+use Rattle.profiles.proofs.Prelude.{AreHosts}
 use Rattle.profiles.proofs.fixed.hosts_of.Given as goal
 
 abbrev pub invariant-loop-i : goal.invariant-loop-i

@@ -1,4 +1,4 @@
-use Rattle.profiles.specs.Fixed.{IsMostUse}
+use Rattle.profiles.proofs.Prelude.{IsMostUse}
 use Rattle.profiles.proofs.fixed.most_of.Given as goal
 
 abbrev pub invariant-loop-i : goal.invariant-loop-i

@@ -1,4 +1,4 @@
-use Rattle.profiles.specs.Fixed.{AreMostUses}
+use Rattle.profiles.proofs.Prelude.{AreMostUses}
 use Rattle.profiles.proofs.fixed.most_uses.Given as goal
 
 abbrev pub invariant-loop-r : goal.invariant-loop-r

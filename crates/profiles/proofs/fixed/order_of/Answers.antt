@@ -1,6 +1,4 @@
-use Rattle.base.proofs.Public.{rules, IsNonDecreasingBy-from_sort_by_key}
-use Rattle.profiles.specs.declared.fixed.MostUse.{MostUse}
-use Rattle.profiles.proofs.FixedLemmas.{uses_ordered}
+use Rattle.profiles.proofs.{Prelude.rules, Prelude.IsNonDecreasingBy-from_sort_by_key, Prelude.MostUse, FixedLemmas.uses_ordered}
 use Rattle.profiles.proofs.fixed.order_of.Goals as goal
 
 pub returns : goal.returns

@@ -1,4 +1,4 @@
-use Rattle.profiles.specs.Fixed.{AreOrders, lists_of}
+use Rattle.profiles.proofs.Prelude.{AreOrders, lists_of}
 use Rattle.profiles.proofs.fixed.orders_of.Given as goal
 
 abbrev pub invariant-loop-r : goal.invariant-loop-r

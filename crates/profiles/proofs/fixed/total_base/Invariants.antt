@@ -1,5 +1,4 @@
-use Rattle.std.proofs.Common.{◌≡◌, ◌*◌, ◌≤◌}
-use Rattle.profiles.specs.Prelude.{Amount, base, max_amount, sum_to}
+use Rattle.profiles.proofs.Prelude.{◌≡◌, ◌*◌, ◌≤◌, Amount, base, max_amount, sum_to}
 use Rattle.profiles.proofs.fixed.total_base.Given as goal
 
 abbrev pub invariant-loop-i : goal.invariant-loop-i

@@ -1,4 +1,4 @@
-use Rattle.profiles.specs.Fixed.{AreTotalBases}
+use Rattle.profiles.proofs.Prelude.{AreTotalBases}
 use Rattle.profiles.proofs.fixed.total_bases.Given as goal
 
 abbrev pub invariant-loop-r : goal.invariant-loop-r

@@ -1,4 +1,4 @@
-use Rattle.profiles.specs.Fixed.{AreUses}
+use Rattle.profiles.proofs.Prelude.{AreUses}
 use Rattle.profiles.proofs.fixed.uses_of.Given as goal
 
 abbrev pub invariant-loop-i : goal.invariant-loop-i

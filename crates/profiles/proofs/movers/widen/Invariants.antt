@@ -1,4 +1,4 @@
-use Rattle.std.proofs.Common.{◌≡◌, ℕ, false, slice_index_or, vec_len}
+use Rattle.profiles.proofs.Prelude.{◌≡◌, ℕ, false, slice_index_or, vec_len}
 use Rattle.profiles.proofs.movers.widen.Given as goal
 
 abbrev pub invariant-loop : goal.invariant-loop

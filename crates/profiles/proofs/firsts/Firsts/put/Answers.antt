@@ -1,5 +1,4 @@
-use Rattle.std.proofs.Common.{ap, slice_set, subst, sym, ℕ}
-use Rattle.profiles.specs.Prelude.{AreFirsts, choices, IsNoLater, Levels, sets}
+use Rattle.profiles.proofs.Prelude.{ap, slice_set, subst, sym, ℕ, AreFirsts, choices, IsNoLater, Levels, sets}
 use Rattle.profiles.proofs.FirstLemmas.{firsts_put}
 use Rattle.profiles.proofs.firsts.Firsts.put.Goals as goal
 

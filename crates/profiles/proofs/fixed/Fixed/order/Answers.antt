@@ -1,6 +1,4 @@
-use Rattle.std.proofs.Common.{length, sym, subst}
-use Rattle.profiles.specs.Fixed.{AreOrders}
-use Rattle.profiles.proofs.FixedLemmas.{order_at}
+use Rattle.profiles.proofs.{Prelude.length, Prelude.sym, Prelude.subst, Prelude.AreOrders, FixedLemmas.order_at}
 use Rattle.profiles.proofs.fixed.Fixed.order.Goals as goal
 
 pub returns : goal.returns

@@ -1,5 +1,4 @@
-use Rattle.std.proofs.Common.{◌≡◌, length, reverse}
-use Rattle.profiles.specs.Levels.{olders}
+use Rattle.profiles.proofs.Prelude.{◌≡◌, length, reverse, olders}
 use Rattle.profiles.proofs.levels.Levelled.back.Given as goal
 
 abbrev pub invariant-loop-entry : goal.invariant-loop-entry

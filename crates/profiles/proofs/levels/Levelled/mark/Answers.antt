@@ -1,5 +1,4 @@
-use Rattle.std.proofs.Common.{rules}
-use Rattle.profiles.proofs.LevelLemmas.{few_marks}
+use Rattle.profiles.proofs.{Prelude.rules, LevelLemmas.few_marks}
 use Rattle.profiles.proofs.levels.Levelled.mark.Goals as goal
 
 pub overflow_add-self : goal.overflow_add-self

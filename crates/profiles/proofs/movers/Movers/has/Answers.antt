@@ -1,4 +1,4 @@
-use Rattle.base.proofs.Public.{◌≡◌, ◌<◌, false, get_or, length, ◌∙◌, arith, get_or_default}
+use Rattle.profiles.proofs.Prelude.{◌≡◌, ◌<◌, false, get_or, length, ◌∙◌, arith, get_or_default}
 use Rattle.profiles.proofs.FlagLemmas.{flag_tells, past_tells}
 use Rattle.profiles.proofs.movers.Movers.has.Goals as goal
 

@@ -1,5 +1,4 @@
-use Rattle.std.proofs.Common.{rules, ◌≤◌, arith}
-use Rattle.profiles.specs.Prelude.{machine_count, sets}
+use Rattle.profiles.proofs.Prelude.{rules, ◌≤◌, arith, machine_count, sets}
 use Rattle.profiles.proofs.MoverLemmas.{all_told}
 use Rattle.profiles.proofs.movers.Movers.put_all.Goals as goal
 

@@ -1,5 +1,4 @@
-use Rattle.std.proofs.Common.{ℕ, ◌<◌}
-use Rattle.profiles.specs.Prelude.{AreMachines, IsListedOrStays, sets}
+use Rattle.profiles.proofs.Prelude.{ℕ, ◌<◌, AreMachines, IsListedOrStays, sets}
 use Rattle.profiles.proofs.movers.Movers.put_all.Given as goal
 
 abbrev pub invariant-loop-i : goal.invariant-loop-i

@@ -1,4 +1,4 @@
-use Rattle.profiles.specs.Near.{AreNear}
+use Rattle.profiles.proofs.Prelude.{AreNear}
 use Rattle.profiles.proofs.near.Near.put_hosted.Given as goal
 
 abbrev pub invariant-loop-i : goal.invariant-loop-i

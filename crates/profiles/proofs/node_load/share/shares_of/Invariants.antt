@@ -1,4 +1,4 @@
-use Rattle.profiles.specs.NodeLoad.{AreShares, AreSmall}
+use Rattle.profiles.proofs.Prelude.{AreShares, AreSmall}
 use Rattle.profiles.proofs.node_load.share.shares_of.Given as goal
 
 abbrev pub invariant-loop-i : goal.invariant-loop-i

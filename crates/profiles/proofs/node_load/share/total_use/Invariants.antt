@@ -1,5 +1,4 @@
-use Rattle.std.proofs.Common.{◌≡◌, ◌*◌, ◌≤◌, slice_index_or}
-use Rattle.profiles.specs.Prelude.{no_share, no_standing, share_use, sum_to}
+use Rattle.profiles.proofs.Prelude.{◌≡◌, ◌*◌, ◌≤◌, slice_index_or, no_share, no_standing, share_use, sum_to}
 use Rattle.profiles.proofs.node_load.share.total_use.Given as goal
 
 abbrev pub invariant-loop-i : goal.invariant-loop-i

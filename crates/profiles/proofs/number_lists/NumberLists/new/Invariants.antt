@@ -1,5 +1,4 @@
-use Rattle.std.proofs.Common.{◌≡◌, [], ℕ, Vec, map, replicate}
-use Rattle.std.specs.declared.alloc.Global.{Global}
+use Rattle.profiles.proofs.Prelude.{◌≡◌, [], ℕ, Vec, map, replicate, Global}
 use Rattle.profiles.proofs.number_lists.NumberLists.new.Given as goal
 
 abbrev pub invariant-loop : goal.invariant-loop

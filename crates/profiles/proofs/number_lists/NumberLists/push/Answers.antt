@@ -1,6 +1,4 @@
-use Rattle.std.proofs.Common.{ℕ, Vec, sym}
-use Rattle.std.specs.declared.alloc.Global.{Global}
-use Rattle.profiles.proofs.NumberListLemmas.{pushed}
+use Rattle.profiles.proofs.{Prelude.ℕ, Prelude.Vec, Prelude.sym, Prelude.Global, NumberListLemmas.pushed}
 use Rattle.profiles.proofs.number_lists.NumberLists.push.Goals as goal
 
 pub returns : goal.returns

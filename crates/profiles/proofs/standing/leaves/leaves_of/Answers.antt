@@ -1,5 +1,4 @@
-use Rattle.std.proofs.Common.{rules, ◌<◌, sym, ◌∙◌}
-use Rattle.slices.specs.Elements.{node_count}
+use Rattle.profiles.proofs.Prelude.{rules, ◌<◌, sym, ◌∙◌, node_count}
 use Rattle.profiles.proofs.StandingLemmas.Leaves.{are_leaves}
 use Rattle.profiles.proofs.standing.leaves.leaves_of.Goals as goal
 

@@ -1,5 +1,4 @@
-use Rattle.std.proofs.Common.{arith}
-use Rattle.profiles.proofs.StandingLemmas.Rows.{first_there}
+use Rattle.profiles.proofs.{Prelude.arith, StandingLemmas.Rows.first_there}
 use Rattle.profiles.proofs.standing.numbers.choice_at_last_place.Goals as goal
 
 pub returns : goal.returns

@@ -1,5 +1,4 @@
-use Rattle.base.proofs.Public.{◌≡◌, Some, None, refl, sym, subst, ◌∙◌, slice_index_or}
-use Rattle.domains.specs.Choices.{Climbs, no_row}
+use Rattle.profiles.proofs.Prelude.{◌≡◌, Some, None, refl, sym, subst, ◌∙◌, slice_index_or, Climbs, no_row}
 use Rattle.profiles.proofs.StandingLemmas.Rows.{come_at, come_one, come_two}
 use Rattle.profiles.proofs.standing.numbers.come.Goals as goal
 

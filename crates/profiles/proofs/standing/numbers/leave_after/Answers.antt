@@ -1,6 +1,4 @@
-use Rattle.std.proofs.Common.{sym, ◌∙◌}
-use Rattle.profiles.specs.Standing.Standings.{leave_of}
-use Rattle.profiles.proofs.StandingLemmas.Changes.{floor_before, least_kept, least_met, least_stays}
+use Rattle.profiles.proofs.{Prelude.sym, Prelude.◌∙◌, Prelude.leave_of, StandingLemmas.Changes.floor_before, StandingLemmas.Changes.least_kept, StandingLemmas.Changes.least_met, StandingLemmas.Changes.least_stays}
 use Rattle.profiles.proofs.standing.numbers.leave_after.Goals as goal
 
 pub returns-in-None : goal.returns-in-None

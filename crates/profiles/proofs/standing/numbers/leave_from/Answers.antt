@@ -1,7 +1,5 @@
-use Rattle.std.proofs.Common.{ℕ, max, ap, ◌∙◌}
-use Rattle.profiles.specs.Prelude.{Choice, choices, leave_of, lowest}
-use Rattle.profiles.proofs.StandingLemmas.Changes.{least_from}
-use Rattle.profiles.proofs.StandingLemmas.Rows.{all_stay}
+use Rattle.profiles.proofs.Prelude.{ℕ, max, ap, ◌∙◌, Choice, choices, leave_of, lowest}
+use Rattle.profiles.proofs.StandingLemmas.{Changes.least_from, Rows.all_stay}
 use Rattle.profiles.proofs.standing.numbers.leave_from.Goals as goal
 
 pub returns : goal.returns

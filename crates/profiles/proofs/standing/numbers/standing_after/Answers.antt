@@ -1,5 +1,4 @@
-use Rattle.std.proofs.Common.{subst}
-use Rattle.profiles.specs.Prelude.{AreFewer, choices, domain_before}
+use Rattle.profiles.proofs.Prelude.{subst, AreFewer, choices, domain_before}
 use Rattle.profiles.proofs.standing.numbers.standing_after.Goals as goal
 
 pub leave_after-leave-requires-clause-fewer : goal.leave_after-leave-requires-clause-fewer

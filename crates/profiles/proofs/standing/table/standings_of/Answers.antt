@@ -1,6 +1,4 @@
-use Rattle.std.proofs.Common.{subst}
-use Rattle.profiles.specs.Prelude.{choices, IsStanding, sets}
-use Rattle.profiles.proofs.StandingLemmas.Tables.{first_push}
+use Rattle.profiles.proofs.{Prelude.subst, Prelude.choices, Prelude.IsStanding, Prelude.sets, StandingLemmas.Tables.first_push}
 use Rattle.profiles.proofs.standing.table.standings_of.Goals as goal
 
 pub loop-i-preserved : goal.loop-i-preserved

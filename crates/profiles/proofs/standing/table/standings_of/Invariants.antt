@@ -1,4 +1,4 @@
-use Rattle.profiles.specs.Prelude.{AreStandingUpTo, sets}
+use Rattle.profiles.proofs.Prelude.{AreStandingUpTo, sets}
 use Rattle.profiles.proofs.standing.table.standings_of.Given as goal
 
 abbrev pub invariant-loop-i : goal.invariant-loop-i

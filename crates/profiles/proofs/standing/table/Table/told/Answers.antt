@@ -1,5 +1,4 @@
-use Rattle.std.proofs.Common.{subst}
-use Rattle.profiles.specs.Prelude.{AreFewer, choices, domain_at, domain_before, sets}
+use Rattle.profiles.proofs.Prelude.{subst, AreFewer, choices, domain_at, domain_before, sets}
 use Rattle.profiles.proofs.standing.table.Table.told.Goals as goal
 
 pub told_machine-requires-clause-fewer : goal.told_machine-requires-clause-fewer

@@ -1,5 +1,4 @@
-use Rattle.std.proofs.Common.{sym, subst}
-use Rattle.profiles.specs.Prelude.{AreFewer, choices, domain_before}
+use Rattle.profiles.proofs.Prelude.{sym, subst, AreFewer, choices, domain_before}
 use Rattle.profiles.proofs.standing.table.Table.told_machine.Goals as goal
 
 pub standing_after-k-requires-clause-fewer : goal.standing_after-k-requires-clause-fewer
