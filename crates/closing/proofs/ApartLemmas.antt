@@ -1,13 +1,6 @@
 -- Machines that keep others off the nodes where they stand.
-use Rattle.std.proofs.Common.{IsTrue, slice_index_or}
-use Rattle.base.proofs.Public.{◌≡◌, ◌≢◌, inl, inr, ℕ, ◌<◌, Bool, true, false, List, [], length, refl, sym, ◌∙◌, cases_eq}
-use Rattle.closing.specs.Prelude.{AreApart, FailAtEnds, has_node_of, Instance, IsAnyOf, IsFreeOf, IsMember, IsOn, MeetsOtherPart, node_count, one, present_at, Sets, ShareNode, Stands, StaysClear, sure, surely, vm, VmId}
-use Rattle.domains.proofs.Public.{surely_each}
-use Rattle.reasons.proofs.Public.{end_is_choice}
-use Rattle.closing.proofs.MemberLemmas.{any_free}
-use Rattle.closing.proofs.PairLemmas.{others_free, parts_free}
-use Rattle.closing.proofs.FoundLemmas.{never_met}
-use Rattle.closing.proofs.SettingLemmas.{shared_free}
+use Rattle.closing.proofs.Prelude.{IsTrue, slice_index_or, ◌≡◌, ◌≢◌, inl, inr, ℕ, ◌<◌, Bool, true, false, List, [], length, refl, sym, ◌∙◌, cases_eq, AreApart, FailAtEnds, has_node_of, Instance, IsAnyOf, IsFreeOf, IsMember, IsOn, MeetsOtherPart, node_count, one, present_at, Sets, ShareNode, Stands, StaysClear, sure, surely, vm, VmId, surely_each, end_is_choice}
+use Rattle.closing.proofs.{MemberLemmas.any_free, PairLemmas.others_free, PairLemmas.parts_free, FoundLemmas.never_met, SettingLemmas.shared_free}
 
 module _ (p : Instance) (s : Sets) (t : ℕ) where
   -- where a machine stands is told by the nodes where it surely is

@@ -1,8 +1,6 @@
 -- Closed sets, by watches.
-use Rattle.std.proofs.Common.{IsTrue}
-use Rattle.base.proofs.Public.{◌≡◌, ◌≢◌, inl, inr, ℕ, zero, suc, ◌+◌, ◌<◌, Bool, ◌||◌, ◌==◌, List, [], ◌∷◌, length, Option, Some, None, refl, arith, slice_get, cases_lt}
-use Rattle.closing.specs.Prelude.{all_nodes, AreClean, AreCleanAt, Bound, Choice, Clean, ClosedByWatches, Constraint, constraint_watch, Cut, Element, Empty, Fail, Group, Hall, HasPair, HasPlace, Instance, is_continuous, IsBroken, IsClean, IsClosed, IsElement, IsEnd, IsFree, IsGroup, IsLook, IsNeeded, IsOverloaded, IsPower, IsSetLoad, Load, load_watch, Look, machine_count, node, Node as TheNode, node_count, one, Pair, Place, Power, ReasonKind, SetLoad, Sets, setting, Snapshot, sure, total_load_watch, Usable, usable_watch, Vm, vm, Watch, watch_of}
-use Rattle.reasons.proofs.Public.{closed_by_kinds, quiet_is_free}
+use Rattle.closing.proofs.Prelude.{IsTrue, ◌≡◌, ◌≢◌, inl, inr, ℕ, zero, suc, ◌+◌, ◌<◌, Bool, ◌||◌, ◌==◌, List, [], ◌∷◌, length, Option, Some, None, refl, arith, slice_get, cases_lt, all_nodes, AreClean, AreCleanAt, Bound, Choice, Clean, ClosedByWatches, Constraint, constraint_watch, Cut, Element, Empty, Fail, Group, Hall, HasPair, HasPlace, Instance, is_continuous, IsBroken, IsClean, IsClosed, IsElement, IsEnd, IsFree, IsGroup, IsLook, IsNeeded, IsOverloaded, IsPower, IsSetLoad, Load, load_watch, Look, machine_count, node, Node as TheNode, node_count, one, Pair, Power, ReasonKind, SetLoad, Sets, setting, Snapshot, sure, total_load_watch, Usable, usable_watch, Vm, vm, Watch, watch_of, closed_by_kinds, quiet_is_free}
+use Rattle.closing.specs.Prelude.{Place}
 
 -- no watch is broken in a snapshot
 record AreUnbroken (p : Instance) (b : Snapshot) (last : Bool) : Type 0 where

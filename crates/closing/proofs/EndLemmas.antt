@@ -1,11 +1,5 @@
 -- Ends of choices by rows, and the instants at which they start.
-use Rattle.std.proofs.Common.{slice_index_or}
-use Rattle.base.proofs.Public.{◌≡◌, ◌⊎◌, inl, inr, ℕ, zero, suc, ◌+◌, ◌<◌, ◌≤◌, Bool, true, false, ◌&&◌, nat_le, Some, List, [], ◌∷◌, length, refl, ap, arith, Contains, filter, cases_lt, false≢true, nat_tests, get_or_past}
-use Rattle.closing.specs.Prelude.{Act, AreOf, AreRowsPast, At, Choice, choices, Climbs, DomainView, Element, FailAtEnds, FailAtRows, From, goes_in, in_part, Instance, is_among, IsElement, IsEnd, IsEndThat, IsMember, IsRowEndThat, IsSized, IsTurn, machine_count, no_row, node, Node as TheNode, node_count, NodeId, Nowhere, one, only_of, PassOnlyAt, RegionView, Row, row_at, same_place, sets, start_of, StartsPast, staying, Vm, vm, VmId}
-use Rattle.cluster.specs.declared.choices.Choice.TheVariants.{Idle}
-use Rattle.cluster.specs.declared.choices.Place.{Place}
-use Rattle.domains.proofs.Public.{contains_filter, filter_contains}
-use Rattle.reasons.proofs.Public.{end_is_choice, ends_of_rows}
+use Rattle.closing.proofs.Prelude.{slice_index_or, ◌≡◌, ◌⊎◌, inl, inr, ℕ, zero, suc, ◌+◌, ◌<◌, ◌≤◌, Bool, true, false, ◌&&◌, nat_le, Some, List, [], ◌∷◌, length, refl, ap, arith, Contains, filter, cases_lt, false≢true, nat_tests, get_or_past, Act, AreOf, AreRowsPast, At, Choice, choices, Climbs, DomainView, Element, FailAtEnds, FailAtRows, From, goes_in, in_part, Instance, is_among, IsElement, IsEnd, IsEndThat, IsMember, IsRowEndThat, IsSized, IsTurn, machine_count, no_row, node, Node as TheNode, node_count, NodeId, Nowhere, one, only_of, PassOnlyAt, RegionView, Row, row_at, same_place, sets, start_of, StartsPast, staying, Vm, vm, VmId, Idle, Place, contains_filter, filter_contains, end_is_choice, ends_of_rows}
 
 -- ---- tests at ends
 

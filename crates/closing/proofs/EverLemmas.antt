@@ -1,9 +1,6 @@
 -- What stays within an amount at every instant.
-use Rattle.base.proofs.Public.{◌≡◌, ℕ, ◌+◌, ◌<◌, ◌≤◌, ◌-◌, Some, arith, slice_get}
-use Rattle.closing.specs.Prelude.{Bounded, Choice, Constraint, constraint_watch, form_of, has_node, held_at, Instance, IsBroken, IsClean, IsEnd, IsFreeOf, IsSpared, Nodes, NodeSet, Sets, StaysWithin, sure, total, vm, Weight}
-use Rattle.closing.proofs.FormLemmas.{form_broken}
-use Rattle.closing.proofs.FoundLemmas.{freed}
-use Rattle.closing.proofs.SettingLemmas.{total_free}
+use Rattle.closing.proofs.Prelude.{◌≡◌, ℕ, ◌+◌, ◌<◌, ◌≤◌, ◌-◌, Some, arith, slice_get, Bounded, Choice, Constraint, constraint_watch, form_of, has_node, held_at, Instance, IsBroken, IsClean, IsEnd, IsFreeOf, IsSpared, Nodes, NodeSet, Sets, StaysWithin, sure, total, vm, Weight}
+use Rattle.closing.proofs.{FormLemmas.form_broken, FoundLemmas.freed, SettingLemmas.total_free}
 
 spared : (p : Instance) (s : Sets) (w : Weight) (set : Nodes) (t amount sum : ℕ) (v : ℕ) → ((c : Choice) → IsEnd (s (vm v)) c → sum + held_at p v w set t c ≤ amount + (sure p s t).held v w set) → IsSpared p s w set t (amount - sum) v
 spared p s w set t amount sum v each = record { ends = λ c end above. omega (arith, each c end, above) }

@@ -1,6 +1,5 @@
 -- A constraint is broken exactly where its form is.
-use Rattle.std.proofs.Common.{◌≡◌, ◌⊎◌, inl, inr, ℕ, ◌<◌, IsTrue}
-use Rattle.closing.specs.Prelude.{Allowed, Apart, Bounded, BreaksGroup, Constraint, ExceedsAmount, ExceedsPower, Form, form_of, FormForbidsPair, FormForbidsPlace, Instance, InTurn, IsBroken, IsFormBroken, IsFound, Look, machine_count, node_count, one, Ordered, Powered, Sets, Settled, ShareNode, Snapshot, Together}
+use Rattle.closing.proofs.Prelude.{◌≡◌, ◌⊎◌, inl, inr, ℕ, ◌<◌, IsTrue, Allowed, Apart, Bounded, BreaksGroup, Constraint, ExceedsAmount, ExceedsPower, Form, form_of, FormForbidsPair, FormForbidsPlace, Instance, InTurn, IsBroken, IsFormBroken, IsFound, Look, machine_count, node_count, one, Ordered, Powered, Sets, Settled, ShareNode, Snapshot, Together}
 use Rattle.closing.proofs.FoundLemmas.{found_same}
 
 module _ (p : Instance) (s : Snapshot) where

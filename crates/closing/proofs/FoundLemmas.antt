@@ -1,6 +1,5 @@
 -- What a look says of a condition, it says of others too.
-use Rattle.std.proofs.Common.{ℕ}
-use Rattle.closing.specs.Prelude.{Clean, Cut, Fail, Instance, IsFound, IsFreeOf, Look, Sets, Snapshot}
+use Rattle.closing.proofs.Prelude.{ℕ, Clean, Cut, Fail, Instance, IsFound, IsFreeOf, Look, Sets, Snapshot}
 
 -- what is met only where something is that is never met is never met
 pub freed : (met other : Snapshot → Type 0) (p : Instance) (s : Sets) (t : ℕ) → ((b : Snapshot) → met b → other b) → IsFreeOf other p s t → IsFreeOf met p s t

@@ -1,8 +1,5 @@
 -- A condition on whole groups looks at the members of a form, and at no other machines.
-use Rattle.std.proofs.Common.{IsTrue}
-use Rattle.base.proofs.Public.{◌≡◌, ◌≢◌, ◌⊎◌, inl, inr, ℕ, Bool, true, false, List, refl, sym, ◌∙◌, cases_eq, false≢true}
-use Rattle.closing.specs.Prelude.{Choice, Constraint, Element, FailAtEnds, form_of, Instance, is_member, IsElement, IsEnd, IsFreeOf, IsGroup, IsGroupWith, IsMember, IsSameMachine, members, Node as TheNode, Sets, setting, sure, Vm, vm, VmId}
-use Rattle.reasons.proofs.Public.{group_grows, setting_sets}
+use Rattle.closing.proofs.Prelude.{IsTrue, ◌≡◌, ◌≢◌, ◌⊎◌, inl, inr, ℕ, Bool, true, false, List, refl, sym, ◌∙◌, cases_eq, false≢true, Choice, Constraint, Element, FailAtEnds, form_of, Instance, is_member, IsElement, IsEnd, IsFreeOf, IsGroup, IsGroupWith, IsMember, IsSameMachine, members, Node as TheNode, Sets, setting, sure, Vm, vm, VmId, group_grows, setting_sets}
 use Rattle.closing.proofs.SettingLemmas.{other_vm}
 
 member-or : (vs : List VmId) (v : ℕ) → IsMember vs v ⊎ ¬ IsMember vs v

@@ -1,4 +1,5 @@
 pub mod Public
+mod Prelude
 mod ApartLemmas
 mod ClosedLemmas
 mod EndLemmas

@@ -1,8 +1,5 @@
 -- What each watch looks at, and that turns decide whether it is clean.
-use Rattle.base.proofs.Public.{◌≡◌, ◌≢◌, inl, inr, ℕ, Bool, false, ◌==◌, cond, Option, Some, None, refl, arith, cases_eq, false≢true, ne_eqb, slice_get, sum_to-le, cond-implied, cond-le, fails_below, positive_above}
-use Rattle.closing.specs.Prelude.{Allowed, Amount, Apart, Between, Bounded, broken_at, capacity_of, Clean, Constraint, constraint_watch, ConstraintIsLocal, Cut, Each, Fail, Form, form_of, form_scope, FromOthers, has_node, HasSeparated, Image, Instance, InTurn, is_continuous, IsFormBroken, IsFound, IsLocal, IsLook, IsOverload, IsPartOf, IsPartWithin, load_scope, LoadIsLocal, Look, machine_count, node_count, one, Ordered, Powered, rule_watch, Scope, Separates, Separation, separation_scope, Sets, setting, Settled, Snapshot, Started, sure, Together, TurnsAreEnough, Unended, UsableIsLocal, watch_of}
-use Rattle.slices.proofs.Public.{or_implied}
-use Rattle.reasons.proofs.Public.{acting_grows, quiet_at_turns_for, scattered_grows, turns_decide_for}
+use Rattle.closing.proofs.Prelude.{◌≡◌, ◌≢◌, inl, inr, ℕ, Bool, false, ◌==◌, cond, Option, Some, None, refl, arith, cases_eq, false≢true, ne_eqb, slice_get, sum_to-le, cond-implied, cond-le, fails_below, positive_above, Allowed, Amount, Apart, Between, Bounded, broken_at, capacity_of, Clean, Constraint, constraint_watch, ConstraintIsLocal, Cut, Each, Fail, Form, form_of, form_scope, FromOthers, has_node, HasSeparated, Image, Instance, InTurn, is_continuous, IsFormBroken, IsFound, IsLocal, IsLook, IsOverload, IsPartOf, IsPartWithin, load_scope, LoadIsLocal, Look, machine_count, node_count, one, Ordered, Powered, rule_watch, Scope, Separates, Separation, separation_scope, Sets, setting, Settled, Snapshot, Started, sure, Together, TurnsAreEnough, Unended, UsableIsLocal, watch_of, or_implied, acting_grows, quiet_at_turns_for, scattered_grows, turns_decide_for}
 use Rattle.closing.proofs.FormLemmas.{broken_form, form_broken}
 
 -- ---- loads and usable nodes

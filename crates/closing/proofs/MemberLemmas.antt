@@ -1,7 +1,5 @@
 -- What no machine of a list meets, and sets of machines.
-use Rattle.std.proofs.Common.{slice_index_or}
-use Rattle.base.proofs.Public.{◌≡◌, inl, inr, ℕ, suc, ◌+◌, ◌<◌, ◌≤◌, Bool, true, false, ◌||◌, ◌==◌, List, [], ◌∷◌, length, take, get_or, refl, subst, ◌∙◌, arith, both_ways, cases_eq, cases_lt, eqb-true, or_cases, nat_tests, get_or_default, get_or_past, list_any_more}
-use Rattle.closing.specs.Prelude.{Instance, is_member, IsAnyOf, IsFreeOf, IsInPart, IsMember, IsMetWith, Sets, Snapshot, VmId}
+use Rattle.closing.proofs.Prelude.{slice_index_or, ◌≡◌, inl, inr, ℕ, suc, ◌+◌, ◌<◌, ◌≤◌, Bool, true, false, ◌||◌, ◌==◌, List, [], ◌∷◌, length, take, get_or, refl, subst, ◌∙◌, arith, both_ways, cases_eq, cases_lt, eqb-true, or_cases, nat_tests, get_or_default, get_or_past, list_any_more, Instance, is_member, IsAnyOf, IsFreeOf, IsInPart, IsMember, IsMetWith, Sets, Snapshot, VmId}
 
 -- a part by its number
 pub is_part : (parts : List (List VmId)) (vs given : List VmId) (j : ℕ) → j < length parts → vs ≡ given → given ≡ get_or parts j given → vs ≡ slice_index_or parts j []

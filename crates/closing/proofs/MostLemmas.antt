@@ -1,13 +1,6 @@
 -- The most that machines hold, and sums of it.
-use Rattle.std.proofs.Common.{slice_index_or}
-use Rattle.base.proofs.Public.{◌≡◌, inl, inr, ℕ, suc, ◌+◌, ◌<◌, ◌≤◌, ◌&&◌, Bool, true, false, cond, List, [], length, Option, Some, None, refl, sym, ◌∙◌, arith, Contains, cases_eq, false≢true}
-use Rattle.closing.specs.Prelude.{Act, acting_slices, Allocate, Always, Amount, AreWithin, At, BeforeEnd, Boot, Choice, choices, Climbs, covers, Demand, DomainView, FromStart, goes_in, Gone, held_at, held_by, hosted_in, idle_slices, if_so, Image, Init, Instance, IsEnd, IsMostOf, IsMostSure, IsSpared, Kill, Kind, kind_of, machine_count, Migrate, no_row, NodeId, Nodes, Nowhere, Presence, Raise, Ready, Resume, Row, row_at, Running, Sets, Shutdown, Sleeping, slice, Slices, slices_by, slices_of, Span, Stage, stage_at, State, state_of, StaysWithin, sum_to, sure, Suspend, unit_of, Use, vm, weigh, Weight, weight_of, What}
-use Rattle.cluster.specs.declared.choices.Choice.TheVariants.{Idle}
-use Rattle.cluster.specs.declared.choices.Place.{Place}
+use Rattle.closing.proofs.Prelude.{slice_index_or, ◌≡◌, inl, inr, ℕ, suc, ◌+◌, ◌<◌, ◌≤◌, ◌&&◌, Bool, true, false, cond, List, [], length, Option, Some, None, refl, sym, ◌∙◌, arith, Contains, cases_eq, false≢true, Act, acting_slices, Allocate, Always, Amount, AreWithin, At, BeforeEnd, Boot, Choice, choices, Climbs, covers, Demand, DomainView, FromStart, goes_in, Gone, held_at, held_by, hosted_in, idle_slices, if_so, Image, Init, Instance, IsEnd, IsMostOf, IsMostSure, IsSpared, Kill, Kind, kind_of, machine_count, Migrate, no_row, NodeId, Nodes, Nowhere, Presence, Raise, Ready, Resume, Row, row_at, Running, Sets, Shutdown, Sleeping, slice, Slices, slices_by, slices_of, Span, Stage, stage_at, State, state_of, StaysWithin, sum_to, sure, Suspend, unit_of, Use, vm, weigh, Weight, weight_of, What, Idle, Place, use_of_le, least_of_each, ends_of_rows}
 use Rattle.slices.specs.declared.slice.What.TheVariants.{Image as OfImage}
-use Rattle.catalogue.proofs.Public.{use_of_le}
-use Rattle.domains.proofs.Public.{least_of_each}
-use Rattle.reasons.proofs.Public.{ends_of_rows}
 
 idle-held : (p : Instance) (v : ℕ) (w : Weight) (set : Nodes) (g h : Stage) → held_by p v w set Idle g ≡ held_by p v w set Idle h
 unfolding held_by slices_of

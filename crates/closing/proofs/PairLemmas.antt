@@ -1,7 +1,5 @@
 -- Loops over parts, and over the machines that are not in a set.
-use Rattle.std.proofs.Common.{◌≢◌, ℕ, ◌<◌, List, [], length, slice_index_or}
-use Rattle.closing.specs.Prelude.{Choice, Element, Instance, IsAnyOf, IsFreeOf, IsMetWith, MeetsOtherPart, Sets, ShareNode, Snapshot, VmId}
-use Rattle.slices.proofs.Public.{part_listed}
+use Rattle.closing.proofs.Prelude.{◌≢◌, ℕ, ◌<◌, List, [], length, slice_index_or, Choice, Element, Instance, IsAnyOf, IsFreeOf, IsMetWith, MeetsOtherPart, Sets, ShareNode, Snapshot, VmId, part_listed}
 
 module _ (p : Instance) (s : Sets) (t : ℕ) (parts : List (List VmId)) where
   abbrev met_in : ℕ → ℕ → Snapshot → Type 0

@@ -1,9 +1,6 @@
 -- Looks at lists of machines are looks at forms.
-use Rattle.std.proofs.Common.{slice_index_or}
-use Rattle.base.proofs.Public.{◌≡◌, ℕ, ◌<◌, List, [], length, true, sym, ◌∙◌, false≢true, false_from_ne_true}
-use Rattle.closing.specs.Prelude.{all_of, are_below, Between, Each, FromOthers, HasMisplaced, HasSeparated, Instance, is_member, IsAnyOf, IsFound, IsInPart, IsPlacedBadly, Look, machine_count, MeetsOtherPart, MeetsStranger, Places, Sets, ShareNode, Snapshot, VmId}
+use Rattle.closing.proofs.Prelude.{slice_index_or, ◌≡◌, ℕ, ◌<◌, List, [], length, true, sym, ◌∙◌, false≢true, false_from_ne_true, all_of, are_below, Between, Each, FromOthers, HasMisplaced, HasSeparated, Instance, is_member, IsAnyOf, IsFound, IsInPart, IsPlacedBadly, Look, machine_count, MeetsOtherPart, MeetsStranger, Places, Sets, ShareNode, Snapshot, VmId, joined_member, member_below, part_listed}
 use Rattle.closing.proofs.FoundLemmas.{found_same}
-use Rattle.slices.proofs.Public.{joined_member, member_below, part_listed}
 
 module _ (p : Instance) (b : Snapshot) where
   abbrev HasTwo : List VmId → Type 0

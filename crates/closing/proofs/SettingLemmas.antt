@@ -1,8 +1,5 @@
 -- What setting one element leaves as it was, for conditions on amounts, powered nodes, places and pairs.
-use Rattle.std.proofs.Common.{IsTrue}
-use Rattle.base.proofs.Public.{◌≡◌, ◌≢◌, ◌⊎◌, inl, inr, ℕ, ◌+◌, ◌<◌, ◌≤◌, Bool, true, false, cond, refl, sym, ap, ◌∙◌, arith, cases_eq, false≢true}
-use Rattle.closing.specs.Prelude.{Choice, Element, FailAtEnds, has_node_of, Instance, IsAbove, IsElement, IsEnd, IsEndThat, IsFreeOf, IsMetWith, IsMisplaced, IsOn, IsPlacedBadly, IsPoweredUnder, IsSpared, machine_count, node, Node as TheNode, node_count, NodeId, Nodes, one, Places, powered_at, powered_nodes, present_at, Sets, setting, ShareNode, Stands, sure, total, Vm, vm, VmId, Weight}
-use Rattle.reasons.proofs.Public.{machine_change, node_change, setting_agrees, setting_powered, setting_sets, setting_total}
+use Rattle.closing.proofs.Prelude.{IsTrue, ◌≡◌, ◌≢◌, ◌⊎◌, inl, inr, ℕ, ◌+◌, ◌<◌, ◌≤◌, Bool, true, false, cond, refl, sym, ap, ◌∙◌, arith, cases_eq, false≢true, Choice, Element, FailAtEnds, has_node_of, Instance, IsAbove, IsElement, IsEnd, IsEndThat, IsFreeOf, IsMetWith, IsMisplaced, IsOn, IsPlacedBadly, IsPoweredUnder, IsSpared, machine_count, node, Node as TheNode, node_count, NodeId, Nodes, one, Places, powered_at, powered_nodes, present_at, Sets, setting, ShareNode, Stands, sure, total, Vm, vm, VmId, Weight, machine_change, node_change, setting_agrees, setting_powered, setting_sets, setting_total}
 
 pub other_vm : (v w : ℕ) → v ≢ w → vm v ≢ vm w
 other_vm v w ne e = ne (let same : record { 0 = v } ≡ (let x : VmId = record { 0 = w } in x) = cc in ap (λ (x : VmId). x.0) same)

@@ -1,9 +1,5 @@
 -- A watch that looks at some machines alone.
-use Rattle.std.proofs.Common.{IsTrue}
-use Rattle.base.proofs.Public.{◌≡◌, ◌⊎◌, inl, inr, ℕ, ◌≤◌, ◌==◌, Bool, true, false, cond, List, [], ◌∷◌, refl, sym, ap, ◌∙◌, arith, false≢true}
-use Rattle.closing.specs.Prelude.{action_at, actions_of, AreOf, broken_at, Choice, Element, held_at, Instance, is_among, IsClean, IsElement, IsEnd, IsFreeOf, IsLocal, IsMember, IsPartWithin, IsTurn, IsUnseen, least, may, node, Node as TheNode, Nodes, Of, OfAll, only_of, powered_at, presences_of, present_at, Progress, same_element, Scope, SeesOnly, Sets, setting, Suffice, sure, surely, turning, Turns, TurnsOfSomeAreEnough, usable_at, Vm, vm, VmId, Watch, Weight}
-use Rattle.cluster.specs.declared.choices.Choice.TheVariants.{Idle}
-use Rattle.domains.proofs.Public.{same_is}
+use Rattle.closing.proofs.Prelude.{IsTrue, ◌≡◌, ◌⊎◌, inl, inr, ℕ, ◌≤◌, ◌==◌, Bool, true, false, cond, List, [], ◌∷◌, refl, sym, ap, ◌∙◌, arith, false≢true, action_at, actions_of, AreOf, broken_at, Choice, Element, held_at, Instance, is_among, IsClean, IsElement, IsEnd, IsFreeOf, IsLocal, IsMember, IsPartWithin, IsTurn, IsUnseen, least, may, node, Node as TheNode, Nodes, Of, OfAll, only_of, powered_at, presences_of, present_at, Progress, same_element, Scope, SeesOnly, Sets, setting, Suffice, sure, surely, turning, Turns, TurnsOfSomeAreEnough, usable_at, Vm, vm, VmId, Watch, Weight, Idle, same_is}
 use Rattle.closing.proofs.LocalLemmas.{turns_are_enough}
 
 -- ---- scopes of members

@@ -1,11 +1,7 @@
 -- Where a machine stands, by one of its choices.
-use Rattle.std.proofs.Common.{IsTrue}
-use Rattle.base.proofs.Public.{◌≡◌, ℕ, ◌<◌, Bool, true, false, ◌&&◌, ◌||◌, ◌==◌, List, [], Option, Some, None, is_some, refl, sym, ap, ◌∙◌, arith, Contains, eq-eqb, false≢true, or_left, or_right, nat_tests}
-use Rattle.closing.specs.Prelude.{At, Choice, FailAtEnds, goes_in, has_node_of, hosted_in, Instance, is_node, IsEnd, IsEndThat, IsOn, IsWithin, NodeId, On, one, PassOnlyAt, Presence, present_at, Sets, Stands, state_of, sure, surely, vm}
-use Rattle.closing.specs.Stands.{AreWithin}
-use Rattle.domains.proofs.Public.{surely_each}
-use Rattle.relax.proofs.Public.{away}
+use Rattle.closing.proofs.Prelude.{IsTrue, ◌≡◌, ℕ, ◌<◌, Bool, true, false, ◌&&◌, ◌||◌, ◌==◌, List, [], Option, Some, None, is_some, refl, sym, ap, ◌∙◌, arith, Contains, eq-eqb, false≢true, or_left, or_right, nat_tests, At, Choice, FailAtEnds, goes_in, has_node_of, hosted_in, Instance, is_node, IsEnd, IsEndThat, IsOn, IsWithin, NodeId, On, one, PassOnlyAt, Presence, present_at, Sets, Stands, state_of, sure, surely, vm, surely_each, away}
 use Rattle.closing.proofs.EndLemmas.{goes_elsewhere}
+use Rattle.closing.specs.Stands.{AreWithin}
 
 -- ---- who has no choice stands everywhere; else where one choice has it, and all others
 

@@ -1,10 +1,5 @@
 -- Room that stays, and loads that fit it at every instant.
-use Rattle.std.proofs.Common.{IsTrue}
-use Rattle.base.proofs.Public.{◌≡◌, inl, inr, ℕ, suc, ◌+◌, Bool, cond, [], ◌∷◌, refl, sym, ap, subst, ◌∙◌, arith, Contains, cases_eq}
-use Rattle.closing.specs.Prelude.{Amount, capacity_of, Choice, Element, HasSteadyRoom, Instance, IsElement, IsEnd, IsFreeOf, IsOverload, node, Node as TheNode, node_count, Nodes, Sets, setting, StaysUsable, StaysWithin, sure, usable_at, Vm, vm}
-use Rattle.cluster.specs.declared.choices.Choice.TheVariants.{Idle}
-use Rattle.domains.proofs.Public.{contains_one}
-use Rattle.reasons.proofs.Public.{end_is_choice, node_change, setting_agrees, setting_sets, setting_total}
+use Rattle.closing.proofs.Prelude.{IsTrue, ◌≡◌, inl, inr, ℕ, suc, ◌+◌, Bool, cond, [], ◌∷◌, refl, sym, ap, subst, ◌∙◌, arith, Contains, cases_eq, Amount, capacity_of, Choice, Element, HasSteadyRoom, Instance, IsElement, IsEnd, IsFreeOf, IsOverload, node, Node as TheNode, node_count, Nodes, Sets, setting, StaysUsable, StaysWithin, sure, usable_at, Vm, vm, Idle, contains_one, end_is_choice, node_change, setting_agrees, setting_sets, setting_total}
 use Rattle.closing.proofs.SettingLemmas.{other_node}
 
 -- ---- nodes that can only stay

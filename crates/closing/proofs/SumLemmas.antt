@@ -1,7 +1,5 @@
 -- What setting one element changes in a sum of what machines hold.
-use Rattle.std.proofs.Common.{◌≡◌, ℕ, ◌+◌, ◌<◌, ◌≤◌, Bool, true, false, cond, length, IsTrue, refl, arith}
-use Rattle.closing.specs.Prelude.{Amount, capacity_of, Choice, Element, Instance, IsAbove, IsElement, IsEnd, IsFreeOf, IsMetWith, IsNodeMissed, IsNodeSpared, IsOverload, IsOverloaded, IsSpared, load, machine_count, node, Node as TheNode, node_count, Nodes, room, Sets, setting, sure, usable_at, Vm, vm}
-use Rattle.reasons.proofs.Public.{machine_change, node_change, setting_agrees, setting_room, setting_total}
+use Rattle.closing.proofs.Prelude.{◌≡◌, ℕ, ◌+◌, ◌<◌, ◌≤◌, Bool, true, false, cond, length, IsTrue, refl, arith, Amount, capacity_of, Choice, Element, Instance, IsAbove, IsElement, IsEnd, IsFreeOf, IsMetWith, IsNodeMissed, IsNodeSpared, IsOverload, IsOverloaded, IsSpared, load, machine_count, node, Node as TheNode, node_count, Nodes, room, Sets, setting, sure, usable_at, Vm, vm, machine_change, node_change, setting_agrees, setting_room, setting_total}
 
 module _ (p : Instance) (s : Sets) (r : ℕ) (set : Nodes) (t spare : ℕ) (fits : spare + load p (sure p s t) r set ≡ room p (sure p s t) r set) where
   -- a machine's choice changes no room, and a node's no load

@@ -1,11 +1,6 @@
 -- When a node is needed and not usable, with one element set.
-use Rattle.std.proofs.Common.{IsTrue}
-use Rattle.base.proofs.Public.{◌≡◌, ◌⊎◌, inl, inr, ℕ, ◌<◌, ◌||◌, Bool, true, false, nat_lt, refl, sym, ap, ◌∙◌, arith, cases_eq, false≢true, nat_tests}
-use Rattle.closing.specs.Prelude.{At, Choice, Element, FailAtEnds, goes_in, held_at, hosted_in, Image, Instance, IsElement, IsEnd, IsEndThat, IsFreeOf, IsMachineUnder, IsMetWith, IsNeeded, IsNotUsable, IsSameMachine, machine_count, node, Node as TheNode, node_count, NodeId, NoneAmong, one, PassOnlyAt, Presence, Sets, setting, Snapshot, stands_on, StandsUnder, state_of, StaysUsable, sure, Vm, vm}
-use Rattle.reasons.proofs.Public.{setting_sets}
-use Rattle.relax.proofs.Public.{away}
-use Rattle.closing.proofs.EndLemmas.{goes_elsewhere}
-use Rattle.closing.proofs.SettingLemmas.{other_node, other_vm}
+use Rattle.closing.proofs.Prelude.{IsTrue, ◌≡◌, ◌⊎◌, inl, inr, ℕ, ◌<◌, ◌||◌, Bool, true, false, nat_lt, refl, sym, ap, ◌∙◌, arith, cases_eq, false≢true, nat_tests, At, Choice, Element, FailAtEnds, goes_in, held_at, hosted_in, Image, Instance, IsElement, IsEnd, IsEndThat, IsFreeOf, IsMachineUnder, IsMetWith, IsNeeded, IsNotUsable, IsSameMachine, machine_count, node, Node as TheNode, node_count, NodeId, NoneAmong, one, PassOnlyAt, Presence, Sets, setting, Snapshot, stands_on, StandsUnder, state_of, StaysUsable, sure, Vm, vm, setting_sets, away}
+use Rattle.closing.proofs.{EndLemmas.goes_elsewhere, SettingLemmas.other_node, SettingLemmas.other_vm}
 
 either : (x y : ℕ) → IsTrue (nat_lt 0 x || nat_lt 0 y) → (0 < x) ⊎ (0 < y)
 either x y h =

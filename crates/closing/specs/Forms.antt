@@ -1,8 +1,7 @@
 -- What breaks a constraint in a snapshot, by its form.
 use Rattle.std.specs.Prelude.{ℕ, ◌<◌, List}
 use Rattle.relax.specs.Prelude.{Allowed, Apart, Bounded, BreaksGroup, Form, has_node, Instance, InTurn, IsMember, machine_count, Ordered, Places, Powered, powered_nodes, Separates, Separation, Settled, Snapshot, Together, total}
-use Rattle.cluster.specs.declared.ids.VmId.{VmId}
-use Rattle.closing.specs.Stands.{IsPlacedBadly, ShareNode}
+use Rattle.{cluster.specs.declared.ids.VmId.VmId, closing.specs.Stands.IsPlacedBadly, closing.specs.Stands.ShareNode}
 
 -- two machines of the instance that are kept apart are on one node
 abbrev pub HasSeparated : Instance → Snapshot → Separation → Type 0

@@ -2,8 +2,7 @@
 use Rattle.std.specs.Prelude.{◌≡◌, ◌⊎◌, ℕ, ◌<◌, ◌||◌, length, slice_get, Option, Some, None, IsTrue}
 use Rattle.relax.specs.Prelude.{all_nodes, Allowed, Apart, Between, Bounded, Each, Form, form_of, FromOthers, has_node, Instance, InTurn, is_continuous, IsGroup, IsInPart, IsMember, IsOverload, IsPair, IsPlace, IsPower, IsSetLoad, IsUnusable, machine_count, node_count, Nodes, one, Ordered, Powered, Separation, Settled, Snapshot, Together}
 use Rattle.catalogue.specs.declared.constraint.Constraint.{Constraint}
-use Rattle.slices.specs.declared.slice.Weight.{Weight}
-use Rattle.slices.specs.declared.slice.Weight.TheVariants.{Amount, Image}
+use Rattle.slices.specs.declared.slice.Weight.{Weight, TheVariants.Amount, TheVariants.Image}
 use Rattle.closing.specs.Watches.{Scope, Watch}
 
 -- ---- loads

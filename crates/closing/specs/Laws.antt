@@ -1,11 +1,8 @@
 -- Helping only: what looks say of closed regions.
 use Rattle.std.specs.Prelude.{◌↔◌, ℕ, ◌<◌, ◌≤◌, List, length}
 use Rattle.relax.specs.Prelude.{AreOf, HaveChoices, Instance, IsClosed, IsElement, IsTurn, node_count, Nodes, Sets}
-use Rattle.cluster.specs.declared.ids.Element.{Element}
-use Rattle.cluster.specs.declared.ids.VmId.{VmId}
-use Rattle.closing.specs.Kinds.{constraint_watch, load_on, load_watch, total_load_watch, usable_watch}
-use Rattle.closing.specs.Looks.{IsClean, IsFreeOf, broken_at}
-use Rattle.closing.specs.Watches.{IsLocal, SeesOnly, Watch, only_of}
+use Rattle.cluster.specs.declared.ids.{Element.Element, VmId.VmId}
+use Rattle.closing.specs.{Kinds.constraint_watch, Kinds.load_on, Kinds.load_watch, Kinds.total_load_watch, Kinds.usable_watch, Looks.IsClean, Looks.IsFreeOf, Looks.broken_at, Watches.IsLocal, Watches.SeesOnly, Watches.Watch, Watches.only_of}
 
 -- each watch looks at nothing past its scope, and what breaks it in a part breaks it in the whole
 abbrev pub LoadIsLocal : Type 0

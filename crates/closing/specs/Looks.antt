@@ -1,11 +1,8 @@
 -- What a look at a watch over a region says.
 use Rattle.std.specs.Prelude.{◌≡◌, ℕ, ◌≤◌, ◌==◌}
 use Rattle.relax.specs.Prelude.{Instance, IsElement, IsEnd, Sets, setting, Snapshot, sure}
-use Rattle.cluster.specs.declared.choices.Choice.{Choice}
-use Rattle.cluster.specs.declared.ids.Element.{Element}
-use Rattle.closing.specs.declared.look.Look.{Look}
-use Rattle.closing.specs.declared.look.Look.TheVariants.{Clean, Fail, Cut}
-use Rattle.closing.specs.Watches.{Watch}
+use Rattle.cluster.specs.declared.{choices.Choice.Choice, ids.Element.Element}
+use Rattle.closing.specs.{declared.look.Look.Look, declared.look.Look.TheVariants.Clean, declared.look.Look.TheVariants.Fail, declared.look.Look.TheVariants.Cut, Watches.Watch}
 
 -- ---- at one instant
 

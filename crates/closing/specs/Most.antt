@@ -1,10 +1,8 @@
 -- Helping only: the most that machines hold on a set of nodes, at every instant.
 use Rattle.std.specs.Prelude.{ℕ, ◌+◌, ◌<◌, ◌≤◌, Bool, IsTrue, if◌then◌else◌}
 use Rattle.relax.specs.Prelude.{capacity_of, demand_of, held_at, Instance, IsElement, IsEnd, machine_count, Nodes, Sets, setting, Snapshot, sum_to, sure, vm}
-use Rattle.cluster.specs.declared.choices.Choice.{Choice}
-use Rattle.cluster.specs.declared.ids.Element.{Element}
-use Rattle.slices.specs.declared.slice.Weight.{Weight}
-use Rattle.slices.specs.declared.slice.Weight.TheVariants.{Amount, Image, Presence}
+use Rattle.cluster.specs.declared.{choices.Choice.Choice, ids.Element.Element}
+use Rattle.slices.specs.declared.slice.Weight.{Weight, TheVariants.Amount, TheVariants.Image, TheVariants.Presence}
 
 -- the most that a machine holds in one place
 abbrev pub unit_of : Instance → ℕ → Weight → ℕ

@@ -1,13 +1,9 @@
 -- What the code says of instants, ends and single machines.
 use Rattle.std.specs.Prelude.{◌≡◌, ◌⊎◌, ℕ, ◌+◌, ◌<◌, ◌≤◌, Bool, true, false, List, Some, IsTrue, slice_index_or}
 use Rattle.relax.specs.Prelude.{capacity_of, held_at, hosted_in, in_part, Instance, IsEnd, no_row, node, Nodes, one, powered_at, Sets, start_of, state_of, sure, usable_at, vm}
-use Rattle.cluster.specs.declared.choices.Choice.{Choice}
-use Rattle.cluster.specs.declared.choices.Choice.TheVariants.{Idle, Act}
-use Rattle.cluster.specs.declared.choices.Place.{Place}
-use Rattle.slices.specs.declared.slice.Weight.{Weight}
-use Rattle.slices.specs.declared.slice.Weight.TheVariants.{Image, Presence}
-use Rattle.domains.specs.declared.parts.Part.TheVariants.{From}
-use Rattle.domains.specs.declared.parts.Row.{Row}
+use Rattle.cluster.specs.declared.choices.{Choice.Choice, Choice.TheVariants.Idle, Choice.TheVariants.Act, Place.Place}
+use Rattle.slices.specs.declared.slice.Weight.{Weight, TheVariants.Image, TheVariants.Presence}
+use Rattle.domains.specs.declared.parts.{Part.TheVariants.From, Row.Row}
 
 -- ---- instants
 

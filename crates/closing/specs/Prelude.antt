@@ -1,45 +1,10 @@
 -- What is cited together of this crate and of those below it, passed on from one place. Declares nothing.
 pub use Rattle.relax.specs.Prelude.{acting_slices, all_nodes, all_of, Allowed, Apart, are_below, AreOf, Between, Bounded, BreaksGroup, choices, Climbs, covers, domain_at, domain_before, DomainView, Each, ExceedsAmount, ExceedsPower, Form, form_of, form_seen, FormForbidsPair, FormForbidsPlace, FromOthers, goes_in, HasElement, HaveChoices, hosted_in, idle_slices, in_part, Instance, InTurn, inventory_of, is_continuous, is_in, is_member, is_rule, IsClosed, IsElement, IsEnd, IsFree, IsGroup, IsInPart, IsMachineUnder, IsMember, IsOffLimits, IsOverload, IsPartOf, IsPower, IsQuietKind, IsSameMachine, IsSetLoad, IsSized, IsTurn, IsWeight, keeping, least, load, machine_count, max_amount, max_capacity, max_machines, max_nodes, may, members, no_row, node, node_count, Nodes, nodes_of, one, Ordered, Places, places_seen, Powered, powered_nodes, present_at, RegionView, room, row_at, same_element, same_place, seen, separated, Separates, Separation, separation_seen, Sets, sets, setting, Settled, slice, Snapshot, stands_on, start_of, state_of, staying, sum_to, surely, Together, total, vm, weigh, weight_of}
 unfoldable pub use Rattle.relax.specs.Prelude.{action_at, capacity_of, has_machine, has_node, held_at, held_by, kind_of, powered_at, slices_by, slices_of, stage_at, sure, usable_at}
-pub use Rattle.cluster.specs.declared.choices.Choice.{Choice}
-pub use Rattle.cluster.specs.declared.choices.Choice.TheVariants.{Act}
-pub use Rattle.cluster.specs.declared.choices.Place.TheVariants.{At, Nowhere}
-pub use Rattle.cluster.specs.declared.ids.Element.{Element}
-pub use Rattle.cluster.specs.declared.ids.Element.TheVariants.{Node, Vm}
-pub use Rattle.cluster.specs.declared.ids.NodeId.{NodeId}
-pub use Rattle.cluster.specs.declared.ids.VmId.{VmId}
-pub use Rattle.cluster.specs.declared.kinds.Kind.{Kind}
-pub use Rattle.cluster.specs.declared.kinds.Kind.TheVariants.{Allocate, Boot, Kill, Migrate, Resume, Shutdown, Suspend}
-pub use Rattle.cluster.specs.declared.sets.NodeSet.{NodeSet}
-pub use Rattle.cluster.specs.declared.states.State.{State}
-pub use Rattle.cluster.specs.declared.states.State.TheVariants.{Gone, Init, Ready, Running, Sleeping}
+pub use Rattle.cluster.specs.declared.{choices.Choice.Choice, choices.Choice.TheVariants.Act, choices.Place.TheVariants.At, choices.Place.TheVariants.Nowhere, ids.Element.Element, ids.Element.TheVariants.Node, ids.Element.TheVariants.Vm, ids.NodeId.NodeId, ids.VmId.VmId, kinds.Kind.Kind, kinds.Kind.TheVariants.Allocate, kinds.Kind.TheVariants.Boot, kinds.Kind.TheVariants.Kill, kinds.Kind.TheVariants.Migrate, kinds.Kind.TheVariants.Resume, kinds.Kind.TheVariants.Shutdown, kinds.Kind.TheVariants.Suspend, sets.NodeSet.NodeSet, states.State.State, states.State.TheVariants.Gone, states.State.TheVariants.Init, states.State.TheVariants.Ready, states.State.TheVariants.Running, states.State.TheVariants.Sleeping}
 pub use Rattle.catalogue.specs.declared.constraint.Constraint.{Constraint}
-pub use Rattle.domains.specs.declared.parts.Part.TheVariants.{From}
-pub use Rattle.domains.specs.declared.parts.Row.{Row}
-pub use Rattle.slices.specs.declared.slice.Slices.{Slices}
-pub use Rattle.slices.specs.declared.slice.Span.{Span}
-pub use Rattle.slices.specs.declared.slice.Span.TheVariants.{Always, BeforeEnd, FromStart}
-pub use Rattle.slices.specs.declared.slice.Weight.{Weight}
-pub use Rattle.slices.specs.declared.slice.Weight.TheVariants.{Amount, Image, Presence}
-pub use Rattle.slices.specs.declared.slice.What.{What}
-pub use Rattle.slices.specs.declared.slice.What.TheVariants.{Demand, Raise, Use}
-pub use Rattle.slices.specs.declared.stage.Progress.{Progress}
-pub use Rattle.slices.specs.declared.stage.Progress.TheVariants.{Started, Unended}
-pub use Rattle.slices.specs.declared.stage.Stage.{Stage}
-pub use Rattle.reasons.specs.declared.reason.ReasonKind.{ReasonKind}
-pub use Rattle.reasons.specs.declared.reason.ReasonKind.TheVariants.{Bound, Empty, Group, Hall, Load, Pair, Place, Power, SetLoad, Usable}
-pub use Rattle.closing.specs.Forms.{HasMisplaced, HasSeparated, IsFormBroken}
-pub use Rattle.closing.specs.Kinds.{actions_of, constraint_watch, form_scope, HasPair, HasPlace, IsBroken, IsNeeded, IsOverloaded, load_scope, load_watch, presences_of, rule_watch, scope_of, separation_scope, total_load_watch, usable_watch, watch_of}
-pub use Rattle.closing.specs.Laws.{AreClean, AreCleanAt, ClosedByWatches, ConstraintIsLocal, LoadIsLocal, TurnsAreEnough, TurnsOfSomeAreEnough, UsableIsLocal}
-pub use Rattle.closing.specs.Looks.{broken_at, IsClean, IsFound, IsFreeOf, IsLook, IsMetWith}
-pub use Rattle.closing.specs.Most.{AreWithin, HasSteadyRoom, if_so, IsMostOf, IsMostSure, StaysUsable, StaysWithin, unit_of}
-pub use Rattle.closing.specs.Parts.{AreRowsPast, FailAtEnds, FailAtRows, IsAbove, IsEndThat, IsNodeMissed, IsNodeSpared, IsNotBetween, IsNotUsable, IsPoweredUnder, IsRowEndThat, IsSpared, NoneAmong, PassOnlyAt, StandsUnder, StartsPast}
-pub use Rattle.closing.specs.Stands.{AreApart, has_node_of, is_node, IsAnyOf, IsGroupWith, IsMisplaced, IsOn, IsPlacedBadly, IsWithin, MeetsOtherPart, MeetsStranger, ShareNode, StaysClear}
-pub use Rattle.closing.specs.Turns.{AreListed, Suffice, turning}
-pub use Rattle.closing.specs.Watches.{is_among, IsLocal, IsPartWithin, IsUnseen, only_of, Scope, SeesOnly, Watch}
-pub use Rattle.closing.specs.declared.shared.stands.Stands.{Stands}
-pub use Rattle.closing.specs.declared.shared.stands.Stands.TheVariants.{On}
-pub use Rattle.closing.specs.declared.shared.turns.Turns.{Turns}
-pub use Rattle.closing.specs.declared.shared.turns.Turns.TheVariants.{Of, OfAll}
-pub use Rattle.closing.specs.declared.look.Look.{Look}
-pub use Rattle.closing.specs.declared.look.Look.TheVariants.{Clean, Cut, Fail}
+pub use Rattle.domains.specs.declared.parts.{Part.TheVariants.From, Row.Row}
+pub use Rattle.slices.specs.declared.{slice.Slices.Slices, slice.Span.Span, slice.Span.TheVariants.Always, slice.Span.TheVariants.BeforeEnd, slice.Span.TheVariants.FromStart, slice.Weight.Weight, slice.Weight.TheVariants.Amount, slice.Weight.TheVariants.Image, slice.Weight.TheVariants.Presence, slice.What.What, slice.What.TheVariants.Demand, slice.What.TheVariants.Raise, slice.What.TheVariants.Use, stage.Progress.Progress, stage.Progress.TheVariants.Started, stage.Progress.TheVariants.Unended, stage.Stage.Stage}
+pub use Rattle.reasons.specs.declared.reason.ReasonKind.{ReasonKind, TheVariants.Bound, TheVariants.Empty, TheVariants.Group, TheVariants.Hall, TheVariants.Load, TheVariants.Pair, TheVariants.Place, TheVariants.Power, TheVariants.SetLoad, TheVariants.Usable}
+pub use Rattle.closing.specs.{Forms.HasMisplaced, Forms.HasSeparated, Forms.IsFormBroken, Kinds.actions_of, Kinds.constraint_watch, Kinds.form_scope, Kinds.HasPair, Kinds.HasPlace, Kinds.IsBroken, Kinds.IsNeeded, Kinds.IsOverloaded, Kinds.load_scope, Kinds.load_watch, Kinds.presences_of, Kinds.rule_watch, Kinds.scope_of, Kinds.separation_scope, Kinds.total_load_watch, Kinds.usable_watch, Kinds.watch_of, Laws.AreClean, Laws.AreCleanAt, Laws.ClosedByWatches, Laws.ConstraintIsLocal, Laws.LoadIsLocal, Laws.TurnsAreEnough, Laws.TurnsOfSomeAreEnough, Laws.UsableIsLocal, Looks.broken_at, Looks.IsClean, Looks.IsFound, Looks.IsFreeOf, Looks.IsLook, Looks.IsMetWith, Most.AreWithin, Most.HasSteadyRoom, Most.if_so, Most.IsMostOf, Most.IsMostSure, Most.StaysUsable, Most.StaysWithin, Most.unit_of, Parts.AreRowsPast, Parts.FailAtEnds, Parts.FailAtRows, Parts.IsAbove, Parts.IsEndThat, Parts.IsNodeMissed, Parts.IsNodeSpared, Parts.IsNotBetween, Parts.IsNotUsable, Parts.IsPoweredUnder, Parts.IsRowEndThat, Parts.IsSpared, Parts.NoneAmong, Parts.PassOnlyAt, Parts.StandsUnder, Parts.StartsPast, Stands.AreApart, Stands.has_node_of, Stands.is_node, Stands.IsAnyOf, Stands.IsGroupWith, Stands.IsMisplaced, Stands.IsOn, Stands.IsPlacedBadly, Stands.IsWithin, Stands.MeetsOtherPart, Stands.MeetsStranger, Stands.ShareNode, Stands.StaysClear, Turns.AreListed, Turns.Suffice, Turns.turning, Watches.is_among, Watches.IsLocal, Watches.IsPartWithin, Watches.IsUnseen, Watches.only_of, Watches.Scope, Watches.SeesOnly, Watches.Watch}
+pub use Rattle.closing.specs.declared.{shared.stands.Stands.Stands, shared.stands.Stands.TheVariants.On, shared.turns.Turns.Turns, shared.turns.Turns.TheVariants.Of, shared.turns.Turns.TheVariants.OfAll, look.Look.Look, look.Look.TheVariants.Clean, look.Look.TheVariants.Cut, look.Look.TheVariants.Fail}

@@ -1,13 +1,9 @@
 -- Where machines surely are, and where they are under an end of their choices.
 use Rattle.std.specs.Prelude.{◌≡◌, ◌≢◌, ℕ, ◌<◌, Bool, true, false, ◌||◌, ◌==◌, List, [], Option, Some, None, IsTrue, slice_index_or}
 use Rattle.relax.specs.Prelude.{Instance, IsEnd, IsGroup, IsMember, IsOffLimits, machine_count, node_count, Nodes, one, Places, present_at, Sets, setting, Snapshot, sure, vm}
-use Rattle.cluster.specs.declared.choices.Choice.{Choice}
-use Rattle.cluster.specs.declared.ids.NodeId.{NodeId}
-use Rattle.cluster.specs.declared.ids.VmId.{VmId}
+use Rattle.cluster.specs.declared.{choices.Choice.Choice, ids.NodeId.NodeId, ids.VmId.VmId}
 use Rattle.catalogue.specs.declared.constraint.Constraint.{Constraint}
-use Rattle.closing.specs.Parts.{FailAtEnds}
-use Rattle.closing.specs.declared.shared.stands.Stands.{Stands}
-use Rattle.closing.specs.declared.shared.stands.Stands.TheVariants.{Everywhere, On}
+use Rattle.closing.specs.{Parts.FailAtEnds, declared.shared.stands.Stands.Stands, declared.shared.stands.Stands.TheVariants.Everywhere, declared.shared.stands.Stands.TheVariants.On}
 
 abbrev pub is_node : Option NodeId → ℕ → Bool
 is_node None n = false

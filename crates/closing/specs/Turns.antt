@@ -2,9 +2,7 @@
 use Rattle.std.specs.Prelude.{◌≡◌, nat_lt, true}
 use Rattle.std.specs.List.{list_all}
 use Rattle.relax.specs.Prelude.{Instance, machine_count, Sets}
-use Rattle.closing.specs.declared.shared.turns.Turns.{Turns}
-use Rattle.closing.specs.declared.shared.turns.Turns.TheVariants.{OfAll, Of}
-use Rattle.closing.specs.Watches.{Scope, SeesOnly, only_of}
+use Rattle.closing.specs.{declared.shared.turns.Turns.Turns, declared.shared.turns.Turns.TheVariants.OfAll, declared.shared.turns.Turns.TheVariants.Of, Watches.Scope, Watches.SeesOnly, Watches.only_of}
 
 -- the machines are of the instance
 abbrev pub AreListed : Instance → Turns → Type 0

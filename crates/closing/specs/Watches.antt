@@ -1,12 +1,8 @@
 -- Watches: single things that can be broken in what is sure, each with what it looks at.
 use Rattle.std.specs.Prelude.{◌≡◌, ℕ, ◌≤◌, Bool, false, List, [], ◌∷◌, IsTrue, if◌then◌else◌}
 use Rattle.relax.specs.Prelude.{is_member, Nodes, Sets, Snapshot}
-use Rattle.cluster.specs.declared.choices.Choice.TheVariants.{Idle}
-use Rattle.cluster.specs.declared.ids.Element.{Element}
-use Rattle.cluster.specs.declared.ids.Element.TheVariants.{Vm, Node as TheNode}
-use Rattle.cluster.specs.declared.ids.VmId.{VmId}
-use Rattle.slices.specs.declared.slice.Weight.{Weight}
-use Rattle.slices.specs.declared.stage.Progress.{Progress}
+use Rattle.cluster.specs.declared.{choices.Choice.TheVariants.Idle, ids.Element.Element, ids.Element.TheVariants.Vm, ids.Element.TheVariants.Node as TheNode, ids.VmId.VmId}
+use Rattle.slices.specs.declared.{slice.Weight.Weight, stage.Progress.Progress}
 
 -- what is looked at of a snapshot: what machines hold on sets of nodes, where they are, which nodes are usable and powered, how far actions are
 pub record Scope : Type 1 where

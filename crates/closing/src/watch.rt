@@ -1,10 +1,7 @@
 //! Single things that can be broken, looked at over a region: at one instant, and at all.
 ghost use Rattle.std.specs.Prelude.{◌≡◌, ℕ, ◌+◌, ◌<◌, ◌≤◌, length};
 ghost use Rattle.relax.specs.Prelude.{Instance, IsSized, node_count, sets};
-ghost use Rattle.closing.specs.Kinds.{constraint_watch, load_watch, total_load_watch, usable_watch};
-ghost use Rattle.closing.specs.Looks.{IsFound, IsLook, broken_at};
-ghost use Rattle.closing.specs.Turns.{AreListed, Suffice};
-ghost use Rattle.closing.specs.Watches.{IsLocal, Watch};
+ghost use Rattle.closing.specs.{Kinds.constraint_watch, Kinds.load_watch, Kinds.total_load_watch, Kinds.usable_watch, Looks.IsFound, Looks.IsLook, Looks.broken_at, Turns.AreListed, Turns.Suffice, Watches.IsLocal, Watches.Watch};
 
 use crate::exact::constraint::{constraint_found, turns_of};
 use crate::exact::loads::load_found;

@@ -1,8 +1,7 @@
 //! What a machine holds more under an end of its choices than at least.
 ghost use Rattle.std.specs.Prelude.{◌≡◌, ℕ, ◌+◌, ◌<◌, ◌≤◌, ◌*◌, ◌^◌, IfNone, IfSome};
 ghost use Rattle.relax.specs.Prelude.{held_at, IsElement, IsSized, IsWeight, machine_count, max_amount, Nodes, nodes_of, sets, vm};
-ghost use Rattle.cluster.specs.declared.choices.Choice.{Choice as AnyChoice};
-ghost use Rattle.closing.specs.Parts.{HoldsAbove as IsHeldAbove, IsAbove, IsSpared};
+ghost use Rattle.{cluster.specs.declared.choices.Choice.Choice as AnyChoice, closing.specs.Parts.HoldsAbove as IsHeldAbove, closing.specs.Parts.IsAbove, closing.specs.Parts.IsSpared};
 
 use crate::shared::counts::machines_of;
 use crate::shared::ends::{Test, end_that};

@@ -1,8 +1,7 @@
 //! What machines hold, and powered nodes, on the nodes of a constraint.
 ghost use Rattle.std.specs.Prelude.{◌≡◌, ℕ, ◌+◌, ◌<◌, ◌≤◌, false, IfNone, IfSome, IsTrue};
 ghost use Rattle.relax.specs.Prelude.{has_node, IsSized, IsWeight, node, node_count, powered_nodes as powered_nodes_of, sets, sure, total as total_of};
-ghost use Rattle.closing.specs.Looks.{IsFound};
-ghost use Rattle.closing.specs.Parts.{FailAtEnds, IsEndThat, IsPoweredUnder};
+ghost use Rattle.closing.specs.{Looks.IsFound, Parts.FailAtEnds, Parts.IsEndThat, Parts.IsPoweredUnder};
 
 use crate::exact::above::machine_above;
 use crate::look::Look;

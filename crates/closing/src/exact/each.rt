@@ -1,9 +1,7 @@
 //! Looks at one instant at each machine of a list.
 ghost use Rattle.std.specs.Prelude.{◌≡◌, ℕ, ◌<◌, nat_lt, true};
-ghost use Rattle.std.specs.List.{list_all};
+ghost use Rattle.{std.specs.List.list_all, closing.specs.Looks.IsFound, closing.specs.Stands.IsAnyOf};
 ghost use Rattle.relax.specs.Prelude.{Instance, IsSized, machine_count, sets, Snapshot};
-ghost use Rattle.closing.specs.Looks.{IsFound};
-ghost use Rattle.closing.specs.Stands.{IsAnyOf};
 
 use crate::look::Look;
 use catalogue::Problem;

@@ -1,10 +1,7 @@
 //! Constraints on whole groups of machines.
 ghost use Rattle.std.specs.Prelude.{◌≡◌, ℕ, ◌<◌, nat_lt, true, IfNone, IfSome};
-ghost use Rattle.std.specs.List.{list_all};
+ghost use Rattle.{std.specs.List.list_all, closing.specs.Looks.IsFound, closing.specs.Parts.FailAtEnds, closing.specs.Parts.IsEndThat, closing.specs.Stands.IsGroupWith};
 ghost use Rattle.relax.specs.Prelude.{form_of, inventory_of, is_rule, IsGroup, IsMember, IsSized, machine_count, members, sets, vm};
-ghost use Rattle.closing.specs.Looks.{IsFound};
-ghost use Rattle.closing.specs.Parts.{FailAtEnds, IsEndThat};
-ghost use Rattle.closing.specs.Stands.{IsGroupWith};
 
 use crate::look::Look;
 use crate::shared::ends::{Test, end_that};

@@ -2,8 +2,7 @@
 ghost use Rattle.std.specs.Prelude.{◌≡◌, ℕ, ◌<◌, nat_lt, true, length, slice_index_or, []};
 ghost use Rattle.std.specs.List.{list_all};
 ghost use Rattle.relax.specs.Prelude.{has_machine, is_member, IsSized, machine_count, sets};
-ghost use Rattle.closing.specs.Looks.{IsFound};
-ghost use Rattle.closing.specs.Stands.{IsAnyOf, MeetsOtherPart, MeetsStranger, ShareNode};
+ghost use Rattle.closing.specs.{Looks.IsFound, Stands.IsAnyOf, Stands.MeetsOtherPart, Stands.MeetsStranger, Stands.ShareNode};
 
 use crate::exact::each::{OfMachine, found_in};
 use crate::look::Look;

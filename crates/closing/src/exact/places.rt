@@ -2,8 +2,7 @@
 ghost use Rattle.std.specs.Prelude.{◌≡◌, ℕ, ◌<◌, false, nat_lt, true, IsTrue};
 ghost use Rattle.std.specs.List.{list_all};
 ghost use Rattle.relax.specs.Prelude.{Instance, is_in, IsHeldWithin, IsOffLimits, IsSized, machine_count, node_count, one, places_seen, sets};
-ghost use Rattle.closing.specs.Looks.{IsFound};
-ghost use Rattle.closing.specs.Stands.{AreWithin, IsAnyOf, IsMisplaced, IsPlacedBadly, IsWithin, has_node_of, is_node};
+ghost use Rattle.closing.specs.{Looks.IsFound, Stands.AreWithin, Stands.IsAnyOf, Stands.IsMisplaced, Stands.IsPlacedBadly, Stands.IsWithin, Stands.has_node_of, Stands.is_node};
 
 use crate::exact::each::{OfMachine, found_in};
 use crate::look::Look;

@@ -1,9 +1,7 @@
 //! Nodes that are needed and may not be usable.
 ghost use Rattle.std.specs.Prelude.{◌≡◌, ℕ, ◌<◌, ◌≤◌, false, IfNone, IfSome, IsTrue};
 ghost use Rattle.relax.specs.Prelude.{IsElement, IsSized, machine_count, node, node_count, sets, stands_on, sure, vm};
-ghost use Rattle.closing.specs.Kinds.{IsNeeded};
-ghost use Rattle.closing.specs.Looks.{IsFound};
-ghost use Rattle.closing.specs.Parts.{FailAtEnds, IsEndThat, IsNotUsable, NoneAmong, StandsUnder};
+ghost use Rattle.closing.specs.{Kinds.IsNeeded, Looks.IsFound, Parts.FailAtEnds, Parts.IsEndThat, Parts.IsNotUsable, Parts.NoneAmong, Parts.StandsUnder};
 
 use crate::look::Look;
 use crate::shared::counts::machines_of;

@@ -2,9 +2,7 @@
 ghost use Rattle.std.specs.Prelude.{◌≡◌, ℕ, ◌<◌, ◌&&◌, [], None, Some, IfNone, IfSome, IsTrue, false};
 ghost use Rattle.std.specs.List.{Contains};
 ghost use Rattle.relax.specs.Prelude.{choices, is_in, IsHeldWithin, IsSized, machine_count, node_count, one, sets, sure, vm};
-ghost use Rattle.closing.specs.Parts.{FailAtEnds, IsEndThat};
-ghost use Rattle.closing.specs.declared.shared.stands.Stands.{Stands as AnyStands};
-ghost use Rattle.closing.specs.Stands.{AreWithin, IsOn, IsWithin, has_node_of, is_node};
+ghost use Rattle.closing.specs.{Parts.FailAtEnds, Parts.IsEndThat, declared.shared.stands.Stands.Stands as AnyStands, Stands.AreWithin, Stands.IsOn, Stands.IsWithin, Stands.has_node_of, Stands.is_node};
 
 use crate::shared::counts::nodes_of;
 use crate::shared::ends::{Test, end_at, end_that};

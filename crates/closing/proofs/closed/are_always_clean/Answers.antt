@@ -1,5 +1,4 @@
-use Rattle.domains.specs.Sets.{sets}
-use Rattle.closing.proofs.ClosedLemmas.{all_clean}
+use Rattle.closing.proofs.{Prelude.sets, ClosedLemmas.all_clean}
 use Rattle.closing.proofs.closed.are_always_clean.Goals as goal
 
 pub returns-clause-yes : goal.returns-clause-yes

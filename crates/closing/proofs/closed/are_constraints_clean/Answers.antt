@@ -1,6 +1,4 @@
-use Rattle.std.proofs.Common.{ap, arith, length}
-use Rattle.closing.specs.Prelude.{constraint_watch, IsClean, sets}
-use borrow.Author.Count.{below_more}
+use Rattle.closing.proofs.Prelude.{ap, arith, length, constraint_watch, IsClean, sets, below_more}
 use Rattle.closing.proofs.ClosedLemmas.{clean_constraint, clean_by, found}
 use Rattle.closing.proofs.closed.are_constraints_clean.Goals as goal
 

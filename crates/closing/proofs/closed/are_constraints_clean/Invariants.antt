@@ -1,5 +1,4 @@
-use Rattle.std.proofs.Common.{ℕ, ◌<◌}
-use Rattle.closing.specs.Prelude.{constraint_watch, IsClean, sets}
+use Rattle.closing.proofs.Prelude.{ℕ, ◌<◌, constraint_watch, IsClean, sets}
 use Rattle.closing.proofs.closed.are_constraints_clean.Given as goal
 
 abbrev pub invariant-loop-c : goal.invariant-loop-c

@@ -1,6 +1,4 @@
-use Rattle.std.proofs.Common.{arith}
-use Rattle.closing.specs.Prelude.{IsClean, load_watch, sets}
-use borrow.Author.Count.{below_more}
+use Rattle.closing.proofs.Prelude.{arith, IsClean, load_watch, sets, below_more}
 use Rattle.closing.proofs.ClosedLemmas.{clean_load, clean_by, found}
 use Rattle.closing.proofs.closed.are_loads_clean.Goals as goal
 

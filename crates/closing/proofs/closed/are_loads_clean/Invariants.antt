@@ -1,5 +1,4 @@
-use Rattle.std.proofs.Common.{ℕ, ◌<◌}
-use Rattle.closing.specs.Prelude.{IsClean, load_watch, sets}
+use Rattle.closing.proofs.Prelude.{ℕ, ◌<◌, IsClean, load_watch, sets}
 use Rattle.closing.proofs.closed.are_loads_clean.Given as goal
 
 abbrev pub invariant-loop-i : goal.invariant-loop-i

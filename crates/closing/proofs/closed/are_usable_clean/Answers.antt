@@ -1,6 +1,4 @@
-use Rattle.std.proofs.Common.{arith}
-use Rattle.closing.specs.Prelude.{IsClean, sets, usable_watch}
-use borrow.Author.Count.{below_more}
+use Rattle.closing.proofs.Prelude.{arith, IsClean, sets, usable_watch, below_more}
 use Rattle.closing.proofs.ClosedLemmas.{clean_usable, clean_by, found}
 use Rattle.closing.proofs.closed.are_usable_clean.Goals as goal
 

@@ -1,5 +1,4 @@
-use Rattle.std.proofs.Common.{ℕ, ◌<◌}
-use Rattle.closing.specs.Prelude.{IsClean, sets, usable_watch}
+use Rattle.closing.proofs.Prelude.{ℕ, ◌<◌, IsClean, sets, usable_watch}
 use Rattle.closing.proofs.closed.are_usable_clean.Given as goal
 
 abbrev pub invariant-loop-i : goal.invariant-loop-i

@@ -1,6 +1,4 @@
-use Rattle.base.proofs.Public.{arith, true_from_ne_false}
-use Rattle.domains.specs.Sets.{sets}
-use Rattle.closing.proofs.ClosedLemmas.{closed_by_watches, some_element}
+use Rattle.closing.proofs.{Prelude.arith, Prelude.true_from_ne_false, Prelude.sets, ClosedLemmas.closed_by_watches, ClosedLemmas.some_element}
 use Rattle.closing.proofs.closed.closed.Goals as goal
 
 pub returns-then-have_choices : goal.returns-then-have_choices

@@ -1,5 +1,4 @@
-use Rattle.std.proofs.Common.{ap, arith, sym, ◌∙◌}
-use Rattle.closing.specs.Prelude.{choices, node, vm}
+use Rattle.closing.proofs.Prelude.{ap, arith, sym, ◌∙◌, choices, node, vm}
 use Rattle.closing.proofs.closed.have_choices.Goals as goal
 
 pub returns-then-is_empty-clause-no : goal.returns-then-is_empty-clause-no

@@ -1,5 +1,4 @@
-use Rattle.std.proofs.Common.{◌≢◌, ℕ, ◌<◌, []}
-use Rattle.closing.specs.Prelude.{machine_count, node, sets, vm}
+use Rattle.closing.proofs.Prelude.{◌≢◌, ℕ, ◌<◌, [], machine_count, node, sets, vm}
 use Rattle.closing.proofs.closed.have_choices.Given as goal
 
 abbrev pub invariant-loop-v : goal.invariant-loop-v

@@ -1,5 +1,4 @@
-use Rattle.closing.specs.Prelude.{sets, total_load_watch}
-use Rattle.closing.proofs.ClosedLemmas.{clean_by, clean_total, found}
+use Rattle.closing.proofs.{Prelude.sets, Prelude.total_load_watch, ClosedLemmas.clean_by, ClosedLemmas.clean_total, ClosedLemmas.found}
 use Rattle.closing.proofs.closed.is_total_clean.Goals as goal
 
 pub returns-clause-no : goal.returns-clause-no

@@ -1,7 +1,4 @@
-use Rattle.std.proofs.Common.{arith}
-use Rattle.domains.specs.Sets.{sets}
-use Rattle.closing.proofs.EndLemmas.{sized_is_of}
-use Rattle.closing.proofs.SomeLemmas.{turns_suffice}
+use Rattle.closing.proofs.{Prelude.arith, Prelude.sets, EndLemmas.sized_is_of, SomeLemmas.turns_suffice}
 use Rattle.closing.proofs.watch.look.Goals as goal
 
 pub returns : goal.returns

@@ -1,5 +1,4 @@
-use Rattle.std.proofs.Common.{ℕ, ◌<◌, ◌≤◌, ◌+◌, ◌-◌}
-use Rattle.closing.specs.Prelude.{broken_at, IsFreeOf, IsTurn, sets, turning}
+use Rattle.closing.proofs.Prelude.{ℕ, ◌<◌, ◌≤◌, ◌+◌, ◌-◌, broken_at, IsFreeOf, IsTurn, sets, turning}
 use Rattle.closing.proofs.watch.look.Given as goal
 
 abbrev pub invariant-instants : goal.invariant-instants

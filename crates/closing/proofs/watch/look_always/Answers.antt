@@ -1,7 +1,5 @@
-use Rattle.base.proofs.Public.{◌≡◌, length, refl, Some, slice_get, slice_get_read}
-use Rattle.domains.specs.Sets.{sets}
-use Rattle.closing.proofs.EverLemmas.{never_broken}
-use Rattle.closing.proofs.LocalLemmas.{constraint_is_local}
+use Rattle.closing.proofs.Prelude.{◌≡◌, length, refl, Some, slice_get, slice_get_read, sets}
+use Rattle.closing.proofs.{EverLemmas.never_broken, LocalLemmas.constraint_is_local}
 use Rattle.closing.proofs.watch.look_always.Goals as goal
 
 pub look-requires-clause-local : goal.look-requires-clause-local

@@ -1,5 +1,4 @@
-use Rattle.base.proofs.Public.{◌≡◌, length, refl, Some, sym, ◌∙◌, slice_get, slice_get_read}
-use Rattle.domains.specs.Sets.{sets}
+use Rattle.closing.proofs.Prelude.{◌≡◌, length, refl, Some, sym, ◌∙◌, slice_get, slice_get_read, sets}
 use Rattle.closing.proofs.LocalLemmas.{last_look}
 use Rattle.closing.proofs.watch.look_at_constraint.Goals as goal
 

@@ -1,5 +1,4 @@
-use Rattle.slices.specs.Stages.{one}
-use Rattle.closing.proofs.LocalLemmas.{load_is_local}
+use Rattle.closing.proofs.{Prelude.one, LocalLemmas.load_is_local}
 use Rattle.closing.proofs.watch.look_at_load.Goals as goal
 
 pub look-requires-clause-local : goal.look-requires-clause-local

@@ -1,5 +1,4 @@
-use Rattle.reasons.specs.Closed.{all_nodes}
-use Rattle.closing.proofs.LocalLemmas.{load_is_local}
+use Rattle.closing.proofs.{Prelude.all_nodes, LocalLemmas.load_is_local}
 use Rattle.closing.proofs.watch.look_at_total_load.Goals as goal
 
 pub look-requires-clause-local : goal.look-requires-clause-local

@@ -1,5 +1,4 @@
-use Rattle.std.proofs.Common.{ℕ, ◌<◌}
-use Rattle.closing.specs.Prelude.{IsSpared, nodes_of, sets}
+use Rattle.closing.proofs.Prelude.{ℕ, ◌<◌, IsSpared, nodes_of, sets}
 use Rattle.closing.proofs.exact.above.machine_above.Given as goal
 
 abbrev pub invariant-loop-i : goal.invariant-loop-i

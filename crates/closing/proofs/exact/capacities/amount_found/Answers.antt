@@ -1,5 +1,4 @@
-use Rattle.std.proofs.Common.{◌-◌, refl, arith}
-use Rattle.closing.specs.Prelude.{has_node, sets}
+use Rattle.closing.proofs.Prelude.{◌-◌, refl, arith, has_node, sets}
 use Rattle.closing.proofs.SettingLemmas.{total_free, total_met}
 use Rattle.closing.proofs.exact.capacities.amount_found.Goals as goal
 

@@ -1,6 +1,4 @@
-use Rattle.std.proofs.Common.{refl, arith}
-use Rattle.closing.specs.Prelude.{has_node, sets}
-use Rattle.closing.proofs.SettingLemmas.{full_free, full_met}
+use Rattle.closing.proofs.{Prelude.refl, Prelude.arith, Prelude.has_node, Prelude.sets, SettingLemmas.full_free, SettingLemmas.full_met}
 use Rattle.closing.proofs.exact.capacities.one_more_found.Goals as goal
 
 pub returns-in-Some : goal.returns-in-Some

@@ -1,5 +1,4 @@
-use Rattle.std.proofs.Common.{◌≡◌, ℕ, ◌<◌, false, IsTrue}
-use Rattle.closing.specs.Prelude.{FailAtEnds, has_node, IsPoweredUnder, node, sets, sure}
+use Rattle.closing.proofs.Prelude.{◌≡◌, ℕ, ◌<◌, false, IsTrue, FailAtEnds, has_node, IsPoweredUnder, node, sets, sure}
 use Rattle.closing.proofs.exact.capacities.one_more_found.Given as goal
 
 abbrev pub invariant-loop-i : goal.invariant-loop-i

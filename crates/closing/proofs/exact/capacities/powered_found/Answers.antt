@@ -1,6 +1,4 @@
-use Rattle.std.proofs.Common.{arith}
-use Rattle.closing.specs.Prelude.{has_node, sets}
-use Rattle.closing.proofs.SettingLemmas.{few_free}
+use Rattle.closing.proofs.{Prelude.arith, Prelude.has_node, Prelude.sets, SettingLemmas.few_free}
 use Rattle.closing.proofs.exact.capacities.powered_found.Goals as goal
 
 pub returns-then-count-amount-2 : goal.returns-then-count-amount-2

@@ -1,7 +1,5 @@
-use Rattle.std.proofs.Common.{sym}
-use Rattle.closing.specs.Prelude.{Allowed, Apart, places_seen, separation_seen, sets}
-use Rattle.closing.proofs.FormLemmas.{rule_by_form}
-use Rattle.closing.proofs.RuleLemmas.{misplaced_found}
+use Rattle.closing.proofs.Prelude.{sym, Allowed, Apart, places_seen, separation_seen, sets}
+use Rattle.closing.proofs.{FormLemmas.rule_by_form, RuleLemmas.misplaced_found}
 use Rattle.closing.proofs.exact.constraint.rule_found.Goals as goal
 
 pub returns-in-Apart : goal.returns-in-Apart

@@ -1,7 +1,4 @@
-use Rattle.std.proofs.Common.{◌∙◌}
-use Rattle.closing.specs.Prelude.{machine_count, sets}
-use Rattle.catalogue.proofs.Public.{below_parts}
-use Rattle.closing.proofs.RuleLemmas.{between_found, each_found, from_others_found}
+use Rattle.closing.proofs.{Prelude.◌∙◌, Prelude.machine_count, Prelude.sets, Prelude.below_parts, RuleLemmas.between_found, RuleLemmas.each_found, RuleLemmas.from_others_found}
 use Rattle.closing.proofs.exact.constraint.separated_found.Goals as goal
 
 pub split_found-requires-clause-machines : goal.split_found-requires-clause-machines

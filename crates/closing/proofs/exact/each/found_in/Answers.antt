@@ -1,7 +1,4 @@
-use Rattle.std.proofs.Common.{arith}
-use Rattle.closing.specs.Prelude.{IsFreeOf, sets}
-use Rattle.slices.proofs.Public.{each_member}
-use Rattle.closing.proofs.MemberLemmas.{any_free}
+use Rattle.closing.proofs.{Prelude.arith, Prelude.IsFreeOf, Prelude.sets, Prelude.each_member, MemberLemmas.any_free}
 use Rattle.closing.proofs.exact.each.found_in.Goals as goal
 
 pub returns : goal.returns

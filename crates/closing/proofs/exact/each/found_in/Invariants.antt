@@ -1,5 +1,4 @@
-use Rattle.std.proofs.Common.{ℕ, ◌<◌, get_or}
-use Rattle.closing.specs.Prelude.{IsFreeOf, sets, VmId}
+use Rattle.closing.proofs.Prelude.{ℕ, ◌<◌, get_or, IsFreeOf, sets, VmId}
 use Rattle.closing.proofs.exact.each.found_in.Given as goal
 
 abbrev pub invariant-loop-i : goal.invariant-loop-i

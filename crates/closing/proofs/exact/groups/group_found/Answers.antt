@@ -1,5 +1,4 @@
-use Rattle.domains.specs.Sets.{sets}
-use Rattle.closing.proofs.GroupLemmas.{group_free}
+use Rattle.closing.proofs.{Prelude.sets, GroupLemmas.group_free}
 use Rattle.closing.proofs.exact.groups.group_found.Goals as goal
 
 pub returns-in-None : goal.returns-in-None

@@ -1,6 +1,4 @@
-use Rattle.std.proofs.Common.{arith}
-use Rattle.closing.specs.Prelude.{FailAtEnds, IsGroupWith, sets, vm}
-use Rattle.slices.proofs.Public.{each_member}
+use Rattle.closing.proofs.Prelude.{arith, FailAtEnds, IsGroupWith, sets, vm, each_member}
 use Rattle.closing.proofs.exact.groups.member_with.Goals as goal
 
 pub returns-clause-none : goal.returns-clause-none

@@ -1,5 +1,4 @@
-use Rattle.std.proofs.Common.{ℕ, ◌<◌, get_or}
-use Rattle.closing.specs.Prelude.{FailAtEnds, IsGroupWith, sets, vm, VmId}
+use Rattle.closing.proofs.Prelude.{ℕ, ◌<◌, get_or, FailAtEnds, IsGroupWith, sets, vm, VmId}
 use Rattle.closing.proofs.exact.groups.member_with.Given as goal
 
 abbrev pub invariant-loop-i : goal.invariant-loop-i

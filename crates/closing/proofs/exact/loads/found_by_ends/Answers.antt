@@ -1,6 +1,4 @@
-use Rattle.std.proofs.Common.{refl}
-use Rattle.closing.specs.Prelude.{nodes_of, sets}
-use Rattle.closing.proofs.SumLemmas.{fits-free, machine-breaks, node-breaks}
+use Rattle.closing.proofs.{Prelude.refl, Prelude.nodes_of, Prelude.sets, SumLemmas.fits-free, SumLemmas.machine-breaks, SumLemmas.node-breaks}
 use Rattle.closing.proofs.exact.loads.found_by_ends.Goals as goal
 
 pub returns-in-Some : goal.returns-in-Some

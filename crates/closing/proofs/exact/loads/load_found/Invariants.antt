@@ -1,5 +1,4 @@
-use Rattle.std.proofs.Common.{ℕ, ◌<◌}
-use Rattle.closing.specs.Prelude.{IsFreeOf, IsOverload, nodes_of, sets}
+use Rattle.closing.proofs.Prelude.{ℕ, ◌<◌, IsFreeOf, IsOverload, nodes_of, sets}
 use Rattle.closing.proofs.exact.loads.load_found.Given as goal
 
 abbrev pub invariant-loop-r : goal.invariant-loop-r

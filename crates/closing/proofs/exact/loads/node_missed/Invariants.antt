@@ -1,5 +1,4 @@
-use Rattle.std.proofs.Common.{ℕ, ◌<◌}
-use Rattle.closing.specs.Prelude.{IsNodeSpared, nodes_of, sets}
+use Rattle.closing.proofs.Prelude.{ℕ, ◌<◌, IsNodeSpared, nodes_of, sets}
 use Rattle.closing.proofs.exact.loads.node_missed.Given as goal
 
 abbrev pub invariant-loop-i : goal.invariant-loop-i

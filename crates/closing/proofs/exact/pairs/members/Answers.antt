@@ -1,5 +1,4 @@
-use Rattle.std.proofs.Common.{◌∙◌, arith}
-use Rattle.closing.proofs.MemberLemmas.{mark_more}
+use Rattle.closing.proofs.{Prelude.◌∙◌, Prelude.arith, MemberLemmas.mark_more}
 use Rattle.closing.proofs.exact.pairs.members.Goals as goal
 
 pub loop-v-preserved : goal.loop-v-preserved

@@ -1,5 +1,4 @@
-use Rattle.std.proofs.Common.{◌≡◌, ℕ, take}
-use Rattle.closing.specs.Prelude.{has_machine, is_member}
+use Rattle.closing.proofs.Prelude.{◌≡◌, ℕ, take, has_machine, is_member}
 use Rattle.closing.proofs.exact.pairs.members.Given as goal
 
 abbrev pub invariant-loop-v : goal.invariant-loop-v

@@ -1,7 +1,5 @@
-use Rattle.std.proofs.Common.{◌≢◌, [], slice_index_or, subst, sym, arith}
-use Rattle.closing.specs.Prelude.{IsAnyOf, IsFreeOf, sets, ShareNode}
-use Rattle.closing.proofs.MemberLemmas.{is_part, one_more}
-use Rattle.closing.proofs.PairLemmas.{others_free}
+use Rattle.closing.proofs.Prelude.{◌≢◌, [], slice_index_or, subst, sym, arith, IsAnyOf, IsFreeOf, sets, ShareNode}
+use Rattle.closing.proofs.{MemberLemmas.is_part, MemberLemmas.one_more, PairLemmas.others_free}
 use Rattle.closing.proofs.exact.pairs.other_part_found.Goals as goal
 
 pub loop-j-preserved-then-j-part : goal.loop-j-preserved-then-j-part

@@ -1,5 +1,4 @@
-use Rattle.std.proofs.Common.{◌≢◌, ℕ, ◌<◌, [], slice_index_or}
-use Rattle.closing.specs.Prelude.{IsAnyOf, IsFreeOf, sets, ShareNode}
+use Rattle.closing.proofs.Prelude.{◌≢◌, ℕ, ◌<◌, [], slice_index_or, IsAnyOf, IsFreeOf, sets, ShareNode}
 use Rattle.closing.proofs.exact.pairs.other_part_found.Given as goal
 
 abbrev pub invariant-loop-j : goal.invariant-loop-j

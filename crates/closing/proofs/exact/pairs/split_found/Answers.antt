@@ -1,8 +1,5 @@
-use Rattle.std.proofs.Common.{[], slice_index_or, subst, arith}
-use Rattle.closing.specs.Prelude.{IsAnyOf, IsFreeOf, IsMetWith, MeetsOtherPart, sets, sure}
-use Rattle.closing.proofs.ApartLemmas.{split_free}
-use Rattle.closing.proofs.MemberLemmas.{is_part, one_more}
-use Rattle.closing.proofs.PairLemmas.{parts_free, parts_met}
+use Rattle.closing.proofs.Prelude.{[], slice_index_or, subst, arith, IsAnyOf, IsFreeOf, IsMetWith, MeetsOtherPart, sets, sure}
+use Rattle.closing.proofs.{ApartLemmas.split_free, MemberLemmas.is_part, MemberLemmas.one_more, PairLemmas.parts_free, PairLemmas.parts_met}
 use Rattle.closing.proofs.exact.pairs.split_found.Goals as goal
 
 pub returns-in-Fail : goal.returns-in-Fail

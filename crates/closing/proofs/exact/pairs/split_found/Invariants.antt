@@ -1,5 +1,4 @@
-use Rattle.std.proofs.Common.{ℕ, ◌<◌, [], slice_index_or}
-use Rattle.closing.specs.Prelude.{IsAnyOf, IsFreeOf, MeetsOtherPart, sets}
+use Rattle.closing.proofs.Prelude.{ℕ, ◌<◌, [], slice_index_or, IsAnyOf, IsFreeOf, MeetsOtherPart, sets}
 use Rattle.closing.proofs.exact.pairs.split_found.Given as goal
 
 abbrev pub invariant-loop-i : goal.invariant-loop-i

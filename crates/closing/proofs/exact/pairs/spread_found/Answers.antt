@@ -1,5 +1,4 @@
-use Rattle.domains.specs.Sets.{sets}
-use Rattle.closing.proofs.ApartLemmas.{spread_free}
+use Rattle.closing.proofs.{Prelude.sets, ApartLemmas.spread_free}
 use Rattle.closing.proofs.exact.pairs.spread_found.Goals as goal
 
 pub returns-then-are_apart : goal.returns-then-are_apart

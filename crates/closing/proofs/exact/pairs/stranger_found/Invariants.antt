@@ -1,5 +1,4 @@
-use Rattle.std.proofs.Common.{◌≡◌, ℕ, ◌<◌, false}
-use Rattle.closing.specs.Prelude.{has_machine, IsFreeOf, sets, ShareNode}
+use Rattle.closing.proofs.Prelude.{◌≡◌, ℕ, ◌<◌, false, has_machine, IsFreeOf, sets, ShareNode}
 use Rattle.closing.proofs.exact.pairs.stranger_found.Given as goal
 
 abbrev pub invariant-loop-i : goal.invariant-loop-i

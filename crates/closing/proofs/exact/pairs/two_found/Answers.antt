@@ -1,6 +1,4 @@
-use Rattle.std.proofs.Common.{refl}
-use Rattle.closing.specs.Prelude.{has_node_of, sets}
-use Rattle.closing.proofs.SettingLemmas.{first_met, second_met, shared_free}
+use Rattle.closing.proofs.{Prelude.refl, Prelude.has_node_of, Prelude.sets, SettingLemmas.first_met, SettingLemmas.second_met, SettingLemmas.shared_free}
 use Rattle.closing.proofs.exact.pairs.two_found.Goals as goal
 
 pub returns-in-Some : goal.returns-in-Some

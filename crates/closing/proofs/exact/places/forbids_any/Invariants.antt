@@ -1,5 +1,4 @@
-use Rattle.std.proofs.Common.{ℕ, ◌<◌}
-use Rattle.closing.specs.Prelude.{IsOffLimits, places_seen}
+use Rattle.closing.proofs.Prelude.{ℕ, ◌<◌, IsOffLimits, places_seen}
 use Rattle.closing.proofs.exact.places.forbids_any.Given as goal
 
 abbrev pub invariant-loop-i : goal.invariant-loop-i

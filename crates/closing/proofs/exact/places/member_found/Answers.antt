@@ -1,5 +1,4 @@
-use Rattle.base.proofs.Public.{refl, sym, ◌∙◌, false≢true}
-use Rattle.closing.specs.Prelude.{places_seen, sets}
+use Rattle.closing.proofs.Prelude.{refl, sym, ◌∙◌, false≢true, places_seen, sets}
 use Rattle.closing.proofs.SettingLemmas.{placed_free, placed_met}
 use Rattle.closing.proofs.exact.places.member_found.Goals as goal
 

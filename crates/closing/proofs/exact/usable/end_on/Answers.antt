@@ -1,5 +1,4 @@
-use Rattle.std.proofs.Common.{sym, ◌∙◌}
-use Rattle.closing.proofs.UsableLemmas.{stands_only_at}
+use Rattle.closing.proofs.{Prelude.sym, Prelude.◌∙◌, UsableLemmas.stands_only_at}
 use Rattle.closing.proofs.exact.usable.end_on.Goals as goal
 
 pub end_at-requires-clause-only : goal.end_at-requires-clause-only

@@ -1,6 +1,4 @@
-use Rattle.std.proofs.Common.{refl}
-use Rattle.domains.specs.Sets.{sets}
-use Rattle.closing.proofs.UsableLemmas.{nowhere_free, stands_met}
+use Rattle.closing.proofs.{Prelude.refl, Prelude.sets, UsableLemmas.nowhere_free, UsableLemmas.stands_met}
 use Rattle.closing.proofs.exact.usable.found_where_not.Goals as goal
 
 pub returns-in-None : goal.returns-in-None

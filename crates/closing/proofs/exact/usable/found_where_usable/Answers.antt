@@ -1,6 +1,4 @@
-use Rattle.std.proofs.Common.{refl}
-use Rattle.domains.specs.Sets.{sets}
-use Rattle.closing.proofs.UsableLemmas.{missed_met, unneeded_free, usable_free}
+use Rattle.closing.proofs.{Prelude.refl, Prelude.sets, UsableLemmas.missed_met, UsableLemmas.unneeded_free, UsableLemmas.usable_free}
 use Rattle.closing.proofs.exact.usable.found_where_usable.Goals as goal
 
 pub returns-in-None : goal.returns-in-None

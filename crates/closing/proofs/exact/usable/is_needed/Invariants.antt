@@ -1,5 +1,4 @@
-use Rattle.std.proofs.Common.{◌≡◌, ℕ, ◌<◌, false}
-use Rattle.closing.specs.Prelude.{sets, stands_on, sure}
+use Rattle.closing.proofs.Prelude.{◌≡◌, ℕ, ◌<◌, false, sets, stands_on, sure}
 use Rattle.closing.proofs.exact.usable.is_needed.Given as goal
 
 abbrev pub invariant-loop-i : goal.invariant-loop-i

@@ -1,4 +1,4 @@
-use Rattle.closing.specs.Prelude.{NoneAmong, sets}
+use Rattle.closing.proofs.Prelude.{NoneAmong, sets}
 use Rattle.closing.proofs.exact.usable.machine_among.Given as goal
 
 abbrev pub invariant-loop-i : goal.invariant-loop-i

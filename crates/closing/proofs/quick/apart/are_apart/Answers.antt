@@ -1,6 +1,4 @@
-use Rattle.std.proofs.Common.{◌≢◌, ℕ, arith}
-use Rattle.closing.specs.Prelude.{IsMember, sets, StaysClear}
-use Rattle.slices.proofs.Public.{each_member, each_more}
+use Rattle.closing.proofs.Prelude.{◌≢◌, ℕ, arith, IsMember, sets, StaysClear, each_member, each_more}
 use Rattle.closing.proofs.quick.apart.are_apart.Goals as goal
 
 pub returns : goal.returns

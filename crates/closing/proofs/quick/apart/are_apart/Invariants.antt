@@ -1,5 +1,4 @@
-use Rattle.std.proofs.Common.{◌≢◌, ℕ, ◌<◌, get_or}
-use Rattle.closing.specs.Prelude.{IsMember, sets, StaysClear, VmId}
+use Rattle.closing.proofs.Prelude.{◌≢◌, ℕ, ◌<◌, get_or, IsMember, sets, StaysClear, VmId}
 use Rattle.closing.proofs.quick.apart.are_apart.Given as goal
 
 abbrev pub invariant-loop-i : goal.invariant-loop-i

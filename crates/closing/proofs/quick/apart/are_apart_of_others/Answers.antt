@@ -1,8 +1,6 @@
-use Rattle.std.proofs.Common.{◌≢◌, [], slice_index_or, subst, sym}
-use Rattle.closing.specs.Prelude.{AreApart, sets}
-use Rattle.closing.proofs.MemberLemmas.{is_part, one_more}
+use Rattle.closing.proofs.Prelude.{◌≢◌, [], slice_index_or, subst, sym, AreApart, sets}
+use Rattle.closing.proofs.{MemberLemmas.is_part, MemberLemmas.one_more, quick.apart.are_apart_of_others.Goals.else-j-part-via-then-j-part+else-not-are_apart, quick.apart.are_apart_of_others.Goals.else-j-part-via-else-j-part}
 use Rattle.closing.proofs.quick.apart.are_apart_of_others.Goals as goal
-use Rattle.closing.proofs.quick.apart.are_apart_of_others.Goals.{else-j-part-via-then-j-part+else-not-are_apart, else-j-part-via-else-j-part}
 
 pub loop-j-preserved : goal.loop-j-preserved
 loop-j-preserved c =

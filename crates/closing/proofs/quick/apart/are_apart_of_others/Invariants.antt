@@ -1,5 +1,4 @@
-use Rattle.std.proofs.Common.{◌≢◌, ℕ, ◌<◌, [], slice_index_or}
-use Rattle.closing.specs.Prelude.{AreApart, sets}
+use Rattle.closing.proofs.Prelude.{◌≢◌, ℕ, ◌<◌, [], slice_index_or, AreApart, sets}
 use Rattle.closing.proofs.quick.apart.are_apart_of_others.Given as goal
 
 abbrev pub invariant-loop-j : goal.invariant-loop-j

@@ -1,5 +1,4 @@
-use Rattle.std.proofs.Common.{ℕ, ◌<◌, ◌≢◌, [], length, slice_index_or, subst}
-use Rattle.closing.specs.Prelude.{AreApart, sets}
+use Rattle.closing.proofs.Prelude.{ℕ, ◌<◌, ◌≢◌, [], length, slice_index_or, subst, AreApart, sets}
 use Rattle.closing.proofs.MemberLemmas.{is_part, one_more}
 use Rattle.closing.proofs.quick.apart.are_parts_apart.Goals as goal
 

@@ -1,5 +1,4 @@
-use Rattle.std.proofs.Common.{◌≢◌, ℕ, ◌<◌, [], length, slice_index_or}
-use Rattle.closing.specs.Prelude.{AreApart, sets}
+use Rattle.closing.proofs.Prelude.{◌≢◌, ℕ, ◌<◌, [], length, slice_index_or, AreApart, sets}
 use Rattle.closing.proofs.quick.apart.are_parts_apart.Given as goal
 
 abbrev pub invariant-loop-i : goal.invariant-loop-i

@@ -1,8 +1,6 @@
-use Rattle.std.proofs.Common.{◌≢◌, sym, arith}
-use Rattle.closing.specs.Prelude.{sets, StaysClear}
-use Rattle.slices.proofs.Public.{each_member, each_more}
-use Rattle.closing.proofs.quick.apart.keeps_clear.Goals as goal
+use Rattle.closing.proofs.Prelude.{◌≢◌, sym, arith, sets, StaysClear, each_member, each_more}
 use Rattle.closing.proofs.quick.apart.keeps_clear.Goals.{else-w-v-via-then-w-v+else-not-stays_clear, else-w-v-via-else-w-v}
+use Rattle.closing.proofs.quick.apart.keeps_clear.Goals as goal
 
 pub returns : goal.returns
 returns c = λ yes. each_member (λ w. c.args.v.0 ≢ w → StaysClear c.args.p.now.given (sets c.args.g.now) c.args.t c.args.v.0 w) c.args.machines.now c.loop-i.i (omega arith) c.loop-i.invariant

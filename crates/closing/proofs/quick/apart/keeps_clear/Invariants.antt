@@ -1,5 +1,4 @@
-use Rattle.std.proofs.Common.{◌≢◌, ℕ, ◌<◌, get_or}
-use Rattle.closing.specs.Prelude.{sets, StaysClear, VmId}
+use Rattle.closing.proofs.Prelude.{◌≢◌, ℕ, ◌<◌, get_or, sets, StaysClear, VmId}
 use Rattle.closing.proofs.quick.apart.keeps_clear.Given as goal
 
 abbrev pub invariant-loop-i : goal.invariant-loop-i

@@ -1,6 +1,4 @@
-use Rattle.base.proofs.Public.{ap, sym, ◌∙◌, false≢true}
-use Rattle.closing.specs.Prelude.{choices, sets, vm}
-use Rattle.reasons.proofs.Public.{some_end}
+use Rattle.closing.proofs.Prelude.{ap, sym, ◌∙◌, false≢true, choices, sets, vm, some_end}
 use Rattle.closing.proofs.ApartLemmas.{clear_by}
 use Rattle.closing.proofs.quick.apart.stays_clear.Goals as goal
 

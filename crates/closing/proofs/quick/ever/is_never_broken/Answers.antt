@@ -1,5 +1,4 @@
-use Rattle.std.proofs.Common.{◌∙◌, ap, sym}
-use Rattle.closing.specs.Prelude.{form_seen, sets}
+use Rattle.closing.proofs.Prelude.{◌∙◌, ap, sym, form_seen, sets}
 use Rattle.closing.proofs.EverLemmas.{bounded_unbroken}
 use Rattle.closing.proofs.quick.ever.is_never_broken.Goals as goal
 

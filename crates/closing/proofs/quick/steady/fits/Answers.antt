@@ -1,5 +1,4 @@
-use Rattle.closing.specs.Prelude.{nodes_of, sets}
-use Rattle.closing.proofs.SteadyLemmas.{steady_fits}
+use Rattle.closing.proofs.{Prelude.nodes_of, Prelude.sets, SteadyLemmas.steady_fits}
 use Rattle.closing.proofs.quick.steady.fits.Goals as goal
 
 pub returns : goal.returns

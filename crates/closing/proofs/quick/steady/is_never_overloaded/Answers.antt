@@ -1,7 +1,5 @@
-use Rattle.std.proofs.Common.{arith}
-use Rattle.closing.specs.Prelude.{IsFreeOf, IsOverload, nodes_of, sets}
-use Rattle.closing.proofs.MemberLemmas.{one_more}
-use Rattle.closing.proofs.SumLemmas.{resources-free}
+use Rattle.closing.proofs.Prelude.{arith, IsFreeOf, IsOverload, nodes_of, sets}
+use Rattle.closing.proofs.{MemberLemmas.one_more, SumLemmas.resources-free}
 use Rattle.closing.proofs.quick.steady.is_never_overloaded.Goals as goal
 
 pub loop-r-preserved : goal.loop-r-preserved

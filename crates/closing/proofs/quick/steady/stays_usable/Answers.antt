@@ -1,7 +1,4 @@
-use Rattle.std.proofs.Common.{sym, ◌∙◌}
-use Rattle.domains.specs.Sets.{sets}
-use Rattle.closing.proofs.SteadyLemmas.{stays_usable_by}
-use Rattle.closing.proofs.UsableLemmas.{staying_free}
+use Rattle.closing.proofs.{Prelude.sym, Prelude.◌∙◌, Prelude.sets, SteadyLemmas.stays_usable_by, UsableLemmas.staying_free}
 use Rattle.closing.proofs.quick.steady.stays_usable.Goals as goal
 
 pub returns-then-can_only_stay-clause-free : goal.returns-then-can_only_stay-clause-free

@@ -1,5 +1,4 @@
-use Rattle.std.proofs.Common.{◌*◌, ◌≤◌}
-use Rattle.closing.specs.Prelude.{HasSteadyRoom, max_capacity, nodes_of, sets}
+use Rattle.closing.proofs.Prelude.{◌*◌, ◌≤◌, HasSteadyRoom, max_capacity, nodes_of, sets}
 use Rattle.closing.proofs.quick.steady.steady_room.Given as goal
 
 abbrev pub invariant-loop-i : goal.invariant-loop-i

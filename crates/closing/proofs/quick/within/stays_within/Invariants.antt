@@ -1,5 +1,4 @@
-use Rattle.std.proofs.Common.{◌+◌, ◌*◌, ◌≤◌}
-use Rattle.closing.specs.Prelude.{AreWithin, max_amount, nodes_of, sets}
+use Rattle.closing.proofs.Prelude.{◌+◌, ◌*◌, ◌≤◌, AreWithin, max_amount, nodes_of, sets}
 use Rattle.closing.proofs.quick.within.stays_within.Given as goal
 
 abbrev pub invariant-loop-i : goal.invariant-loop-i

@@ -1,6 +1,4 @@
-use Rattle.std.proofs.Common.{IfNone, IfSome}
-use Rattle.base.proofs.Public.{Option, Some, None, filter}
-use Rattle.closing.specs.Prelude.{Choice, choices, FailAtEnds, From, in_part, IsEndThat}
+use Rattle.closing.proofs.Prelude.{IfNone, IfSome, Option, Some, None, filter, Choice, choices, FailAtEnds, From, in_part, IsEndThat}
 use Rattle.closing.proofs.EndLemmas.{end_at_place, fails_at_place}
 use Rattle.closing.proofs.shared.ends.end_at.Goals as goal
 

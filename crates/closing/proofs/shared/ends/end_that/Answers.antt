@@ -1,5 +1,4 @@
-use Rattle.std.proofs.Common.{refl, rules, arith}
-use Rattle.closing.proofs.EndLemmas.{fails_of_rows, row_is_end}
+use Rattle.closing.proofs.{Prelude.refl, Prelude.rules, Prelude.arith, EndLemmas.fails_of_rows, EndLemmas.row_is_end}
 use Rattle.closing.proofs.shared.ends.end_that.Goals as goal
 
 pub returns-in-Some-clause-some : goal.returns-in-Some-clause-some

@@ -1,4 +1,4 @@
-use Rattle.closing.specs.Parts.{FailAtRows}
+use Rattle.closing.proofs.Prelude.{FailAtRows}
 use Rattle.closing.proofs.shared.ends.end_that.Given as goal
 
 abbrev pub invariant-loop-i : goal.invariant-loop-i

@@ -1,5 +1,4 @@
-use Rattle.std.proofs.Common.{◌≡◌, ℕ, ◌<◌, false, slice_index_or}
-use Rattle.closing.specs.Prelude.{Act, goes_in, no_row, nodes_of}
+use Rattle.closing.proofs.Prelude.{◌≡◌, ℕ, ◌<◌, false, slice_index_or, Act, goes_in, no_row, nodes_of}
 use Rattle.closing.proofs.shared.most.has_row_in.Given as goal
 
 abbrev pub invariant-loop-row : goal.invariant-loop-row

@@ -1,5 +1,4 @@
-use Rattle.relax.specs.Areas.{nodes_of}
-use Rattle.closing.proofs.MostLemmas.{ever_most}
+use Rattle.closing.proofs.{Prelude.nodes_of, MostLemmas.ever_most}
 use Rattle.closing.proofs.shared.most.most_ever.Goals as goal
 
 pub returns-clause-most : goal.returns-clause-most

@@ -1,5 +1,4 @@
-use Rattle.std.proofs.Common.{ap, sym}
-use Rattle.closing.specs.Prelude.{choices, nodes_of, sets}
+use Rattle.closing.proofs.Prelude.{ap, sym, choices, nodes_of, sets}
 use Rattle.closing.proofs.MostLemmas.{rows_most, stay_most}
 use Rattle.closing.proofs.shared.most.most_of.Goals as goal
 

@@ -1,5 +1,4 @@
-use Rattle.closing.specs.Prelude.{nodes_of, sets}
-use Rattle.closing.proofs.MostLemmas.{most_of_none, most_of_one}
+use Rattle.closing.proofs.{Prelude.nodes_of, Prelude.sets, MostLemmas.most_of_none, MostLemmas.most_of_one}
 use Rattle.closing.proofs.shared.most.most_sure.Goals as goal
 
 pub returns-in-None-clause-most : goal.returns-in-None-clause-most

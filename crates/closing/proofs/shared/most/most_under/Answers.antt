@@ -1,6 +1,4 @@
-use Rattle.std.proofs.Common.{arith}
-use Rattle.relax.specs.Areas.{nodes_of}
-use Rattle.closing.proofs.MostLemmas.{act_most, idle_most, idle_small}
+use Rattle.closing.proofs.{Prelude.arith, Prelude.nodes_of, MostLemmas.act_most, MostLemmas.idle_most, MostLemmas.idle_small}
 use Rattle.closing.proofs.shared.most.most_under.Goals as goal
 
 pub returns-in-Idle-clause-most : goal.returns-in-Idle-clause-most

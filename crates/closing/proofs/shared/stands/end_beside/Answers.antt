@@ -1,5 +1,4 @@
-use Rattle.std.proofs.Common.{Option, Some, None, IfSome}
-use Rattle.closing.specs.Prelude.{Choice, has_node_of, IsEndThat, IsOn, On, sets, vm}
+use Rattle.closing.proofs.Prelude.{Option, Some, None, IfSome, Choice, has_node_of, IsEndThat, IsOn, On, sets, vm}
 use Rattle.closing.proofs.StandLemmas.{end_on_second}
 use Rattle.closing.proofs.shared.stands.end_beside.Goals as goal
 

@@ -1,5 +1,4 @@
-use Rattle.std.proofs.Common.{sym, ◌∙◌}
-use Rattle.closing.proofs.StandLemmas.{on_only_at}
+use Rattle.closing.proofs.{Prelude.sym, Prelude.◌∙◌, StandLemmas.on_only_at}
 use Rattle.closing.proofs.shared.stands.end_on_node.Goals as goal
 
 pub end_at-requires-clause-only : goal.end_at-requires-clause-only

@@ -1,6 +1,4 @@
-use Rattle.std.proofs.Common.{sym, ◌∙◌}
-use Rattle.slices.specs.Elements.{node_count}
-use Rattle.closing.proofs.StandLemmas.{first_there, second_there}
+use Rattle.closing.proofs.{Prelude.sym, Prelude.◌∙◌, Prelude.node_count, StandLemmas.first_there, StandLemmas.second_there}
 use Rattle.closing.proofs.shared.stands.is_anywhere.Goals as goal
 
 pub returns-then-is_some-clause-yes : goal.returns-then-is_some-clause-yes

@@ -1,5 +1,4 @@
-use Rattle.std.proofs.Common.{arith}
-use Rattle.closing.proofs.EndLemmas.{row_choice_at}
+use Rattle.closing.proofs.{Prelude.arith, EndLemmas.row_choice_at}
 use Rattle.closing.proofs.shared.stands.some_choice.Goals as goal
 
 pub returns-in-len1-up-clause-some : goal.returns-in-len1-up-clause-some

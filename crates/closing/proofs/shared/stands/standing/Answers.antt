@@ -1,5 +1,4 @@
-use Rattle.std.proofs.Common.{ap, sym, ◌∙◌}
-use Rattle.closing.specs.Prelude.{choices, is_in, is_node, one, sets}
+use Rattle.closing.proofs.Prelude.{ap, sym, ◌∙◌, choices, is_in, is_node, one, sets}
 use Rattle.closing.proofs.StandLemmas.{empty_stands, stands_by}
 use Rattle.closing.proofs.shared.stands.standing.Goals as goal
 

@@ -1,5 +1,4 @@
-use Rattle.std.proofs.Common.{arith}
-use Rattle.closing.proofs.EndLemmas.{no_turn}
+use Rattle.closing.proofs.{Prelude.arith, EndLemmas.no_turn}
 use Rattle.closing.proofs.shared.turns.next_of_all.Goals as goal
 
 pub returns-clause-turns : goal.returns-clause-turns

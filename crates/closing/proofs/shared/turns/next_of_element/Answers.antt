@@ -1,5 +1,4 @@
-use Rattle.domains.specs.Sets.{domain_at}
-use Rattle.closing.proofs.EndLemmas.{past_of_rows}
+use Rattle.closing.proofs.{Prelude.domain_at, EndLemmas.past_of_rows}
 use Rattle.closing.proofs.shared.turns.next_of_element.Goals as goal
 
 pub returns-clause-past : goal.returns-clause-past

@@ -1,5 +1,4 @@
-use Rattle.std.proofs.Common.{◌<◌, ◌≤◌}
-use Rattle.closing.specs.Parts.{AreRowsPast}
+use Rattle.closing.proofs.Prelude.{◌<◌, ◌≤◌, AreRowsPast}
 use Rattle.closing.proofs.shared.turns.next_of_rows.Given as goal
 
 abbrev pub invariant-loop-i : goal.invariant-loop-i

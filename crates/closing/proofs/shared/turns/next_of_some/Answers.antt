@@ -1,7 +1,5 @@
-use Rattle.std.proofs.Common.{arith}
-use Rattle.closing.specs.Prelude.{sets, StartsPast, vm}
+use Rattle.closing.proofs.Prelude.{arith, sets, StartsPast, vm, each_member}
 use Rattle.closing.proofs.EndLemmas.{no_turn_of}
-use Rattle.slices.proofs.Public.{each_member}
 use Rattle.closing.proofs.shared.turns.next_of_some.Goals as goal
 
 pub returns-clause-turns : goal.returns-clause-turns

@@ -1,5 +1,4 @@
-use Rattle.std.proofs.Common.{ℕ, ◌<◌, ◌≤◌, get_or}
-use Rattle.closing.specs.Prelude.{sets, StartsPast, vm, VmId}
+use Rattle.closing.proofs.Prelude.{ℕ, ◌<◌, ◌≤◌, get_or, sets, StartsPast, vm, VmId}
 use Rattle.closing.proofs.shared.turns.next_of_some.Given as goal
 
 abbrev pub invariant-loop-i : goal.invariant-loop-i
