@@ -1,8 +1,5 @@
 -- What is counted of steps, with one more step.
-use Rattle.std.proofs.Common.{◌≡◌, ℕ, List, [], ◌∷◌, ◌++◌, sym, ap, ◌∙◌, Option, Some, append-nil}
-use Rattle.cert_model.specs.Prelude.{Left, left_set, lower, lowest, plan_costs, Sets, Step}
-use Rattle.trees.specs.declared.steps.Step.TheVariants.{Plan}
-use Rattle.trees.proofs.Public.{lowest_push, plan_costs_append}
+use Rattle.cert_model.proofs.Prelude.{◌≡◌, ℕ, List, [], ◌∷◌, ◌++◌, sym, ap, ◌∙◌, Option, Some, append-nil, Left, left_set, lower, lowest, plan_costs, Sets, Step, Plan, lowest_push, plan_costs_append}
 
 abbrev cheapest_of : List ℕ → Option ℕ
 cheapest_of costs = lowest (λ cost. cost) costs

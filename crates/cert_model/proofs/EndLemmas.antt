@@ -1,10 +1,5 @@
 -- The sum of the least ends where one element is narrowed.
-use Rattle.std.proofs.Common.{IsTrue}
-use Rattle.base.proofs.Public.{◌≡◌, ◌≢◌, ℕ, ◌+◌, ◌≤◌, Bool, true, false, not, List, [], ◌∷◌, Option, Some, None, unwrap_or, refl, ap, subst, arith, Contains, filter, eq-eqb, false_from_ne_true}
-use Rattle.cert_model.specs.Prelude.{AreLegal, Choice, Element, end_of, in_part, Instance, is_legal, IsElement, IsInstance, keeping, least, least_cost, least_with, lower, lower_option, lowest, max_cost, Node as TheNode, same_element, Sets, stays, Vm}
-use Rattle.domains.specs.declared.parts.Part.{Part}
-use Rattle.domains.proofs.Public.{filter_is_fewer, same_is}
-use Rattle.bound.proofs.Public.{cost_change, cost_is_small, cost_term}
+use Rattle.cert_model.proofs.Prelude.{IsTrue, ◌≡◌, ◌≢◌, ℕ, ◌+◌, ◌≤◌, Bool, true, false, not, List, [], ◌∷◌, Option, Some, None, unwrap_or, refl, ap, subst, arith, Contains, filter, eq-eqb, false_from_ne_true, AreLegal, Choice, Element, end_of, in_part, Instance, is_legal, IsElement, IsInstance, keeping, least, least_cost, least_with, lower, lower_option, lowest, max_cost, Node as TheNode, same_element, Sets, stays, Vm, Part, filter_is_fewer, same_is, cost_change, cost_is_small, cost_term}
 
 -- ---- a set that is narrowed
 

@@ -1,7 +1,5 @@
 -- Undecided sets, by what is kept of the steps before.
-use Rattle.base.proofs.Public.{◌≡◌, ℕ, ◌<◌, List, sym, subst, Option, Some, None, IfSome}
-use Rattle.cert_model.specs.Prelude.{AreFixed, Instance, IsClosed, IsFixed, IsSized, IsUndecided, least_cost, lowest, Node, plan_costs, RegionView, sets, Step, Vm}
-use Rattle.trees.proofs.Public.{IsAbove, above_cheapest}
+use Rattle.cert_model.proofs.Prelude.{◌≡◌, ℕ, ◌<◌, List, sym, subst, Option, Some, None, IfSome, AreFixed, Instance, IsClosed, IsFixed, IsSized, IsUndecided, least_cost, lowest, Node, plan_costs, RegionView, sets, Step, Vm, IsAbove, above_cheapest}
 
 -- ---- below each plan, or below the cheapest
 

@@ -1,5 +1,6 @@
 -- Public has what crates above may cite; the rest is for this crate alone.
 pub mod Public
+mod Prelude
 pub mod EndLemmas
 pub mod CountLemmas
 pub mod LeanLemmas

@@ -1,7 +1,5 @@
 -- A region that is one plan.
-use Rattle.base.proofs.Public.{◌≡◌, ℕ, ◌≤◌, sym, subst, ◌∙◌, Option, Some, IsSomeAnd}
-use Rattle.cert_model.specs.Prelude.{Choices, Instance, IsOnly, IsPlanLeaf, IsValid, least_cost, Sets}
-use Rattle.reasons.proofs.Public.{only_costs}
+use Rattle.cert_model.proofs.Prelude.{◌≡◌, ℕ, ◌≤◌, sym, subst, ◌∙◌, Option, Some, IsSomeAnd, Choices, Instance, IsOnly, IsPlanLeaf, IsValid, least_cost, Sets, only_costs}
 
 -- its cost is the sum of the least ends
 pub plan_leaf : (p : Instance) (bound : Option ℕ) (s : Sets) (sum cost known : ℕ) (plan : Choices) → bound ≡ Some known → known ≤ cost → sum ≡ cost → sum ≡ least_cost p s → IsOnly s plan → IsValid p plan → IsPlanLeaf p bound s cost

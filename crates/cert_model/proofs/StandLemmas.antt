@@ -1,10 +1,5 @@
 -- A walk that stands for steps: what is due, and one more step.
-use Rattle.std.proofs.Common.{◌^◌, map}
-use Rattle.base.proofs.Public.{◌≡◌, ◌≤◌, ◌<◌, ◌+◌, ℕ, Bool, List, [], ◌∷◌, ◌++◌, length, refl, sym, ap, subst, ◌∙◌, arith, Option, Some, None, is_some, Contains, map-append}
-use Rattle.cert_model.specs.Prelude.{AreLegal, children, Cut, Decide, decisions, Due, due_sets, due_sums, Element, Fact, Fail, Frontier, gathered_along, goal_of, has_left, in_part, Instance, IsSized, Kept, later_sets, later_sums, Leads, LeadsTo, least_cost, Left, left_along, left_set, lowest, Nothing, open_of, open_sets, open_sums, out_of_part, outer_sets, Outside, outside, plan_costs, RegionView, Sets, sets, shown, Stands, start_sets, Step, sums_of, WalkAt, Whole}
-use Rattle.trees.specs.declared.steps.Step.TheVariants.{Plan}
-use Rattle.reasons.proofs.Public.{start_is_legal}
-use Rattle.trees.proofs.Public.{decisions_append, gathered_push, leads_push, leads_same}
+use Rattle.cert_model.proofs.Prelude.{◌^◌, map, ◌≡◌, ◌≤◌, ◌<◌, ◌+◌, ℕ, Bool, List, [], ◌∷◌, ◌++◌, length, refl, sym, ap, subst, ◌∙◌, arith, Option, Some, None, is_some, Contains, map-append, AreLegal, children, Cut, Decide, decisions, Due, due_sets, due_sums, Element, Fact, Fail, Frontier, gathered_along, goal_of, has_left, in_part, Instance, IsSized, Kept, later_sets, later_sums, Leads, LeadsTo, least_cost, Left, left_along, left_set, lowest, Nothing, open_of, open_sets, open_sums, out_of_part, outer_sets, Outside, outside, plan_costs, RegionView, Sets, sets, shown, Stands, start_sets, Step, sums_of, WalkAt, Whole, Plan, start_is_legal, decisions_append, gathered_push, leads_push, leads_same}
 use Rattle.cert_model.proofs.EndLemmas.{narrow_legal}
 
 -- ---- choices stay legal along steps

@@ -1,7 +1,5 @@
 -- What some machines use is no more than what all do.
-use Rattle.std.proofs.Common.{IsTrue}
-use Rattle.base.proofs.Public.{◌≡◌, inl, inr, ℕ, zero, suc, ◌+◌, ◌<◌, ◌≤◌, nat_lt, arith, cases_lt, nat_tests}
-use Rattle.cert_model.specs.Prelude.{Amount, Instance, IsOverload, IsWeighed, machine_count, max_held, Nodes, room, Snapshot, sum_to, Weighed}
+use Rattle.cert_model.proofs.Prelude.{IsTrue, ◌≡◌, inl, inr, ℕ, zero, suc, ◌+◌, ◌<◌, ◌≤◌, nat_lt, arith, cases_lt, nat_tests, Amount, Instance, IsOverload, IsWeighed, machine_count, max_held, Nodes, room, Snapshot, sum_to, Weighed}
 
 -- a sum of more terms is no less
 grows : (a b : ℕ) (f : ℕ → ℕ) → a ≤ b → sum_to a f ≤ sum_to b f

@@ -1,7 +1,5 @@
 -- Steps that leave nothing open are a proof, and what they show holds.
-use Rattle.std.proofs.Common.{◌≡◌, ℕ, Bool, true, false, List, [], ◌∷◌, refl, sym, ap, subst, ◌∙◌, Option}
-use Rattle.cert_model.specs.Prelude.{AtEach, bound_of, GoalHolds, Instance, IsLean, IsProof, LeadsTo, LeanAt, least_along, least_cost, least_shown, left_set, lower_of, lowest, ProofsHold, Proves, Sets, shown, start_sets, Step, StepHolds, steps_of, Tree, WalkAt}
-use Rattle.trees.proofs.Public.{at_each_both, at_each_map, certificates_hold, gathered_whole, leads_same, leads_tree, tree_of}
+use Rattle.cert_model.proofs.Prelude.{◌≡◌, ℕ, Bool, true, false, List, [], ◌∷◌, refl, sym, ap, subst, ◌∙◌, Option, AtEach, bound_of, GoalHolds, Instance, IsLean, IsProof, LeadsTo, LeanAt, least_along, least_cost, least_shown, left_set, lower_of, lowest, ProofsHold, Proves, Sets, shown, start_sets, Step, StepHolds, steps_of, Tree, WalkAt, at_each_both, at_each_map, certificates_hold, gathered_whole, leads_same, leads_tree, tree_of}
 
 -- ---- steps and trees
 

@@ -1,11 +1,7 @@
 -- Helping only: what the code keeps of the regions that are open.
 use Rattle.std.specs.Prelude.{◌≡◌, ℕ, List, [], ◌∷◌, ◌++◌, length, map, reverse}
 use Rattle.bound.specs.Prelude.{IsOneOf, RegionView, Sets, sets}
-use Rattle.cert_model.specs.declared.frontier.Due.{Due}
-use Rattle.cert_model.specs.declared.frontier.Due.TheVariants.{Nothing, Whole, Outside}
-use Rattle.cert_model.specs.declared.frontier.Frontier.{Frontier}
-use Rattle.cert_model.specs.declared.frontier.Outer.{Outer}
-use Rattle.cert_model.specs.Open.{due_sets, due_sums, outer_sets}
+use Rattle.cert_model.specs.{declared.frontier.Due.Due, declared.frontier.Due.TheVariants.Nothing, declared.frontier.Due.TheVariants.Whole, declared.frontier.Due.TheVariants.Outside, declared.frontier.Frontier.Frontier, declared.frontier.Outer.Outer, Open.due_sets, Open.due_sums, Open.outer_sets}
 
 -- what comes after what is due
 abbrev pub later_sets : Frontier → List Sets

@@ -1,9 +1,7 @@
 -- The regions that are open, as they are kept: one region, the regions at the decisions before, and their outer sides.
 use Rattle.std.specs.Prelude.{ℕ, List, [], ◌∷◌}
 use Rattle.trees.specs.Prelude.{outside, RegionView, Sets, sets}
-use Rattle.cert_model.specs.declared.frontier.Due.{Due}
-use Rattle.cert_model.specs.declared.frontier.Due.TheVariants.{Nothing, Whole, Outside}
-use Rattle.cert_model.specs.declared.frontier.Outer.{Outer}
+use Rattle.cert_model.specs.declared.frontier.{Due.Due, Due.TheVariants.Nothing, Due.TheVariants.Whole, Due.TheVariants.Outside, Outer.Outer}
 
 -- what is due of a region
 abbrev pub due_sets : Due → Sets → List Sets

@@ -1,14 +1,8 @@
 -- What a walk over the steps of a certificate keeps, and what its answers mean.
 use Rattle.std.specs.Prelude.{◌≡◌, ◌≢◌, ◌⊎◌, ℕ, ◌+◌, ◌<◌, ◌^◌, Bool, true, List, [], ◌∷◌, ◌++◌, length, map, Option, Some, None, MatchOption}
 use Rattle.trees.specs.Prelude.{Choices, choices_of, decisions, gathered_along, inside, Instance, IsElement, IsLean, IsPlanLeaf, IsSplit, Leads, LeanAt, least_cost, left_set, lower_of, lowest, machine_count, node_count, plan_costs, PlanChoices, Proves, Refutes, RegionView, Sets, sets, shown, start_sets, StepHolds, steps_of, Tree}
-use Rattle.trees.specs.declared.steps.Goal.{Goal as TreeGoal}
-use Rattle.trees.specs.declared.steps.Step.{Step}
-use Rattle.trees.specs.declared.steps.Step.TheVariants.{Decide, Cut, Fail, Plan as PlanStep, Left}
-use Rattle.cert_model.specs.declared.frontier.Due.{Due}
-use Rattle.cert_model.specs.declared.frontier.Outer.{Outer}
-use Rattle.cert_model.specs.declared.why.Why.{Why}
-use Rattle.cert_model.specs.declared.why.Why.TheVariants.{Structure, Name, Part, Reason, Plan, Goal, Lean}
-use Rattle.cert_model.specs.Open.{due_sets, due_sums, outer_sets}
+use Rattle.trees.specs.declared.steps.{Goal.Goal as TreeGoal, Step.Step, Step.TheVariants.Decide, Step.TheVariants.Cut, Step.TheVariants.Fail, Step.TheVariants.Plan as PlanStep, Step.TheVariants.Left}
+use Rattle.cert_model.specs.{declared.frontier.Due.Due, declared.frontier.Outer.Outer, declared.why.Why.Why, declared.why.Why.TheVariants.Structure, declared.why.Why.TheVariants.Name, declared.why.Why.TheVariants.Part, declared.why.Why.TheVariants.Reason, declared.why.Why.TheVariants.Plan, declared.why.Why.TheVariants.Goal, declared.why.Why.TheVariants.Lean, Open.due_sets, Open.due_sums, Open.outer_sets}
 
 -- what a contract sees of a `Walk`
 pub record Kept : Type 0 where

@@ -1,8 +1,7 @@
 -- Helping only: what some of the machines before a number use.
 use Rattle.std.specs.Prelude.{ℕ, ◌*◌, ◌≤◌}
 use Rattle.bound.specs.Prelude.{Instance, machine_count, max_held, Nodes, Snapshot, sum_to}
-use Rattle.slices.specs.declared.slice.Weight.TheVariants.{Amount}
-use Rattle.cert_model.specs.declared.weighed.Weighed.{Weighed}
+use Rattle.{slices.specs.declared.slice.Weight.TheVariants.Amount, cert_model.specs.declared.weighed.Weighed.Weighed}
 
 -- no more than all of them
 pub record IsWeighed (p : Instance) (s : Snapshot) (r : ℕ) (set : Nodes) (x : Weighed) : Type 0 where

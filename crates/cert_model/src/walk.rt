@@ -5,8 +5,7 @@ ghost use Rattle.base.specs.Least.{lowest};
 ghost use Rattle.trees.specs.Prelude.{bound_of, children, Instance, IsPlanOf, least_cost, plan_costs, sets};
 ghost use Rattle.trees.specs.declared.steps.Step.{Step as AnyStep};
 ghost use Rattle.relax.specs.Areas.{AreLegal, IsSized};
-ghost use Rattle.cert_model.specs.Frontiers.{AreSame, AreSameSize, IsKept, later_sets, later_sums, open_sets, open_sums};
-ghost use Rattle.cert_model.specs.Walks.{Answers, Ends, IsLeast, IsStanding, IsUnchanged, IsWholeAt, IsWrong, PartHolds, Stands, WalkAt, choices_handed};
+ghost use Rattle.cert_model.specs.{Frontiers.AreSame, Frontiers.AreSameSize, Frontiers.IsKept, Frontiers.later_sets, Frontiers.later_sums, Frontiers.open_sets, Frontiers.open_sums, Walks.Answers, Walks.Ends, Walks.IsLeast, Walks.IsStanding, Walks.IsUnchanged, Walks.IsWholeAt, Walks.IsWrong, Walks.PartHolds, Walks.Stands, Walks.WalkAt, Walks.choices_handed};
 
 use crate::claims::fault;
 use crate::counts::{cheaper, counted, goal_shown, is_same_goal, least_with, lower};
@@ -41,8 +40,7 @@ pub struct Walk {
 
 impl Model for Walk {
     ghost use Rattle.std.specs.Prelude.{reverse};
-    ghost use Rattle.cert_model.specs.Frontiers.{IsKept};
-    ghost use Rattle.cert_model.specs.Walks.{Kept};
+    ghost use Rattle.cert_model.specs.{Frontiers.IsKept, Walks.Kept};
 
     ghost Value = { Kept };
 

@@ -1,6 +1,4 @@
-use Rattle.std.proofs.Common.{rules}
-use Rattle.domains.specs.Sets.{sets}
-use Rattle.cert_model.proofs.PlanLemmas.{leaf_costs, plan_leaf}
+use Rattle.cert_model.proofs.{Prelude.rules, Prelude.sets, PlanLemmas.leaf_costs, PlanLemmas.plan_leaf}
 use Rattle.cert_model.proofs.claims.is_plan_leaf.Goals as goal
 
 pub returns-then-sum-cost-clause-no : goal.returns-then-sum-cost-clause-no

@@ -1,5 +1,4 @@
-use Rattle.base.proofs.Public.{◌≡◌, arith, ap, ◌∙◌, unwrap_or, filter}
-use Rattle.cert_model.specs.Prelude.{end_of, in_part, least, sets}
+use Rattle.cert_model.proofs.Prelude.{◌≡◌, arith, ap, ◌∙◌, unwrap_or, filter, end_of, in_part, least, sets}
 use Rattle.cert_model.proofs.EndLemmas.{end_inside, has_end, is_narrowed, small_with}
 use Rattle.cert_model.proofs.ends.sum_inside.Goals as goal
 

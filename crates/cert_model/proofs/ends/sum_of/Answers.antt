@@ -1,5 +1,4 @@
-use Rattle.std.proofs.Common.{arith}
-use Rattle.bound.proofs.Public.{cost_is_small}
+use Rattle.cert_model.proofs.Prelude.{arith, cost_is_small}
 use Rattle.cert_model.proofs.ends.sum_of.Goals as goal
 
 pub overflow_cast-result : goal.overflow_cast-result

@@ -1,6 +1,4 @@
-use Rattle.std.proofs.Common.{Some}
-use Rattle.cert_model.specs.Prelude.{sets, stays}
-use Rattle.cert_model.proofs.EndLemmas.{has_end, is_narrowed, small_with, whole_of_loss}
+use Rattle.cert_model.proofs.{Prelude.Some, Prelude.sets, Prelude.stays, EndLemmas.has_end, EndLemmas.is_narrowed, EndLemmas.small_with, EndLemmas.whole_of_loss}
 use Rattle.cert_model.proofs.ends.sum_outside.Goals as goal
 
 pub after_loss-requires-clause-within : goal.after_loss-requires-clause-within

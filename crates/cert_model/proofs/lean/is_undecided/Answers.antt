@@ -1,5 +1,4 @@
-use Rattle.std.proofs.Common.{rules}
-use Rattle.cert_model.proofs.LeanLemmas.{is_undecided, undecided_below}
+use Rattle.cert_model.proofs.{Prelude.rules, LeanLemmas.is_undecided, LeanLemmas.undecided_below}
 use Rattle.cert_model.proofs.lean.is_undecided.Goals as goal
 
 pub returns-then-not-is_below-clause-no : goal.returns-then-not-is_below-clause-no

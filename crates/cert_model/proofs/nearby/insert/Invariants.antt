@@ -1,4 +1,4 @@
-use Rattle.std.proofs.Common.{◌<◌, length}
+use Rattle.cert_model.proofs.Prelude.{◌<◌, length}
 use Rattle.cert_model.proofs.nearby.insert.Given as goal
 
 abbrev pub invariant-places : goal.invariant-places

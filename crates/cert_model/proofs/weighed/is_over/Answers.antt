@@ -1,5 +1,4 @@
-use Rattle.cert_model.specs.Prelude.{has_node, seen, sure}
-use Rattle.cert_model.proofs.WeighedLemmas.{weighed_over}
+use Rattle.cert_model.proofs.{Prelude.has_node, Prelude.seen, Prelude.sure, WeighedLemmas.weighed_over}
 use Rattle.cert_model.proofs.weighed.is_over.Goals as goal
 
 pub returns : goal.returns

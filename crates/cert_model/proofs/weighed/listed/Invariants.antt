@@ -1,4 +1,4 @@
-use Rattle.cert_model.specs.Prelude.{IsWeighed, nodes_of, seen, sure}
+use Rattle.cert_model.proofs.Prelude.{IsWeighed, nodes_of, seen, sure}
 use Rattle.cert_model.proofs.weighed.listed.Given as goal
 
 abbrev pub invariant-loop-i : goal.invariant-loop-i

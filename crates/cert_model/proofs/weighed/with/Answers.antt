@@ -1,6 +1,4 @@
-use Rattle.std.proofs.Common.{arith}
-use Rattle.cert_model.specs.Prelude.{nodes_of, seen, sure}
-use Rattle.cert_model.proofs.WeighedLemmas.{weighed_more}
+use Rattle.cert_model.proofs.{Prelude.arith, Prelude.nodes_of, Prelude.seen, Prelude.sure, WeighedLemmas.weighed_more}
 use Rattle.cert_model.proofs.weighed.with.Goals as goal
 
 pub returns : goal.returns

@@ -1,7 +1,5 @@
-use Rattle.std.proofs.Common.{◌≡◌, ◌∙◌, ap, sym, rules, is_some}
-use Rattle.cert_model.specs.Prelude.{goal_of, the_view}
-use Rattle.cert_model.proofs.StandLemmas.{goal_kept, stands_as}
-use Rattle.cert_model.proofs.WholeLemmas.{proof_of, whole_of}
+use Rattle.cert_model.proofs.Prelude.{◌≡◌, ◌∙◌, ap, sym, rules, is_some, goal_of, the_view}
+use Rattle.cert_model.proofs.{StandLemmas.goal_kept, StandLemmas.stands_as, WholeLemmas.proof_of, WholeLemmas.whole_of}
 use Rattle.cert_model.proofs.walk.Walk.finish.Goals as goal
 
 pub returns-then-not-is_whole : goal.returns-then-not-is_whole

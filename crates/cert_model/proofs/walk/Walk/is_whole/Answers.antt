@@ -1,5 +1,4 @@
-use Rattle.cert_model.specs.contracts.walk.Walk.{the_view}
-use Rattle.cert_model.proofs.StandLemmas.{open_when_due, stands_as}
+use Rattle.cert_model.proofs.{Prelude.the_view, StandLemmas.open_when_due, StandLemmas.stands_as}
 use Rattle.cert_model.proofs.walk.Walk.is_whole.Goals as goal
 
 pub returns-in_default : goal.returns-in_default

@@ -1,5 +1,4 @@
-use Rattle.std.proofs.Common.{sym, refl}
-use Rattle.cert_model.specs.Prelude.{least_cost, left_along, sets, the_view}
+use Rattle.cert_model.proofs.Prelude.{sym, refl, least_cost, left_along, sets, the_view}
 use Rattle.cert_model.proofs.StandLemmas.{IsHeld, few_decisions, legal_here, no_value, stands_as, stands_next, sum_here}
 use Rattle.cert_model.proofs.walk.Walk.step.Goals as goal
 
