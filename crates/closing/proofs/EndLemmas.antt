@@ -108,10 +108,10 @@ staying-never Idle t h starts = cc
 staying-never (Act q s) t (zero, h, e) starts = cc
 staying-never (Act q s) t (suc k, h, e) starts = absurd (omega (arith, h))
 
-pub no_turn : (p : Instance) (g : RegionView) (after next : ℕ) → IsSized p g → (after < p.horizon → next ≤ p.horizon) → next ≤ p.horizon + 1 → ((v : ℕ) → v < machine_count p → StartsPast (sets g (vm v)) after next) → ((n : ℕ) → n < node_count p → StartsPast (sets g (node n)) after next) → (t : ℕ) → after < t → t < next → ¬ IsTurn p (sets g) t
-no_turn p g after next is last most machines nodes t later sooner (inl first) = omega (arith, first, later)
-no_turn p g after next is last most machines nodes t later sooner (inr (inl e)) = let le = last (omega (arith, e, later)) in omega (arith, le, e, sooner)
-no_turn p g after next is last most machines nodes t later sooner (inr (inr x)) = at x.element x.choice x.is_end x.starts (sized_is_of p g is x.element)
+pub no_change_instant : (p : Instance) (g : RegionView) (after next : ℕ) → IsSized p g → (after < p.horizon → next ≤ p.horizon) → next ≤ p.horizon + 1 → ((v : ℕ) → v < machine_count p → StartsPast (sets g (vm v)) after next) → ((n : ℕ) → n < node_count p → StartsPast (sets g (node n)) after next) → (t : ℕ) → after < t → t < next → ¬ IsTurn p (sets g) t
+no_change_instant p g after next is last most machines nodes t later sooner (inl first) = omega (arith, first, later)
+no_change_instant p g after next is last most machines nodes t later sooner (inr (inl e)) = let le = last (omega (arith, e, later)) in omega (arith, le, e, sooner)
+no_change_instant p g after next is last most machines nodes t later sooner (inr (inr x)) = at x.element x.choice x.is_end x.starts (sized_is_of p g is x.element)
   where
     at : (e : Element) (c : Choice) → IsEnd (sets g e) c → start_of c ≡ Some t → IsElement p e ⊎ (sets g e ≡ Idle ∷ []) → ⊥
     at (Vm v) c end starts (inl there) = let le = (machines v.0 there).past c t end starts later in omega (arith, le, sooner)
@@ -119,10 +119,10 @@ no_turn p g after next is last most machines nodes t later sooner (inr (inr x)) 
     at e c end starts (inr idle) = staying-never c t (rw idle at (end_is_choice (sets g e) c end)) starts
 
 -- of the machines of a list alone
-pub no_turn_of : (p : Instance) (g : RegionView) (vs : List VmId) (after next : ℕ) → (after < p.horizon → next ≤ p.horizon) → next ≤ p.horizon + 1 → ((v : ℕ) → IsMember vs v → StartsPast (sets g (vm v)) after next) → (t : ℕ) → after < t → t < next → ¬ IsTurn p (only_of vs (sets g)) t
-no_turn_of p g vs after next last most machines t later sooner (inl first) = omega (arith, first, later)
-no_turn_of p g vs after next last most machines t later sooner (inr (inl e)) = let le = last (omega (arith, e, later)) in omega (arith, le, e, sooner)
-no_turn_of p g vs after next last most machines t later sooner (inr (inr x)) = at x.element x.choice x.is_end x.starts (is_among vs x.element) refl
+pub no_change_instant_of : (p : Instance) (g : RegionView) (vs : List VmId) (after next : ℕ) → (after < p.horizon → next ≤ p.horizon) → next ≤ p.horizon + 1 → ((v : ℕ) → IsMember vs v → StartsPast (sets g (vm v)) after next) → (t : ℕ) → after < t → t < next → ¬ IsTurn p (only_of vs (sets g)) t
+no_change_instant_of p g vs after next last most machines t later sooner (inl first) = omega (arith, first, later)
+no_change_instant_of p g vs after next last most machines t later sooner (inr (inl e)) = let le = last (omega (arith, e, later)) in omega (arith, le, e, sooner)
+no_change_instant_of p g vs after next last most machines t later sooner (inr (inr x)) = at x.element x.choice x.is_end x.starts (is_among vs x.element) refl
   where
     at : (e : Element) (c : Choice) → IsEnd (only_of vs (sets g) e) c → start_of c ≡ Some t → (b : Bool) → is_among vs e ≡ b → ⊥
     at (Vm v) c end starts true seen = let le = (machines v.0 seen).past c t (rw seen at end) starts later in omega (arith, le, sooner)

@@ -1,5 +1,5 @@
--- What each watch looks at, and that turns decide whether it is clean.
-use Rattle.closing.proofs.Prelude.{◌≡◌, ◌≢◌, inl, inr, ℕ, Bool, false, ◌==◌, cond, Option, Some, None, refl, arith, cases_eq, false≢true, ne_eqb, slice_get, sum_to-le, cond-implied, cond-le, fails_below, positive_above, Allowed, Amount, Apart, Between, Bounded, broken_at, capacity_of, Clean, Constraint, constraint_watch, ConstraintIsLocal, Cut, Each, Fail, Form, form_of, form_scope, FromOthers, has_node, HasSeparated, Image, Instance, InTurn, is_continuous, IsFormBroken, IsFound, IsLocal, IsLook, IsOverload, IsPartOf, IsPartWithin, load_scope, LoadIsLocal, Look, machine_count, node_count, one, Ordered, Powered, rule_watch, Scope, Separates, Separation, separation_scope, Sets, setting, Settled, Snapshot, Started, sure, Together, TurnsAreEnough, Unended, UsableIsLocal, watch_of, or_implied, acting_grows, quiet_at_turns_for, scattered_grows, turns_decide_for}
+-- What each watch looks at, and that change instants decide whether it is clean.
+use Rattle.closing.proofs.Prelude.{◌≡◌, ◌≢◌, inl, inr, ℕ, Bool, false, ◌==◌, cond, Option, Some, None, refl, arith, cases_eq, false≢true, ne_eqb, slice_get, sum_to-le, cond-implied, cond-le, fails_below, positive_above, Allowed, Amount, Apart, Between, Bounded, broken_at, capacity_of, Clean, Constraint, constraint_watch, ConstraintIsLocal, Cut, Each, Fail, Form, form_of, form_scope, FromOthers, has_node, HasSeparated, Image, Instance, InTurn, is_continuous, IsFormBroken, IsFound, IsLocal, IsLook, IsOverload, IsPartOf, IsPartWithin, load_scope, LoadIsLocal, Look, machine_count, node_count, one, Ordered, Powered, rule_watch, Scope, Separates, Separation, separation_scope, Sets, setting, Settled, Snapshot, Started, sure, Together, ChangeInstantsAreEnough, Unended, UsableIsLocal, watch_of, or_implied, acting_grows, quiet_at_turns_for, scattered_grows, turns_decide_for}
 use Rattle.closing.proofs.FormLemmas.{broken_form, form_broken}
 
 -- ---- loads and usable nodes
@@ -72,10 +72,10 @@ within-all k s big part = record {
   action = λ v far i. part.action v far;
 }
 
-pub turns_are_enough : TurnsAreEnough
-turns_are_enough w p s local of clean t l = record {
-  base = turns_decide_for (λ b last. ¬ w.broken b last) keeps p s of (λ u m turn. (clean u m turn).base) t l;
-  ends = λ e c there end. quiet_at_turns_for (λ b last. ¬ w.broken b last) keeps p s of e c there end (λ u m turn. (clean u m turn).ends e c there end) t l;
+pub change_instants_are_enough : ChangeInstantsAreEnough
+change_instants_are_enough w p s local of clean t l = record {
+  base = turns_decide_for (λ b last. ¬ w.broken b last) keeps p s of (λ u m change. (clean u m change).base) t l;
+  ends = λ e c there end. quiet_at_turns_for (λ b last. ¬ w.broken b last) keeps p s of e c there end (λ u m change. (clean u m change).ends e c there end) t l;
 }
   where
     keeps : (s big : Snapshot) (last : Bool) → IsPartOf s big → ¬ w.broken big last → ¬ w.broken s last

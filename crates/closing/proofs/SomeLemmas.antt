@@ -1,6 +1,6 @@
 -- A watch that looks at some machines alone.
-use Rattle.closing.proofs.Prelude.{IsTrue, ◌≡◌, ◌⊎◌, inl, inr, ℕ, ◌≤◌, ◌==◌, Bool, true, false, cond, List, [], ◌∷◌, refl, sym, ap, ◌∙◌, arith, false≢true, action_at, actions_of, AreOf, broken_at, Choice, Element, held_at, Instance, is_among, IsClean, IsElement, IsEnd, IsFreeOf, IsLocal, IsMember, IsPartWithin, IsTurn, IsUnseen, least, may, node, Node as TheNode, Nodes, Of, OfAll, only_of, powered_at, presences_of, present_at, Progress, same_element, Scope, SeesOnly, Sets, setting, Suffice, sure, surely, turning, Turns, TurnsOfSomeAreEnough, usable_at, Vm, vm, VmId, Watch, Weight, Idle, same_is}
-use Rattle.closing.proofs.LocalLemmas.{turns_are_enough}
+use Rattle.closing.proofs.Prelude.{IsTrue, ◌≡◌, ◌⊎◌, inl, inr, ℕ, ◌≤◌, ◌==◌, Bool, true, false, cond, List, [], ◌∷◌, refl, sym, ap, ◌∙◌, arith, false≢true, action_at, actions_of, AreOf, broken_at, Choice, Element, held_at, Instance, is_among, IsClean, IsElement, IsEnd, IsFreeOf, IsLocal, IsMember, IsPartWithin, IsTurn, IsUnseen, least, may, node, Node as TheNode, Nodes, Of, OfAll, only_of, powered_at, presences_of, present_at, Progress, same_element, Scope, SeesOnly, Sets, setting, Suffice, sure, surely, changing, ChangeInstants, ChangeInstantsOfSomeAreEnough, usable_at, Vm, vm, VmId, Watch, Weight, Idle, same_is}
+use Rattle.closing.proofs.LocalLemmas.{change_instants_are_enough}
 
 -- ---- scopes of members
 
@@ -97,12 +97,12 @@ only-of p vs s of e = by (of e)
     by (inl there) = inl there
     by (inr idle) = inr (same (is_among vs e) idle)
 
-pub turns_of_some_are_enough : TurnsOfSomeAreEnough
-turns_of_some_are_enough w p s vs local sees of clean t l =
+pub change_instants_of_some_are_enough : ChangeInstantsOfSomeAreEnough
+change_instants_of_some_are_enough w p s vs local sees of clean t l =
     free-alike w p vs t local sees (only_of vs s) s (agree-back vs (only_of vs s) s (only-agrees vs s))
-    (turns_are_enough w p (only_of vs s) local (only-of p vs s of) (λ u m turn. free-alike w p vs u local sees s (only_of vs s) (only-agrees vs s) (clean u m turn)) t l)
+    (change_instants_are_enough w p (only_of vs s) local (only-of p vs s of) (λ u m change. free-alike w p vs u local sees s (only_of vs s) (only-agrees vs s) (clean u m change)) t l)
 
--- the turns at which a look looks
-pub turns_suffice : (turns : Turns) (w : Watch) (p : Instance) (s : Sets) → IsLocal w → Suffice turns w.scope → AreOf p s → ((t : ℕ) → t ≤ p.horizon → IsTurn p (turning turns s) t → IsFreeOf (broken_at w p t) p s t) → IsClean w p s
-turns_suffice OfAll w p s local sees of clean = turns_are_enough w p s local of clean
-turns_suffice (Of vs) w p s local sees of clean = turns_of_some_are_enough w p s vs.now local sees of clean
+-- the change instants at which a look looks
+pub change_instants_suffice : (change_instants : ChangeInstants) (w : Watch) (p : Instance) (s : Sets) → IsLocal w → Suffice change_instants w.scope → AreOf p s → ((t : ℕ) → t ≤ p.horizon → IsTurn p (changing change_instants s) t → IsFreeOf (broken_at w p t) p s t) → IsClean w p s
+change_instants_suffice OfAll w p s local sees of clean = change_instants_are_enough w p s local of clean
+change_instants_suffice (Of vs) w p s local sees of clean = change_instants_of_some_are_enough w p s vs.now local sees of clean

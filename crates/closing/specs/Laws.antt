@@ -14,15 +14,15 @@ UsableIsLocal = (p : Instance) (n : ℕ) → IsLocal (usable_watch p n)
 abbrev pub ConstraintIsLocal : Type 0
 ConstraintIsLocal = (p : Instance) (c : ℕ) → IsLocal (constraint_watch p c)
 
--- what is clean at each turn is clean
-abbrev pub TurnsAreEnough : Type 1
-TurnsAreEnough =
+-- what is clean at each change instant is clean
+abbrev pub ChangeInstantsAreEnough : Type 1
+ChangeInstantsAreEnough =
     (w : Watch) (p : Instance) (s : Sets) → IsLocal w → AreOf p s → ((t : ℕ) → t ≤ p.horizon → IsTurn p s t → IsFreeOf (broken_at w p t) p s t) →
     IsClean w p s
 
--- where it looks at the machines of a list alone, their turns are enough
-abbrev pub TurnsOfSomeAreEnough : Type 1
-TurnsOfSomeAreEnough =
+-- where it looks at the machines of a list alone, their change instants are enough
+abbrev pub ChangeInstantsOfSomeAreEnough : Type 1
+ChangeInstantsOfSomeAreEnough =
     (w : Watch) (p : Instance) (s : Sets) (vs : List VmId) → IsLocal w → SeesOnly vs w.scope → AreOf p s →
     ((t : ℕ) → t ≤ p.horizon → IsTurn p (only_of vs s) t → IsFreeOf (broken_at w p t) p s t) → IsClean w p s
 

@@ -8,5 +8,5 @@ pub mod Forms
 pub mod Most
 pub mod Parts
 pub mod Stands
-pub mod Turns
+pub mod ChangeInstants
 pub mod Prelude

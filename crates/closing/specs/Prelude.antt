@@ -6,5 +6,5 @@ pub use Rattle.catalogue.specs.declared.constraint.Constraint.{Constraint}
 pub use Rattle.domains.specs.declared.parts.{Part.TheVariants.From, Row.Row}
 pub use Rattle.slices.specs.declared.{slice.Slices.Slices, slice.Span.Span, slice.Span.TheVariants.Always, slice.Span.TheVariants.BeforeEnd, slice.Span.TheVariants.FromStart, slice.Weight.Weight, slice.Weight.TheVariants.Amount, slice.Weight.TheVariants.Image, slice.Weight.TheVariants.Presence, slice.What.What, slice.What.TheVariants.Demand, slice.What.TheVariants.Raise, slice.What.TheVariants.Use, stage.Progress.Progress, stage.Progress.TheVariants.Started, stage.Progress.TheVariants.Unended, stage.Stage.Stage}
 pub use Rattle.reasons.specs.declared.reason.ReasonKind.{ReasonKind, TheVariants.Bound, TheVariants.Empty, TheVariants.Group, TheVariants.Hall, TheVariants.Load, TheVariants.Pair, TheVariants.Place, TheVariants.Power, TheVariants.SetLoad, TheVariants.Usable}
-pub use Rattle.closing.specs.{Forms.HasMisplaced, Forms.HasSeparated, Forms.IsFormBroken, Kinds.actions_of, Kinds.constraint_watch, Kinds.form_scope, Kinds.HasPair, Kinds.HasPlace, Kinds.IsBroken, Kinds.IsNeeded, Kinds.IsOverloaded, Kinds.load_scope, Kinds.load_watch, Kinds.presences_of, Kinds.rule_watch, Kinds.scope_of, Kinds.separation_scope, Kinds.total_load_watch, Kinds.usable_watch, Kinds.watch_of, Laws.AreClean, Laws.AreCleanAt, Laws.ClosedByWatches, Laws.ConstraintIsLocal, Laws.LoadIsLocal, Laws.TurnsAreEnough, Laws.TurnsOfSomeAreEnough, Laws.UsableIsLocal, Looks.broken_at, Looks.IsClean, Looks.IsFound, Looks.IsFreeOf, Looks.IsLook, Looks.IsMetWith, Most.AreWithin, Most.HasSteadyRoom, Most.if_so, Most.IsMostOf, Most.IsMostSure, Most.StaysUsable, Most.StaysWithin, Most.unit_of, Parts.AreRowsPast, Parts.FailAtEnds, Parts.FailAtRows, Parts.IsAbove, Parts.IsEndThat, Parts.IsNodeMissed, Parts.IsNodeSpared, Parts.IsNotBetween, Parts.IsNotUsable, Parts.IsPoweredUnder, Parts.IsRowEndThat, Parts.IsSpared, Parts.NoneAmong, Parts.PassOnlyAt, Parts.StandsUnder, Parts.StartsPast, Stands.AreApart, Stands.has_node_of, Stands.is_node, Stands.IsAnyOf, Stands.IsGroupWith, Stands.IsMisplaced, Stands.IsOn, Stands.IsPlacedBadly, Stands.IsWithin, Stands.MeetsOtherPart, Stands.MeetsStranger, Stands.ShareNode, Stands.StaysClear, Turns.AreListed, Turns.Suffice, Turns.turning, Watches.is_among, Watches.IsLocal, Watches.IsPartWithin, Watches.IsUnseen, Watches.only_of, Watches.Scope, Watches.SeesOnly, Watches.Watch}
-pub use Rattle.closing.specs.declared.{shared.stands.Stands.Stands, shared.stands.Stands.TheVariants.On, shared.turns.Turns.Turns, shared.turns.Turns.TheVariants.Of, shared.turns.Turns.TheVariants.OfAll, look.Look.Look, look.Look.TheVariants.Clean, look.Look.TheVariants.Cut, look.Look.TheVariants.Fail}
+pub use Rattle.closing.specs.{Forms.HasMisplaced, Forms.HasSeparated, Forms.IsFormBroken, Kinds.actions_of, Kinds.constraint_watch, Kinds.form_scope, Kinds.HasPair, Kinds.HasPlace, Kinds.IsBroken, Kinds.IsNeeded, Kinds.IsOverloaded, Kinds.load_scope, Kinds.load_watch, Kinds.presences_of, Kinds.rule_watch, Kinds.scope_of, Kinds.separation_scope, Kinds.total_load_watch, Kinds.usable_watch, Kinds.watch_of, Laws.AreClean, Laws.AreCleanAt, Laws.ClosedByWatches, Laws.ConstraintIsLocal, Laws.LoadIsLocal, Laws.ChangeInstantsAreEnough, Laws.ChangeInstantsOfSomeAreEnough, Laws.UsableIsLocal, Looks.broken_at, Looks.IsClean, Looks.IsFound, Looks.IsFreeOf, Looks.IsLook, Looks.IsMetWith, Most.AreWithin, Most.HasSteadyRoom, Most.if_so, Most.IsMostOf, Most.IsMostSure, Most.StaysUsable, Most.StaysWithin, Most.unit_of, Parts.AreRowsPast, Parts.FailAtEnds, Parts.FailAtRows, Parts.IsAbove, Parts.IsEndThat, Parts.IsNodeMissed, Parts.IsNodeSpared, Parts.IsNotBetween, Parts.IsNotUsable, Parts.IsPoweredUnder, Parts.IsRowEndThat, Parts.IsSpared, Parts.NoneAmong, Parts.PassOnlyAt, Parts.StandsUnder, Parts.StartsPast, Stands.AreApart, Stands.has_node_of, Stands.is_node, Stands.IsAnyOf, Stands.IsGroupWith, Stands.IsMisplaced, Stands.IsOn, Stands.IsPlacedBadly, Stands.IsWithin, Stands.MeetsOtherPart, Stands.MeetsStranger, Stands.ShareNode, Stands.StaysClear, ChangeInstants.AreListed, ChangeInstants.Suffice, ChangeInstants.changing, Watches.is_among, Watches.IsLocal, Watches.IsPartWithin, Watches.IsUnseen, Watches.only_of, Watches.Scope, Watches.SeesOnly, Watches.Watch}
+pub use Rattle.closing.specs.declared.{shared.stands.Stands.Stands, shared.stands.Stands.TheVariants.On, shared.change_instants.ChangeInstants.ChangeInstants, shared.change_instants.ChangeInstants.TheVariants.Of, shared.change_instants.ChangeInstants.TheVariants.OfAll, look.Look.Look, look.Look.TheVariants.Clean, look.Look.TheVariants.Cut, look.Look.TheVariants.Fail}

@@ -4,4 +4,4 @@ pub mod ends;
 pub mod hosts;
 pub mod most;
 pub mod stands;
-pub mod turns;
+pub mod change_instants;

@@ -1,15 +1,15 @@
 //! Single things that can be broken, looked at over a region: at one instant, and at all.
 ghost use Rattle.std.specs.Prelude.{◌≡◌, ℕ, ◌+◌, ◌<◌, ◌≤◌, length};
 ghost use Rattle.relax.specs.Prelude.{Instance, IsSized, node_count, sets};
-ghost use Rattle.closing.specs.{Kinds.constraint_watch, Kinds.load_watch, Kinds.total_load_watch, Kinds.usable_watch, Looks.IsFound, Looks.IsLook, Looks.broken_at, Turns.AreListed, Turns.Suffice, Watches.IsLocal, Watches.Watch};
+ghost use Rattle.closing.specs.{Kinds.constraint_watch, Kinds.load_watch, Kinds.total_load_watch, Kinds.usable_watch, Looks.IsFound, Looks.IsLook, Looks.broken_at, ChangeInstants.AreListed, ChangeInstants.Suffice, Watches.IsLocal, Watches.Watch};
 
-use crate::exact::constraint::{constraint_found, turns_of};
+use crate::exact::constraint::{constraint_found, change_instants_of};
 use crate::exact::loads::load_found;
 use crate::exact::usable::usable_found;
 use crate::look::Look;
 use crate::quick::ever::is_never_broken;
 use crate::quick::steady::{is_never_overloaded, stays_usable};
-use crate::shared::turns::{Turns, next_turn};
+use crate::shared::change_instants::{ChangeInstants, next_change_instant};
 use catalogue::Problem;
 use cluster::{Instant, NodeId};
 use domains::Region;
@@ -87,14 +87,14 @@ impl Watched for OneConstraint {
     }
 }
 
-// a look at one thing at all instants up to the horizon, by turns one after the other; what is found first is
+// a look at one thing at all instants up to the horizon, by change instants one after the other; what is found first is
 // answered
-fn look<W: Watched>(watched: &W, p: &Problem, g: &Region, turns: &Turns) -> Look
+fn look<W: Watched>(watched: &W, p: &Problem, g: &Region, change_instants: &ChangeInstants) -> Look
     requires region { IsSized p.now.given g.now }
     requires ready { W.ready watched.now p.now.given }
     requires local { IsLocal (W.watch watched.now p.now.given) }
-    requires machines { AreListed p.now.given turns.now }
-    requires suffice { Suffice turns.now (W.watch watched.now p.now.given).scope }
+    requires machines { AreListed p.now.given change_instants.now }
+    requires suffice { Suffice change_instants.now (W.watch watched.now p.now.given).scope }
     ensures { IsLook (W.watch watched.now p.now.given) p.now.given (sets g.now) result }
 {
     let mut at = 0u64;
@@ -104,7 +104,7 @@ fn look<W: Watched>(watched: &W, p: &Problem, g: &Region, turns: &Turns) -> Look
             Look::Fail(t) => return Look::Fail(t),
             Look::Cut(e, c, t) => return Look::Cut(e, c, t),
         }
-        at = next_turn(p, g, turns, at as u32);
+        at = next_change_instant(p, g, change_instants, at as u32);
     }
     Look::Clean
 }
@@ -118,7 +118,7 @@ pub fn look_at_load(p: &Problem, g: &Region, n: NodeId) -> Look
     if is_never_overloaded(p, g, &Area::One(n)) {
         return Look::Clean;
     }
-    look(&NodeLoad(n), p, g, &Turns::OfAll)
+    look(&NodeLoad(n), p, g, &ChangeInstants::OfAll)
 }
 
 /// A look at the load of all nodes together.
@@ -129,7 +129,7 @@ pub fn look_at_total_load(p: &Problem, g: &Region) -> Look
     if is_never_overloaded(p, g, &Area::All) {
         return Look::Clean;
     }
-    look(&TotalLoad, p, g, &Turns::OfAll)
+    look(&TotalLoad, p, g, &ChangeInstants::OfAll)
 }
 
 /// A look at whether a node on which machines are, or have their images, is usable. The horizon is looked at
@@ -143,13 +143,13 @@ pub fn look_at_usable(p: &Problem, g: &Region, n: NodeId) -> Look
         return Look::Clean;
     }
     match usable_found(p, g, n, p.horizon()) {
-        Look::Clean => look(&NodeUsable(n), p, g, &Turns::OfAll),
+        Look::Clean => look(&NodeUsable(n), p, g, &ChangeInstants::OfAll),
         Look::Fail(t) => Look::Fail(t),
         Look::Cut(e, c, t) => Look::Cut(e, c, t),
     }
 }
 
-// a look at a constraint at all turns that suffice
+// a look at a constraint at all change instants that suffice
 fn look_always(p: &Problem, g: &Region, c: u32) -> Look
     requires region { IsSized p.now.given g.now }
     requires constraint { c < length p.now.given.constraints }
@@ -159,7 +159,7 @@ fn look_always(p: &Problem, g: &Region, c: u32) -> Look
     if is_never_broken(p, g, constraint) {
         return Look::Clean;
     }
-    look(&OneConstraint(c), p, g, &turns_of(p, constraint))
+    look(&OneConstraint(c), p, g, &change_instants_of(p, constraint))
 }
 
 /// A look at the constraint of a number. One that is to hold at the horizon alone is looked at there alone.

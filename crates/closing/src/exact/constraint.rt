@@ -7,7 +7,7 @@ use crate::exact::groups::group_found;
 use crate::exact::pairs::{lonely_found, split_found, spread_found};
 use crate::exact::places::placed_found;
 use crate::look::Look;
-use crate::shared::turns::Turns;
+use crate::shared::change_instants::ChangeInstants;
 use catalogue::{Constraint, Problem};
 use cluster::Instant;
 use domains::Region;
@@ -57,10 +57,10 @@ pub fn constraint_found(p: &Problem, g: &Region, c: u32, t: Instant) -> Look
     rule_found(p, g, &p.constraints()[c as usize], t)
 }
 
-/// At whose turns a constraint is looked at: those of its members, where it looks at nothing but where they
+/// At whose change instants a constraint is looked at: those of its members, where it looks at nothing but where they
 /// are, or how far their actions are.
 #[tactic(auto, using(crate::proofs::SomeLemmas::presences_see, crate::proofs::SomeLemmas::actions_see))]
-pub fn turns_of<'a>(p: &Problem, constraint: &'a Constraint) -> Turns<'a>
+pub fn change_instants_of<'a>(p: &Problem, constraint: &'a Constraint) -> ChangeInstants<'a>
     requires { is_rule (inventory_of p.now.given) constraint.now ≡ true }
     ensures machines { AreListed p.now.given result }
     ensures sees { Suffice result (scope_of constraint.now) }
@@ -69,11 +69,11 @@ pub fn turns_of<'a>(p: &Problem, constraint: &'a Constraint) -> Turns<'a>
         Form::Apart(Separation::Each(machines))
         | Form::Allowed(machines, _)
         | Form::Together(machines, _)
-        | Form::InTurn(machines) => Turns::Of(machines.items()),
+        | Form::InTurn(machines) => ChangeInstants::Of(machines.items()),
         Form::Apart(Separation::Between(_) | Separation::FromOthers(_))
         | Form::Ordered(..)
         | Form::Bounded(..)
         | Form::Powered(..)
-        | Form::Settled => Turns::OfAll,
+        | Form::Settled => ChangeInstants::OfAll,
     }
 }

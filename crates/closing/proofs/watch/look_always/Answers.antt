@@ -8,7 +8,7 @@ look-requires-clause-local c = constraint_is_local c.args.p.now.given c.args.c
 pub look-requires-clause-suffice : goal.look-requires-clause-suffice
 look-requires-clause-suffice c =
     let read : slice_get c.constraints.result.now c.args.c ≡ Some c.index-constraints-c.result = slice_get_read c.constraints.result.now (length c.constraints.result.now) c.args.c c.index-constraints-c.result refl (rw c.constraints.ensures.constraints c.requires.constraint) c.index-constraints-c.is in
-    rw (rw c.constraints.ensures.constraints at read) c.turns_of.ensures.sees
+    rw (rw c.constraints.ensures.constraints at read) c.change_instants_of.ensures.sees
 
 pub returns-then-is_never_broken : goal.returns-then-is_never_broken
 returns-then-is_never_broken c =

@@ -1,7 +1,7 @@
 //! The instants at which what is sure in a region can grow.
 ghost use Rattle.std.specs.Prelude.{◌≡◌, ℕ, ◌+◌, ◌<◌, ◌≤◌, length, nat_lt, true};
 ghost use Rattle.std.specs.List.{list_all};
-ghost use Rattle.closing.specs.Prelude.{AreListed, AreRowsPast, HasElement, IsNotBetween, IsSized, IsTurn, machine_count, node, node_count, only_of, sets, StartsPast, turning, vm};
+ghost use Rattle.closing.specs.Prelude.{AreListed, AreRowsPast, HasElement, IsNotBetween, IsSized, IsTurn, machine_count, node, node_count, only_of, sets, StartsPast, changing, vm};
 
 use crate::shared::counts::{machines_of, nodes_of};
 use catalogue::Problem;
@@ -10,7 +10,7 @@ use domains::{Region, Row};
 
 /// At which starts a look looks: what starts elsewhere cannot break it.
 #[derive(Clone, Copy)]
-pub enum Turns<'a> {
+pub enum ChangeInstants<'a> {
     /// Those of all elements.
     OfAll,
     /// Those of these machines alone.
@@ -62,7 +62,7 @@ fn next_of_element(g: &Region, e: Element, after: Instant, best: u64) -> u64
 }
 
 // the horizon, or where an instant is that, the one after it
-fn last_turn(p: &Problem, after: Instant) -> u64
+fn last_instant(p: &Problem, after: Instant) -> u64
     requires within { after ≤ p.now.given.horizon }
     ensures later { after < result }
     ensures last { after < p.now.given.horizon → result ≤ p.now.given.horizon }
@@ -83,9 +83,9 @@ fn next_of_all(p: &Problem, g: &Region, after: Instant) -> u64
     requires within { after ≤ p.now.given.horizon }
     ensures later { after < result }
     ensures most { result ≤ p.now.given.horizon + 1 }
-    ensures turns { (t : ℕ) → after < t → t < result → ¬ IsTurn p.now.given (sets g.now) t }
+    ensures change_instants { (t : ℕ) → after < t → t < result → ¬ IsTurn p.now.given (sets g.now) t }
 {
-    let last = last_turn(p, after);
+    let last = last_instant(p, after);
     let mut next = last;
     for v in 0..machines_of(p) {
         next = next_of_element(g, Element::Vm(VmId(v as u32)), after, next);
@@ -103,9 +103,9 @@ fn next_of_some(p: &Problem, g: &Region, machines: &[VmId], after: Instant) -> u
     requires within { after ≤ p.now.given.horizon }
     ensures later { after < result }
     ensures most { result ≤ p.now.given.horizon + 1 }
-    ensures turns { (t : ℕ) → after < t → t < result → ¬ IsTurn p.now.given (only_of machines.now (sets g.now)) t }
+    ensures change_instants { (t : ℕ) → after < t → t < result → ¬ IsTurn p.now.given (only_of machines.now (sets g.now)) t }
 {
-    let last = last_turn(p, after);
+    let last = last_instant(p, after);
     let mut next = last;
     for i in 0..machines.len() {
         next = next_of_element(g, Element::Vm(machines[i]), after, next);
@@ -113,18 +113,18 @@ fn next_of_some(p: &Problem, g: &Region, machines: &[VmId], after: Instant) -> u
     next
 }
 
-/// The next turn after an instant: a start of an end of a choice of those whose starts are turns, or the horizon,
+/// The next change instant after an instant: a start of an end of a choice of those whose starts are change instants, or the horizon,
 /// or the instant after the horizon.
-pub fn next_turn(p: &Problem, g: &Region, turns: &Turns, after: Instant) -> u64
+pub fn next_change_instant(p: &Problem, g: &Region, change_instants: &ChangeInstants, after: Instant) -> u64
     requires region { IsSized p.now.given g.now }
-    requires machines { AreListed p.now.given turns.now }
+    requires machines { AreListed p.now.given change_instants.now }
     requires within { after ≤ p.now.given.horizon }
     ensures later { after < result }
     ensures most { result ≤ p.now.given.horizon + 1 }
-    ensures turns { (t : ℕ) → after < t → t < result → ¬ IsTurn p.now.given (turning turns.now (sets g.now)) t }
+    ensures change_instants { (t : ℕ) → after < t → t < result → ¬ IsTurn p.now.given (changing change_instants.now (sets g.now)) t }
 {
-    match turns {
-        Turns::OfAll => next_of_all(p, g, after),
-        Turns::Of(machines) => next_of_some(p, g, machines, after),
+    match change_instants {
+        ChangeInstants::OfAll => next_of_all(p, g, after),
+        ChangeInstants::Of(machines) => next_of_some(p, g, machines, after),
     }
 }

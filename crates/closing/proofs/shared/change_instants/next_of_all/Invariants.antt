@@ -1,5 +1,5 @@
 use Rattle.closing.proofs.Prelude.{ℕ, ◌<◌, ◌≤◌, machine_count, node, sets, StartsPast, vm}
-use Rattle.closing.proofs.shared.turns.next_of_all.Given as goal
+use Rattle.closing.proofs.shared.change_instants.next_of_all.Given as goal
 
 abbrev pub invariant-loop-v : goal.invariant-loop-v
 invariant-loop-v l = record {

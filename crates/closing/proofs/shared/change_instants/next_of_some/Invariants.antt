@@ -1,5 +1,5 @@
 use Rattle.closing.proofs.Prelude.{ℕ, ◌<◌, ◌≤◌, get_or, sets, StartsPast, vm, VmId}
-use Rattle.closing.proofs.shared.turns.next_of_some.Given as goal
+use Rattle.closing.proofs.shared.change_instants.next_of_some.Given as goal
 
 abbrev pub invariant-loop-i : goal.invariant-loop-i
 invariant-loop-i l = record {
