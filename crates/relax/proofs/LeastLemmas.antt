@@ -1,5 +1,5 @@
 -- Surely so, where a number is above 0; how great a least value is; none at all.
-use Rattle.relax.proofs.Prelude.{IsTrue, ◌≡◌, ◌≢◌, ℕ, ◌≤◌, ◌&&◌, nat_lt, Bool, true, false, Option, Some, None, List, [], ◌∷◌, refl, arith, Contains, nat_tests, Act, Amount, Choice, Element, end_of, held_at, Image, Instance, is_above_none, is_legal, IsInstance, least, lower, lowest, max_held, Nodes, Presence, surely, Weight, Idle, held_is_small, legal_acts_last}
+use Rattle.relax.proofs.Prelude.{IsTrue, ◌≡◌, ◌≢◌, ℕ, ◌≤◌, ◌&&◌, nat_lt, Bool, true, false, Option, Some, None, List, [], ◌∷◌, refl, arith, Contains, nat_tests, Act, Amount, Choice, Element, end_of, held_at, Image, Instance, is_above_none, is_legal, IsInstance, least, lower, lowest, max_held, Nodes, Presence, surely, Weight, Idle, held_is_small, legal_acts_last, lower-le}
 
 and_true : (b : Bool) → (b && true) ≡ b
 and_true true = refl
@@ -13,14 +13,10 @@ surely_positive f (c ∷ cs) = rw (surely_positive f cs) (step (f c) (lowest f c
     step n None = and_true (nat_lt 0 n)
     step n (Some m) = grind (arith, nat_tests)
 
-lower_le : (a : ℕ) (o : Option ℕ) → lower a o ≤ a
-lower_le a None = omega arith
-lower_le a (Some b) = omega arith
-
 -- a bound of each value is one of the least
 pub least_below : (f : Choice → ℕ) (m : ℕ) (cs : List Choice) → ((c : Choice) → f c ≤ m) → least f cs ≤ m
 least_below f m [] h = omega arith
-least_below f m (c ∷ cs) h = omega (arith, h c, lower_le (f c) (lowest f cs))
+least_below f m (c ∷ cs) h = omega (arith, h c, lower-le (f c) (lowest f cs))
 
 held_small : (p : Instance) → IsInstance p → (v : ℕ) (w : Weight) (set : Nodes) (t : ℕ) (c : Choice) → held_at p v w set t c ≤ max_held
 held_small p sound v (Amount r) set t c = (held_is_small p sound v set t c).amounts r
@@ -42,15 +38,15 @@ some_is_not f (c ∷ cs) n h = λ e. cc
 -- ---- ends
 
 -- a legal choice ends by the horizon
-end-small : (p : Instance) → IsInstance p → (e : Element) (c : Choice) → IsTrue (is_legal p e c) → end_of p e c ≤ p.horizon
+pub end_small : (p : Instance) → IsInstance p → (e : Element) (c : Choice) → IsTrue (is_legal p e c) → end_of p e c ≤ p.horizon
 unfolding end_of
-end-small p sound e Idle legal = omega arith
-end-small p sound e (Act place s) legal = (legal_acts_last p sound e place s legal).1
+end_small p sound e Idle legal = omega arith
+end_small p sound e (Act place s) legal = (legal_acts_last p sound e place s legal).1
 
 -- and so does the one that ends first
 pub least_end_small : (p : Instance) → IsInstance p → (e : Element) (cs : List Choice) (n : ℕ) → ((c : Choice) → Contains cs c → IsTrue (is_legal p e c)) → lowest (end_of p e) cs ≡ Some n → n ≤ p.horizon
 least_end_small p sound e [] n legal h = cc
 least_end_small p sound e (c ∷ cs) n legal h =
-    let first = end-small p sound e c (legal c (0, omega arith, refl)) in
+    let first = end_small p sound e c (legal c (0, omega arith, refl)) in
     let is : lower (end_of p e c) (lowest (end_of p e) cs) ≡ n = cc in
-    omega (arith, lower_le (end_of p e c) (lowest (end_of p e) cs))
+    omega (arith, lower-le (end_of p e c) (lowest (end_of p e) cs))

@@ -1,24 +1,7 @@
 -- The machines of a list, by their places in it; of those that act, one at a time.
-use Rattle.relax.proofs.Prelude.{IfSome, IsTrue, slice_index_or, map, ◌≡◌, inl, inr, ℕ, zero, suc, ◌+◌, ◌<◌, ◌≤◌, false, not, ◌==◌, List, [], ◌∷◌, length, get_or, Option, Some, None, refl, sym, ap, subst, ◌∙◌, arith, All, range_with_len, both_ways, or_cases, eqb-true, eq-eqb, cases_eq, cases_lt, get_or-map, get_or_default, get_or_past, length-map, get_or-map-range_with_len, length-map-range_with_len, list_any_at, Acting, AreAllOut, AreBothActing, AreScattered, has_node, HasOutside, is_member, IsInPart, IsMember, Nodes, NodeSet, one, Snapshot, VmId}
+use Rattle.relax.proofs.Prelude.{IfSome, IsTrue, map, ◌≡◌, inl, inr, ℕ, zero, suc, ◌+◌, ◌<◌, ◌≤◌, false, not, ◌==◌, List, [], ◌∷◌, length, get_or, Option, Some, None, refl, sym, ap, ◌∙◌, arith, All, range_with_len, both_ways, eq-eqb, cases_eq, get_or-map, get_or_default, length-map, get_or-map-range_with_len, length-map-range_with_len, list_any_at, Acting, AreAllOut, AreBothActing, AreScattered, has_node, HasOutside, IsMember, Nodes, NodeSet, one, Snapshot, VmId, member_at}
 
--- a part with a member is listed
-pub part_listed : (parts : List (List VmId)) (i v : ℕ) → IsInPart parts i v → i < length parts
-part_listed parts i v h =
-    elim (cases_lt i (length parts)) [
-      | inl low ↦ low
-      | inr past ↦ absurd (both_ways (is_member (slice_index_or parts i []) v) (rw (get_or_past parts i [] past) refl) h)
-    ]
-
--- a machine of a list has a place there
-pub member_at : (vs : List VmId) (v : ℕ) → IsMember vs v → (k : ℕ) × (k < length vs) × ((d : VmId) → (get_or vs k d).0 ≡ v)
-member_at [] v h = absurd (both_ways false refl h)
-member_at (x ∷ vs) v h =
-    elim (or_cases (x.0 == v) (is_member vs v) h) [
-      | inl here ↦ (0, omega arith, λ d. eqb-true _ _ here)
-      | inr later ↦ let w = member_at vs v later in (suc w.0, omega (arith, w.1), w.2)
-    ]
-
--- and a place has a machine of the list
+-- a place has a machine of the list
 pub at_member : (vs : List VmId) (k : ℕ) (d : VmId) → k < length vs → IsMember vs (get_or vs k d).0
 at_member vs k d l = list_any_at (λ x. x.0 == (get_or vs k d).0) vs k d l (eq-eqb (get_or vs k d).0 (get_or vs k d).0 refl)
 
@@ -46,15 +29,6 @@ none_meet s vs count acting l alone both =
     let second : acting ≡ Some (get_or vs b.0 d) = alone.others b.0 d (omega (arith, b.1)) (rw (b.2 d) both.second) in
     let same : get_or vs a.0 d ≡ get_or vs b.0 d = cc in
     both.differ (sym (a.2 d) ∙ ap (λ (x : VmId). x.0) same ∙ b.2 d)
-
--- ---- those that are somewhere
-
--- none of them by its place is none of them
-pub none_in : (s : Snapshot) (vs : List VmId) (set : Nodes) (count : ℕ) → length vs ≤ count → ((k : ℕ) (d : VmId) → k < count → s.present (get_or vs k d).0 set ≡ false) → AreAllOut s vs set
-none_in s vs set count l h v m =
-    let w = member_at vs v m in
-    let d : VmId = record { 0 = 0 } in
-    subst (λ k. s.present k set ≡ false) (w.2 d) (h w.0 d (omega (arith, w.1)))
 
 -- ---- groups
 

@@ -62,16 +62,16 @@ idle-stays : (p : Instance) (v : ℕ) (w : Weight) (h : NodeId) (set : Nodes) (t
 unfolding held_at held_by slices_of
 idle-stays p v w h set t runs there = rw (runs, there) (omega arith)
 
-goes-same : (place : Place) (u s : ℕ) (set : Nodes) → goes_in (Act place u) set ≡ goes_in (Act place s) set
-goes-same Nowhere u s set = refl
-goes-same (At n) u s set = refl
+pub goes_same : (place : Place) (u s : ℕ) (set : Nodes) → goes_in (Act place u) set ≡ goes_in (Act place s) set
+goes_same Nowhere u s set = refl
+goes_same (At n) u s set = refl
 
 -- a later start at the place is out no earlier
 still-in : (place : Place) (u s d t : ℕ) (set : Nodes) → u ≤ s → ¬ ((goes_in (Act place u) set ≡ false) × (u + d ≤ t)) → (goes_in (Act place s) set ≡ true) ⊎ (t < s + d)
 still-in place u s d t set later h = by (goes_in (Act place u) set) refl
   where
     by : (b : Bool) → goes_in (Act place u) set ≡ b → (goes_in (Act place s) set ≡ true) ⊎ (t < s + d)
-    by true e = inl (goes-same place s u set ∙ e)
+    by true e = inl (goes_same place s u set ∙ e)
     by false e = elim (cases_lt t (u + d)) [ inl early ↦ inr (omega (arith, early, later)) | inr past ↦ absurd (h (e, past)) ]
 
 -- no choice of the domain holds less than the machine uses

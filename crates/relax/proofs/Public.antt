@@ -3,7 +3,7 @@ use Rattle.std.proofs.Common.{IsTrue}
 use Rattle.base.proofs.Public.{Bool, true, false, cond, Contains, filter}
 use Rattle.relax.specs.Prelude.{is_legal, LegalStays, same_element}
 use Rattle.domains.proofs.Public.{filter_is_fewer}
-pub use Rattle.relax.proofs.AwayLemmas.{away, away_least, idle_in, start_in}
+pub use Rattle.relax.proofs.{AwayLemmas.away, AwayLemmas.away_least, AwayLemmas.idle_in, AwayLemmas.start_in, FloorLemmas.least_from, LeastLemmas.end_small, LeastLemmas.none_is_empty, MoveLemmas.goes_same, OneNodeLemmas.room_of_one}
 
 pub legal_stays : LegalStays
 legal_stays p s x test legal e there c h = at (same_element e x) h

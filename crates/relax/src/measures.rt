@@ -1,17 +1,16 @@
 //! What can be asked of one choice, as measures: over the starts at one place each is least at the first or the last.
 ghost use Rattle.std.specs.Prelude.{◌≡◌, ◌≤◌, ◌+◌, ◌^◌, ℕ, max, false};
-ghost use Rattle.reasons.specs.Prelude.{action_count, amount_in, count_in, end_of, held_at, image_in, IsElement, max_action, max_amount, node, powered_count, state_of, unusable_count, vm};
-ghost use Rattle.slices.specs.declared.slice.Weight.{Weight as AnyWeight, TheVariants.Amount as AmountOf};
-ghost use Rattle.relax.specs.Areas.{IsWeight, goes_in as the_goes_in, hosted_in, nodes_of};
+ghost use Rattle.reasons.specs.Prelude.{action_count, amount_in, count_in, end_of, held_at, image_in, IsElement, max_action, max_amount, node, powered_count, unusable_count, vm};
+ghost use Rattle.{slices.specs.declared.slice.Weight.Weight as AnyWeight, slices.specs.declared.slice.Weight.TheVariants.Amount as AmountOf, relax.specs.Areas.IsWeight, relax.specs.Areas.goes_in as the_goes_in, relax.specs.Areas.nodes_of};
 
 use crate::area::{Area, has};
+use crate::hosts::is_hosted;
 use catalogue::Problem;
-use cluster::{Choice, Element, Instant, NodeId, Place, State, VmId};
+use cluster::{Choice, Element, Instant, NodeId, Place, VmId};
 use domains::measure::Measure;
 use slices::Weight;
 use slices::actions::{duration, kind_of};
 use slices::choice::{action, holding, powered, usable};
-use slices::elements::state_of;
 use slices::holding::{Held, amount};
 use slices::stage::Progress;
 
@@ -50,16 +49,6 @@ fn image_on(p: &Problem, area: &Area, image: Option<NodeId>) -> u64
     }
 }
 
-/// Whether a machine in a state has its host in an area.
-pub(crate) fn is_hosted_in(p: &Problem, state: State, area: &Area) -> bool
-    ensures { result ≡ hosted_in state (nodes_of p.now.given area.now) }
-{
-    match state.host() {
-        Some(host) => has(p, area, host),
-        None => false,
-    }
-}
-
 /// Whether a choice acts at a node of an area.
 pub(crate) fn goes_in(p: &Problem, c: Choice, area: &Area) -> bool
     ensures { result ≡ the_goes_in c (nodes_of p.now.given area.now) }
@@ -79,7 +68,7 @@ fn is_near(p: &Problem, v: VmId, area: &Area, c: Choice) -> bool
     requires { IsElement p.now.given (Element.Vm v) }
     ensures { result ≡ false → (w : AnyWeight) (t : ℕ) → held_at p.now.given v.0 w (nodes_of p.now.given area.now) t c ≡ 0 }
 {
-    is_hosted_in(p, state_of(p, v), area) || goes_in(p, c, area)
+    is_hosted(p, v, area) || goes_in(p, c, area)
 }
 
 /// What a machine holds on the nodes of an area at an instant of a choice.

@@ -1,27 +1,17 @@
 //! The load and the room of one node. Of most machines it is told at once that they surely have nothing there.
 ghost use Rattle.std.specs.Prelude.{◌≡◌, ◌≢◌, ℕ, ◌<◌, ◌≤◌, false, length, IfSome, IsTrue};
 ghost use Rattle.std.specs.List.{Contains};
-ghost use Rattle.relax.specs.Prelude.{Choice as AnyChoice, choices, Climbs, goes_in, has_node, held_at, hosted_in, IsElement, IsSized, least, load as load_of, machine_count, node_count, one, RegionView, room as room_of, seen, sets, sure, vm, Weight as AnyWeight};
+ghost use Rattle.relax.specs.Prelude.{Choice as AnyChoice, choices, Climbs, goes_in, has_node, held_at, IsElement, IsSized, least, load as load_of, machine_count, node_count, one, RegionView, room as room_of, seen, sets, sure, vm, Weight as AnyWeight};
 
 use crate::area::{Area, is_node};
+use crate::hosts::is_host;
 use crate::sure::{least_held, may_be_usable};
 use catalogue::Problem;
-use cluster::{Element, Instant, NodeId, Place, State, VmId};
+use cluster::{Element, Instant, NodeId, Place, VmId};
 use domains::{Domain, Lens, View};
 use slices::Weight;
-use slices::elements::state_of;
 
 // ---- one machine
-
-// whether a machine in a state has its host at a node
-fn is_hosted(state: State, n: NodeId) -> bool
-    ensures { result ≡ hosted_in state (one n.0) }
-{
-    match state.host() {
-        Some(host) => host.0 == n.0,
-        None => false,
-    }
-}
 
 // whether a place is a node
 fn is_at(place: Place, n: NodeId) -> bool
@@ -54,14 +44,14 @@ fn is_elsewhere(p: &Problem, view: &View, v: VmId, n: NodeId) -> bool
     requires machine { IsElement p.now.given (Element.Vm v) }
     ensures { IsTrue result → (w : AnyWeight) (t : ℕ) → least (held_at p.now.given v.0 w (one n.0) t) (sets view.now.region.now (vm v.0)) ≡ 0 }
 {
-    if is_hosted(state_of(p, v), n) {
+    if is_host(p, v, n) {
         return false;
     }
     may_stay_out(view.region.domain(Element::Vm(v)), n)
 }
 
-// the machine of which a lens may not show all choices
-fn narrowed(lens: Lens) -> Option<VmId>
+/// The machine of which a lens may not show all choices.
+pub fn narrowed(lens: Lens) -> Option<VmId>
     ensures { (g : RegionView) (v : ℕ) → IfSome result (λ x. v ≢ x.0) → seen g lens (vm v) ≡ sets g (vm v) }
 {
     match lens {

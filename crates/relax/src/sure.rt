@@ -5,9 +5,8 @@ ghost use Rattle.relax.specs.Prelude.{Choice as AnyChoice, choices, Climbs, end_
 
 use crate::area::Area;
 use crate::floors::floor;
-use crate::measures::{
-    EndOf, HeldFrom, HeldIn, IsPowered, IsSoFar, IsUnusable, goes_in, is_hosted_in,
-};
+use crate::hosts::is_hosted;
+use crate::measures::{EndOf, HeldFrom, HeldIn, IsPowered, IsSoFar, IsUnusable, goes_in};
 use crate::moves::may_have_left;
 use catalogue::Problem;
 use cluster::{Choice, Element, Instant, NodeId, VmId};
@@ -15,7 +14,6 @@ use domains::measure::Nought;
 use domains::view::{Sight, lowest_seen, shown};
 use domains::{Domain, Row, View};
 use slices::Weight;
-use slices::elements::state_of;
 use slices::stage::Progress;
 
 // whether a value, if there is one, is above 0
@@ -87,7 +85,7 @@ fn is_away(p: &Problem, view: &View, v: VmId, area: &Area) -> bool
     requires machine { IsElement p.now.given (Element.Vm v) }
     ensures { IsTrue result → (w : AnyWeight) (t : ℕ) → least (held_at p.now.given v.0 w (nodes_of p.now.given area.now) t) (seen view.now.region.now view.now.lens (vm v.0)) ≡ 0 }
 {
-    if is_hosted_in(p, state_of(p, v), area) {
+    if is_hosted(p, v, area) {
         return false;
     }
     may_stay_out(p, view, v, area)

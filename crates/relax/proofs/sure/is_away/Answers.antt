@@ -6,4 +6,4 @@ pub returns : goal.returns
 returns c =
     λ t w i.
     let one = c.may_stay_out.ensures t in
-    away_least c.args.p.now.given c.args.v.0 w (nodes_of c.args.p.now.given c.args.area.now) i (seen c.args.view.now.region.now c.args.view.now.lens (vm c.args.v.0)) one.0 (sym (rw c.state_of.ensures at c.is_hosted_in.ensures) ∙ c.if-is_hosted_in.false) one.1 one.2
+    away_least c.args.p.now.given c.args.v.0 w (nodes_of c.args.p.now.given c.args.area.now) i (seen c.args.view.now.region.now c.args.view.now.lens (vm c.args.v.0)) one.0 (sym c.is_hosted.ensures ∙ c.if-is_hosted.false) one.1 one.2
