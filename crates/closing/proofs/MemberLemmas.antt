@@ -1,13 +1,9 @@
 -- What no machine of a list meets, and sets of machines.
-use Rattle.closing.proofs.Prelude.{slice_index_or, ◌≡◌, inl, inr, ℕ, suc, ◌+◌, ◌<◌, ◌≤◌, Bool, true, false, ◌||◌, ◌==◌, List, [], ◌∷◌, length, take, get_or, refl, subst, ◌∙◌, arith, both_ways, cases_eq, cases_lt, eqb-true, or_cases, nat_tests, get_or_default, get_or_past, list_any_more, Instance, is_member, IsAnyOf, IsFreeOf, IsInPart, IsMember, IsMetWith, Sets, Snapshot, VmId}
+use Rattle.closing.proofs.Prelude.{slice_index_or, ◌≡◌, ℕ, ◌+◌, ◌<◌, Bool, true, false, ◌||◌, ◌==◌, List, [], length, take, get_or, ◌∙◌, arith, nat_tests, get_or_default, list_any_more, Instance, is_member, IsAnyOf, IsFreeOf, IsMember, IsMetWith, Sets, Snapshot, VmId}
 
 -- a part by its number
 pub is_part : (parts : List (List VmId)) (vs given : List VmId) (j : ℕ) → j < length parts → vs ≡ given → given ≡ get_or parts j given → vs ≡ slice_index_or parts j []
 is_part parts vs given j h same is = same ∙ is ∙ get_or_default parts j given [] h
-
--- what holds of the first so many holds of one more
-pub one_more : (P : ℕ → Type 0) (i : ℕ) → ((k : ℕ) → k < i → P k) → P i → (k : ℕ) → k < i + 1 → P k
-one_more P i before here k h = elim (cases_eq k i) [ inl same ↦ rw same here | inr other ↦ before k (omega (arith, h, other)) ]
 
 -- what no machine of a list meets, none of them meets
 pub any_free : (met : ℕ → Snapshot → Type 0) (p : Instance) (s : Sets) (t : ℕ) (vs : List VmId) → ((v : ℕ) → IsMember vs v → IsFreeOf (met v) p s t) → IsFreeOf (IsAnyOf vs met) p s t

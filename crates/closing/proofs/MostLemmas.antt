@@ -1,5 +1,5 @@
 -- The most that machines hold, and sums of it.
-use Rattle.closing.proofs.Prelude.{slice_index_or, ◌≡◌, inl, inr, ℕ, suc, ◌+◌, ◌<◌, ◌≤◌, ◌&&◌, Bool, true, false, cond, List, [], length, Option, Some, None, refl, sym, ◌∙◌, arith, Contains, cases_eq, false≢true, Act, acting_slices, Allocate, Always, Amount, AreWithin, At, BeforeEnd, Boot, Choice, choices, Climbs, covers, Demand, DomainView, FromStart, goes_in, Gone, held_at, held_by, hosted_in, idle_slices, if_so, Image, Init, Instance, IsEnd, IsMostOf, IsMostSure, IsSpared, Kill, Kind, kind_of, machine_count, Migrate, no_row, NodeId, Nodes, Nowhere, Presence, Raise, Ready, Resume, Row, row_at, Running, Sets, Shutdown, Sleeping, slice, Slices, slices_by, slices_of, Span, Stage, stage_at, State, state_of, StaysWithin, sum_to, sure, Suspend, unit_of, Use, vm, weigh, Weight, weight_of, What, Idle, Place, use_of_le, least_of_each, ends_of_rows}
+use Rattle.closing.proofs.Prelude.{slice_index_or, ◌≡◌, inl, inr, ℕ, suc, ◌+◌, ◌<◌, ◌≤◌, ◌&&◌, Bool, true, false, cond, List, [], length, Option, Some, None, refl, sym, ◌∙◌, arith, Contains, cases_eq, false≢true, Act, acting_slices, Allocate, Always, Amount, AreWithin, At, BeforeEnd, Boot, Choice, choices, Climbs, covers, Demand, DomainView, FromStart, goes_in, Gone, held_at, held_by, hosted_in, idle_slices, if_so, Image, Init, Instance, IsEnd, IsMostOf, IsMostSure, IsSpared, Kill, Kind, kind_of, machine_count, Migrate, no_row, NodeId, Nodes, Presence, Raise, Ready, Resume, Row, row_at, Running, Sets, Shutdown, Sleeping, slice, Slices, slices_by, slices_of, Span, Stage, stage_at, State, state_of, StaysWithin, sum_to, sure, Suspend, unit_of, Use, vm, weigh, Weight, weight_of, What, Idle, Place, use_of_le, least_of_each, ends_of_rows, goes_same}
 use Rattle.slices.specs.declared.slice.What.TheVariants.{Image as OfImage}
 
 idle-held : (p : Instance) (v : ℕ) (w : Weight) (set : Nodes) (g h : Stage) → held_by p v w set Idle g ≡ held_by p v w set Idle h
@@ -93,14 +93,10 @@ module _ (p : Instance) (v : ℕ) where
     by-most s None place = omega arith
     by-most s (Some k) place = acting-most s k place
 
-  goes-any : (place : Place) (a b : ℕ) (set : Nodes) → goes_in (Act place a) set ≡ goes_in (Act place b) set
-  goes-any Nowhere a b set = refl
-  goes-any (At n) a b set = refl
-
   pub held_most : (w : Weight) (set : Nodes) (t : ℕ) (c : Choice) → held_at p v w set t c ≤ if_so (hosted_in (state_of p v) set) (unit_of p v w) + if_so (goes_in c set) (unit_of p v w)
   unfolding held_at held_by slices_of
   held_most w set t Idle = omega (arith, idle-most w set (stage_at p (vm v) Idle t) (state_of p v))
-  held_most w set t (Act place start) = rw (goes-any place start 0 set) (by-most w set (stage_at p (vm v) (Act place start) t) (state_of p v) (kind_of p (vm v) place) place)
+  held_most w set t (Act place start) = rw (goes_same place start 0 set) (by-most w set (stage_at p (vm v) (Act place start) t) (state_of p v) (kind_of p (vm v) place) place)
 
   so-most : (b : Bool) (n : ℕ) → if_so b n ≤ n
   so-most true n = omega arith
@@ -130,7 +126,7 @@ module _ (p : Instance) (v : ℕ) where
     -- where no row goes to the set, no end does
     row-out : (d : DomainView) → Climbs 0 d.rows → ((k : ℕ) → k < length d.rows → goes_in (Act (row_at d k).place (row_at d k).lo) set ≡ false) → (c : Choice) → IsEnd (choices d) c → goes_in c set ≡ false
     row-out d climbs none Idle end = refl
-    row-out d climbs none (Act q s) end = let r = (ends_of_rows d climbs (Act q s)).0 end in rw (← r.2) (goes-any (row_at d r.0).place s (row_at d r.0).lo set ∙ none r.0 r.1)
+    row-out d climbs none (Act q s) end = let r = (ends_of_rows d climbs (Act q s)).0 end in rw (← r.2) (goes_same (row_at d r.0).place s (row_at d r.0).lo set ∙ none r.0 r.1)
 
     by-rows : (s : Sets) (d : DomainView) (hosted goes : Bool) (a b : ℕ) → s (vm v) ≡ choices d → Climbs 0 d.rows → hosted ≡ hosted_in (state_of p v) set → (goes ≡ false → (k : ℕ) → k < length d.rows → goes_in (Act (row_at d k).place (row_at d k).lo) set ≡ false) → a ≡ if_so hosted one → b ≡ if_so goes one → IsMostOf p s w set v (a + b)
     by-rows s d hosted goes a b seen climbs host none ha hb = record {

@@ -3,7 +3,7 @@ ghost use Rattle.std.specs.Prelude.{◌≡◌, ℕ, ◌+◌, ◌<◌, ◌≤◌,
 ghost use Rattle.relax.specs.Prelude.{Instance, IsSized, node_count, sets};
 ghost use Rattle.closing.specs.{Kinds.constraint_watch, Kinds.load_watch, Kinds.total_load_watch, Kinds.usable_watch, Looks.IsFound, Looks.IsLook, Looks.broken_at, ChangeInstants.AreListed, ChangeInstants.Suffice, Watches.IsLocal, Watches.Watch};
 
-use crate::exact::constraint::{constraint_found, change_instants_of};
+use crate::exact::constraint::{change_instants_of, constraint_found};
 use crate::exact::loads::load_found;
 use crate::exact::usable::usable_found;
 use crate::look::Look;

@@ -9,9 +9,7 @@ use crate::shared::most::{most_ever, most_of};
 use catalogue::Problem;
 use cluster::{Choice, Element, Instant, VmId};
 use domains::{Lens, Region, View};
-use relax::Area;
-use relax::measures::held;
-use relax::sure::least_held;
+use relax::{Area, held, least_held};
 use slices::Weight;
 
 /// Whether a machine holds more on the nodes of an area at an instant than a bound.

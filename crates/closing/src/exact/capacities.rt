@@ -10,9 +10,7 @@ use crate::shared::ends::{Test, end_that};
 use catalogue::Problem;
 use cluster::{Choice, Element, Instant, NodeId, NodeSet};
 use domains::{Lens, Region, View};
-use relax::Area;
-use relax::sure::surely_powered;
-use relax::totals::{powered_nodes, total};
+use relax::{Area, powered_nodes, surely_powered, total};
 use slices::Weight;
 use slices::choice::powered;
 

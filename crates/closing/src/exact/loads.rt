@@ -10,10 +10,8 @@ use crate::shared::ends::end_that;
 use catalogue::Problem;
 use cluster::{Choice, Element, Instant, NodeId};
 use domains::{Lens, Region, View};
-use relax::Area;
-use relax::area::has;
-use relax::sure::may_be_usable;
 use relax::totals::{load, room};
+use relax::{Area, has, may_be_usable};
 use slices::Weight;
 
 // an end of a node's choices under which the area lacks more capacity than is spare

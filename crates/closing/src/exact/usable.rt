@@ -6,13 +6,10 @@ ghost use Rattle.closing.specs.{Kinds.IsNeeded, Looks.IsFound, Parts.FailAtEnds,
 use crate::look::Look;
 use crate::shared::counts::machines_of;
 use crate::shared::ends::{Test, end_at, end_that};
-use crate::shared::hosts::is_host;
 use catalogue::Problem;
 use cluster::{Choice, Element, Instant, NodeId, Place, VmId};
 use domains::{Lens, Region, View};
-use relax::Area;
-use relax::measures::held;
-use relax::sure::{may_be_usable, surely_has_image, surely_in};
+use relax::{Area, held, is_host, may_be_usable, surely_has_image, surely_in};
 use slices::Weight;
 use slices::choice::usable;
 

@@ -8,8 +8,7 @@ use crate::shared::counts::{nodes_of, resources_of};
 use catalogue::Problem;
 use cluster::{Choice, Element, NodeId};
 use domains::{Domain, Region};
-use relax::Area;
-use relax::area::has;
+use relax::{Area, has};
 use slices::Weight;
 use slices::choice::usable;
 

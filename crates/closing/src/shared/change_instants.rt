@@ -115,7 +115,12 @@ fn next_of_some(p: &Problem, g: &Region, machines: &[VmId], after: Instant) -> u
 
 /// The next change instant after an instant: a start of an end of a choice of those whose starts are change instants, or the horizon,
 /// or the instant after the horizon.
-pub fn next_change_instant(p: &Problem, g: &Region, change_instants: &ChangeInstants, after: Instant) -> u64
+pub fn next_change_instant(
+    p: &Problem,
+    g: &Region,
+    change_instants: &ChangeInstants,
+    after: Instant,
+) -> u64
     requires region { IsSized p.now.given g.now }
     requires machines { AreListed p.now.given change_instants.now }
     requires within { after ≤ p.now.given.horizon }

@@ -3,13 +3,10 @@ ghost use Rattle.std.specs.Prelude.{◌≡◌, ℕ, ◌+◌, ◌<◌, ◌≤◌,
 ghost use Rattle.std.specs.List.{Contains};
 ghost use Rattle.closing.specs.Prelude.{Choice as AnyChoice, choices, goes_in, held_at, if_so, IsElement, IsMostOf, IsMostSure, IsSized, IsWeight, machine_count, max_amount, no_row, nodes_of, sets, unit_of, vm};
 
-use crate::shared::hosts::is_hosted;
 use catalogue::Problem;
 use cluster::{Choice, Element, Place, VmId};
 use domains::{Domain, Region, Row};
-use relax::Area;
-use relax::area::has;
-use relax::measures::held;
+use relax::{Area, has, held, is_hosted};
 use slices::Weight;
 
 /// The most that a machine holds in one place.

@@ -6,12 +6,10 @@ ghost use Rattle.closing.specs.{Parts.FailAtEnds, Parts.IsEndThat, declared.shar
 
 use crate::shared::counts::nodes_of;
 use crate::shared::ends::{Test, end_at, end_that};
-use crate::shared::hosts::is_host;
 use catalogue::Problem;
 use cluster::{Choice, Element, Instant, NodeId, Place, VmId};
 use domains::{Domain, Lens, Region, View};
-use relax::Area;
-use relax::sure::surely_in;
+use relax::{Area, is_host, surely_in};
 use slices::choice::holding;
 use slices::holding::Held;
 

@@ -1,5 +1,5 @@
-use Rattle.closing.proofs.Prelude.{[], slice_index_or, subst, arith, IsAnyOf, IsFreeOf, IsMetWith, MeetsOtherPart, sets, sure}
-use Rattle.closing.proofs.{ApartLemmas.split_free, MemberLemmas.is_part, MemberLemmas.one_more, PairLemmas.parts_free, PairLemmas.parts_met}
+use Rattle.closing.proofs.Prelude.{below_more, [], slice_index_or, subst, arith, IsAnyOf, IsFreeOf, IsMetWith, MeetsOtherPart, sets, sure}
+use Rattle.closing.proofs.{ApartLemmas.split_free, MemberLemmas.is_part, PairLemmas.parts_free, PairLemmas.parts_met}
 use Rattle.closing.proofs.exact.pairs.split_found.Goals as goal
 
 pub returns-in-Fail : goal.returns-in-Fail
@@ -25,7 +25,7 @@ returns-in-Cut c =
 
 pub loop-i-preserved : goal.loop-i-preserved
 loop-i-preserved c =
-    one_more (λ k. IsFreeOf (IsAnyOf (slice_index_or c.args.parts.now k []) (MeetsOtherPart c.args.p.now.given c.args.parts.now k)) c.args.p.now.given (sets c.args.g.now) c.args.t) c.loop-i.i c.loop-i.invariant
+    below_more (λ k. IsFreeOf (IsAnyOf (slice_index_or c.args.parts.now k []) (MeetsOtherPart c.args.p.now.given c.args.parts.now k)) c.args.p.now.given (sets c.args.g.now) c.args.t) c.loop-i.i c.loop-i.invariant
     (subst (λ vs. IsFreeOf (IsAnyOf vs (MeetsOtherPart c.args.p.now.given c.args.parts.now c.loop-i.i)) c.args.p.now.given (sets c.args.g.now) c.args.t)
     (is_part c.args.parts.now c.items.result.now c.index-parts-i.result c.loop-i.i c.loop-i-test.true c.items.ensures c.index-parts-i.is) c.in-Clean.ensures)
 
