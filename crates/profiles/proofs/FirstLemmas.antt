@@ -1,5 +1,5 @@
 -- Instants before which no machine starts at a node.
-use Rattle.profiles.proofs.Prelude.{◌≡◌, ◌≢◌, ◌⊎◌, inl, inr, ℕ, ◌*◌, ◌<◌, ◌≤◌, true, List, [], ◌∷◌, length, take, drop, refl, ap, subst, ◌∙◌, arith, Option, Some, None, slice_index_or, slice_set, unwrap_or, Contains, filter, cases_eq, nat_tests, row_fits, length-set, length-take, length-drop, get_or-set_same, get_or-set_other, get_or-take, get_or-drop, Act, AreFirstAt, AreFirsts, At, Choice, From, in_part, Instance, IsNoLater, least, lowest, machine_count, node_count, Sets, slot_of, start_count, stays, vm, contains_filter, least_of_each}
+use Rattle.profiles.proofs.Prelude.{◌≡◌, ◌≢◌, ◌⊎◌, inl, inr, ℕ, ◌*◌, ◌<◌, ◌≤◌, true, List, [], length, take, drop, refl, ap, subst, ◌∙◌, arith, Option, Some, None, slice_index_or, slice_set, unwrap_or, Contains, filter, cases_eq, nat_tests, row_fits, length-set, length-take, length-drop, get_or-set_same, get_or-set_other, get_or-take, get_or-drop, Act, AreFirstAt, AreFirsts, At, Choice, From, in_part, Instance, IsNoLater, least, lowest, machine_count, node_count, Sets, slot_of, start_count, stays, vm, contains_filter, least_of_each, none_is_empty}
 
 -- ---- the first start of some choices
 
@@ -15,13 +15,9 @@ inside cs ins n start is h =
 in-empty : (c : Choice) → Contains [] c → ⊥
 in-empty c h = omega (arith, h.1)
 
-lowest-none : (f : Choice → ℕ) (cs : List Choice) → lowest f cs ≡ None → cs ≡ []
-lowest-none f [] e = refl
-lowest-none f (c ∷ cs) e = cc
-
 pub none_first : (cs ins : List Choice) (n first : ℕ) → ins ≡ filter (in_part (From (At (record { 0 = n })) 0)) cs → lowest start_count (filter (stays None) ins) ≡ None → IsNoLater cs n first
 none_first cs ins n first is none = record {
-  each = λ start h. absurd (in-empty (Act (At (record { 0 = n })) start) (subst (λ xs. Contains xs (Act (At (record { 0 = n })) start)) (lowest-none start_count (filter (stays None) ins) none) (inside cs ins n start is h)));
+  each = λ start h. absurd (in-empty (Act (At (record { 0 = n })) start) (subst (λ xs. Contains xs (Act (At (record { 0 = n })) start)) (none_is_empty start_count (filter (stays None) ins) none) (inside cs ins n start is h)));
 }
 
 pub some_first : (cs ins : List Choice) (n first low : ℕ) → ins ≡ filter (in_part (From (At (record { 0 = n })) 0)) cs → lowest start_count (filter (stays None) ins) ≡ Some low → first ≤ low → IsNoLater cs n first

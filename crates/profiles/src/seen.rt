@@ -1,25 +1,13 @@
 //! What a lens shows: the machine of which it may not show all choices, and the room of a node.
-ghost use Rattle.std.specs.Prelude.{◌≡◌, ◌≢◌, ℕ, ◌<◌, false, length, true, IfSome, IsTrue};
+ghost use Rattle.std.specs.Prelude.{◌≡◌, ℕ, ◌<◌, false, length, true, IsTrue};
 ghost use Rattle.profiles.specs.Prelude.{is_online as the_is_online, IsSized, node_count, one, RegionView, room as room_of, seen, sets, sure, vm};
 
 use catalogue::Problem;
 use cluster::{Element, Instant, NodeId, VmId};
 use domains::view::has_idle;
 use domains::{Lens, View};
-use relax::sure::may_be_usable;
-
-/// The machine of which a lens may not show all choices.
-pub fn narrowed(lens: Lens) -> Option<VmId>
-    ensures { (g : RegionView) (v : ℕ) → IfSome result (λ x. v ≢ x.0) → seen g lens (vm v) ≡ sets g (vm v) }
-{
-    match lens {
-        Lens::Whole => None,
-        Lens::Inside(x, _) | Lens::Outside(x, _) | Lens::Set(x, _) => match x {
-            Element::Vm(v) => Some(v),
-            Element::Node(_) => None,
-        },
-    }
-}
+use relax::may_be_usable;
+pub use relax::narrowed;
 
 /// Whether a lens may not show all choices of a machine.
 pub fn is_narrowed(lens: Lens, v: VmId) -> bool
@@ -50,7 +38,7 @@ fn may_stay_online(p: &Problem, view: &View, n: NodeId) -> bool
 }
 
 /// The capacity of a node for a resource, 0 where it cannot be usable.
-#[tactic(auto, using(crate::proofs::SeenLemmas::room_of_one))]
+#[tactic(auto, using(relax::proofs::Public::room_of_one))]
 pub fn room_seen(p: &Problem, view: &View, r: u8, n: NodeId, t: Instant) -> u64
     requires region { IsSized p.now.given view.now.region.now }
     requires resource { r < length p.now.given.resources }

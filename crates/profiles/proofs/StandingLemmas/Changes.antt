@@ -1,5 +1,5 @@
 -- Until when a machine stays, after some of its choices were lost.
-use Rattle.profiles.proofs.Prelude.{◌≡◌, ℕ, ◌<◌, ◌≤◌, max, List, [], ◌∷◌, Option, Some, None, unwrap_or, refl, ap, ◌∙◌, arith, Contains, Contains-append_right, AreFewer, Choice, choices, DomainView, least, Lost, lost_choices, lower_option, lowest, restored, least_of_each, lowest_before}
+use Rattle.profiles.proofs.Prelude.{◌≡◌, ℕ, ◌<◌, ◌≤◌, max, List, [], ◌∷◌, Option, Some, None, unwrap_or, refl, ap, ◌∙◌, arith, Contains, AreFewer, Choice, choices, DomainView, least, Lost, lost_choices, lower_option, lowest, restored, least_of_each, lowest_before, least_from as lowest_from}
 
 -- nothing was lost
 pub least_kept : (f : Choice → ℕ) (lost : Lost) (d : DomainView) (old : ℕ) → AreFewer (choices d) (choices (restored lost d)) → old ≡ least f (choices (restored lost d)) → lowest f (lost_choices lost) ≡ None → old ≡ least f (choices d)
@@ -37,11 +37,5 @@ pub floor_before : (f : Choice → ℕ) (lost : Lost) (d : DomainView) (old : �
 floor_before f lost d old fewer was c there = omega (arith, was, least_of_each f (choices (restored lost d)) c (fewer c there))
 
 -- values that are raised to a number below which none is are as they were
-lowest-from : (f : Choice → ℕ) (floor : ℕ) (cs : List Choice) → ((c : Choice) → Contains cs c → floor ≤ f c) → lowest (λ c. max floor (f c)) cs ≡ lowest f cs
-lowest-from f floor [] above = refl
-lowest-from f floor (c ∷ cs) above =
-    let here : max floor (f c) ≡ f c = omega (arith, above c (0, omega arith, refl)) in
-    rw (here, lowest-from f floor cs (λ d h. above d (Contains-append_right (c ∷ []) cs d h))) refl
-
 pub least_from : (f : Choice → ℕ) (floor : ℕ) (d : DomainView) (found : Option ℕ) → ((c : Choice) → Contains (choices d) c → floor ≤ f c) → found ≡ lowest (λ c. max floor (f c)) (choices d) → unwrap_or found 0 ≡ least f (choices d)
-least_from f floor d found above is = ap (λ o. unwrap_or o 0) (is ∙ lowest-from f floor (choices d) above)
+least_from f floor d found above is = ap (λ o. unwrap_or o 0) (is ∙ lowest_from f floor (choices d) above)

@@ -2,12 +2,12 @@
 ghost use Rattle.std.specs.Prelude.{◌≡◌, ◌≤◌, ◌<◌, length, IfOk, slice_index_or};
 ghost use Rattle.profiles.specs.Prelude.{AreShares, AreSmall, IsElement, IsShare, IsSmall, machine_count, no_standing, share_use as the_share_use, total_use as the_total_use};
 
-use crate::host::is_host;
 use crate::standing::numbers::Standing;
 use crate::standing::uses::{base, comes_by, gain};
 use base::Memory;
 use catalogue::Problem;
 use cluster::{Element, Instant, NodeId, VmId};
+use relax::is_host;
 use slices::Weight;
 use std::alloc::Global;
 

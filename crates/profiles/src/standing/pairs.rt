@@ -1,6 +1,6 @@
 //! Whether two machines that are to be kept apart surely are on a node.
-ghost use Rattle.std.specs.Prelude.{◌≡◌, ◌<◌, ◌≤◌, ◌↔◌, ℕ, IsTrue, Option as AnyOption, false, length};
-ghost use Rattle.profiles.specs.Prelude.{IsElement, IsPair, IsSized, machine_count, node_count, Refutes, seen, sure};
+ghost use Rattle.std.specs.Prelude.{◌≡◌, ℕ, IsTrue, Option as AnyOption, false};
+ghost use Rattle.profiles.specs.Prelude.{IsElement, IsPair, IsSized, Refutes, seen, sure};
 
 use crate::standing::stays::surely_at;
 use catalogue::{Constraint, Problem};
@@ -8,6 +8,7 @@ use cluster::{Element, Instant, NodeId, VmId};
 use domains::View;
 use reasons::Reason;
 use relax::forbidden::forbids_pair;
+use relax::named::is_named;
 
 /// Whether two machines that a constraint keeps apart are surely on a node.
 pub fn is_pair(
@@ -31,18 +32,6 @@ pub fn is_pair(
     surely_at(p, view, v, n, t) && surely_at(p, view, w, n, t)
 }
 
-// whether a constraint, an instant, two machines and a node are those of the problem
-fn is_named(p: &Problem, c: u32, t: Instant, v: VmId, w: VmId, n: NodeId) -> bool
-    ensures { IsTrue result ↔ (c < length p.now.given.constraints) × (t ≤ p.now.given.horizon) × (v.0 < machine_count p.now.given) × (w.0 < machine_count p.now.given) × (n.0 < node_count p.now.given) }
-{
-    let machines = p.cluster().machines().len();
-    (c as usize) < p.constraints().len()
-        && t <= p.horizon()
-        && (v.0 as usize) < machines
-        && (w.0 as usize) < machines
-        && (n.0 as usize) < p.cluster().nodes().len()
-}
-
 /// Whether a pair refutes what is seen of a region: its constraint applies, and keeps two machines apart that surely are
 /// on its node. What is no longer due has no part in it.
 pub fn pair_refutes(
@@ -58,7 +47,7 @@ pub fn pair_refutes(
     ensures yes { IsTrue result → (bound : AnyOption ℕ) → Refutes p.now.given bound (seen view.now.region.now view.now.lens) (Reason.Pair c t v w n) }
     ensures no { result ≡ false → (bound : AnyOption ℕ) → ¬ Refutes p.now.given bound (seen view.now.region.now view.now.lens) (Reason.Pair c t v w n) }
 {
-    if !is_named(p, c, t, v, w, n) || !p.applies(c, t) {
+    if !is_named(p, &Reason::Pair(c, t, v, w, n)) || !p.applies(c, t) {
         return false;
     }
     is_pair(p, view, &p.constraints()[c as usize], v, w, n, t)

@@ -9,8 +9,7 @@ use crate::standing::numbers::leave;
 use catalogue::Problem;
 use cluster::{Element, Instant, NodeId, VmId};
 use domains::{Domain, View};
-use relax::Area;
-use relax::sure::surely_in;
+use relax::{Area, surely_in};
 
 // whether a machine may stay that runs on a node
 fn may_stay(p: &Problem, v: VmId, domain: &Domain, n: NodeId) -> bool

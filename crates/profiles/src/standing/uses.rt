@@ -2,10 +2,10 @@
 ghost use Rattle.std.specs.Prelude.{◌≡◌, ◌≤◌};
 ghost use Rattle.profiles.specs.Prelude.{base as the_base, brought as the_brought, comes_by as the_comes_by, gain as the_gain, had_there as the_had_there, IsElement, IsWeight, kept_use as the_kept_use, state_of, weight_if};
 
-use crate::host::is_host;
 use crate::standing::numbers::{Arrival, Standing};
 use catalogue::Problem;
 use cluster::{Element, Instant, Kind, NodeId, Place, State, VmId};
+use relax::is_host;
 use slices::Weight;
 use slices::actions::kind_of;
 use slices::holding::amount;
