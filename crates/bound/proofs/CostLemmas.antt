@@ -3,13 +3,11 @@ use Rattle.std.proofs.Common.{IsTrue}
 use Rattle.base.proofs.Public.{◌≡◌, ◌≢◌, ℕ, ◌+◌, ◌≤◌, List, [], ◌∷◌, Bool, true, false, refl, sym, ap, ◌∙◌, arith, Contains, filter, Decides-eqb, get_or-set_same, get_or-set_other, sum_to-bound, sum_to-change, sum_to-same, sum_to-term}
 use Rattle.relax.specs.Prelude.{AreLegal, choices, domain_at, DomainView, end_of, HasElement, Instance, is_legal, IsElement, IsInstance, IsSized, keeping, least, least_cost, machine_count, max_cost, node, node_count, RegionView, same_element, Sets, sets, staying, vm, with_domain}
 use Rattle.cluster.specs.declared.choices.Choice.{Choice}
-use Rattle.cluster.specs.declared.choices.Choice.TheVariants.{Idle, Act}
 use Rattle.cluster.specs.declared.ids.Element.{Element}
 use Rattle.cluster.specs.declared.ids.Element.TheVariants.{Vm, Node}
 use Rattle.bound.specs.Laws.{CostIsSmall, CostPutBack, NarrowingTells, SameCost}
-use Rattle.slices.proofs.Public.{legal_acts_last}
 use Rattle.domains.proofs.Public.{contains_here, filter_is_fewer, least_of_each, same_is}
-use Rattle.relax.proofs.Public.{legal_stays}
+use Rattle.relax.proofs.Public.{end_small, legal_stays}
 
 pub same_cost : SameCost
 unfolding least_cost
@@ -20,18 +18,12 @@ same_cost p s t same =
 
 -- ---- how great
 
--- a legal choice ends by the horizon
-end-small : (p : Instance) → IsInstance p → (e : Element) (c : Choice) → IsTrue (is_legal p e c) → end_of p e c ≤ p.horizon
-unfolding end_of
-end-small p sound e Idle legal = omega arith
-end-small p sound e (Act place s) legal = (legal_acts_last p sound e place s legal).1
-
--- and so does the one that ends first
+-- legal choices end by the horizon, and so does the one that ends first
 least-small : (p : Instance) → IsInstance p → (e : Element) (cs : List Choice) → ((c : Choice) → Contains cs c → IsTrue (is_legal p e c)) → least (end_of p e) cs ≤ p.horizon
 least-small p sound e [] legal = omega arith
 least-small p sound e (c ∷ cs) legal =
     let here = contains_here c cs in
-    omega (arith, least_of_each (end_of p e) (c ∷ cs) c here, end-small p sound e c (legal c here))
+    omega (arith, least_of_each (end_of p e) (c ∷ cs) c here, end_small p sound e c (legal c here))
 
 pub cost_is_small : CostIsSmall
 unfolding least_cost
@@ -119,10 +111,10 @@ cost_put_back p before after x there same = same_cost p (sets (with_domain after
         changed_else after x e (domain_at before x) other ∙ same e other
 
 -- what a narrowing keeps of the element itself, and of the others
-kept_here : (x : Element) (test : Choice → Bool) (s : Sets) → keeping x test s x ≡ filter test (s x)
+pub kept_here : (x : Element) (test : Choice → Bool) (s : Sets) → keeping x test s x ≡ filter test (s x)
 kept_here x test s = rw (same_self x) refl
 
-kept_else : (x e : Element) (test : Choice → Bool) (s : Sets) → e ≢ x → keeping x test s e ≡ s e
+pub kept_else : (x e : Element) (test : Choice → Bool) (s : Sets) → e ≢ x → keeping x test s e ≡ s e
 kept_else x e test s other = at (same_element e x) refl
   where
     at : (b : Bool) → same_element e x ≡ b → keeping x test s e ≡ s e

@@ -86,8 +86,8 @@ impl LowerBound {
     }
 }
 
-// the sum, added up anew
-fn sum_of(p: &Problem, g: &Region) -> u64
+/// The sum of the least ends of a region, added up anew.
+pub fn sum_of(p: &Problem, g: &Region) -> u64
     requires region { IsSized p.now.given g.now }
     requires legal { AreLegal p.now.given (sets g.now) }
     ensures { result ≡ least_cost_of p.now.given (sets g.now) }
