@@ -1,17 +1,7 @@
 -- The sum of the least ends where one element is narrowed.
-use Rattle.cert_model.proofs.Prelude.{IsTrue, ◌≡◌, ◌≢◌, ℕ, ◌+◌, ◌≤◌, Bool, true, false, not, List, [], ◌∷◌, Option, Some, None, unwrap_or, refl, ap, subst, arith, Contains, filter, eq-eqb, false_from_ne_true, AreLegal, Choice, Element, end_of, in_part, Instance, is_legal, IsElement, IsInstance, keeping, least, least_cost, least_with, lower, lower_option, lowest, max_cost, Node as TheNode, same_element, Sets, stays, Vm, Part, filter_is_fewer, same_is, cost_change, cost_is_small, cost_term}
+use Rattle.cert_model.proofs.Prelude.{IsTrue, ◌≡◌, ℕ, ◌+◌, ◌≤◌, Bool, true, false, not, List, [], ◌∷◌, Option, Some, None, unwrap_or, refl, ap, subst, arith, Contains, filter, AreLegal, Choice, Element, end_of, in_part, Instance, is_legal, IsElement, IsInstance, keeping, least, least_cost, least_with, lower, lower_option, lowest, max_cost, same_element, Sets, stays, Part, filter_is_fewer, cost_change, cost_is_small, cost_term, kept_else, kept_here}
 
 -- ---- a set that is narrowed
-
-self : (x : Element) → same_element x x ≡ true
-self (Vm v) = eq-eqb v.0 v.0 refl
-self (TheNode n) = eq-eqb n.0 n.0 refl
-
-kept_here : (x : Element) (test : Choice → Bool) (s : Sets) → keeping x test s x ≡ filter test (s x)
-kept_here x test s = rw (self x) refl
-
-kept_other : (x e : Element) (test : Choice → Bool) (s : Sets) → e ≢ x → keeping x test s e ≡ s e
-kept_other x e test s ne = let other : same_element e x ≡ false = false_from_ne_true _ (λ t. ne (same_is e x t)) in rw other refl
 
 -- choices of narrower sets are legal
 pub narrow_legal : (p : Instance) (s : Sets) (x : Element) (test : Choice → Bool) → AreLegal p s → AreLegal p (keeping x test s)
@@ -52,7 +42,7 @@ module _ (p : Instance) (s : Sets) (x : Element) (test : Choice → Bool) (sum :
   -- a number with the least end of all choices of the element, as the sum has with that of those that pass
   pub is_narrowed : (n : ℕ) → n + least (end_of p x) (s x) ≡ sum + least (end_of p x) (filter test (s x)) → n ≡ least_cost p (keeping x test s)
   is_narrowed n both =
-      let change : least_cost p (keeping x test s) + least (end_of p x) (s x) ≡ least_cost p s + least (end_of p x) (keeping x test s x) = cost_change p (keeping x test s) s x there (λ e ne. kept_other x e test s ne) in
+      let change : least_cost p (keeping x test s) + least (end_of p x) (s x) ≡ least_cost p s + least (end_of p x) (keeping x test s x) = cost_change p (keeping x test s) s x there (λ e ne. kept_else x e test s ne) in
       omega (arith, whole, both, rw (kept_here x test s) at change)
 
   -- the sum has the least end of the element, and with that of those that pass in its place it is small
@@ -61,7 +51,7 @@ module _ (p : Instance) (s : Sets) (x : Element) (test : Choice → Bool) (sum :
 
   pub small_with : IsInstance p → AreLegal p s → sum + least (end_of p x) (filter test (s x)) ≤ max_cost + least (end_of p x) (s x)
   small_with sound legal =
-      let change : least_cost p (keeping x test s) + least (end_of p x) (s x) ≡ least_cost p s + least (end_of p x) (keeping x test s x) = cost_change p (keeping x test s) s x there (λ e ne. kept_other x e test s ne) in
+      let change : least_cost p (keeping x test s) + least (end_of p x) (s x) ≡ least_cost p s + least (end_of p x) (keeping x test s x) = cost_change p (keeping x test s) s x there (λ e ne. kept_else x e test s ne) in
       omega (arith, whole, rw (kept_here x test s) at change, cost_is_small p sound (keeping x test s) (narrow_legal p s x test legal))
 
 -- the least end before a part was lost

@@ -1,7 +1,7 @@
 -- What proofs of this crate cite together of what stands below them, passed on from one place. Declares nothing.
-pub use Rattle.base.proofs.Public.{[], ap, append-nil, arith, Bool, cases_lt, Contains, eq-eqb, false, false_from_ne_true, filter, IfSome, inl, inr, is_some, IsSomeAnd, IsTrue, length, List, map, map-append, nat_lt, nat_tests, None, not, Option, refl, rules, Some, subst, suc, sym, true, unwrap_or, zero, ℕ, ◌++◌, ◌+◌, ◌<◌, ◌^◌, ◌∙◌, ◌∷◌, ◌≡◌, ◌≢◌, ◌≤◌}
-pub use Rattle.bound.proofs.Public.{cost_change, cost_is_small, cost_term}
-pub use Rattle.domains.proofs.Public.{filter_is_fewer, same_is}
+pub use Rattle.base.proofs.Public.{[], ap, append-nil, arith, Bool, cases_lt, Contains, false, filter, IfSome, inl, inr, is_some, IsSomeAnd, IsTrue, length, List, map, map-append, nat_lt, nat_tests, None, not, Option, refl, rules, Some, subst, suc, sym, true, unwrap_or, zero, ℕ, ◌++◌, ◌+◌, ◌<◌, ◌^◌, ◌∙◌, ◌∷◌, ◌≡◌, ◌≤◌}
+pub use Rattle.bound.proofs.Public.{cost_change, cost_is_small, cost_term, kept_else, kept_here}
+pub use Rattle.domains.proofs.Public.{filter_is_fewer}
 pub use Rattle.domains.specs.declared.parts.Part.{Part}
 pub use Rattle.reasons.proofs.Public.{only_costs, start_is_legal}
 pub use Rattle.trees.proofs.Public.{above_cheapest, at_each_both, at_each_map, certificates_hold, decisions_append, gathered_push, gathered_whole, IsAbove, leads_push, leads_same, leads_tree, lowest_push, plan_costs_append, tree_of}

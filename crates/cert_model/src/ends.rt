@@ -7,20 +7,6 @@ use catalogue::Problem;
 use cluster::Element;
 use domains::{Lens, Part, Region, Side, View};
 use relax::sure::least_end;
-use relax::totals::least_cost;
-
-/// The sum of the least ends of a region.
-pub fn sum_of(p: &Problem, g: &Region) -> u64
-    requires region { IsSized p.now.given g.now }
-    requires legal { AreLegal p.now.given (sets g.now) }
-    ensures { result ≡ least_cost_of p.now.given (sets g.now) }
-{
-    let view = View {
-        region: g,
-        lens: Lens::Whole,
-    };
-    least_cost(p, &view) as u64
-}
 
 /// The sum of the least ends of a region with one element narrowed to one side of a part, from the sum
 /// of the region.

@@ -1,7 +1,7 @@
 //! For each node machines that may surely have something there.
 use base::Memory;
 use catalogue::Problem;
-use cluster::{Element, NodeId, NodeSet, Place, State, VmId};
+use cluster::{Element, NodeId, NodeSet, Place, VmId};
 use domains::Domain;
 use std::alloc::Global;
 
@@ -11,14 +11,6 @@ use std::alloc::Global;
 #[derive(Drop)]
 pub struct Nearby {
     lists: Vec<Vec<u32>>,
-}
-
-// the host of a machine in a state
-fn host_of(state: State) -> Option<NodeId> {
-    match state {
-        State::Running(h) | State::Sleeping(h) => Some(h),
-        State::Init | State::Ready | State::Gone => None,
-    }
 }
 
 // the node to which all choices of a domain go
@@ -74,7 +66,7 @@ impl Nearby {
         }
         let mut nearby = Nearby { lists };
         for i in 0..p.cluster().machines().len() {
-            if let Some(h) = host_of(p.cluster().machines()[i].state) {
+            if let Some(h) = p.cluster().machines()[i].state.host() {
                 nearby.put(h, VmId(i as u32));
             }
         }

@@ -9,12 +9,13 @@ ghost use Rattle.cert_model.specs.{Frontiers.AreSame, Frontiers.AreSameSize, Fro
 
 use crate::claims::fault;
 use crate::counts::{cheaper, counted, goal_shown, is_same_goal, least_with, lower};
-use crate::ends::{sum_of, sum_seen};
+use crate::ends::sum_seen;
 use crate::frontier::{Due, Frontier, Outer};
 use crate::lean::is_lean;
 use crate::nearby::Nearby;
 use crate::why::Why;
 use base::Memory;
+use bound::lower_bound::sum_of;
 use catalogue::Problem;
 use domains::Side;
 use relax::start::start_region;

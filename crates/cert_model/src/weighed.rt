@@ -4,15 +4,12 @@ ghost use Rattle.cert_model.specs.Prelude.{has_node, IsOverload, IsSized, IsWeig
 
 use crate::nearby::Nearby;
 use catalogue::Problem;
-use cluster::{Element, Instant, NodeSet, VmId};
+use cluster::{Instant, NodeSet, VmId};
 use domains::{Lens, View};
 use profiles::standing::pairs::pair_refutes;
 use reasons::Reason;
-use relax::Area;
-use relax::area::area_of;
 use relax::named::is_named;
-use relax::sure::least_held;
-use relax::totals::room;
+use relax::{Area, area_of, least_held, narrowed, room};
 use slices::Weight;
 
 /// What some of the machines before a number surely use together.
@@ -30,11 +27,10 @@ fn machine_total(p: &Problem) -> usize
 }
 
 // the number of the machine of which a lens may not show all choices; past all machines where there is none
-fn narrowed(p: &Problem, lens: Lens) -> u32 {
-    match lens {
-        Lens::Inside(Element::Vm(v), _) => v.0,
-        Lens::Inside(Element::Node(_), _) => machine_total(p) as u32,
-        Lens::Whole | Lens::Outside(_, _) | Lens::Set(_, _) => machine_total(p) as u32,
+fn other_of(p: &Problem, lens: Lens) -> u32 {
+    match narrowed(lens) {
+        Some(v) => v.0,
+        None => machine_total(p) as u32,
     }
 }
 
@@ -86,7 +82,7 @@ fn is_over(p: &Problem, view: &View, r: u8, set: &NodeSet, t: Instant, list: &[u
     ensures { IsTrue result → IsOverload p.now.given (sure p.now.given (seen view.now.region.now view.now.lens) t) r (has_node set.now) }
 {
     let area = area_of(p, set);
-    let sum = listed(p, view, r, &area, t, list, narrowed(p, view.lens));
+    let sum = listed(p, view, r, &area, t, list, other_of(p, view.lens));
     room(p, view, r, &area, t) < sum.total
 }
 
