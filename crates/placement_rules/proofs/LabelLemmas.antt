@@ -1,8 +1,6 @@
 -- The labels that machines have where they are kept apart: which of them share no node.
-use Rattle.std.proofs.Common.{if◌then◌else◌, IsTrue, slice_index_or}
-use Rattle.base.proofs.Public.{◌≡◌, inl, inr, ℕ, ◌+◌, ◌<◌, ◌≤◌, true, false, ◌||◌, ◌&&◌, ◌==◌, List, [], length, take, Option, refl, ◌∙◌, arith, get_or, nat_lt, list_all, both_ways, or_cases, or_left, or_right, cases_eq, ltb-true, lt-ltb, cases_Bool, le-ltb, false_from_ne_true, true_from_ne_false, and_parts, and_from, eqb-true, eq-eqb, take_all}
-use Rattle.placement_rules.specs.Prelude.{AreApart, AreNoted, Between, Each, FromOthers, Instance, is_member, Labels, machine_count, node_count, one, Snapshot, split_labels, VmId}
-use Rattle.placement_rules.proofs.Members.{member_split, member_kept, member_here, prefix_member, member_within, part_within, part_listed}
+use Rattle.placement_rules.proofs.Prelude.{if◌then◌else◌, IsTrue, slice_index_or, ◌≡◌, inl, inr, ℕ, ◌+◌, ◌<◌, ◌≤◌, true, false, ◌||◌, ◌&&◌, ◌==◌, List, [], length, take, Option, refl, ◌∙◌, arith, get_or, nat_lt, list_all, both_ways, or_cases, or_left, or_right, cases_eq, ltb-true, lt-ltb, cases_Bool, le-ltb, false_from_ne_true, true_from_ne_false, and_parts, and_from, eqb-true, eq-eqb, take_all, AreApart, AreNoted, Between, Each, FromOthers, Instance, is_member, Labels, machine_count, node_count, one, Snapshot, split_labels, VmId, part_listed}
+use Rattle.placement_rules.proofs.Members.{member_split, member_kept, member_here, prefix_member, member_within, part_within}
 use Rattle.placement_rules.proofs.Noting.{IsOneMore, Meets, noted_apart, noted_same}
 
 -- each of the first i members has its number

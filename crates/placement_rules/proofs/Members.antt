@@ -1,7 +1,5 @@
 -- The machines of a list, and those of a prefix of it.
-use Rattle.std.proofs.Common.{IsTrue, slice_index_or}
-use Rattle.base.proofs.Public.{◌≡◌, ◌⊎◌, inl, inr, ℕ, zero, suc, ◌+◌, ◌<◌, Bool, true, false, ◌||◌, ◌==◌, List, [], ◌∷◌, length, take, refl, sym, ◌∙◌, arith, get_or, nat_lt, list_all, both_ways, or_cases, or_left, or_right, and_parts, eqb-true, eq-eqb, ltb-true, cases_lt, get_or_past, list_any_more, nat_tests}
-use Rattle.placement_rules.specs.Prelude.{is_member, VmId}
+use Rattle.placement_rules.proofs.Prelude.{IsTrue, slice_index_or, ◌≡◌, ◌⊎◌, inl, inr, ℕ, zero, suc, ◌+◌, ◌<◌, Bool, true, false, ◌||◌, ◌==◌, List, [], ◌∷◌, length, take, refl, sym, ◌∙◌, arith, get_or, nat_lt, list_all, both_ways, or_cases, or_left, or_right, and_parts, eqb-true, eq-eqb, ltb-true, cases_lt, get_or_past, list_any_more, nat_tests, is_member, VmId, part_listed}
 
 -- a machine of a prefix with one more is of the prefix, or is that one
 pub member_split : (vs : List VmId) (i : ℕ) (d : VmId) (w : ℕ) → i < length vs → IsTrue (is_member (take (i + 1) vs) w) → IsTrue (is_member (take i vs) w) ⊎ (w ≡ (get_or vs i d).0)
@@ -35,11 +33,6 @@ member_within (x ∷ vs) k w h m =
     ]
 
 -- ---- parts
-
--- a part with a member is listed
-pub part_listed : (parts : List (List VmId)) (i v : ℕ) → IsTrue (is_member (slice_index_or parts i []) v) → i < length parts
-part_listed parts i v h =
-    elim (cases_lt i (length parts)) [ inl low ↦ low | inr past ↦ absurd (both_ways (is_member (slice_index_or parts i []) v) (rw (get_or_past parts i [] past) refl) h) ]
 
 -- each machine of a part is in range
 pub part_within : (parts : List (List VmId)) (i v k : ℕ) → list_all (list_all (λ x. nat_lt x.0 k)) parts ≡ true → IsTrue (is_member (slice_index_or parts i []) v) → v < k

@@ -1,7 +1,5 @@
 -- Labels that are noted on nodes.
-use Rattle.std.proofs.Common.{IsTrue}
-use Rattle.base.proofs.Public.{◌≡◌, ◌≢◌, ◌⊎◌, inl, inr, ℕ, ◌<◌, true, false, List, Option, Some, None, refl, sym, ◌∙◌, arith, both_ways, cases_Bool, or_cases, eqb-true, false_from_ne_true}
-use Rattle.placement_rules.specs.Prelude.{AreNoted, Held, Holding, Instance, is_in, is_on, IsClaim, IsHeldWithin, IsHoldingOf, label_on, Labels, node_count, one, Snapshot}
+use Rattle.placement_rules.proofs.Prelude.{IsTrue, ◌≡◌, ◌≢◌, ◌⊎◌, inl, inr, ℕ, ◌<◌, true, false, List, Option, Some, None, refl, sym, ◌∙◌, arith, both_ways, cases_Bool, or_cases, eqb-true, false_from_ne_true, AreNoted, Held, Holding, Instance, is_in, is_on, IsClaim, IsHeldWithin, IsHoldingOf, label_on, Labels, node_count, one, Snapshot}
 
 -- the labels of machines with one more
 pub record IsOneMore (old new : Labels) (v l : ℕ) : Type 0 where

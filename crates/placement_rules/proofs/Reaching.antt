@@ -1,7 +1,5 @@
 -- The nodes that the machines of a list reach, and groups of nodes.
-use Rattle.std.proofs.Common.{◌↔◌, map, Any, IsTrue}
-use Rattle.base.proofs.Public.{◌≡◌, inl, inr, ℕ, ◌+◌, ◌<◌, true, false, List, length, get_or, nat_lt, sym, ap, subst, ◌∙◌, arith, list_all, range_with_len, both_ways, cases_eq, eqb-true, false_from_ne_true, get_or-map, get_or_read, length-map, slice_get_cases, get_or-range_with_len, length-range_with_len}
-use Rattle.placement_rules.specs.Prelude.{AreAbsent, AreGrouped, AreReached, AreWithin, has_node, Instance, machine_count, node_count, Nodes, NodeSet, one, Snapshot, VmId}
+use Rattle.placement_rules.proofs.Prelude.{◌↔◌, map, Any, IsTrue, ◌≡◌, inl, inr, ℕ, ◌+◌, ◌<◌, true, false, List, length, get_or, nat_lt, sym, ap, subst, ◌∙◌, arith, list_all, range_with_len, both_ways, cases_eq, eqb-true, false_from_ne_true, get_or-map, get_or_read, length-map, slice_get_cases, get_or-range_with_len, length-range_with_len, AreAbsent, AreGrouped, AreReached, AreWithin, has_node, Instance, machine_count, node_count, Nodes, NodeSet, one, Snapshot, VmId}
 use Rattle.placement_rules.proofs.Members.{member_within}
 
 -- ---- one of what a function gives

@@ -1,7 +1,5 @@
 -- Which machines act, one at a time.
-use Rattle.std.proofs.Common.{IfSome, IsTrue}
-use Rattle.base.proofs.Public.{◌≡◌, inl, inr, ℕ, ◌+◌, ◌<◌, true, false, List, [], length, take, get_or, Option, Some, None, nat_lt, refl, sym, ap, list_all, both_ways, false_from_ne_true}
-use Rattle.placement_rules.specs.Prelude.{Acting, Instance, IsMember, machine_count, Snapshot, TakeTurns, VmId}
+use Rattle.placement_rules.proofs.Prelude.{IfSome, IsTrue, ◌≡◌, inl, inr, ℕ, ◌+◌, ◌<◌, true, false, List, [], length, take, get_or, Option, Some, None, nat_lt, refl, sym, ap, list_all, both_ways, false_from_ne_true, Acting, Instance, IsMember, machine_count, Snapshot, TakeTurns, VmId}
 use Rattle.placement_rules.proofs.Members.{prefix_member, member_here, member_kept, member_split, member_within}
 
 -- what is noted is the one member that acts

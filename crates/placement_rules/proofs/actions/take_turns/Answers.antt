@@ -1,5 +1,4 @@
-use Rattle.base.proofs.Public.{◌∙◌, arith, sym, false≢true, iff_false}
-use Rattle.placement_rules.specs.Prelude.{choices_of, snapshot_at}
+use Rattle.placement_rules.proofs.Prelude.{◌∙◌, arith, sym, false≢true, iff_false, choices_of, snapshot_at}
 use Rattle.placement_rules.proofs.Turns.{meet}
 use Rattle.placement_rules.proofs.actions.take_turns.Goals as goal
 

@@ -1,5 +1,4 @@
-use Rattle.std.proofs.Common.{take}
-use Rattle.placement_rules.specs.Prelude.{choices_of, snapshot_at}
+use Rattle.placement_rules.proofs.Prelude.{take, choices_of, snapshot_at}
 use Rattle.placement_rules.proofs.Turns.{IsAlone}
 use Rattle.placement_rules.proofs.actions.take_turns.Given as goal
 

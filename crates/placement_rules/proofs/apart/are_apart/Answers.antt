@@ -1,6 +1,4 @@
-use Rattle.std.proofs.Common.{◌∙◌}
-use Rattle.slices.specs.Elements.{machine_count}
-use Rattle.catalogue.proofs.Public.{below_parts}
+use Rattle.placement_rules.proofs.Prelude.{◌∙◌, machine_count, below_parts}
 use Rattle.placement_rules.proofs.apart.are_apart.Goals as goal
 
 pub is_split-requires-clause-machines : goal.is_split-requires-clause-machines

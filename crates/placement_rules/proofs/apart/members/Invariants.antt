@@ -1,5 +1,4 @@
-use Rattle.std.proofs.Common.{◌≡◌, ℕ, take}
-use Rattle.placement_rules.specs.Prelude.{has_machine, is_member}
+use Rattle.placement_rules.proofs.Prelude.{◌≡◌, ℕ, take, has_machine, is_member}
 use Rattle.placement_rules.proofs.apart.members.Given as goal
 
 abbrev pub invariant-loop-v : goal.invariant-loop-v

@@ -1,5 +1,4 @@
-use Rattle.base.proofs.Public.{None, copies_at}
-use Rattle.cluster.specs.Limits.{max_nodes}
+use Rattle.placement_rules.proofs.Prelude.{None, copies_at, max_nodes}
 use Rattle.placement_rules.proofs.apart.no_labels.Goals as goal
 
 pub returns : goal.returns

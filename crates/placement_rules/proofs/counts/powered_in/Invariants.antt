@@ -1,5 +1,4 @@
-use Rattle.std.proofs.Common.{◌≡◌, ◌≤◌, if◌then◌else◌}
-use Rattle.placement_rules.specs.Prelude.{choices_of, has_node, snapshot_at, sum_to}
+use Rattle.placement_rules.proofs.Prelude.{◌≡◌, ◌≤◌, if◌then◌else◌, choices_of, has_node, snapshot_at, sum_to}
 use Rattle.placement_rules.proofs.counts.powered_in.Given as goal
 
 abbrev pub invariant-loop-i : goal.invariant-loop-i

@@ -1,5 +1,4 @@
-use Rattle.std.proofs.Common.{◌≡◌, ◌*◌, ◌≤◌}
-use Rattle.placement_rules.specs.Prelude.{choices_of, has_node, snapshot_at, sum_to}
+use Rattle.placement_rules.proofs.Prelude.{◌≡◌, ◌*◌, ◌≤◌, choices_of, has_node, snapshot_at, sum_to}
 use Rattle.placement_rules.proofs.counts.total_on.Given as goal
 
 abbrev pub invariant-loop-v : goal.invariant-loop-v

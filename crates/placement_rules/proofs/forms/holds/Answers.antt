@@ -1,6 +1,4 @@
-use Rattle.std.proofs.Common.{slice_get}
-use Rattle.base.proofs.Public.{◌≡◌, Some, subst, length, refl, slice_get_read}
-use Rattle.placement_rules.specs.Prelude.{choices_of, Holds, snapshot_at}
+use Rattle.placement_rules.proofs.Prelude.{slice_get, ◌≡◌, Some, subst, length, refl, slice_get_read, choices_of, Holds, snapshot_at}
 use Rattle.placement_rules.proofs.forms.holds.Goals as goal
 
 pub returns : goal.returns

@@ -1,5 +1,4 @@
-use Rattle.std.proofs.Common.{◌∙◌, inl, refl, sym}
-use Rattle.placement_rules.specs.Prelude.{choices_of, snapshot_at}
+use Rattle.placement_rules.proofs.Prelude.{◌∙◌, inl, refl, sym, choices_of, snapshot_at}
 use Rattle.placement_rules.proofs.Reaching.{among, none_absent, together}
 use Rattle.placement_rules.proofs.groups.are_grouped.Goals as goal
 

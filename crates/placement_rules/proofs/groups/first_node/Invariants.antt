@@ -1,5 +1,4 @@
-use Rattle.std.proofs.Common.{◌≡◌, ℕ, ◌<◌, false}
-use Rattle.cluster.specs.Sets.{has_node}
+use Rattle.placement_rules.proofs.Prelude.{◌≡◌, ℕ, ◌<◌, false, has_node}
 use Rattle.placement_rules.proofs.groups.first_node.Given as goal
 
 abbrev pub invariant-loop-i : goal.invariant-loop-i

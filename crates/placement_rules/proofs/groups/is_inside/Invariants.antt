@@ -1,5 +1,4 @@
-use Rattle.std.proofs.Common.{ℕ, ◌<◌, IsTrue}
-use Rattle.cluster.specs.Sets.{has_node}
+use Rattle.placement_rules.proofs.Prelude.{ℕ, ◌<◌, IsTrue, has_node}
 use Rattle.placement_rules.proofs.groups.is_inside.Given as goal
 
 abbrev pub invariant-loop-i : goal.invariant-loop-i

@@ -1,6 +1,4 @@
-use Rattle.std.proofs.Common.{ℕ, ◌<◌, IsTrue, arith, refl, sym}
-use Rattle.std.proofs.lemmas.Bool.{iff_false}
-use Rattle.cluster.specs.Sets.{has_node}
+use Rattle.placement_rules.proofs.Prelude.{ℕ, ◌<◌, IsTrue, arith, refl, sym, iff_false, has_node}
 use Rattle.placement_rules.proofs.Reaching.{no_group_more}
 use Rattle.placement_rules.proofs.groups.is_inside_some.Goals as goal
 

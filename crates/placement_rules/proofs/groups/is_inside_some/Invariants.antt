@@ -1,5 +1,4 @@
-use Rattle.std.proofs.Common.{◌≡◌, ℕ, ◌<◌, slice_index_or, IsTrue}
-use Rattle.placement_rules.specs.Prelude.{has_node, NodeSet}
+use Rattle.placement_rules.proofs.Prelude.{◌≡◌, ℕ, ◌<◌, slice_index_or, IsTrue, has_node, NodeSet}
 use Rattle.placement_rules.proofs.groups.is_inside_some.Given as goal
 
 abbrev pub invariant-loop-group : goal.invariant-loop-group

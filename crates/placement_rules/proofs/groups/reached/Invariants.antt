@@ -1,5 +1,4 @@
-use Rattle.std.proofs.Common.{take}
-use Rattle.placement_rules.specs.Prelude.{AreReached, choices_of, snapshot_at}
+use Rattle.placement_rules.proofs.Prelude.{take, AreReached, choices_of, snapshot_at}
 use Rattle.placement_rules.proofs.groups.reached.Given as goal
 
 abbrev pub invariant-loop-v : goal.invariant-loop-v

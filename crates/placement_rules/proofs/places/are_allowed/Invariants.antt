@@ -1,5 +1,4 @@
-use Rattle.std.proofs.Common.{ℕ, take, IsTrue}
-use Rattle.placement_rules.specs.Prelude.{choices_of, is_member, IsAllowed, places_seen, snapshot_at}
+use Rattle.placement_rules.proofs.Prelude.{ℕ, take, IsTrue, choices_of, is_member, IsAllowed, places_seen, snapshot_at}
 use Rattle.placement_rules.proofs.places.are_allowed.Given as goal
 
 abbrev pub invariant-loop-v : goal.invariant-loop-v
