@@ -1,7 +1,5 @@
 -- The loop that asks one propagator after the other, and counts.
-use Rattle.std.proofs.Math.ListN.{set, length-set}
-use Rattle.base.proofs.Public.{◌≡◌, ℕ, suc, ◌+◌, ◌<◌, ◌≤◌, List, [], ◌∷◌, length, get_or, refl, arith, inl, inr, get_or-set_other, get_or-set_same, at_read, sum_by-cons, sum_by-set, cases_eq, cases_lt}
-use Rattle.prop_core.specs.Prelude.{AllQuiet, given_sum, Instance, IsAsked, Meaning, most, Rise, Sets}
+use Rattle.prop_core.proofs.Prelude.{set, length-set, ◌≡◌, ℕ, suc, ◌+◌, ◌<◌, ◌≤◌, List, [], ◌∷◌, length, get_or, refl, arith, inl, inr, get_or-set_other, get_or-set_same, at_read, sum_by-cons, sum_by-set, cases_eq, cases_lt, AllQuiet, given_sum, Instance, IsAsked, Meaning, most, Rise, Sets}
 use Rattle.prop_core.proofs.TurnLemmas.{Turned}
 
 pub record AskedQuiet (p : Instance) (s : Sets) (m n : Meaning) : Type 0 where

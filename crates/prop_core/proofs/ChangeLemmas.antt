@@ -1,10 +1,6 @@
 -- From what a trail says of a change to what those who are told of it require.
 use mathlib.Core.Path.{fun_ext}
-use Rattle.base.proofs.Public.{◌≡◌, Bool, true, false, cond, List, length, refl, sym, ◌∙◌, ap, subst, eq-eqb, Contains, filter}
-use Rattle.prop_core.specs.Prelude.{AllFollow, AreFewer, AreLegal, Before, Change, Choice, choices, domain_at, domain_before, DomainView, Element, Instance, IsElement, IsNarrowed, IsRegionOf, keeping, Marked, Meaning, Node, on_side, RegionView, same_element, Sets, sets, TopsAgree, Vm}
-use Rattle.domains.proofs.Public.{filter_is_fewer, same_is}
-use Rattle.relax.proofs.Public.{legal_stays}
-use Rattle.domains.specs.SetsBefore.{sets_before}
+use Rattle.prop_core.proofs.Prelude.{◌≡◌, Bool, true, false, cond, List, length, refl, sym, ◌∙◌, ap, subst, eq-eqb, Contains, filter, AllFollow, AreFewer, AreLegal, Before, Change, Choice, choices, domain_at, domain_before, DomainView, Element, Instance, IsElement, IsNarrowed, IsRegionOf, keeping, Marked, Meaning, Node, on_side, RegionView, same_element, Sets, sets, TopsAgree, Vm, filter_is_fewer, same_is, legal_stays, sets_before}
 use Rattle.prop_core.proofs.LevelLemmas.{tops}
 
 self : (x : Element) → same_element x x ≡ true

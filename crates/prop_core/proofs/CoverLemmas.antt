@@ -1,6 +1,5 @@
 -- What a list covers, kind by kind, and after calls that leave the kinds.
-use Rattle.std.proofs.Common.{◌≡◌, ◌∙◌, ◌↔◌, ◌&&◌, Bool, IsTrue, refl, true, false, List, [], ◌∷◌, length, suc, arith}
-use Rattle.prop_core.specs.Prelude.{Covered, Instance, is_covered, IsAsked, IsStandard, Meaning, Pairs, ReasonKind, SameCover, SameRule, Sets}
+use Rattle.prop_core.proofs.Prelude.{◌≡◌, ◌∙◌, ◌↔◌, ◌&&◌, Bool, IsTrue, refl, true, false, List, [], ◌∷◌, length, suc, arith, Covered, Instance, is_covered, IsAsked, IsStandard, Meaning, Pairs, ReasonKind, SameCover, SameRule, Sets}
 use Rattle.reasons.specs.declared.reason.ReasonKind.TheVariants as kind
 
 and_true : (a b : Bool) → (a && b) ≡ true → (a ≡ true) × (b ≡ true)

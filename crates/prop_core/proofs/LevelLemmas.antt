@@ -1,6 +1,5 @@
 -- Levels that follow the marks of a trail.
-use Rattle.std.proofs.Common.{◌≡◌, ℕ, suc, ◌+◌, ◌<◌, ◌≤◌, List, [], ◌∷◌, length, get_or, sym, ◌∙◌, ap, subst, arith, All}
-use Rattle.prop_core.specs.Prelude.{AllFollow, AtMarks, BackSame, Follows, Instance, IsAsked, KeepsBelow, Marked, MarkedSame, Meaning, most, Pairs, PostedSame, RegionView, sets, ToldSame, TopAgrees, TopsAgree}
+use Rattle.prop_core.proofs.Prelude.{◌≡◌, ℕ, suc, ◌+◌, ◌<◌, ◌≤◌, List, [], ◌∷◌, length, get_or, sym, ◌∙◌, ap, subst, arith, All, AllFollow, AtMarks, BackSame, Follows, Instance, IsAsked, KeepsBelow, Marked, MarkedSame, Meaning, most, Pairs, PostedSame, RegionView, sets, ToldSame, TopAgrees, TopsAgree}
 use Rattle.prop_core.proofs.PairLemmas.{All-after}
 
 -- a level below n that is kept is one of at most n marks

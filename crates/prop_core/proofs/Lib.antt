@@ -1,3 +1,4 @@
+mod Prelude
 -- Public has what crates above may cite; the rest is for this crate alone.
 pub mod Public
 mod TurnLemmas

@@ -1,6 +1,5 @@
 -- What holds of each pair before and after, one call after the other.
-use Rattle.std.proofs.Common.{◌≡◌, ℕ, ◌+◌, ◌<◌, ◌≤◌, List, length, get_or, refl, ◌∙◌, arith, All}
-use Rattle.prop_core.specs.Prelude.{given_sum, Meaning, most, Pairs, Rise}
+use Rattle.prop_core.proofs.Prelude.{◌≡◌, ℕ, ◌+◌, ◌<◌, ◌≤◌, List, length, get_or, refl, ◌∙◌, arith, All, given_sum, Meaning, most, Pairs, Rise}
 use Rattle.prop_core.proofs.AskLemmas.{Rise-same}
 
 module _ {B : Type 0} (m : B → Meaning) where

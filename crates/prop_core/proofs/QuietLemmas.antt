@@ -1,9 +1,6 @@
 -- Where all are quiet, and each standard kind is covered, the sets are closed.
-use Rattle.std.proofs.Common.{All}
-use Rattle.base.proofs.Public.{◌≡◌, true, List, subst, Any-from_list_any}
-use Rattle.prop_core.specs.Prelude.{AllQuiet, AllRight, Covered, HaveChoices, Instance, is_covered, IsClosed, IsQuietKind, IsStandard, Meaning, Quiet, ReasonKind, Sets}
+use Rattle.prop_core.proofs.Prelude.{All, ◌≡◌, true, List, subst, Any-from_list_any, AllQuiet, AllRight, Covered, HaveChoices, Instance, is_covered, IsClosed, IsQuietKind, IsStandard, Meaning, Quiet, ReasonKind, Sets, closed_by_kinds}
 use Rattle.reasons.specs.declared.reason.ReasonKind.TheVariants as kind
-use Rattle.reasons.proofs.Public.{closed_by_kinds}
 
 -- a kind that some propagator covers is quiet where all are
 covered-quiet : {B : Type 0} (m : B → Meaning) (p : Instance) (s : Sets) (xs : List B) (k : ReasonKind) → is_covered m xs k ≡ true → All (λ b. AllQuiet p s (m b)) xs → IsQuietKind p s k

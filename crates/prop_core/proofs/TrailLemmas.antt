@@ -1,8 +1,5 @@
 -- What a trail's regions stay, call after call, and that a cut takes a choice away.
-use Rattle.std.proofs.Common.{All}
-use Rattle.base.proofs.Public.{◌≡◌, ◌<◌, Bool, not, List, [], ◌∷◌, length, sym, ap, subst, arith, All-cons, All-head, All-tail}
-use Rattle.prop_core.specs.Prelude.{Choice, choice_count, CutHolds, Element, Instance, IsElement, IsOneOf, IsRegionOf, IsTrailOf, keeping, machine_count, Marked, Node, node_count, out_of_part, Part, Reason, RegionView, Sets, sets, Vm}
-use Rattle.domains.proofs.Public.{count_falls_below}
+use Rattle.prop_core.proofs.Prelude.{All, ◌≡◌, ◌<◌, Bool, not, List, [], ◌∷◌, length, sym, ap, subst, arith, All-cons, All-head, All-tail, Choice, choice_count, CutHolds, Element, Instance, IsElement, IsOneOf, IsRegionOf, IsTrailOf, keeping, machine_count, Marked, Node, node_count, out_of_part, Part, Reason, RegionView, Sets, sets, Vm, count_falls_below}
 use Rattle.prop_core.proofs.ChangeLemmas.{region_stays}
 
 pub trail_started : (p : Instance) (t : Marked) → IsRegionOf p t.region → t.marks ≡ [] → IsTrailOf p t

@@ -1,7 +1,5 @@
 -- A loop that changes one rule after the other.
-use Rattle.std.proofs.Math.ListN.{set, length-set}
-use Rattle.base.proofs.Public.{◌≡◌, ℕ, ◌+◌, ◌<◌, ◌≤◌, ◌≢◌, List, length, get_or, refl, ◌∙◌, arith, inl, inr, get_or-set_other, get_or-set_same, cases_eq, cases_lt}
-use Rattle.prop_core.specs.Prelude.{Meaning, Pairs}
+use Rattle.prop_core.proofs.Prelude.{set, length-set, ◌≡◌, ℕ, ◌+◌, ◌<◌, ◌≤◌, ◌≢◌, List, length, get_or, refl, ◌∙◌, arith, inl, inr, get_or-set_other, get_or-set_same, cases_eq, cases_lt, Meaning, Pairs}
 
 -- the rules below the index i have changed by R, and the others are the old ones
 pub record Turned {B : Type 0} (m : B → Meaning) (R : Meaning → Meaning → Type 0) (i : ℕ) (xs ys : List B) : Type 0 where

@@ -1,8 +1,6 @@
 -- Propagators that follow a trail: a level for each of its marks, and one for its region.
 use Rattle.std.specs.Prelude.{◌≡◌, List, [], ◌∷◌, length, All}
-use Rattle.catalogue.specs.Instance.{Instance}
-use Rattle.domains.specs.Sets.{RegionView, sets}
-use Rattle.trail.specs.Logs.{Marked}
+use Rattle.prop_core.specs.Words.{Instance, RegionView, sets, Marked}
 use Rattle.prop_core.specs.Propagators.{IsRegionOf, Meaning, TopAgrees}
 
 -- each mark's level agrees with the region at the mark; the marks, newest first, have the levels below their number

@@ -3,4 +3,5 @@ pub mod Propagators
 pub mod Lists
 pub mod Levels
 pub mod Tests
+pub mod Words
 pub mod Prelude

@@ -1,9 +1,7 @@
 -- Lists of propagators; `m` gives what each means.
 use Rattle.std.specs.Prelude.{All, sum_by, ◌≡◌, ℕ, ◌+◌, ◌<◌, ◌≤◌, Bool, List, length, slice_index_or, Result, Ok, Err, IsTrue}
 use Rattle.std.specs.List.{list_any}
-use Rattle.relax.specs.Prelude.{Instance, Sets}
-use Rattle.base.specs.declared.memory.Memory.{Memory}
-use Rattle.reasons.specs.declared.reason.ReasonKind.{ReasonKind}
+use Rattle.prop_core.specs.Words.{Instance, Sets, Memory, ReasonKind}
 use Rattle.prop_core.specs.declared.propagator.Answer.{Answer}
 use Rattle.prop_core.specs.declared.propagator.Answer.TheVariants.{Quiet, Cut, Fail}
 use Rattle.prop_core.specs.Propagators.{AllQuiet, CutHolds, FailHolds, IsBack, IsMarked, IsPosted, IsStandard, IsTold, Meaning, SameRule, TopAgrees, most}

@@ -1,18 +1,7 @@
 -- What a propagator means, and what each of its calls leaves.
 use Rattle.std.specs.Prelude.{◌≡◌, ℕ, ◌+◌, ◌<◌, ◌^◌, ◌-◌, Bool, true, min, max, filter, IsTrue, None}
 use Rattle.std.specs.List.{Contains}
-use Rattle.relax.specs.Prelude.{AreLegal, choices, domain_at, domain_before, DomainView, in_part, Instance, IsElement, IsQuietKind, IsSized, keeping, on_side, Refutes, RegionView, same_element, Sets, sets}
-use Rattle.cluster.specs.declared.choices.Choice.{Choice}
-use Rattle.cluster.specs.declared.ids.Element.{Element}
-use Rattle.domains.specs.declared.parts.Change.{Change}
-use Rattle.domains.specs.declared.parts.Part.{Part}
-use Rattle.domains.specs.declared.undo.Before.{Before}
-use Rattle.domains.specs.Choices.{DomainView, choices}
-use Rattle.domains.specs.Parts.{in_part, on_side}
-use Rattle.domains.specs.Sets.{RegionView, Sets, domain_at, keeping, sets}
-use Rattle.domains.specs.SetsBefore.{sets_before}
-use Rattle.reasons.specs.declared.reason.Reason.{Reason}
-use Rattle.reasons.specs.declared.reason.ReasonKind.{ReasonKind}
+use Rattle.prop_core.specs.Words.{AreLegal, choices, domain_at, domain_before, DomainView, in_part, Instance, IsElement, IsQuietKind, IsSized, keeping, on_side, Refutes, RegionView, same_element, Sets, sets, Choice, Element, Change, Part, Before, sets_before, Reason, ReasonKind}
 use Rattle.reasons.specs.declared.reason.Reason.TheVariants as reason
 use Rattle.reasons.specs.declared.reason.ReasonKind.TheVariants as kind
 use Rattle.prop_core.specs.declared.propagator.Answer.{Answer}

@@ -1,5 +1,4 @@
-use Rattle.std.proofs.Common.{◌≡◌, take, false}
-use Rattle.prop_core.specs.Lists.{is_covered}
+use Rattle.prop_core.proofs.Prelude.{◌≡◌, take, false, is_covered}
 use Rattle.prop_core.proofs.cover.some_covers.Given as goal
 
 abbrev pub invariant-loop-rule : goal.invariant-loop-rule
