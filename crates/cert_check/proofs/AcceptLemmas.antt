@@ -1,14 +1,7 @@
 -- What is written of a tree is accepted, and there is no other verdict on it.
-use Rattle.std.proofs.Common.{◌≡◌, ◌∙◌, inl, inr, ℕ, Bool, true, false, List, [], ◌∷◌, ◌++◌, map, Option, Some, None, Result, Ok, Err, refl, sym, ap, subst, append-nil}
-use Rattle.cert_check.specs.Prelude.{AreTaken, AtEach, bound_of, certificate_text, CertificateIsAccepted, CheckFault, Choices, Cut, Decide, decisions, End, Fail, Goal as GoalWhy, has_left, Instance, IsEndWhy, IsFault, IsFit, IsGoal, IsGoalRefused, IsHandedIn, IsInstance, IsLean, IsProof, IsRefused, IsStepRefused, IsTextWhy, IsWrong, IsYes, IsYesUnlessOutside, Leads, LeadsTo, Lean, LeanAt, least_along, least_cost, least_of, Left, left_set, Line, lines_of, LinesGive, lower_of, lowest, Memory, Name, named_step, No, Over, Part, PartHolds, Plan, PlanHolds, Position, Proves, ReadsOn, Reason, ReasonHolds, Sets, shown, start, start_sets, step_text, StepHolds, steps_of, StepText, Structure, Tree, turn, Verdict, WalkAt, Why, Yes}
-use Rattle.trees.specs.declared.steps.Goal.{Goal}
-use Rattle.trees.specs.declared.steps.Step.{Step}
-use Rattle.trees.specs.declared.steps.Step.TheVariants.{Plan as PlanStep}
-use Rattle.trees.proofs.Public.{at_each_both, at_each_map, gathered_whole, leads_same, leads_split, leads_tree}
-use Rattle.cert_read.proofs.Public.{certificates_read_back}
-use Rattle.cert_check.proofs.LineLemmas.{front_named, front_read, goal_next, no_fault, no_fault_here, read_up, step_next}
-use Rattle.cert_check.proofs.NamedLemmas.{step_here}
-use Rattle.cert_check.proofs.WrittenLemmas.{AreNamedSteps, all_here, all_named, all_written, goal_fits, one_named}
+use Rattle.cert_check.proofs.Prelude.{◌≡◌, ◌∙◌, inl, inr, ℕ, Bool, true, List, [], ◌∷◌, ◌++◌, map, Option, Some, None, Result, Ok, Err, refl, sym, ap, subst, append-nil, AreTaken, bound_of, certificate_text, CertificateIsAccepted, CheckFault, Choices, Cut, Decide, decisions, End, Fail, has_left, Instance, IsEndWhy, IsFault, IsFit, IsGoal, IsGoalRefused, IsHandedIn, IsInstance, IsLean, IsProof, IsRefused, IsStepRefused, IsTextWhy, IsWrong, IsYes, IsYesUnlessOutside, Leads, LeadsTo, Lean, least_along, least_cost, least_of, Left, left_set, Line, lines_of, LinesGive, lower_of, lowest, Memory, Name, named_step, No, Over, Part, PartHolds, PlanHolds, Position, Proves, ReadsOn, Reason, ReasonHolds, Sets, shown, start, start_sets, step_text, StepHolds, steps_of, StepText, Structure, Tree, turn, Verdict, WalkAt, Why, Yes, Goal, Step, Plan as PlanStep, gathered_whole, leads_same, leads_split, certificates_read_back, whole_of}
+use Rattle.cert_check.proofs.{LineLemmas.front_named, LineLemmas.front_read, LineLemmas.goal_next, LineLemmas.no_fault, LineLemmas.no_fault_here, LineLemmas.read_up, LineLemmas.step_next, NamedLemmas.step_here, WrittenLemmas.AreNamedSteps, WrittenLemmas.all_here, WrittenLemmas.all_named, WrittenLemmas.all_written, WrittenLemmas.goal_fits, WrittenLemmas.one_named}
+use Rattle.cert_check.specs.Prelude.{Goal as GoalWhy, Plan}
 
 -- ---- nothing is wrong with a step that holds, and is lean where that is asked
 
@@ -57,15 +50,8 @@ no_end_why p bound strict steps goal Lean proof shows wrong = wrong
 
 -- ---- the steps of a tree lead to its end
 
-walk_of : (p : Instance) (bound : Option ℕ) (strict : Bool) (t : Tree) → Proves p bound (start_sets p) t → (strict ≡ true → IsLean p (start_sets p) t) → AtEach (WalkAt p bound strict) [] (start_sets p) t
-walk_of p bound true t proves lean =
-    at_each_map (λ e s step. StepHolds p bound s step × LeanAt p e s step) (WalkAt p bound true) (λ e s step h. (h.0, λ asked. h.1)) t [] (start_sets p)
-    (at_each_both (λ e. StepHolds p bound) (LeanAt p) t [] (start_sets p) proves (lean refl))
-walk_of p bound false t proves lean =
-    at_each_map (λ e. StepHolds p bound) (WalkAt p bound false) (λ e s step h. (h, λ asked. absurd (cc))) t [] (start_sets p) proves
-
 whole_tree : (p : Instance) (bound : Option ℕ) (strict : Bool) (t : Tree) → Proves p bound (start_sets p) t → (strict ≡ true → IsLean p (start_sets p) t) → LeadsTo p bound strict (steps_of t) []
-whole_tree p bound strict t proves lean = leads_tree (WalkAt p bound strict) t [] (start_sets p) [] (walk_of p bound strict t proves lean)
+whole_tree p bound strict t proves lean = whole_of p bound strict (steps_of t) (record { tree = t; same = refl; proves = proves; lean = lean })
 
 least_of_tree : (p : Instance) (plan : Option Choices) (t : Tree) → least_along p (bound_of p plan) (steps_of t) ≡ least_of p plan t
 least_of_tree p plan t = ap (λ sets. lower_of (bound_of p plan) (lowest (least_cost p) sets)) (gathered_whole left_set t (start_sets p))

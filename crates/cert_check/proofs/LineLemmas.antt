@@ -1,12 +1,9 @@
 -- The lines of a text that was written are the steps and the goal of its tree, and nothing else is read of it.
-use Rattle.std.proofs.Common.{◌≡◌, ◌∙◌, ℕ, ◌==◌, Bool, true, false, List, [], ◌∷◌, ◌++◌, drop, length, map, Some, Result, Ok, Err, refl, sym, ap, subst, if◌then◌else◌}
-use Rattle.cert_check.specs.Prelude.{AreSteps, as_line, End, end_at, end_of, Faults, first_line_at, header_bytes, Instance, is_end, IsInstance, IsOutside, line_at, LineFault, lines_of, LineText, named_step, NotALine, Over, Position, position_after, ReadFault, ReadsOn, Short, Step as StepLine, step_text, StepText, text_at, TooLong, turn}
-use Rattle.trees.specs.declared.steps.Goal.{Goal}
-use Rattle.trees.specs.declared.steps.Step.{Step}
-use Rattle.cert_text.specs.declared.text.LineText.TheVariants.{Step as StepLineText, End as EndText}
-use Rattle.cert_read.specs.declared.line.Line.{Line}
-use Rattle.cert_read.specs.declared.line.LineFault.TheVariants.{Memory}
+use Rattle.cert_check.proofs.Prelude.{◌≡◌, ◌∙◌, ℕ, ◌==◌, Bool, true, false, List, [], ◌∷◌, ◌++◌, drop, length, map, Some, Result, Ok, Err, refl, sym, ap, subst, if◌then◌else◌, AreSteps, as_line, End, end_at, end_of, Faults, first_line_at, header_bytes, Instance, is_end, IsInstance, IsOutside, line_at, LineFault, lines_of, LineText, named_step, NotALine, Over, Position, position_after, ReadFault, ReadsOn, Short, step_text, StepText, text_at, TooLong, turn, Goal, Step}
 use Rattle.cert_check.proofs.WrittenLemmas.{AreNamedSteps, all_here, first_named}
+use Rattle.cert_check.specs.Prelude.{Step as StepLine}
+use Rattle.cert_text.specs.declared.text.LineText.TheVariants.{Step as StepLineText, End as EndText}
+use Rattle.cert_read.specs.declared.line.{Line.Line, LineFault.TheVariants.Memory}
 
 -- ---- where the file is over, the position stays
 

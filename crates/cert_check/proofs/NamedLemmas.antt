@@ -1,12 +1,8 @@
 -- The text of a step names that step.
-use Rattle.std.proofs.Common.{map}
-use Rattle.base.proofs.Public.{◌≡◌, ◌∙◌, ℕ, zero, suc, ◌+◌, ◌<◌, ◌≤◌, ◌==◌, ◌&&◌, ◌||◌, Bool, true, false, nat_lt, List, [], ◌∷◌, length, Some, refl, sym, ap, arith, inl, inr, filter, list_all, range_with_len, and_parts, cases_eq, cases_lt, nat_tests}
-use Rattle.cert_check.specs.Prelude.{AreListed, as_instant, At, Element, element_name, first_nodes, From, has_all, has_node, HasPart, HasPlace, Idle, Instance, inventory_of, IsElement, IsInstance, IsNamed, IsNumber, machine_count, max_nodes, named_constraint, named_element, named_hall, named_load, named_machine, named_node, named_nodes, named_pair, named_part, named_place, named_reason, named_resource, named_stay, named_step, named_use, no_nodes, Node, node, node_added, node_count, NodeId, nodes_added, nodes_text, NodeSet, Nowhere, part_text, place_name, reason_text, resource_name, step_text, Upto, Vm, VmId, with_node, Word}
-use Rattle.cluster.specs.declared.choices.Place.{Place}
+use Rattle.cert_check.proofs.Prelude.{map, ◌≡◌, ◌∙◌, ℕ, zero, suc, ◌+◌, ◌<◌, ◌≤◌, ◌==◌, ◌&&◌, ◌||◌, Bool, true, false, nat_lt, List, [], ◌∷◌, length, Some, refl, sym, ap, arith, inl, inr, filter, range_with_len, cases_eq, cases_lt, nat_tests, AreListed, as_instant, At, Element, element_name, first_nodes, From, has_all, has_node, HasPart, HasPlace, Instance, inventory_of, IsElement, IsInstance, IsNamed, IsNumber, machine_count, max_nodes, named_constraint, named_element, named_hall, named_load, named_machine, named_node, named_nodes, named_pair, named_part, named_place, named_resource, named_stay, named_step, named_use, no_nodes, Node, node, node_added, node_count, NodeId, nodes_added, nodes_text, NodeSet, Nowhere, part_text, place_name, reason_text, resource_name, step_text, Upto, Vm, VmId, with_node, Word, Place, Step, element_named-name_of, resource_named-listed, has_node-no_nodes, has_node-with_node, same_set, Idle, each_passes}
+use Rattle.cert_check.specs.Prelude.{named_reason}
 use Rattle.domains.specs.declared.parts.Part.{Part}
 use Rattle.reasons.specs.declared.reason.Reason.{Reason}
-use Rattle.trees.specs.declared.steps.Step.{Step}
-use Rattle.cluster.proofs.Public.{element_named-name_of, resource_named-listed, has_node-no_nodes, has_node-with_node, same_set}
 use Rattle.reasons.specs.declared.reason.Reason.TheVariants as reason
 use Rattle.trees.specs.declared.steps.Step.TheVariants as step
 
@@ -64,13 +60,6 @@ has_first : (n m : ℕ) → n ≤ max_nodes → has_node (first_nodes n) m ≡ n
 unfolding first_nodes
 has_first zero m few = let none : nat_lt m 0 ≡ false = grind (arith, nat_tests) in has_node-no_nodes m ∙ sym none
 has_first (suc n) m few = has_node-with_node (first_nodes n) n m (omega arith) ∙ ap (λ b. (m == n) || b) (has_first n m (omega arith)) ∙ one_more m n
-
--- what each number of a range passes
-each_passes : (test : ℕ → Bool) (first count n : ℕ) → list_all test (range_with_len first count) ≡ true → first ≤ n → n < first + count → test n ≡ true
-each_passes test first zero n all low high = absurd (omega arith)
-each_passes test first (suc count) n all low high =
-    let both = and_parts (test first) (list_all test (range_with_len (first + 1) count)) all in
-    elim (cases_eq n first) [ inl same ↦ ap test same ∙ both.0 | inr other ↦ each_passes test (first + 1) count n both.1 (omega arith) (omega arith) ]
 
 -- a set that has all nodes of the instance, and no other
 all_nodes_are : (p : Instance) → IsInstance p → (set : NodeSet) → AreListed p set → has_all p set ≡ true → first_nodes (node_count p) ≡ set

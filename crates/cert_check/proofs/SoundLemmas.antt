@@ -1,7 +1,5 @@
 -- A yes is sound.
-use Rattle.std.proofs.Common.{Bool, List, ℕ, IfOk, Option, Result, Ok, Err, subst, sym}
-use Rattle.cert_check.specs.Prelude.{bound_of, CheckFault, Choices, Concludes, GoalHolds, Instance, IsHandedIn, IsInstance, IsSound, No, Verdict, Yes}
-use Rattle.cert_model.proofs.Public.{proofs_hold}
+use Rattle.cert_check.proofs.Prelude.{Bool, List, ℕ, IfOk, Option, Result, Ok, Err, subst, sym, bound_of, CheckFault, Choices, Concludes, GoalHolds, Instance, IsHandedIn, IsInstance, IsSound, No, Verdict, Yes, proofs_hold}
 
 pub yes_is_sound : (p : Instance) → IsInstance p → (plan : Option Choices) → IsHandedIn p plan → (strict : Bool) (tells : Type 0) (file : List ℕ) (result : Result Verdict CheckFault) → Concludes p (bound_of p plan) strict tells file result → IfOk result (IsSound p plan)
 yes_is_sound p sound plan handed strict tells file (Ok (Yes goal least)) said =

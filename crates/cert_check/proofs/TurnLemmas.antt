@@ -1,9 +1,6 @@
 -- One more line.
-use Rattle.std.proofs.Common.{map, Result, Err, MatchOption, if◌then◌else◌}
-use Rattle.base.proofs.Public.{◌≡◌, inl, inr, ℕ, ◌<◌, ◌==◌, Bool, true, false, List, [], ◌∷◌, ◌++◌, drop, Option, Some, None, Ok, IsErrAnd, refl, sym, ap, subst, ◌∙◌, arith, length-append, map-append}
-use Rattle.cert_check.specs.Prelude.{AreSteps, bytes_of, Concludes, End, end_at, end_of, Ends, Faults, first_line_at, Instance, IsEndWhy, IsLeast, IsMoved, IsProof, IsShown, IsTaken, IsTextWhy, IsUnderway, Kept, least_along, Line, line_at, LineFault, named_step, No, Over, Position, shown, start, Step as StepLine, StepText, TextAnswers, turn, Why, Yes}
-use Rattle.trees.specs.declared.steps.Goal.{Goal}
-use Rattle.trees.specs.declared.steps.Step.{Step}
+use Rattle.cert_check.proofs.Prelude.{map, Result, Err, MatchOption, if◌then◌else◌, ◌≡◌, inl, inr, ℕ, ◌<◌, ◌==◌, Bool, true, false, List, [], ◌∷◌, ◌++◌, drop, Option, Some, None, Ok, IsErrAnd, refl, sym, ap, subst, ◌∙◌, arith, length-append, map-append, AreSteps, bytes_of, Concludes, End, end_at, end_of, Ends, Faults, first_line_at, Instance, IsEndWhy, IsLeast, IsMoved, IsProof, IsShown, IsTaken, IsTextWhy, IsUnderway, Kept, least_along, Line, line_at, LineFault, named_step, No, Over, Position, shown, start, StepText, TextAnswers, turn, Why, Yes, Goal, Step}
+use Rattle.cert_check.specs.Prelude.{Step as StepLine}
 use Rattle.cert_read.specs.declared.line.Line.{Line as ALine}
 
 -- ---- one more step that was read
@@ -99,11 +96,6 @@ file_kept tells file old new name known same files named told = same told ∙ sy
 
 pub moved_step : (old new : Position) (line : ALine) (text : StepText) → line ≡ StepLine text → IsMoved old new line → (old.place < new.place) × (new.ended ≡ false)
 moved_step old new line text is moved = let m = subst (IsMoved old new) is moved in (m.0, m.2)
-
--- what is not some value is none
-pub no_value : {A : Type 0} (o : Option A) → ((x : A) → o ≡ Some x → ⊥) → o ≡ None
-no_value None h = refl
-no_value (Some x) h = absurd (h x refl)
 
 -- an error that is handed on
 pub error_is : {A E : Type 0} (r : Result A E) (e : E) → IsErrAnd r (λ x. x ≡ e) → r ≡ Err e

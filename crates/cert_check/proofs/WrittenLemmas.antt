@@ -1,17 +1,7 @@
 -- The steps of a tree that proves all legal choices can be written, and name what they are.
-use Rattle.std.proofs.Common.{map, IsTrue}
-use Rattle.base.proofs.Public.{◌≡◌, ℕ, ◌+◌, ◌*◌, ◌≤◌, Bool, true, false, List, [], ◌∷◌, ◌++◌, Option, Some, None, refl, sym, subst, arith, All, All-head, All-tail, All-weaker, sum_to-bound}
-use Rattle.cert_check.specs.Prelude.{Act, AreWritable, bound_of, children, Choice, Choices, cost_of, Cut, Decide, decisions, Element, Fail, goal_of, HasStep, HasWritablePart, in_part, Instance, is_legal, IsGoal, IsHandedIn, IsIn, IsInstance, IsNumber, IsPlan, IsPlanLeaf, IsWritable, Leads, Left, machine_count, max_cost, named_step, node, node_count, out_of_part, Proves, Sets, start_sets, step_text, StepHolds, steps_of, sum_to, Tree, vm}
-use Rattle.cluster.specs.declared.choices.Choice.TheVariants.{Idle}
-use Rattle.slices.specs.Actions.{end_of}
-use Rattle.trees.specs.declared.steps.Step.{Step}
-use Rattle.trees.specs.declared.steps.Step.TheVariants.{Plan}
-use Rattle.slices.proofs.Public.{ends_by_duration, legal_acts_last}
-use Rattle.domains.proofs.Public.{plan_stays}
-use Rattle.reasons.proofs.Public.{start_is_plan}
-use Rattle.trees.proofs.Public.{leads_tree, only_in}
-use Rattle.cert_text.proofs.Public.{named_reason}
+use Rattle.cert_check.proofs.Prelude.{map, ◌≡◌, ℕ, ◌+◌, ◌*◌, ◌≤◌, Bool, true, false, List, [], ◌∷◌, ◌++◌, Option, Some, None, refl, subst, arith, All, All-head, All-tail, All-weaker, sum_to-bound, AreWritable, bound_of, children, Choices, cost_of, Cut, Decide, decisions, Fail, goal_of, HasStep, HasWritablePart, in_part, Instance, IsGoal, IsHandedIn, IsIn, IsInstance, IsNumber, IsPlan, IsPlanLeaf, IsWritable, Leads, Left, machine_count, max_cost, named_step, node, node_count, out_of_part, Proves, Sets, start_sets, step_text, StepHolds, steps_of, sum_to, Tree, vm, Step, Plan, plan_stays, start_is_plan, leads_tree, only_in, named_reason, end_small}
 use Rattle.cert_check.proofs.NamedLemmas.{IsNamedStep, step_here}
+use Rattle.slices.specs.Actions.{end_of}
 
 -- ---- a tree whose steps can be written
 
@@ -30,11 +20,6 @@ is_writable p t steps few = record {
 
 -- ---- how great a cost is
 
-legal_end : (p : Instance) → IsInstance p → (e : Element) (c : Choice) → IsTrue (is_legal p e c) → end_of p e c ≤ p.horizon
-unfolding end_of
-legal_end p is e Idle legal = omega arith
-legal_end p is e (Act place start) legal = subst (λ n. n ≤ p.horizon) (sym (ends_by_duration p e place start)) (legal_acts_last p is e place start legal).1
-
 ends_in_all : (m n h a b : ℕ) → m ≤ 4096 → n ≤ 512 → h ≤ 1000000 → a ≤ m * h → b ≤ n * h → a + b ≤ max_cost
 ends_in_all m n h a b few_machines few_nodes early all_machines all_nodes = grind (arith, few_machines, few_nodes, early, all_machines, all_nodes)
 
@@ -43,8 +28,8 @@ cost_is_small p is plan legal =
     ends_in_all (machine_count p) (node_count p) p.horizon
     (sum_to (machine_count p) (λ v. end_of p (vm v) (plan (vm v)))) (sum_to (node_count p) (λ n. end_of p (node n) (plan (node n))))
     is.inventory.few_machines is.inventory.few_nodes is.horizon
-    (sum_to-bound (machine_count p) p.horizon (λ v. end_of p (vm v) (plan (vm v))) (λ v l. legal_end p is (vm v) (plan (vm v)) (legal (vm v) l)))
-    (sum_to-bound (node_count p) p.horizon (λ n. end_of p (node n) (plan (node n))) (λ n l. legal_end p is (node n) (plan (node n)) (legal (node n) l)))
+    (sum_to-bound (machine_count p) p.horizon (λ v. end_of p (vm v) (plan (vm v))) (λ v l. end_small p is (vm v) (plan (vm v)) (legal (vm v) l)))
+    (sum_to-bound (node_count p) p.horizon (λ n. end_of p (node n) (plan (node n))) (λ n l. end_small p is (node n) (plan (node n)) (legal (node n) l)))
 
 cost_fits : (p : Instance) → IsInstance p → (plan : Choices) → IsPlan p plan → IsNumber (cost_of p plan)
 cost_fits p is plan legal = omega (arith, cost_is_small p is plan legal)

@@ -2,14 +2,8 @@
 use Rattle.std.specs.Prelude.{◌≡◌, ℕ, ◌<◌, ◌^◌, Bool, true, List, Option, Result, Ok, Err}
 use Rattle.std.specs.List.{All}
 use Rattle.cert_read.specs.Prelude.{certificate_text, Choices, decisions, HasPart, Instance, IsCertificate, IsHandedIn, IsInstance, IsLean, IsOutside, least_of, start_sets, steps_of, Tree}
-use Rattle.trees.specs.declared.steps.Goal.{Goal}
-use Rattle.trees.specs.declared.steps.Step.{Step}
-use Rattle.trees.specs.declared.steps.Step.TheVariants.{Decide, Cut, Fail, Plan, Left}
-use Rattle.cert_check.specs.declared.verdict.CheckFault.{CheckFault}
-use Rattle.cert_check.specs.declared.verdict.CheckFault.TheVariants.{Line, Memory}
-use Rattle.cert_check.specs.declared.verdict.Verdict.{Verdict}
-use Rattle.cert_check.specs.declared.verdict.Verdict.TheVariants.{Yes, No}
-use Rattle.cert_check.specs.Verdicts.{CheckGives}
+use Rattle.trees.specs.declared.steps.{Goal.Goal, Step.Step, Step.TheVariants.Decide, Step.TheVariants.Cut, Step.TheVariants.Fail, Step.TheVariants.Plan, Step.TheVariants.Left}
+use Rattle.cert_check.specs.{declared.verdict.CheckFault.CheckFault, declared.verdict.CheckFault.TheVariants.Line, declared.verdict.CheckFault.TheVariants.Memory, declared.verdict.Verdict.Verdict, declared.verdict.Verdict.TheVariants.Yes, declared.verdict.Verdict.TheVariants.No, Verdicts.CheckGives}
 
 -- ---- which trees can be written
 

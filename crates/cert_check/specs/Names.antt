@@ -1,24 +1,11 @@
 -- Which step of a problem the text of a step names, if it names one.
 use Rattle.std.specs.Prelude.{ℕ, zero, suc, List, [], ◌∷◌, length, min, nat_lt, Option, Some, None, if◌then◌else◌}
 use Rattle.cert_read.specs.Prelude.{element_named, has_node, Instance, inventory_of, no_nodes, node_count, resource_named, with_node, Word}
-use Rattle.cluster.specs.declared.choices.Place.{Place}
-use Rattle.cluster.specs.declared.choices.Place.TheVariants.{Nowhere, At}
-use Rattle.cluster.specs.declared.ids.Element.{Element}
-use Rattle.cluster.specs.declared.ids.Element.TheVariants.{Vm, Node}
-use Rattle.cluster.specs.declared.ids.NodeId.{NodeId}
-use Rattle.cluster.specs.declared.ids.VmId.{VmId}
-use Rattle.cluster.specs.declared.sets.NodeSet.{NodeSet}
+use Rattle.cluster.specs.declared.{choices.Place.Place, choices.Place.TheVariants.Nowhere, choices.Place.TheVariants.At, ids.Element.Element, ids.Element.TheVariants.Vm, ids.Element.TheVariants.Node, ids.NodeId.NodeId, ids.VmId.VmId, sets.NodeSet.NodeSet}
 use Rattle.domains.specs.declared.parts.Part.{Part}
 use Rattle.reasons.specs.declared.reason.Reason.{Reason}
 use Rattle.trees.specs.declared.steps.Step.{Step}
-use Rattle.cert_text.specs.declared.text.NodesText.{NodesText}
-use Rattle.cert_text.specs.declared.text.NodesText.TheVariants.{All, Listed}
-use Rattle.cert_text.specs.declared.text.PartText.{PartText}
-use Rattle.cert_text.specs.declared.text.PartText.TheVariants.{Idle, Upto, From}
-use Rattle.cert_text.specs.declared.text.ReasonText.{ReasonText}
-use Rattle.cert_text.specs.declared.text.ReasonText.TheVariants.{Empty, Bound, Load, Pair, Place as PlaceReason, Group, SetLoad, Power, Usable, Hall}
-use Rattle.cert_text.specs.declared.text.StepText.{StepText}
-use Rattle.cert_text.specs.declared.text.StepText.TheVariants.{Decide, Cut, Fail, Plan, Left}
+use Rattle.cert_text.specs.declared.text.{NodesText.NodesText, NodesText.TheVariants.All, NodesText.TheVariants.Listed, PartText.PartText, PartText.TheVariants.Idle, PartText.TheVariants.Upto, PartText.TheVariants.From, ReasonText.ReasonText, ReasonText.TheVariants.Empty, ReasonText.TheVariants.Bound, ReasonText.TheVariants.Load, ReasonText.TheVariants.Pair, ReasonText.TheVariants.Place as PlaceReason, ReasonText.TheVariants.Group, ReasonText.TheVariants.SetLoad, ReasonText.TheVariants.Power, ReasonText.TheVariants.Usable, ReasonText.TheVariants.Hall, StepText.StepText, StepText.TheVariants.Decide, StepText.TheVariants.Cut, StepText.TheVariants.Fail, StepText.TheVariants.Plan, StepText.TheVariants.Left}
 use Rattle.domains.specs.declared.parts.Part.TheVariants as part
 use Rattle.reasons.specs.declared.reason.Reason.TheVariants as reason
 use Rattle.trees.specs.declared.steps.Step.TheVariants as step

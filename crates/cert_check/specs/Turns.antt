@@ -1,18 +1,11 @@
 -- Helping only: what one line changes, and what is known between two lines.
 use Rattle.std.specs.Prelude.{◌≡◌, ℕ, ◌≤◌, Bool, false, List, [], ◌∷◌, ◌++◌, length, Option, Some, Result, Ok, Err, MatchOption}
 use Rattle.cert_model.specs.Prelude.{Instance, IsProof, Kept, least_along, shown, Stands}
-use Rattle.trees.specs.declared.steps.Goal.{Goal}
-use Rattle.trees.specs.declared.steps.Step.{Step}
+use Rattle.trees.specs.declared.steps.{Goal.Goal, Step.Step}
 use Rattle.cert_model.specs.declared.why.Why.{Why}
 use Rattle.cert_text.specs.declared.text.StepText.{StepText}
 use Rattle.cert_read.specs.declared.position.Position.{Position}
-use Rattle.cert_check.specs.declared.lines.Going.{Going}
-use Rattle.cert_check.specs.declared.lines.Going.TheVariants.{GoesOn, Ends}
-use Rattle.cert_check.specs.declared.verdict.CheckFault.{CheckFault}
-use Rattle.cert_check.specs.declared.verdict.Verdict.{Verdict}
-use Rattle.cert_check.specs.declared.verdict.Verdict.TheVariants.{Yes, No}
-use Rattle.cert_check.specs.Names.{named_step}
-use Rattle.cert_check.specs.Verdicts.{AreTaken, IsTextWhy, LinesGive, LinesSay}
+use Rattle.cert_check.specs.{declared.lines.Going.Going, declared.lines.Going.TheVariants.GoesOn, declared.lines.Going.TheVariants.Ends, declared.verdict.CheckFault.CheckFault, declared.verdict.Verdict.Verdict, declared.verdict.Verdict.TheVariants.Yes, declared.verdict.Verdict.TheVariants.No, Names.named_step, Verdicts.AreTaken, Verdicts.IsTextWhy, Verdicts.LinesGive, Verdicts.LinesSay}
 
 -- the step that the text names was taken
 pub record IsTaken (p : Instance) (bound : Option ℕ) (strict : Bool) (steps : List Step) (text : StepText) (w : Kept) : Type 0 where

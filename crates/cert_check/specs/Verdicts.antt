@@ -2,19 +2,11 @@
 use Rattle.std.specs.Prelude.{◌≡◌, ◌⊎◌, ℕ, Bool, List, [], ◌∷◌, map, Option, Some, None, Result, Ok, Err}
 use Rattle.cert_read.specs.Prelude.{CountsLine, Faults, start, turn}
 use Rattle.cert_model.specs.Prelude.{bound_of, Choices, GoalHolds, Instance, IsEndWhy, IsHandedIn, IsProof, IsRefused, IsValid, LeadsTo, least_along, Sets, shown}
-use Rattle.trees.specs.declared.steps.Goal.{Goal}
-use Rattle.trees.specs.declared.steps.Step.{Step as TreeStep}
-use Rattle.cert_model.specs.declared.why.Why.{Why}
-use Rattle.cert_model.specs.declared.why.Why.TheVariants.{Structure, Name, Plan}
+use Rattle.trees.specs.declared.steps.{Goal.Goal, Step.Step as TreeStep}
+use Rattle.cert_model.specs.declared.why.Why.{Why, TheVariants.Structure, TheVariants.Name, TheVariants.Plan}
 use Rattle.cert_text.specs.declared.text.StepText.{StepText}
-use Rattle.cert_read.specs.declared.line.Line.TheVariants.{Step, End, Over}
-use Rattle.cert_read.specs.declared.line.LineFault.{LineFault}
-use Rattle.cert_read.specs.declared.position.Position.{Position}
-use Rattle.cert_check.specs.declared.verdict.CheckFault.{CheckFault}
-use Rattle.cert_check.specs.declared.verdict.CheckFault.TheVariants.{Line, Memory}
-use Rattle.cert_check.specs.declared.verdict.Verdict.{Verdict}
-use Rattle.cert_check.specs.declared.verdict.Verdict.TheVariants.{Yes, No}
-use Rattle.cert_check.specs.Names.{named_step}
+use Rattle.cert_read.specs.declared.{line.Line.TheVariants.Step, line.Line.TheVariants.End, line.Line.TheVariants.Over, line.LineFault.LineFault, position.Position.Position}
+use Rattle.cert_check.specs.{declared.verdict.CheckFault.CheckFault, declared.verdict.CheckFault.TheVariants.Line, declared.verdict.CheckFault.TheVariants.Memory, declared.verdict.Verdict.Verdict, declared.verdict.Verdict.TheVariants.Yes, declared.verdict.Verdict.TheVariants.No, Names.named_step}
 
 -- ---- the lines before
 

@@ -1,6 +1,4 @@
-use Rattle.std.proofs.Common.{IsTrue}
-use Rattle.base.proofs.Public.{rules, option_copied}
-use Rattle.cert_check.specs.Prelude.{bytes_of, choices_handed}
+use Rattle.cert_check.proofs.Prelude.{IsTrue, rules, option_copied, bytes_of, choices_handed}
 use Rattle.cert_check.proofs.SoundLemmas.{yes_is_sound}
 use Rattle.cert_check.proofs.certificate.check.Goals as goal
 

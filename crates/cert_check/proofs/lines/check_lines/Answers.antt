@@ -1,6 +1,4 @@
-use Rattle.std.proofs.Common.{IsTrue}
-use Rattle.base.proofs.Public.{Ok, refl, subst, sym, option_copied}
-use Rattle.cert_check.specs.Prelude.{bound_of, bytes_of, choices_handed, Concludes, TurnGives}
+use Rattle.cert_check.proofs.Prelude.{IsTrue, Ok, refl, subst, sym, option_copied, bound_of, bytes_of, choices_handed, Concludes, TurnGives}
 use Rattle.cert_check.proofs.TurnLemmas.{error_is, file_kept}
 use Rattle.cert_check.proofs.lines.check_lines.Goals as goal
 

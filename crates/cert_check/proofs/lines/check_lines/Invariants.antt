@@ -1,6 +1,4 @@
-use Rattle.std.proofs.Common.{◌^◌, IsTrue}
-use Rattle.base.proofs.Public.{◌≡◌, ◌<◌, ◌-◌, option_copied}
-use Rattle.cert_check.specs.Prelude.{bound_of, bytes_of, choices_handed, IsUnderway, StandsIn}
+use Rattle.cert_check.proofs.Prelude.{◌^◌, IsTrue, ◌≡◌, ◌<◌, ◌-◌, option_copied, bound_of, bytes_of, choices_handed, IsUnderway, StandsIn}
 use Rattle.cert_check.proofs.lines.check_lines.Given as goal
 
 abbrev pub invariant-lines : goal.invariant-lines

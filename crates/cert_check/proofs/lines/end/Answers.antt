@@ -1,6 +1,5 @@
-use Rattle.std.proofs.Common.{IsTrue, subst, sym}
-use Rattle.cert_check.specs.Prelude.{Concludes, Line}
-use Rattle.cert_check.proofs.TurnLemmas.{error_is, fault_after, faults_as, no_value, nothing_follows, yes_here}
+use Rattle.cert_check.proofs.Prelude.{IsTrue, subst, sym, Concludes, Line, no_value}
+use Rattle.cert_check.proofs.TurnLemmas.{error_is, fault_after, faults_as, nothing_follows, yes_here}
 use Rattle.cert_check.proofs.lines.end.Goals as goal
 
 pub returns-in_err-next-clause-verdict : goal.returns-in_err-next-clause-verdict

@@ -1,6 +1,6 @@
-use Rattle.std.proofs.Common.{IsTrue, subst, sym}
-use Rattle.cert_check.specs.Prelude.{End, Step as StepLine, TurnGives}
+use Rattle.cert_check.proofs.Prelude.{IsTrue, subst, sym, End, TurnGives}
 use Rattle.cert_check.proofs.TurnLemmas.{error_is, file_kept, line_as, moved_step, underway_next}
+use Rattle.cert_check.specs.Prelude.{Step as StepLine}
 use Rattle.cert_check.proofs.lines.turn.Goals as goal
 
 pub returns-in_err-end-in-End-clause-turn : goal.returns-in_err-end-in-End-clause-turn

@@ -1,5 +1,4 @@
-use Rattle.std.proofs.Common.{◌≡◌}
-use Rattle.cert_check.specs.Names.{first_nodes}
+use Rattle.cert_check.proofs.Prelude.{◌≡◌, first_nodes}
 use Rattle.cert_check.proofs.named.all_nodes.Given as goal
 
 abbrev pub invariant-loop-n : goal.invariant-loop-n

@@ -1,5 +1,4 @@
-use Rattle.std.proofs.Common.{◌≡◌, drop}
-use Rattle.cert_check.specs.Prelude.{no_nodes, nodes_added}
+use Rattle.cert_check.proofs.Prelude.{◌≡◌, drop, no_nodes, nodes_added}
 use Rattle.cert_check.proofs.named.listed.Given as goal
 
 abbrev pub invariant-loop-name : goal.invariant-loop-name
