@@ -5,9 +5,9 @@ ghost use Rattle.std.specs.Prelude.{◌≡◌, IsTrue, IfOk};
 ghost use Rattle.rule_solver.specs.Prelude.{CountsWrites, IsCertificateCut, IsCertified, IsToStay, IsTrueOf, MayStay, OthersStay};
 
 use branching::brancher::Brancher;
-use branching::stay_first::StayFirst;
 use catalogue::Problem;
 use commands::solver::{Solver, certify};
+use guided::guided::Guided;
 use plan_io::{Desk, OutFault};
 use prop_core::propagator::Propagator;
 use rule_group::rule::GroupRule;
@@ -53,7 +53,7 @@ pub fn certify_by_rules<D: Desk>(
     certify(alloc, desk, p, budget, &mut rules, brancher, certificate)
 }
 
-/// Searches by the five rules and `StayFirst`.
+/// Searches by the five rules and `Guided`.
 #[derive(Clone, Copy, Debug, PartialEq, Eq)]
 pub struct RuleSolver;
 
@@ -67,7 +67,7 @@ impl Solver for RuleSolver {
         budget: u64,
         certificate: &str,
     ) -> Result<Found, OutFault> {
-        let mut brancher: Box<dyn Brancher> = Box::new(alloc, StayFirst::new())?;
+        let mut brancher: Box<dyn Brancher> = Box::new(alloc, Guided::new(alloc))?;
         certify_by_rules(alloc, desk, p, budget, &mut brancher, certificate)
     }
 }

@@ -1,5 +1,5 @@
-//! The command `demo`, and single calls of the desk and of the sink that fail on the seed 1. Of its 1,018
-//! calls of the desk two write the instance, six read it, 998 write the certificate, two write the plan,
+//! The command `demo`, and single calls of the desk and of the sink that fail on the seed 1. Of its 1,008
+//! calls of the desk two write the instance, six read it, 988 write the certificate, two write the plan,
 //! two read it, and eight read the certificate.
 
 use crate::tests::{calls, runs_on};
@@ -15,7 +15,7 @@ const OLD: &[u8] = b"old";
 static FILES: [&str; 3] = ["demo-instance.json", "demo-plan.json", "demo-cert.txt"];
 
 /// How many bytes are left in the files of the instance, the plan and the certificate where all is done.
-const WHOLE: [usize; 3] = [18_017, 355, 26_858];
+const WHOLE: [usize; 3] = [18_017, 355, 26_692];
 
 /// A run of the seed 1: the call of the desk and that of the sink that fail, the status, and how many bytes
 /// are left in the three files.
@@ -46,7 +46,7 @@ fn demonstrates(
 
 /// Demonstrates a seed with no call failing, or with calls that are past the last.
 fn accepts(rt: &impl Abort, alloc: Global, line: &str, printed: &[u8]) -> Result<(), Fail> {
-    let past = ((Some(1_018), Some(1)), Status::Good, WHOLE);
+    let past = ((Some(1_008), Some(1)), Status::Good, WHOLE);
     demonstrates(rt, alloc, line, past, printed)
 }
 
@@ -88,8 +88,8 @@ fn first_calls_fail(rt: HostRuntime) -> Result<(), Fail> {
 fn late_writes_fail(rt: HostRuntime) -> Result<(), Fail> {
     let alloc = rt.alloc();
     let table: [Case; 2] = [
-        ((Some(1_000), None), Status::WriteFault, [18_017, 3, 26_788]),
-        ((Some(1_007), None), Status::WriteFault, [18_017, 0, 26_858]),
+        ((Some(990), None), Status::WriteFault, [18_017, 3, 26_622]),
+        ((Some(997), None), Status::WriteFault, [18_017, 0, 26_692]),
     ];
     for case in table {
         demonstrates(&rt, alloc, "demo 1", case, b"")?;
@@ -101,7 +101,7 @@ fn late_writes_fail(rt: HostRuntime) -> Result<(), Fail> {
 fn last_calls_fail(rt: HostRuntime) -> Result<(), Fail> {
     let alloc = rt.alloc();
     let table: [Case; 2] = [
-        ((Some(1_017), None), Status::ReadFault, WHOLE),
+        ((Some(1_007), None), Status::ReadFault, WHOLE),
         ((None, Some(0)), Status::WriteFault, WHOLE),
     ];
     for case in table {
