@@ -1,6 +1,5 @@
 -- An execution goes on as long as nothing fails, and ends where the plan does.
-use Rattle.std.proofs.Common.{IsTrue}
-use Rattle.base.proofs.Public.{◌≡◌, ◌≢◌, ◌⊎◌, inl, inr, ℕ, zero, suc, ◌+◌, ◌<◌, ◌≤◌, true, false, IsSome, Option, Some, None, unwrap_or, refl, sym, ap, subst, ◌∙◌, arith, option_map_or, cases_eq, cases_lt, false≢true, leb-true}
+use Rattle.base.proofs.Public.{◌≡◌, ◌≢◌, ◌⊎◌, inl, inr, ℕ, zero, suc, ◌+◌, ◌<◌, ◌≤◌, true, false, IsSome, Option, Some, None, unwrap_or, refl, sym, ap, subst, ◌∙◌, arith, option_map_or, cases_eq, cases_lt, false≢true, leb-true, IsTrue}
 use Rattle.executor.specs.Prelude.{Act, action_duration, Choice, Choices, choices_of, Element, element_at, element_count, element_number, Ended, EndsAsPlanned, Failed, Idle, Instance, inventory_of, is_over_by, IsElement, NeverStandsStill, None as NoAction, Phase, Phases, Place, Running, stages_in, start_of, Waiting, waits}
 use Rattle.cluster.proofs.Public.{element_at-element_number, element_number-lt}
 use Rattle.slices.proofs.Public.{ends_by_duration, over_as_planned}

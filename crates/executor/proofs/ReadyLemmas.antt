@@ -1,6 +1,5 @@
 -- An action that waits is ready exactly where it starts before the least end of what has not ended.
-use Rattle.std.proofs.Common.{min, if◌then◌else◌, IfSome, IsTrue, slice_index_or}
-use Rattle.base.proofs.Public.{◌≡◌, inl, inr, ℕ, ◌+◌, ◌<◌, ◌≤◌, Bool, true, false, not, ◌&&◌, nat_le, List, length, Option, Some, None, refl, sym, subst, ◌∙◌, arith, cases_eq, cases_lt, false≢true, leb-true, le-leb, lt-ltb, ltb-true}
+use Rattle.base.proofs.Public.{◌≡◌, inl, inr, ℕ, ◌+◌, ◌<◌, ◌≤◌, Bool, true, false, not, ◌&&◌, nat_le, List, length, Option, Some, None, refl, sym, subst, ◌∙◌, arith, cases_eq, cases_lt, false≢true, leb-true, le-leb, lt-ltb, ltb-true, min, if◌then◌else◌, IfSome, IsTrue, slice_index_or}
 use Rattle.executor.specs.Prelude.{is_ended, IsLeastOpenEnd, IsReadyAt, lesser, open_end, open_end_at, Phase, phase_at, starts_before, Times, Waiting, waits_between}
 
 -- ---- the least end

@@ -1,6 +1,5 @@
 -- An execution of a valid plan keeps the rules: it is a part of the plan at the last start among what has started.
-use Rattle.std.proofs.Common.{IsTrue}
-use Rattle.base.proofs.Public.{◌≡◌, ◌≢◌, inl, inr, ℕ, ◌+◌, ◌≤◌, Bool, true, false, List, [], ◌∷◌, IsSome, Some, refl, sym, ap, subst, ◌∙◌, arith, cases_Bool, false≢true, le-leb, leb-true}
+use Rattle.base.proofs.Public.{◌≡◌, ◌≢◌, inl, inr, ℕ, ◌+◌, ◌≤◌, Bool, true, false, List, [], ◌∷◌, IsSome, Some, refl, sym, ap, subst, ◌∙◌, arith, cases_Bool, false≢true, le-leb, leb-true, IsTrue}
 use Rattle.executor.specs.Prelude.{Act, action_duration, Choice, Choices, choices_of, Element, Ended, Event, EveryRunIsSafe, ExecutionsAreSafe, Failed, first_phases, Idle, Instance, is_legal, is_over_by, IsElement, IsExecution, IsInstance, IsPlanOf, IsStagePart, LastStart, None as NoAction, Phase, Phases, Place, PlanChoices, Running, Runs, stage_at, stage_in, stages_at, stages_in, start_of, Waiting, waits}
 use Rattle.slices.proofs.Public.{ends_by_duration, execution_keeps, has_last_start, legal_acts_last, past-idle}
 use Rattle.executor.proofs.StepLemmas.{begins_well, steps_keep}

@@ -1,7 +1,6 @@
 -- Each step of an execution keeps what is so at every moment.
-use Rattle.std.proofs.Common.{◌↔◌, IsNone, IsTrue}
 use Rattle.std.proofs.lemmas.Bool.{true≢false}
-use Rattle.base.proofs.Public.{◌≡◌, ◌≢◌, ◌⊎◌, inl, inr, ℕ, false, refl, sym, ap, subst, ◌∙◌, option_map_or, cases_eq, false≢true}
+use Rattle.base.proofs.Public.{◌≡◌, ◌≢◌, ◌⊎◌, inl, inr, ℕ, false, refl, sym, ap, subst, ◌∙◌, option_map_or, cases_eq, false≢true, ◌↔◌, IsNone, IsTrue}
 use Rattle.executor.specs.Prelude.{Act, BeginsWell, Choice, Choices, Element, End, Ended, Fail, Failed, first_phase, Idle, Instance, is_over_by, IsExecution, Moves, Node as TheNode, None as NoAction, Phase, Phases, Running, Start, start_of, StepsKeep, Vm, Waiting, waits}
 
 -- ---- elements

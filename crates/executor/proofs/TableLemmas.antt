@@ -1,6 +1,5 @@
 -- What the tables of a monitor say of elements.
-use Rattle.std.proofs.Common.{◌↔◌, IsTrue, slice_index_or, slice_set}
-use Rattle.base.proofs.Public.{◌≡◌, ◌≢◌, ◌⊎◌, inl, inr, ℕ, ◌+◌, ◌<◌, Bool, true, false, not, ◌&&◌, List, length, Option, Some, None, refl, sym, ap, subst, ◌∙◌, arith, option_map_or, cases_lt, false≢true, lt-ltb, le-ltb, get_or_past, get_or-set_same, get_or-set_other, length-set}
+use Rattle.base.proofs.Public.{◌≡◌, ◌≢◌, ◌⊎◌, inl, inr, ℕ, ◌+◌, ◌<◌, Bool, true, false, not, ◌&&◌, List, length, Option, Some, None, refl, sym, ap, subst, ◌∙◌, arith, option_map_or, cases_lt, false≢true, lt-ltb, le-ltb, get_or_past, get_or-set_same, get_or-set_other, length-set, ◌↔◌, IsTrue, slice_index_or, slice_set}
 use Rattle.executor.specs.Prelude.{Act, AllEnded, AreTimes, Choice, Choices, choices_of, Element, element_at, element_count, element_number, Ended, Failed, first_phase, first_phases, Idle, Instance, inventory_of, is_ended, is_open_at, is_over_by, IsElement, IsFirst, IsHindrance, IsOpen, IsPlanOf, IsReadyAt, machine_count, MayStart, Moves, Node as TheNode, None as NoAction, Phase, phase_at, phases_in, PlanChoices, Running, start_of, Times, times_of, Vm, Waiting, waits, waits_at, waits_between}
 use Rattle.cluster.proofs.Public.{IsListed-element_at, element_at-element_number, element_number-element_at, element_number-lt}
 use Rattle.slices.proofs.Public.{past-idle}

@@ -2,12 +2,8 @@
 use Rattle.std.specs.Prelude.{◌≡◌, ◌≢◌, ◌⊎◌, ◌<◌, IsTrue, Result, Ok, Err}
 use Rattle.judge.specs.Prelude.{Choices, element_number, Instance, inventory_of, IsElement}
 use Rattle.cluster.specs.declared.ids.Element.{Element}
-use Rattle.executor.specs.declared.phase.Phase.{Phase}
-use Rattle.executor.specs.declared.phase.Phase.TheVariants.{Waiting, Running, Ended, Failed}
-use Rattle.executor.specs.declared.phase.StepFault.{StepFault}
-use Rattle.executor.specs.declared.phase.StepFault.TheVariants.{Already, NotReady, NotRunning}
-use Rattle.executor.specs.Phases.{Phases, Moves}
-use Rattle.executor.specs.Steps.{Start, IsStep, waits}
+use Rattle.executor.specs.declared.phase.{Phase.Phase, Phase.TheVariants.Waiting, Phase.TheVariants.Running, Phase.TheVariants.Ended, Phase.TheVariants.Failed, StepFault.StepFault}
+use Rattle.executor.specs.{declared.phase.StepFault.TheVariants.Already, declared.phase.StepFault.TheVariants.NotReady, declared.phase.StepFault.TheVariants.NotRunning, Phases.Phases, Phases.Moves, Steps.Start, Steps.IsStep, Steps.waits}
 
 -- element a comes before element b
 abbrev pub Precedes : Instance → Element → Element → Type 0

@@ -1,11 +1,7 @@
 -- What a monitor keeps.
 use Rattle.std.specs.Prelude.{◌≡◌, length}
 use Rattle.judge.specs.Prelude.{choices_of, element_count, inventory_of, IsPlanOf, IsValid}
-use Rattle.executor.specs.declared.monitor.Monitor.TheInside.{Inside}
-use Rattle.executor.specs.Steps.{IsExecution}
-use Rattle.executor.specs.Phases.{phases_in}
-use Rattle.executor.specs.Tables.{AreTimes}
-use Rattle.executor.specs.Views.{Execution}
+use Rattle.executor.specs.{declared.monitor.Monitor.TheInside.Inside, Steps.IsExecution, Phases.phases_in, Tables.AreTimes, Views.Execution}
 
 abbrev pub execution_of : Inside → Execution
 execution_of m = record { problem = m.problem.now; plan = m.plan.now; phases = m.phases.items }

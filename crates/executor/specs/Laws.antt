@@ -3,8 +3,7 @@ use Rattle.std.specs.Prelude.{◌≡◌, ◌≢◌, List, false}
 use Rattle.judge.specs.Prelude.{Choices, choices_of, InRange, Instance, IsInstance, IsPlanOf, IsValid, Keeps, PlanChoices, snapshot, snapshot_at}
 use Rattle.cluster.specs.declared.ids.Element.{Element}
 use Rattle.slices.specs.declared.rule.Rule.{Rule}
-use Rattle.executor.specs.declared.phase.Phase.TheVariants.{Waiting, Running, Failed}
-use Rattle.executor.specs.Phases.{AllEnded, Phases, first_phases, stages_in}
+use Rattle.executor.specs.{declared.phase.Phase.TheVariants.Waiting, declared.phase.Phase.TheVariants.Running, declared.phase.Phase.TheVariants.Failed, Phases.AllEnded, Phases.Phases, Phases.first_phases, Phases.stages_in}
 use Rattle.executor.specs.Steps.{Event, IsExecution, IsStep, MayStart, Runs}
 
 -- ---- every execution is one at each moment

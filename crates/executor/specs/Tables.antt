@@ -1,13 +1,9 @@
 -- The tables of a monitor, by the numbers of elements: how far each action is, and when it starts and ends in the plan.
 use Rattle.std.specs.Prelude.{◌≡◌, ℕ, ◌<◌, ◌≤◌, Bool, true, false, not, ◌&&◌, min, nat_le, nat_lt, if◌then◌else◌, List, length, slice_index_or, Option, Some, None, IfSome, IsTrue}
 use Rattle.judge.specs.Prelude.{Choices, element_at, element_count, end_of, Instance, inventory_of}
-use Rattle.cluster.specs.declared.choices.Choice.{Choice}
-use Rattle.cluster.specs.declared.choices.Choice.TheVariants.{Idle, Act}
-use Rattle.cluster.specs.declared.ids.Element.{Element}
-use Rattle.executor.specs.declared.phase.Phase.{Phase}
+use Rattle.cluster.specs.declared.{choices.Choice.Choice, choices.Choice.TheVariants.Idle, choices.Choice.TheVariants.Act, ids.Element.Element}
+use Rattle.executor.specs.{declared.phase.Phase.Phase, declared.times.Times.Times, Phases.phase_at}
 use Rattle.executor.specs.declared.phase.Phase.TheVariants.{None as NoAction, Waiting, Running, Ended, Failed}
-use Rattle.executor.specs.declared.times.Times.{Times}
-use Rattle.executor.specs.Phases.{phase_at}
 
 -- ---- phases
 

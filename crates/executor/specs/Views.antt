@@ -2,10 +2,7 @@
 use Rattle.std.specs.Prelude.{◌≡◌, List, Result, Ok, Err}
 use Rattle.judge.specs.Prelude.{choices_of, IsFirstBroken, IsPlanOf, IsValid, PlanChoices, SoundInstance}
 use Rattle.cluster.specs.declared.ids.Element.{Element}
-use Rattle.executor.specs.declared.phase.NewFault.{NewFault}
-use Rattle.executor.specs.declared.phase.NewFault.TheVariants.{NotValid, Memory}
-use Rattle.executor.specs.declared.phase.Phase.{Phase}
-use Rattle.executor.specs.Phases.{Phases, first_phases, phases_in}
+use Rattle.executor.specs.{declared.phase.NewFault.NewFault, declared.phase.NewFault.TheVariants.NotValid, declared.phase.NewFault.TheVariants.Memory, declared.phase.Phase.Phase, Phases.Phases, Phases.first_phases, Phases.phases_in}
 use Rattle.executor.specs.Steps.{IsExecution, MayStart}
 
 -- a problem, a plan of it, and the phases of its elements by their numbers

@@ -2,9 +2,7 @@
 ghost use Rattle.std.specs.Prelude.{◌≡◌, ◌↔◌, IsSome, IsTrue, MatchOption};
 ghost use Rattle.judge.specs.Prelude.{choices_of, IsElement, IsPlanOf};
 ghost use Rattle.cluster.specs.declared.ids.Element.{Element as AnElement};
-ghost use Rattle.executor.specs.Answers.{IsFirst, StartGives, StopGives};
-ghost use Rattle.executor.specs.Laws.{IsAtTheEnd, IsIdle, IsSafe};
-ghost use Rattle.executor.specs.Phases.{AllEnded};
+ghost use Rattle.executor.specs.{Answers.IsFirst, Answers.StartGives, Answers.StopGives, Laws.IsAtTheEnd, Laws.IsIdle, Laws.IsSafe, Phases.AllEnded};
 ghost use Rattle.executor.specs.Views.{IsMonitor, IsSameWork, MayStartNow, NewGives, phases_of};
 ghost use Rattle.executor.specs.declared.phase.Phase.TheVariants as Phase;
 

@@ -1,6 +1,5 @@
 -- Lesser suspects, and what has been tried before them.
-use Rattle.std.proofs.Common.{IsTrue, slice_get}
-use Rattle.base.proofs.Public.{◌≡◌, inl, inr, ℕ, ◌+◌, ◌<◌, ◌≤◌, ◌==◌, false, List, length, subst, sym, arith, both_ways, cases_eq, eqb-true, or_cases}
+use Rattle.base.proofs.Public.{◌≡◌, inl, inr, ℕ, ◌+◌, ◌<◌, ◌≤◌, ◌==◌, false, List, length, subst, sym, arith, both_ways, cases_eq, eqb-true, or_cases, IsTrue, slice_get}
 use Rattle.judge.specs.Prelude.{applies, cell, Choices, Constraint as OfConstraint, ConstraintsHold, continuous_at, HoldsAt, InRange, Instance, IsFirstRule, IsFirstUnmet, IsLower, IsMetAt, IsMetBefore, IsSuspect, KeepsAllAt, KeepsAt, Load, loads_of, LoadsFit, Precedes, Rule, Snapshot, StandsAt, StandsBefore, Usable}
 
 -- ---- suspects

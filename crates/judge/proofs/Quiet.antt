@@ -1,6 +1,5 @@
 -- From one start to the next, what was kept stays kept.
-use Rattle.std.proofs.Common.{slice_get}
-use Rattle.base.proofs.Public.{◌≡◌, inl, inr, ℕ, ◌<◌, ◌≤◌, false, Some, arith, cases_lt}
+use Rattle.base.proofs.Public.{◌≡◌, inl, inr, ℕ, ◌<◌, ◌≤◌, false, Some, arith, cases_lt, slice_get}
 use Rattle.judge.specs.Prelude.{Choices, choices_of, Element, form_of, HoldsAt, Instance, IsElement, IsNext, IsPlanOf, IsQuiet, Load, Matters, PlanChoices, StandsAt, Usable}
 use Rattle.catalogue.specs.declared.constraint.Constraint.{Constraint}
 use Rattle.slices.proofs.Public.{keeps_quiet, matters_quiet}

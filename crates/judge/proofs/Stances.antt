@@ -1,6 +1,5 @@
 -- Where machines stand.
-use Rattle.std.proofs.Common.{◌↔◌, slice_index_or, IsTrue}
-use Rattle.base.proofs.Public.{◌≡◌, inl, inr, ℕ, ◌+◌, ◌<◌, Bool, false, ◌&&◌, ◌||◌, nat_lt, cond, List, Option, Some, None, refl, sym, ◌∙◌, arith, both_ways, and_from, and_parts, cases_Bool, cases_eq, eqb-true, or_cases, true_from_ne_false}
+use Rattle.base.proofs.Public.{◌≡◌, inl, inr, ℕ, ◌+◌, ◌<◌, Bool, false, ◌&&◌, ◌||◌, nat_lt, cond, List, Option, Some, None, refl, sym, ◌∙◌, arith, both_ways, and_from, and_parts, cases_Bool, cases_eq, eqb-true, or_cases, true_from_ne_false, ◌↔◌, slice_index_or, IsTrue}
 use Rattle.judge.specs.Prelude.{AreUsable, AreUsableNodes, Holding, image_in, Instance, is_in, is_where, IsFirstOff, IsHoldingOf, IsNodeWithin, node_count, NodeId, one, Snapshot, stands_on, StandsBelow, StandsUsably}
 use Rattle.placement_rules.proofs.Public.{in_within}
 

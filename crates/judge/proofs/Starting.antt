@@ -1,6 +1,5 @@
 -- The next start, gathered one element or one set after the other.
-use Rattle.std.proofs.Common.{IsTrue, slice_index_or}
-use Rattle.base.proofs.Public.{◌≡◌, ◌⊎◌, inl, inr, ℕ, zero, suc, ◌+◌, ◌<◌, ◌==◌, Bool, true, false, List, [], ◌∷◌, length, take, get_or, Some, nat_lt, refl, ap, sym, ◌∙◌, arith, list_all, both_ways, cases_eq, or_cases, or_left, or_right, list_any-append}
+use Rattle.base.proofs.Public.{◌≡◌, ◌⊎◌, inl, inr, ℕ, zero, suc, ◌+◌, ◌<◌, ◌==◌, Bool, true, false, List, [], ◌∷◌, length, take, get_or, Some, nat_lt, refl, ap, sym, ◌∙◌, arith, list_all, both_ways, cases_eq, or_cases, or_left, or_right, list_any-append, IsTrue, slice_index_or}
 use Rattle.judge.specs.Prelude.{all_of, Apart, AreMachines, Between, Choices, Element, element_number, Form, form_matters, Instance, inventory_of, is_member, IsElement, IsInPart, IsInSome, IsMember, IsNext, machine_count, Matters, Node as TheNode, NodeId, Vm, vm, VmId}
 use Rattle.placement_rules.proofs.Public.{member_here, member_kept, member_split, member_within}
 

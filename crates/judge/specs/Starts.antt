@@ -2,10 +2,7 @@
 use Rattle.std.specs.Prelude.{◌≡◌, ◌⊎◌, ℕ, ◌<◌, ◌≤◌, List, Some, IsTrue}
 use Rattle.std.specs.Option.{ForSome}
 use Rattle.placement_rules.specs.Prelude.{Choices, Form, form_matters, Instance, IsElement, IsInPart, start_of}
-use Rattle.cluster.specs.declared.choices.Choice.{Choice}
-use Rattle.cluster.specs.declared.ids.Element.{Element}
-use Rattle.cluster.specs.declared.ids.Element.TheVariants.{Vm, Node as TheNode}
-use Rattle.cluster.specs.declared.ids.VmId.{VmId}
+use Rattle.cluster.specs.declared.{choices.Choice.Choice, ids.Element.Element, ids.Element.TheVariants.Vm, ids.Element.TheVariants.Node as TheNode, ids.VmId.VmId}
 
 -- ---- sets of elements
 

@@ -1,6 +1,5 @@
 -- What can be told of an execution: which action may start first, and whether all have ended.
-use Rattle.std.proofs.Common.{◌↔◌, IsNone, IsTrue}
-use Rattle.base.proofs.Public.{◌≡◌, ◌≢◌, ◌⊎◌, inl, inr, ℕ, zero, suc, ◌<◌, refl, sym, subst, ◌∙◌, arith, cases_Bool, cases_eq, false≢true}
+use Rattle.base.proofs.Public.{◌≡◌, ◌≢◌, ◌⊎◌, inl, inr, ℕ, zero, suc, ◌<◌, refl, sym, subst, ◌∙◌, arith, cases_Bool, cases_eq, false≢true, ◌↔◌, IsNone, IsTrue}
 use Rattle.transcript.specs.Prelude.{AllEnded, choices_of, Element, element_at, element_count, element_number, Ended, Failed, Instance, inventory_of, IsElement, IsExecution, IsFirst, IsPlanOf, MayStart, Moves, Node as TheNode, None as NoAction, Phase, Phases, PlanChoices, Running, start_of, Vm, Waiting, waits}
 use Rattle.cluster.proofs.Public.{element_at-element_number, element_number-lt}
 use Rattle.slices.proofs.Public.{past-idle}

@@ -4,10 +4,9 @@ use Rattle.transcript.specs.Prelude.{AlwaysEnds, Choices, choices_of, Conclusion
 use Rattle.executor.specs.Steps.{End as AnEnd}
 use Rattle.cluster.proofs.Public.{listed-element_named}
 use Rattle.executor.proofs.Public.{begins_well, executions_are_safe, steps_keep}
-use Rattle.transcript.specs.declared.conclusion.EventFault.TheVariants as fault
+use Rattle.transcript.specs.declared.conclusion.EventFault.{EventFault}
 use Rattle.transcript.proofs.Deciding.{ended_or_not, is_or_not, moved_to, moves, ready_or_quiet}
-use Rattle.transcript.proofs.EventLines.{event_or_not, takes_line}
-use Rattle.transcript.proofs.Measure.{end_left, start_left, steps_left}
+use Rattle.transcript.proofs.{EventLines.event_or_not, EventLines.takes_line, Measure.end_left, Measure.start_left, Measure.steps_left}
 
 -- ---- turns
 
@@ -119,7 +118,7 @@ module _ (p : Instance) (plan : PlanChoices) (is : IsPlanOf p plan) where
   by_event a kind e rest next ex event =
       elim (is_or_not (a.phases e) Running) [
         | inl runs ↦ running kind event runs
-        | inr n ↦ ends_here p (choices_of plan) a (Refused (a.lines + 1) fault.NotRunning) rest (event.due, refl, (kind, e, event, n))
+        | inr n ↦ ends_here p (choices_of plan) a (Refused (a.lines + 1) EventFault.NotRunning) rest (event.due, refl, (kind, e, event, n))
       ]
     where
       running : (kind : EventKind) → TakesEvent p (choices_of plan) a kind e rest → a.phases e ≡ Running → Begun a
@@ -129,7 +128,7 @@ module _ (p : Instance) (plan : PlanChoices) (is : IsPlanOf p plan) where
   by_name : (a : Point) (text rest : List ℕ) (kind : EventKind) (name : List ℕ) → Next a → IsExecution p (choices_of plan) a.phases → IsDue p (choices_of plan) a.phases →
       ReadsLine a.rest Whole text rest → IsEvent text kind name → (o : Option Element) → element_named (inventory_of p) name ≡ o → Begun a
   by_name a text rest kind name next ex due line event None named =
-      ends_here p (choices_of plan) a (Refused (a.lines + 1) fault.NoSuchName) rest (due, refl, (text, kind, name, line, event, named))
+      ends_here p (choices_of plan) a (Refused (a.lines + 1) EventFault.NoSuchName) rest (due, refl, (text, kind, name, line, event, named))
   by_name a text rest kind name next ex due line event (Some e) named =
       by_event a kind e rest next ex (record { due = due; text = text; name = name; line = line; event = event; named = named })
 
@@ -137,10 +136,10 @@ module _ (p : Instance) (plan : PlanChoices) (is : IsPlanOf p plan) where
   by_line a Whole text rest next ex due line =
       elim (event_or_not text) [
         | inl f ↦ by_name a text rest f.0 f.1 next ex due line f.2 (element_named (inventory_of p) f.1) refl
-        | inr none ↦ ends_here p (choices_of plan) a (Refused (a.lines + 1) fault.NotALine) rest (due, refl, (text, inr (line, none)))
+        | inr none ↦ ends_here p (choices_of plan) a (Refused (a.lines + 1) EventFault.NotALine) rest (due, refl, (text, inr (line, none)))
       ]
-  by_line a TooLong text rest next ex due line = ends_here p (choices_of plan) a (Refused (a.lines + 1) fault.TooLong) rest (due, refl, (text, line))
-  by_line a Short text rest next ex due line = ends_here p (choices_of plan) a (Refused (a.lines + 1) fault.NotALine) rest (due, refl, (text, inl line))
+  by_line a TooLong text rest next ex due line = ends_here p (choices_of plan) a (Refused (a.lines + 1) EventFault.TooLong) rest (due, refl, (text, line))
+  by_line a Short text rest next ex due line = ends_here p (choices_of plan) a (Refused (a.lines + 1) EventFault.NotALine) rest (due, refl, (text, inl line))
   by_line a Nothing text rest next ex due line = ends_here p (choices_of plan) a StoppedEnd rest (due, (line.0, line.1, refl))
 
   at_point : (a : Point) → Next a → IsExecution p (choices_of plan) a.phases → Begun a

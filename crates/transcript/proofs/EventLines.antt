@@ -1,6 +1,5 @@
 -- Which line is taken of some bytes, and which event it says.
-use Rattle.std.proofs.Common.{length-append}
-use Rattle.base.proofs.Public.{◌≡◌, ◌≢◌, ◌⊎◌, inl, inr, ℕ, zero, suc, ◌+◌, ◌≤◌, List, [], ◌∷◌, ◌++◌, length, refl, sym, ap, ◌∙◌, append_assoc, arith, Contains, cases_Bool, cases_eq, false≢true, Contains-append_cases}
+use Rattle.base.proofs.Public.{◌≡◌, ◌≢◌, ◌⊎◌, inl, inr, ℕ, zero, suc, ◌+◌, ◌≤◌, List, [], ◌∷◌, ◌++◌, length, refl, sym, ap, ◌∙◌, append_assoc, arith, Contains, cases_Bool, cases_eq, false≢true, Contains-append_cases, length-append}
 use Rattle.transcript.specs.Prelude.{BeginsLine, End, EventKind, Fail, is_name, IsEvent, IsOneLine, kind_text, Line, MAX_LINE_BYTES, Nothing, ReadsLine, Short, TooLong, Whole}
 
 -- ---- which line

@@ -1,11 +1,8 @@
 -- Two transcripts of one text are the same.
-use Rattle.std.proofs.Common.{length-append}
-use Rattle.base.proofs.Public.{◌≡◌, ◌≢◌, ◌⊎◌, inl, inr, ℕ, zero, suc, ◌+◌, ◌<◌, List, [], ◌∷◌, ◌++◌, length, Option, Some, None, refl, sym, ap, subst, ◌∙◌, arith, cases_order}
+use Rattle.base.proofs.Public.{◌≡◌, ◌≢◌, ◌⊎◌, inl, inr, ℕ, zero, suc, ◌+◌, ◌<◌, List, [], ◌∷◌, ◌++◌, length, Option, Some, None, refl, sym, ap, subst, ◌∙◌, arith, cases_order, length-append}
 use Rattle.transcript.specs.Prelude.{AllEnded, Choices, Conclusion, Done, Element, element_at, element_named, element_number, End, Ended, EndsAt, EventFault, EventKind, Fail, Instance, inventory_of, IsDue, IsEndTurn, IsEvent, IsFirst, IsOneLine, IsRefused, IsStartTurn, IsTurn, Line, MayStart, Moves, None as NoAction, Nothing, Phase, Phases, Point, ReadsLine, Refused, Running, Short, start_line, StoppedEnd, StoppedFail, TakesEvent, TooLong, TranscriptIsOne, Turns, Waiting, Whole}
 use Rattle.cluster.proofs.Public.{element_at-element_number}
-use Rattle.transcript.specs.declared.conclusion.EventFault.TheVariants as fault
-use Rattle.transcript.proofs.Deciding.{is_or_not, same_or_not}
-use Rattle.transcript.proofs.EventLines.{contains_here, event_or_not, later_line, same_event}
+use Rattle.transcript.proofs.{Deciding.is_or_not, Deciding.same_or_not, EventLines.contains_here, EventLines.event_or_not, EventLines.later_line, EventLines.same_event}
 
 -- ---- bytes have one line
 
@@ -98,20 +95,20 @@ module _ (p : Instance) (a : Point) where
   abbrev by_running : (kind : EventKind) (e : Element) → (a.phases e ≡ Running) ⊎ (a.phases e ≢ Running) → Option Conclusion
   by_running End e (inl runs) = None
   by_running Fail e (inl runs) = Some (StoppedFail e)
-  by_running kind e (inr not_so) = Some (Refused next_line fault.NotRunning)
+  by_running kind e (inr not_so) = Some (Refused next_line EventFault.NotRunning)
 
   abbrev by_name : (kind : EventKind) → Option Element → Option Conclusion
-  by_name kind None = Some (Refused next_line fault.NoSuchName)
+  by_name kind None = Some (Refused next_line EventFault.NoSuchName)
   by_name kind (Some e) = by_running kind e (is_or_not (a.phases e) Running)
 
   abbrev by_event : (text : List ℕ) → ((kind : EventKind) × (name : List ℕ) × IsEvent text kind name) ⊎ ((kind : EventKind) (name : List ℕ) → ¬ IsEvent text kind name) → Option Conclusion
   by_event text (inl f) = by_name f.0 (element_named (inventory_of p) f.1)
-  by_event text (inr none) = Some (Refused next_line fault.NotALine)
+  by_event text (inr none) = Some (Refused next_line EventFault.NotALine)
 
   abbrev by_line : Line → List ℕ → Option Conclusion
   by_line Whole text = by_event text (event_or_not text)
-  by_line TooLong text = Some (Refused next_line fault.TooLong)
-  by_line Short text = Some (Refused next_line fault.NotALine)
+  by_line TooLong text = Some (Refused next_line EventFault.TooLong)
+  by_line Short text = Some (Refused next_line EventFault.NotALine)
   by_line Nothing text = Some StoppedEnd
 
   -- the line that is read at a point means this
@@ -126,7 +123,7 @@ module _ (p : Instance) (a : Point) where
       let same = line_is_one a.rest f.found g.found f.text g.text r s f.reads g.reads in
       (sym f.is ∙ (λ i. by_line (same.kind i) (same.taken i)) ∙ g.is, same.left)
 
-  running_is : (kind : EventKind) (e : Element) (o : (a.phases e ≡ Running) ⊎ (a.phases e ≢ Running)) → a.phases e ≢ Running → by_running kind e o ≡ Some (Refused next_line fault.NotRunning)
+  running_is : (kind : EventKind) (e : Element) (o : (a.phases e ≡ Running) ⊎ (a.phases e ≢ Running)) → a.phases e ≢ Running → by_running kind e o ≡ Some (Refused next_line EventFault.NotRunning)
   running_is kind e (inl runs) n = absurd (n runs)
   running_is End e (inr not_so) n = refl
   running_is Fail e (inr not_so) n = refl
@@ -149,7 +146,7 @@ module _ (p : Instance) (a : Point) where
 
   no_event_is : (text : List ℕ) → ((kind : EventKind) (name : List ℕ) → ¬ IsEvent text kind name) →
       (o : ((kind : EventKind) × (name : List ℕ) × IsEvent text kind name) ⊎ ((kind : EventKind) (name : List ℕ) → ¬ IsEvent text kind name)) →
-      by_event text o ≡ Some (Refused next_line fault.NotALine)
+      by_event text o ≡ Some (Refused next_line EventFault.NotALine)
   no_event_is text none (inl f) = absurd (none f.0 f.1 f.2)
   no_event_is text none (inr h) = refl
 
@@ -166,19 +163,19 @@ module _ (p : Instance) (a : Point) where
 
   -- what is refused means that it is
   means_refused : (plan : Choices) (f : EventFault) (rest : List ℕ) → IsRefused p plan a f rest → Means (Some (Refused next_line f)) rest
-  means_refused plan fault.NotALine rest h = by h.1
+  means_refused plan EventFault.NotALine rest h = by h.1
     where
-      by : (ReadsLine a.rest Short h.0 rest) ⊎ (ReadsLine a.rest Whole h.0 rest × ((kind : EventKind) (name : List ℕ) → ¬ IsEvent h.0 kind name)) → Means (Some (Refused next_line fault.NotALine)) rest
+      by : (ReadsLine a.rest Short h.0 rest) ⊎ (ReadsLine a.rest Whole h.0 rest × ((kind : EventKind) (name : List ℕ) → ¬ IsEvent h.0 kind name)) → Means (Some (Refused next_line EventFault.NotALine)) rest
       by (inl short) = record { found = Short; text = h.0; reads = short; is = refl }
       by (inr whole) = record { found = Whole; text = h.0; reads = whole.0; is = no_event_is h.0 whole.1 (event_or_not h.0) }
-  means_refused plan fault.TooLong rest h = record { found = TooLong; text = h.0; reads = h.1; is = refl }
-  means_refused plan fault.NoSuchName rest h = record {
+  means_refused plan EventFault.TooLong rest h = record { found = TooLong; text = h.0; reads = h.1; is = refl }
+  means_refused plan EventFault.NoSuchName rest h = record {
     found = Whole;
     text = h.0;
     reads = h.3;
     is = event_is h.0 h.1 h.2 h.4 (event_or_not h.0) ∙ ap (by_name h.1) h.5;
   }
-  means_refused plan fault.NotRunning rest h =
+  means_refused plan EventFault.NotRunning rest h =
       subst (λ m. Means m rest) (running_is h.0 h.1 (is_or_not (a.phases h.1) Running) h.3) (means_event plan h.0 h.1 rest h.2)
 
   -- how it ends: all have ended, or the line that is due says so

@@ -1,11 +1,9 @@
 -- What the parts of a run do to where it stands.
-use Rattle.std.proofs.Common.{Result, Err, IsTrue}
-use Rattle.base.proofs.Public.{◌≡◌, ◌≢◌, inl, inr, ℕ, suc, ◌+◌, List, Bool, true, false, Option, Some, None, Ok, refl, sym, ap, subst, ◌∙◌, false≢true}
+use Rattle.base.proofs.Public.{◌≡◌, ◌≢◌, inl, inr, ℕ, suc, ◌+◌, List, Bool, true, false, Option, Some, None, Ok, refl, sym, ap, subst, ◌∙◌, false≢true, Result, Err, IsTrue}
 use Rattle.transcript.specs.Prelude.{AllEnded, Already, BeginsLine, BeginsStart, Choices, choices_of, Conclusion, Done, Element, element_named, End, EndsAt, EventGives, EventKind, ExecuteFault, ExecuteGives, Fail, first_phases, first_point, Instance, inventory_of, IsDue, IsEvent, IsFirst, IsHindrance, IsStep, IsValid, MayStart, Memory, NotReady, NotRunning, NotValid, Phase, Phases, PlanChoices, Point, point, Reaches, ReadFault, ReadsLine, Refused, RunGives, Running, Start, StartGives, StepFault, StopGives as Stops, StoppedEnd, StoppedFail, StopsInEvent, StopsInStart, TakeGives, TakesEvent, WriteFault}
 use Rattle.executor.specs.Answers.{StartGives as Starts}
 use Rattle.cluster.proofs.Public.{listed-element_named}
-use Rattle.transcript.specs.declared.conclusion.EventFault.TheVariants as fault
-use Rattle.transcript.specs.declared.lines.Line.TheVariants as found
+use Rattle.transcript.specs.declared.{conclusion.EventFault.EventFault, lines.Line.Line}
 use Rattle.transcript.proofs.Measure.{end_left, start_left, steps_left}
 
 -- ---- a start
@@ -33,13 +31,13 @@ stops_not T before after e f NotRunning h = h.0
 
 -- the event of a line that was taken
 taken : (p : Instance) (plan : Choices) (phases : Phases) (lines : ℕ) (bytes text rest written name : List ℕ) (kind : EventKind) (e : Element) → IsDue p plan phases →
-    ReadsLine bytes found.Whole text rest → IsEvent text kind name → element_named (inventory_of p) name ≡ Some e → TakesEvent p plan (point phases lines bytes written) kind e rest
+    ReadsLine bytes Line.Whole text rest → IsEvent text kind name → element_named (inventory_of p) name ≡ Some e → TakesEvent p plan (point phases lines bytes written) kind e rest
 taken p plan phases lines bytes text rest written name kind e due line event named =
     record { due = due; text = text; name = name; line = line; event = event; named = named }
 
 -- what a whole line does
 pub takes_event : (told : Bool) (p : Instance) (plan : Choices) (number : ℕ) (before after : Phases) (bytes text rest : List ℕ) (given : Option Conclusion) → IsDue p plan before →
-    (IsTrue told → ReadsLine bytes found.Whole text rest) → EventGives p before number text after given → TakeGives told p plan number before bytes after rest (Ok given)
+    (IsTrue told → ReadsLine bytes Line.Whole text rest) → EventGives p before number text after given → TakeGives told p plan number before bytes after rest (Ok given)
 takes_event told p plan number before after bytes text rest None due line event = (
   event.1,
   (listed-element_named (inventory_of p) event.0 event.1 event.3).0,
@@ -52,7 +50,7 @@ takes_event told p plan number before after bytes text rest (Some (StoppedFail e
   λ t lines written is. (taken p plan before lines bytes text rest written event.0 Fail e due (line t) event.1 event.2, event.3),
 )
 takes_event told p plan number before after bytes text rest (Some StoppedEnd) due line event = absurd event
-takes_event told p plan number before after bytes text rest (Some (Refused n fault.NotALine)) due line event = (
+takes_event told p plan number before after bytes text rest (Some (Refused n EventFault.NotALine)) due line event = (
   tt,
   λ t lines written is. (
     due,
@@ -60,8 +58,8 @@ takes_event told p plan number before after bytes text rest (Some (Refused n fau
     (text, inr (line t, event.1)),
   ),
 )
-takes_event told p plan number before after bytes text rest (Some (Refused n fault.TooLong)) due line event = absurd event
-takes_event told p plan number before after bytes text rest (Some (Refused n fault.NoSuchName)) due line event = (
+takes_event told p plan number before after bytes text rest (Some (Refused n EventFault.TooLong)) due line event = absurd event
+takes_event told p plan number before after bytes text rest (Some (Refused n EventFault.NoSuchName)) due line event = (
   tt,
   λ t lines written is. (
     due,
@@ -69,7 +67,7 @@ takes_event told p plan number before after bytes text rest (Some (Refused n fau
     (text, event.1, event.2, line t, event.3, event.4),
   ),
 )
-takes_event told p plan number before after bytes text rest (Some (Refused n fault.NotRunning)) due line event = (
+takes_event told p plan number before after bytes text rest (Some (Refused n EventFault.NotRunning)) due line event = (
   tt,
   λ t lines written is. (
     due,
@@ -80,15 +78,15 @@ takes_event told p plan number before after bytes text rest (Some (Refused n fau
 
 -- a line that is too long, that is cut short, or that is not there
 pub takes_long : (told : Bool) (p : Instance) (plan : Choices) (number : ℕ) (before : Phases) (bytes text rest : List ℕ) → IsDue p plan before →
-    (IsTrue told → ReadsLine bytes found.TooLong text rest) → TakeGives told p plan number before bytes before rest (Ok (Some (Refused number fault.TooLong)))
+    (IsTrue told → ReadsLine bytes Line.TooLong text rest) → TakeGives told p plan number before bytes before rest (Ok (Some (Refused number EventFault.TooLong)))
 takes_long told p plan number before bytes text rest due line = (tt, λ t lines written is. (due, is, (text, line t)))
 
 pub takes_short : (told : Bool) (p : Instance) (plan : Choices) (number : ℕ) (before : Phases) (bytes text rest : List ℕ) → IsDue p plan before →
-    (IsTrue told → ReadsLine bytes found.Short text rest) → TakeGives told p plan number before bytes before rest (Ok (Some (Refused number fault.NotALine)))
+    (IsTrue told → ReadsLine bytes Line.Short text rest) → TakeGives told p plan number before bytes before rest (Ok (Some (Refused number EventFault.NotALine)))
 takes_short told p plan number before bytes text rest due line = (tt, λ t lines written is. (due, is, (text, inl (line t))))
 
 pub takes_nothing : (told : Bool) (p : Instance) (plan : Choices) (number : ℕ) (before : Phases) (bytes text rest : List ℕ) → IsDue p plan before →
-    (IsTrue told → ReadsLine bytes found.Nothing text rest) → TakeGives told p plan number before bytes before rest (Ok (Some StoppedEnd))
+    (IsTrue told → ReadsLine bytes Line.Nothing text rest) → TakeGives told p plan number before bytes before rest (Ok (Some StoppedEnd))
 takes_nothing told p plan number before bytes text rest due line = (tt, λ t lines written is. (due, ((line t).0, (line t).1, refl)))
 
 -- ---- turns

@@ -2,8 +2,7 @@
 use Rattle.std.specs.Prelude.{◌≡◌, ℕ, List, Err}
 use Rattle.std.specs.Io.{StartsWith}
 use Rattle.executor.specs.Prelude.{Choices, choices_of, Instance, IsExecution, IsInstance, IsPlanOf, IsSafe, IsValid, PlanChoices}
-use Rattle.transcript.specs.declared.conclusion.Conclusion.{Conclusion}
-use Rattle.transcript.specs.declared.conclusion.ExecuteFault.{ExecuteFault}
+use Rattle.transcript.specs.declared.conclusion.{Conclusion.Conclusion, ExecuteFault.ExecuteFault}
 use Rattle.transcript.specs.Transcript.{EndsFrom, Point, Reaches, RunGives, first_point}
 
 -- ---- every text has one transcript

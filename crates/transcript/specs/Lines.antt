@@ -3,13 +3,8 @@ use Rattle.std.specs.Prelude.{◌≡◌, ℕ, ◌+◌, ◌<◌, ◌≤◌, List,
 use Rattle.std.specs.List.{Contains}
 use Rattle.executor.specs.Prelude.{Instance, inventory_of, is_name, name_of}
 use Rattle.cluster.specs.declared.ids.Element.{Element}
-use Rattle.transcript.specs.declared.conclusion.EventFault.{EventFault}
-use Rattle.transcript.specs.declared.conclusion.EventFault.TheVariants as fault
-use Rattle.transcript.specs.declared.lines.EventKind.{EventKind}
-use Rattle.transcript.specs.declared.lines.EventKind.TheVariants.{End, Fail}
-use Rattle.transcript.specs.declared.lines.Line.{Line}
-use Rattle.transcript.specs.declared.lines.Line.TheVariants.{Whole, TooLong, Short, Nothing}
-use Rattle.transcript.specs.declared.lines.TheConstants.{MAX_LINE_BYTES}
+use Rattle.transcript.specs.declared.{conclusion.EventFault.EventFault, lines.EventKind.EventKind, lines.EventKind.TheVariants.End, lines.EventKind.TheVariants.Fail, lines.Line.Line}
+use Rattle.transcript.specs.declared.lines.{Line.TheVariants.Whole, Line.TheVariants.TooLong, Line.TheVariants.Short, Line.TheVariants.Nothing, TheConstants.MAX_LINE_BYTES}
 
 -- the line that the action of an element starts
 unfoldable pub start_line : Instance → Element → List ℕ
@@ -27,10 +22,10 @@ pub record IsEvent (text : List ℕ) (kind : EventKind) (name : List ℕ) : Type
   pub good : IsTrue (is_name name)
 
 unfoldable pub fault_text : EventFault → List ℕ
-fault_text fault.NotALine = codes "not a line"
-fault_text fault.TooLong = codes "too long"
-fault_text fault.NoSuchName = codes "no such name"
-fault_text fault.NotRunning = codes "not running"
+fault_text EventFault.NotALine = codes "not a line"
+fault_text EventFault.TooLong = codes "too long"
+fault_text EventFault.NoSuchName = codes "no such name"
+fault_text EventFault.NotRunning = codes "not running"
 
 -- ---- bytes that are taken for a line
 

@@ -5,21 +5,14 @@ use Rattle.executor.specs.Prelude.{Choices, element_named, End as AnEnd, Instanc
 use Rattle.plan_io.specs.declared.faults.OutFault.{OutFault}
 use Rattle.cluster.specs.declared.ids.Element.{Element}
 use Rattle.executor.specs.declared.phase.Phase.TheVariants.{Running, Ended}
-use Rattle.plan_io.specs.declared.faults.OutFault.TheVariants as out
-use Rattle.transcript.specs.declared.conclusion.Conclusion.{Conclusion}
-use Rattle.transcript.specs.declared.conclusion.Conclusion.TheVariants.{Done, StoppedFail, StoppedEnd, Refused}
-use Rattle.transcript.specs.declared.conclusion.EventFault.TheVariants as fault
-use Rattle.transcript.specs.declared.conclusion.ExecuteFault.{ExecuteFault}
-use Rattle.transcript.specs.declared.conclusion.ExecuteFault.TheVariants.{NotValid, ReadFault, WriteFault, Memory}
-use Rattle.transcript.specs.declared.lines.EventKind.{EventKind}
-use Rattle.transcript.specs.declared.lines.EventKind.TheVariants.{End, Fail}
-use Rattle.transcript.specs.declared.lines.Line.{Line}
-use Rattle.transcript.specs.Lines.{BeginsLine, IsEvent, ReadsLine, start_line}
+use Rattle.transcript.specs.declared.conclusion.{Conclusion.Conclusion, Conclusion.TheVariants.Done, Conclusion.TheVariants.StoppedFail, Conclusion.TheVariants.StoppedEnd, Conclusion.TheVariants.Refused, EventFault.EventFault}
+use Rattle.transcript.specs.declared.conclusion.ExecuteFault.{ExecuteFault, TheVariants.NotValid, TheVariants.ReadFault, TheVariants.WriteFault, TheVariants.Memory}
+use Rattle.transcript.specs.{declared.lines.EventKind.EventKind, declared.lines.EventKind.TheVariants.End, declared.lines.EventKind.TheVariants.Fail, declared.lines.Line.Line, Lines.BeginsLine, Lines.IsEvent, Lines.ReadsLine, Lines.start_line}
 use Rattle.transcript.specs.Transcript.{EndsAt, TakesEvent, point}
 
 abbrev pub out_fault : OutFault → ExecuteFault
-out_fault out.Failed = WriteFault
-out_fault out.Memory = Memory
+out_fault OutFault.Failed = WriteFault
+out_fault OutFault.Memory = Memory
 
 -- the plan is judged: it is valid unless what is broken first is the answer
 abbrev pub IsJudged : Instance → Choices → Result Conclusion ExecuteFault → Type 0
@@ -81,11 +74,11 @@ EventGives p before number text after (Some Done) = ⊥
 EventGives p before number text after (Some (StoppedFail e)) =
     (name : List ℕ) × IsEvent text Fail name × (element_named (inventory_of p) name ≡ Some e) × (before e ≡ Running)
 EventGives p before number text after (Some StoppedEnd) = ⊥
-EventGives p before number text after (Some (Refused n fault.NotALine)) = (n ≡ number) × ((kind : EventKind) (name : List ℕ) → ¬ IsEvent text kind name)
-EventGives p before number text after (Some (Refused n fault.TooLong)) = ⊥
-EventGives p before number text after (Some (Refused n fault.NoSuchName)) =
+EventGives p before number text after (Some (Refused n EventFault.NotALine)) = (n ≡ number) × ((kind : EventKind) (name : List ℕ) → ¬ IsEvent text kind name)
+EventGives p before number text after (Some (Refused n EventFault.TooLong)) = ⊥
+EventGives p before number text after (Some (Refused n EventFault.NoSuchName)) =
     (n ≡ number) × (kind : EventKind) × (name : List ℕ) × IsEvent text kind name × (element_named (inventory_of p) name ≡ None)
-EventGives p before number text after (Some (Refused n fault.NotRunning)) =
+EventGives p before number text after (Some (Refused n EventFault.NotRunning)) =
     (n ≡ number) × (kind : EventKind) × (name : List ℕ) × (e : Element) × IsEvent text kind name × (element_named (inventory_of p) name ≡ Some e) × (before e ≢ Running)
 
 -- what the line that is due does, if it can be taken

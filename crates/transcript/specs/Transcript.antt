@@ -4,16 +4,9 @@ use Rattle.std.specs.Io.{StartsWith}
 use Rattle.executor.specs.Prelude.{AllEnded, Choices, element_named, End as AnEnd, first_phases, Instance, inventory_of, IsFirst, IsFirstBroken, IsStep, IsValid, MayStart, Phases, Start}
 use Rattle.cluster.specs.declared.ids.Element.{Element}
 use Rattle.executor.specs.declared.phase.Phase.TheVariants.{Running}
-use Rattle.transcript.specs.declared.conclusion.Conclusion.{Conclusion}
-use Rattle.transcript.specs.declared.conclusion.Conclusion.TheVariants.{Done, StoppedFail, StoppedEnd, Refused}
-use Rattle.transcript.specs.declared.conclusion.EventFault.{EventFault}
-use Rattle.transcript.specs.declared.conclusion.EventFault.TheVariants as fault
-use Rattle.transcript.specs.declared.conclusion.ExecuteFault.{ExecuteFault}
-use Rattle.transcript.specs.declared.conclusion.ExecuteFault.TheVariants.{NotValid, ReadFault, WriteFault, Memory}
-use Rattle.transcript.specs.declared.lines.EventKind.{EventKind}
-use Rattle.transcript.specs.declared.lines.EventKind.TheVariants.{End, Fail}
-use Rattle.transcript.specs.declared.lines.Line.TheVariants as found
-use Rattle.transcript.specs.Lines.{BeginsLine, IsEvent, ReadsLine, start_line}
+use Rattle.transcript.specs.declared.conclusion.{Conclusion.Conclusion, Conclusion.TheVariants.Done, Conclusion.TheVariants.StoppedFail, Conclusion.TheVariants.StoppedEnd, Conclusion.TheVariants.Refused, EventFault.EventFault}
+use Rattle.transcript.specs.declared.conclusion.ExecuteFault.{ExecuteFault, TheVariants.NotValid, TheVariants.ReadFault, TheVariants.WriteFault, TheVariants.Memory}
+use Rattle.transcript.specs.{declared.lines.EventKind.EventKind, declared.lines.EventKind.TheVariants.End, declared.lines.EventKind.TheVariants.Fail, declared.lines.Line.Line, Lines.BeginsLine, Lines.IsEvent, Lines.ReadsLine, Lines.start_line}
 
 -- where an execution stands: how far each action is, how many event lines were taken, what the source has left, and all that the sink has got
 pub record Point : Type 0 where
@@ -50,7 +43,7 @@ pub record TakesEvent (p : Instance) (plan : Choices) (a : Point) (kind : EventK
   pub due : IsDue p plan a.phases
   pub text : List ℕ
   pub name : List ℕ
-  pub line : ReadsLine a.rest found.Whole text rest
+  pub line : ReadsLine a.rest Line.Whole text rest
   pub event : IsEvent text kind name
   pub named : element_named (inventory_of p) name ≡ Some element
 
@@ -77,18 +70,18 @@ Reaches p plan a b = (k : ℕ) × Turns p plan k a b
 
 -- what is wrong with the line that is taken at a point
 abbrev pub IsRefused : Instance → Choices → Point → EventFault → List ℕ → Type 0
-IsRefused p plan a fault.NotALine rest =
-    (text : List ℕ) × (ReadsLine a.rest found.Short text rest ⊎ (ReadsLine a.rest found.Whole text rest × ((kind : EventKind) (name : List ℕ) → ¬ IsEvent text kind name)))
-IsRefused p plan a fault.TooLong rest = (text : List ℕ) × ReadsLine a.rest found.TooLong text rest
-IsRefused p plan a fault.NoSuchName rest =
-    (text : List ℕ) × (kind : EventKind) × (name : List ℕ) × ReadsLine a.rest found.Whole text rest × IsEvent text kind name × (element_named (inventory_of p) name ≡ None)
-IsRefused p plan a fault.NotRunning rest = (kind : EventKind) × (element : Element) × TakesEvent p plan a kind element rest × (a.phases element ≢ Running)
+IsRefused p plan a EventFault.NotALine rest =
+    (text : List ℕ) × (ReadsLine a.rest Line.Short text rest ⊎ (ReadsLine a.rest Line.Whole text rest × ((kind : EventKind) (name : List ℕ) → ¬ IsEvent text kind name)))
+IsRefused p plan a EventFault.TooLong rest = (text : List ℕ) × ReadsLine a.rest Line.TooLong text rest
+IsRefused p plan a EventFault.NoSuchName rest =
+    (text : List ℕ) × (kind : EventKind) × (name : List ℕ) × ReadsLine a.rest Line.Whole text rest × IsEvent text kind name × (element_named (inventory_of p) name ≡ None)
+IsRefused p plan a EventFault.NotRunning rest = (kind : EventKind) × (element : Element) × TakesEvent p plan a kind element rest × (a.phases element ≢ Running)
 
 -- how it ends at a point, and what is then left of the bytes
 abbrev pub EndsAt : Instance → Choices → Point → Conclusion → List ℕ → Type 0
 EndsAt p plan a Done rest = AllEnded a.phases × (rest ≡ a.rest)
 EndsAt p plan a (StoppedFail element) rest = TakesEvent p plan a Fail element rest × (a.phases element ≡ Running)
-EndsAt p plan a StoppedEnd rest = IsDue p plan a.phases × ReadsLine a.rest found.Nothing [] rest
+EndsAt p plan a StoppedEnd rest = IsDue p plan a.phases × ReadsLine a.rest Line.Nothing [] rest
 EndsAt p plan a (Refused number f) rest = IsDue p plan a.phases × (number ≡ a.lines + 1) × IsRefused p plan a f rest
 
 -- the transcript from a point on: turn after turn, and a conclusion

@@ -1,8 +1,7 @@
 //! How an execution ends, and why it gives no conclusion.
 ghost use Rattle.std.specs.Prelude.{◌≡◌};
-ghost use Rattle.transcript.specs.Lines.{fault_text};
+ghost use Rattle.transcript.specs.{Lines.fault_text, Parts.out_fault};
 ghost use Rattle.transcript.specs.declared.conclusion.ExecuteFault.TheVariants as faults;
-ghost use Rattle.transcript.specs.Parts.{out_fault};
 
 use cluster::Element;
 use plan_io::OutFault;

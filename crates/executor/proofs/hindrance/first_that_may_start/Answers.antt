@@ -1,7 +1,6 @@
 use Rattle.std.proofs.Common.{◌≡◌, sym, ap, subst, ◌∙◌}
 use Rattle.executor.specs.Prelude.{choices_of, element_at, inventory_of, IsFirst, MayStart, phases_in}
-use Rattle.executor.proofs.GoingOn.{never_stands_still}
-use Rattle.executor.proofs.TableLemmas.{first_ready, none_after_failure, none_ready}
+use Rattle.executor.proofs.{GoingOn.never_stands_still, TableLemmas.first_ready, TableLemmas.none_after_failure, TableLemmas.none_ready}
 use Rattle.executor.proofs.hindrance.first_that_may_start.Goals as goal
 
 pub returns-in-Some-clause-first : goal.returns-in-Some-clause-first

@@ -1,6 +1,5 @@
 use Rattle.executor.specs.Phases.{phases_in}
-use Rattle.executor.proofs.GoingOn.{ends_as_planned}
-use Rattle.executor.proofs.TableLemmas.{all_by_place}
+use Rattle.executor.proofs.{GoingOn.ends_as_planned, TableLemmas.all_by_place}
 use Rattle.executor.proofs.hindrance.is_finished.Goals as goal
 
 pub returns-clause-ended : goal.returns-clause-ended

@@ -1,8 +1,6 @@
-use Rattle.std.proofs.Common.{slice_get}
-use Rattle.base.proofs.Public.{◌≡◌, ◌+◌, Some, length, refl, arith, iff_false, or_left, slice_get_read}
+use Rattle.base.proofs.Public.{◌≡◌, ◌+◌, Some, length, refl, arith, iff_false, or_left, slice_get_read, slice_get}
 use Rattle.slices.specs.Plans.{choices_of}
-use Rattle.judge.proofs.Lowering.{continuous_met, suspect_met}
-use Rattle.judge.proofs.Quiet.{holds_until}
+use Rattle.judge.proofs.{Lowering.continuous_met, Lowering.suspect_met, Quiet.holds_until}
 use Rattle.judge.proofs.least.least_held.Goals as goal
 
 pub returns-then-not-holds-clause-lower : goal.returns-then-not-holds-clause-lower

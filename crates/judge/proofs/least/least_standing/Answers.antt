@@ -1,7 +1,6 @@
 use Rattle.base.proofs.Public.{◌+◌, arith, iff_false}
 use Rattle.slices.specs.Plans.{choices_of}
-use Rattle.judge.proofs.Lowering.{suspect_standing}
-use Rattle.judge.proofs.Quiet.{stands_until}
+use Rattle.judge.proofs.{Lowering.suspect_standing, Quiet.stands_until}
 use Rattle.judge.proofs.least.least_standing.Goals as goal
 
 pub returns-then-not-stands-clause-suspect : goal.returns-then-not-stands-clause-suspect

@@ -1,5 +1,4 @@
-use Rattle.std.proofs.Common.{slice_index_or}
-use Rattle.base.proofs.Public.{◌+◌, [], ◌∙◌, get_or_read}
+use Rattle.base.proofs.Public.{◌+◌, [], ◌∙◌, get_or_read, slice_index_or}
 use Rattle.judge.specs.Prelude.{AreMachines, choices_of, IsInSome, IsMember}
 use Rattle.judge.proofs.Starting.{next_of_both, parts_more}
 use Rattle.judge.proofs.next.next_in_parts.Goals as goal

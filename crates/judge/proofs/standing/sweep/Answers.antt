@@ -1,7 +1,6 @@
 use Rattle.std.proofs.Common.{arith}
 use Rattle.judge.specs.Prelude.{Amount, choices_of, one, snapshot_at}
-use Rattle.judge.proofs.Stances.{usable_where, usable_more}
-use Rattle.judge.proofs.Tables.{sum_more}
+use Rattle.judge.proofs.{Stances.usable_where, Stances.usable_more, Tables.sum_more}
 use Rattle.judge.proofs.standing.sweep.Goals as goal
 
 pub loop-i-preserved : goal.loop-i-preserved

@@ -1,5 +1,4 @@
-use Rattle.std.proofs.Common.{IsTrue}
-use Rattle.base.proofs.Public.{◌≡◌, ◌+◌, ◌≤◌, StartsWith}
+use Rattle.base.proofs.Public.{◌≡◌, ◌+◌, ◌≤◌, StartsWith, IsTrue}
 use Rattle.transcript.specs.Prelude.{choices_of, phases_of, point, Reaches}
 use Rattle.transcript.proofs.Measure.{steps_left}
 use Rattle.transcript.proofs.running.follow.Given as goal

@@ -1,7 +1,6 @@
 use Rattle.std.proofs.Common.{sym, subst, refl, rules}
 use Rattle.executor.specs.Prelude.{choices_of, IsExecution, IsValid}
-use Rattle.executor.proofs.StepLemmas.{begins_well}
-use Rattle.executor.proofs.TableLemmas.{first_told}
+use Rattle.executor.proofs.{StepLemmas.begins_well, TableLemmas.first_told}
 use Rattle.executor.proofs.monitor.Monitor.new.Goals as goal
 
 pub invariant_of-result : goal.invariant_of-result
