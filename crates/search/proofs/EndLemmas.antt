@@ -1,7 +1,7 @@
 -- From the steps of a search that is done to its tree, and from the tree to what is so of all plans.
 use Rattle.base.proofs.Public.{◌≡◌, inl, inr, ℕ, ◌≤◌, Bool, true, false, List, [], refl, sym, ap, subst, ◌∙◌, arith, Option, Some, None, is_some, All, IfSome, IsSomeAnd}
-use Rattle.search.specs.Prelude.{Best, bound_of, choices_in, choices_of, cost_kept, cost_of, Counts, decisions, Found, found_of, FoundAt, goal_in, goal_of, has_left, HasStep, Infeasible, Instance, IsHandedIn, IsInstance, IsLow, IsPlanFound, IsPlanOf, IsPlanOfCost, IsTreeOf, IsTrueOf, IsValid, IsValidPlan, least_cost, least_in, least_of, least_shown, leaves_along, left_along, left_set, left_sets, lower_of, lowest, Optimal, plan_costs, plan_in, plan_kept, plan_set, plan_sets, PlanChoices, Proves, shown, start_sets, Step, steps_of, Tree, Undecided, Underway, WasSearched}
-use Rattle.trees.specs.declared.steps.Goal.TheVariants as goal
+use Rattle.search.specs.Prelude.{Best, bound_of, choices_in, choices_of, cost_kept, cost_of, Progress, decisions, Found, found_of, FoundAt, goal_in, goal_of, has_left, HasStep, Infeasible, Instance, IsHandedIn, IsInstance, IsLow, IsPlanFound, IsPlanOf, IsPlanOfCost, IsTreeOf, IsTrueOf, IsValid, IsValidPlan, least_cost, least_in, least_of, least_shown, leaves_along, left_along, left_set, left_sets, lower_of, lowest, Optimal, plan_costs, plan_in, plan_kept, plan_set, plan_sets, PlanChoices, Proves, shown, start_sets, Step, steps_of, Tree, Undecided, Underway, WasSearched}
+use Rattle.trees.specs.declared.steps.Goal.{Goal}
 use Rattle.trees.proofs.Public.{IsOneTree, certificates_hold, cheapest_is_low, found_is_lean, found_is_searched, found_proves, gathered_whole, lean_trees_fit, least_is_shown, plans_found_hold, tree_of}
 
 -- ---- the answer, by what is kept
@@ -20,9 +20,9 @@ least_found (Some b) (Some sum) = refl
 
 goal_found : (p : Instance) (budget count : ℕ) (best : Option Best) (least : Option ℕ) → IfSome best (IsPlanOfCost p) → (is_some least ≡ true → count ≡ budget) → goal_in p budget (found_of best least) ≡ goal_of (is_some least) count (cost_kept best)
 goal_found p budget count None None of_cost used = refl
-goal_found p budget count (Some b) None of_cost used = ap (λ n. goal.Optimal n) (sym of_cost.costs)
-goal_found p budget count None (Some sum) of_cost used = ap (λ n. goal.Undecided n) (sym (used refl))
-goal_found p budget count (Some b) (Some sum) of_cost used = ap (λ n. goal.Undecided n) (sym (used refl))
+goal_found p budget count (Some b) None of_cost used = ap (λ n. Goal.Optimal n) (sym of_cost.costs)
+goal_found p budget count None (Some sum) of_cost used = ap (λ n. Goal.Undecided n) (sym (used refl))
+goal_found p budget count (Some b) (Some sum) of_cost used = ap (λ n. Goal.Undecided n) (sym (used refl))
 
 bound_found : (p : Instance) (best : Option Best) → IfSome best (IsPlanOfCost p) → cost_kept best ≡ bound_of p (choices_in (plan_kept best))
 bound_found p None of_cost = refl
@@ -38,7 +38,7 @@ pub record IsShownBy (p : Instance) (budget : ℕ) (found : Found) (steps : List
   pub same : steps ≡ steps_of tree
   pub tree_is : IsTreeOf p budget found tree
 
-module _ (p : Instance) (budget : ℕ) (k : Counts) (steps : List Step) (u : Underway p budget k steps []) where
+module _ (p : Instance) (budget : ℕ) (k : Progress) (steps : List Step) (u : Underway p budget k steps []) where
   one : IsOneTree (FoundAt p) (start_sets p) steps
   one = tree_of (FoundAt p) (start_sets p) steps u.leads
 
@@ -110,7 +110,7 @@ valid_plan : (p : Instance) (plan : Option PlanChoices) → IfSome plan (IsPlanO
 valid_plan p None whole handed = tt
 valid_plan p (Some plan) whole handed = record { whole = whole; valid = handed.1 }
 
-undecided_is : (b : Bool) (budget count : ℕ) (bound : Option ℕ) → goal.Undecided budget ≡ goal_of b count bound → (b ≡ true) × (budget ≡ count)
+undecided_is : (b : Bool) (budget count : ℕ) (bound : Option ℕ) → Goal.Undecided budget ≡ goal_of b count bound → (b ≡ true) × (budget ≡ count)
 undecided_is true budget count bound same = (refl, cc)
 undecided_is false budget count None same = absurd (cc)
 undecided_is false budget count (Some n) same = absurd (cc)
@@ -122,8 +122,8 @@ said_least p least (Some n) P same h = subst P (sym (let e : least ≡ n = cc in
 pub tree_is_true : (p : Instance) → IsInstance p → (budget : ℕ) (found : Found) (t : Tree) → IfSome (plan_in found) (IsPlanOf p) → IsTreeOf p budget found t → IsTrueOf p budget found
 tree_is_true p sound budget (Optimal plan) t whole is =
     let handed = handed_in p (Some plan) t whole is.certificate.proves is.searched in
-    (whole, (certificates_hold p sound (Some (choices_of plan)) handed (goal.Optimal (cost_of p (choices_of plan))) t is.certificate).0)
-tree_is_true p sound budget Infeasible t whole is = certificates_hold p sound None tt goal.Infeasible t is.certificate
+    (whole, (certificates_hold p sound (Some (choices_of plan)) handed (Goal.Optimal (cost_of p (choices_of plan))) t is.certificate).0)
+tree_is_true p sound budget Infeasible t whole is = certificates_hold p sound None tt Goal.Infeasible t is.certificate
 tree_is_true p sound budget (Undecided best least) t whole is =
     let handed = handed_in p best t whole is.certificate.proves is.searched in
     let opened = undecided_is (has_left (steps_of t)) budget (decisions (steps_of t)) (bound_of p (choices_in best)) is.certificate.shows in
@@ -131,5 +131,5 @@ tree_is_true p sound budget (Undecided best least) t whole is =
     record {
       large = omega (arith, fit, opened.1);
       best_is = valid_plan p best whole handed;
-      least_is = said_least p least (least_of p (choices_in best) t) _ is.least (certificates_hold p sound (choices_in best) handed (goal.Undecided budget) t is.certificate);
+      least_is = said_least p least (least_of p (choices_in best) t) _ is.least (certificates_hold p sound (choices_in best) handed (Goal.Undecided budget) t is.certificate);
     }

@@ -10,6 +10,6 @@ pub mod RegionLemmas
 pub mod WorkLemmas
 pub mod LookLemmas
 pub mod LeafLemmas
-pub mod TurnLemmas
+pub mod RoundLemmas
 pub mod WholeLemmas
 pub mod StayLemmas

@@ -1,13 +1,11 @@
 -- What one look at a region comes to: one lemma for each way that it ends.
-use Rattle.std.proofs.Common.{All, IsTrue}
-use Rattle.base.proofs.Public.{◌≡◌, ◌≢◌, ℕ, ◌+◌, ◌<◌, ◌≤◌, Bool, true, false, List, [], ◌∷◌, ◌++◌, refl, sym, ap, subst, ◌∙◌, append_assoc, arith, Option, None, IfSome, IsSomeAnd}
-use Rattle.search.specs.Prelude.{AllQuiet, Best, by_rule, cost_kept, Counts, Covered, Cut, cut_steps, CutHolds, Element, Fail, FailHolds, HasStep, HaveChoices, Instance, IsAsked, IsClear, IsInstance, least_cost, lines, lowest, Meaning, outside, Pairs, Part, plan_costs, Reason, Refutes, Rise, SameRule, Sets, SomeUpto, Underway, Works}
+use Rattle.base.proofs.Public.{◌≡◌, ◌≢◌, ℕ, ◌+◌, ◌<◌, ◌≤◌, Bool, true, false, List, [], ◌∷◌, ◌++◌, refl, sym, ap, subst, ◌∙◌, append_assoc, arith, Option, None, IfSome, IsSomeAnd, All, IsTrue}
+use Rattle.search.specs.Prelude.{AllQuiet, Best, by_rule, cost_kept, Progress, Covered, Cut, cut_steps, CutHolds, Element, Fail, FailHolds, HasStep, HaveChoices, Instance, IsAsked, IsClear, IsInstance, least_cost, lines, lowest, Meaning, outside, Pairs, Part, plan_costs, Reason, Refutes, Rise, SameRule, Sets, SomeUpto, Underway, Works}
 use Rattle.reasons.specs.declared.reason.Reason.TheVariants.{Empty, Bound}
 use Rattle.trees.proofs.Public.{upto_cheapest}
 use Rattle.cert_text.proofs.Public.{named_reason}
 use Rattle.prop_core.proofs.Public.{closed_when_quiet, covered_after, Rise-trans}
-use Rattle.search.proofs.StepLemmas.{step_cut, step_fail}
-use Rattle.search.proofs.WorkLemmas.{by_rule_once, cover_asked, rise_less, rise_rule}
+use Rattle.search.proofs.{StepLemmas.step_cut, StepLemmas.step_fail, WorkLemmas.by_rule_once, WorkLemmas.cover_asked, WorkLemmas.rise_less, WorkLemmas.rise_rule}
 
 -- without a plan the bound refutes nothing
 not_bound : (p : Instance) (s : Sets) (reason : Reason) → Refutes p None s reason → reason ≢ Bound
@@ -18,7 +16,7 @@ met_upto : (best : Option Best) (sum n : ℕ) (costs : List ℕ) → cost_kept b
 met_upto best sum n costs cheapest is reached =
     (upto_cheapest n costs).1 (subst (λ o. IsSomeAnd o (λ known. known ≤ n)) cheapest (subst (λ k. IsSomeAnd (cost_kept best) (λ known. known ≤ k)) is reached))
 
-module _ {B : Type 0} (m : B → Meaning) (p : Instance) (tells : Bool) (k : Counts) (old new : List ℕ) (xs ys : List B) (s : Sets) where
+module _ {B : Type 0} (m : B → Meaning) (p : Instance) (tells : Bool) (k : Progress) (old new : List ℕ) (xs ys : List B) (s : Sets) where
   -- the bound
   pub look_bound : (sum : ℕ) → sum ≡ least_cost p s → IsSomeAnd (cost_kept k.best) (λ known. known ≤ sum) → (IsTrue tells → new ≡ old ++ lines p (Fail Bound ∷ [])) → Rise m 0 xs ys → (budget : ℕ) → Works m p budget tells k k old new xs ys s []
   look_bound sum is reached text rise budget = record {

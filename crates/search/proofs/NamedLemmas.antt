@@ -1,8 +1,6 @@
 -- The steps of a search can be written.
-use Rattle.std.proofs.Common.{if◌then◌else◌}
-use Rattle.base.proofs.Public.{◌≡◌, ◌≢◌, ℕ, ◌+◌, Bool, true, false, ◌&&◌, nat_lt, nat_le, List, [], ◌∷◌, Option, None, is_some, refl, subst, arith, Contains, filter, nat_tests, Decides-eqb}
+use Rattle.base.proofs.Public.{◌≡◌, ◌≢◌, ℕ, ◌+◌, Bool, true, false, ◌&&◌, nat_lt, nat_le, List, [], ◌∷◌, Option, None, is_some, refl, subst, arith, Contains, filter, nat_tests, Decides-eqb, if◌then◌else◌}
 use Rattle.search.specs.Prelude.{Act, AreLegal, At, Choice, Clash, Cut, CutHolds, Decide, Element, HasPart, HasPlace, HasStep, Idle, in_part, Instance, is_legal, is_online, is_raised, IsInstance, IsSplit, IsStart, Keep, Kind, kind_of, machine_kind, Node as TheNode, node_count, node_kind, NodeId, Nowhere, Part, Place, Reason, same_place, Sets, state_of, To, Vm, wanted_of, wanted_state, Wish}
-use Rattle.domains.specs.declared.parts.Part.TheVariants as part
 use Rattle.domains.proofs.Public.{contains_here, filter_contains}
 use Rattle.cert_text.proofs.Public.{named_reason}
 
@@ -42,17 +40,17 @@ same_has p (At m) (At n) same has = let e : m.0 + 1 ≡ n.0 + 1 = (Decides-eqb (
 
 -- the start of a part, if it has one, is one that the code can hold
 abbrev pub StartFits : Part → Type 0
-StartFits part.Idle = Unit {0}
-StartFits (part.Upto place start) = IsStart start
-StartFits (part.From place start) = IsStart start
+StartFits Part.Idle = Unit {0}
+StartFits (Part.Upto place start) = IsStart start
+StartFits (Part.From place start) = IsStart start
 
 -- a part that holds a legal choice names a place of the problem
 has_part : (p : Instance) (e : Element) (part : Part) (c : Choice) → is_legal p e c ≡ true → in_part part c ≡ true → StartFits part → HasPart p part
-has_part p e part.Idle c legal held fits = tt
-has_part p e (part.Upto place start) Idle legal held fits = absurd (cc)
-has_part p e (part.Upto place start) (Act q s) legal held fits = (same_has p q place (both_true (same_place q place) (nat_le s start) held).0 (legal_place p e q s legal), fits)
-has_part p e (part.From place start) Idle legal held fits = absurd (cc)
-has_part p e (part.From place start) (Act q s) legal held fits = (same_has p q place (both_true (same_place q place) (nat_le start s) held).0 (legal_place p e q s legal), fits)
+has_part p e Part.Idle c legal held fits = tt
+has_part p e (Part.Upto place start) Idle legal held fits = absurd (cc)
+has_part p e (Part.Upto place start) (Act q s) legal held fits = (same_has p q place (both_true (same_place q place) (nat_le s start) held).0 (legal_place p e q s legal), fits)
+has_part p e (Part.From place start) Idle legal held fits = absurd (cc)
+has_part p e (Part.From place start) (Act q s) legal held fits = (same_has p q place (both_true (same_place q place) (nat_le start s) held).0 (legal_place p e q s legal), fits)
 
 some_choice : (cs : List Choice) → cs ≢ [] → (c : Choice) × Contains cs c
 some_choice [] some = absurd (some refl)

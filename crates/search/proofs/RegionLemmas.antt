@@ -1,6 +1,5 @@
 -- Regions of an instance, what one change makes of them, and the sums of their least ends.
-use Rattle.std.proofs.Common.{map}
-use Rattle.base.proofs.Public.{◌≡◌, ◌≢◌, ℕ, ◌<◌, Bool, true, false, List, [], ◌∷◌, length, refl, sym, ap, subst, ◌∙◌, filter, eq-eqb, false_from_ne_true}
+use Rattle.base.proofs.Public.{◌≡◌, ◌≢◌, ℕ, ◌<◌, Bool, true, false, List, [], ◌∷◌, length, refl, sym, ap, subst, ◌∙◌, filter, eq-eqb, false_from_ne_true, map}
 use Rattle.search.specs.Prelude.{AreFewer, AreFixed, Before, Change, Choice, choice_count, choices, CutHolds, domain_at, domain_before, DomainView, Element, HasElement, HaveChoices, in_part, inside, Instance, IsElement, IsFixed, IsNarrowed, IsRegionOf, IsSized, IsSplit, IsTrailOf, keeping, least_cost, machine_count, Marked, Node, node_count, on_side, out_of_part, outside, Part, Reason, RegionView, same_element, Sets, sets, Vm, with_domain}
 use Rattle.domains.proofs.Public.{same_is}
 use Rattle.bound.proofs.Public.{cost_put_back}

@@ -3,10 +3,9 @@ use mathlib.Core.Path.{fun_ext}
 use Rattle.base.proofs.Public.{◌≡◌, ℕ, ◌+◌, ◌-◌, Bool, List, [], ◌∷◌, ◌++◌, take, drop, length, refl, sym, ap, subst, ◌∙◌, arith, inr, Option, Some, replicate, All-cons, All-nil, drop-replicate, length-replicate, take-replicate, copies_at, sum_to-none}
 use Rattle.search.specs.Prelude.{all_idle, Choice, choices_of, cost_of, Element, element_count, end_line, end_of, Fail, fail_leaf, Found, HasStep, Idle, Instance, inventory_of, IsInstance, IsPlan, IsPlanOf, IsShown, IsStayed, IsStayingPlan, IsTreeOf, IsTrueOf, IsValid, lines, machine_count, MayStay, Meaning, Node, node, node_count, Optimal, parted, PlanChoices, Proves, start_sets, step_line, sum_to, Vm, vm}
 use Rattle.reasons.specs.declared.reason.Reason.TheVariants.{Bound}
-use Rattle.trees.specs.declared.steps.Goal.TheVariants as goal
+use Rattle.trees.specs.declared.steps.Goal.{Goal}
 use Rattle.trees.proofs.Public.{staying_proves}
-use Rattle.search.proofs.EndLemmas.{tree_is_true}
-use Rattle.search.proofs.TextLemmas.{one_line}
+use Rattle.search.proofs.{EndLemmas.tree_is_true, TextLemmas.one_line}
 
 -- ---- the plan
 
@@ -81,7 +80,7 @@ stayed_shown m p budget tells old new xs found s =
     subst (λ (f : Found). IsShown m p budget tells old new xs xs f) (sym s.found_is) (record {
       tree = fail_leaf Bound;
       tree_is = stayed_tree p budget s.plan s.stays;
-      text = λ t. s.text t ∙ ap (λ n. Some (old ++ lines p (Fail Bound ∷ []) ++ end_line (goal.Optimal n))) (sym (costs_nothing p s.plan s.stays.idle));
+      text = λ t. s.text t ∙ ap (λ n. Some (old ++ lines p (Fail Bound ∷ []) ++ end_line (Goal.Optimal n))) (sym (costs_nothing p s.plan s.stays.idle));
       given = λ full. omega arith;
     })
 
@@ -90,6 +89,6 @@ stayed_true p sound budget tells old new found s =
     subst (IsTrueOf p budget) (sym s.found_is) (tree_is_true p sound budget (Optimal s.plan) (fail_leaf Bound) s.stays.valid_plan.whole (stayed_tree p budget s.plan s.stays))
 
 -- the two lines after the old bytes
-pub stayed_text : (p : Instance) (old : List ℕ) (new : Option (List ℕ)) (mid : List ℕ) → mid ≡ old ++ step_line p (Fail Bound) → new ≡ Some (mid ++ end_line (goal.Optimal 0)) → new ≡ Some (old ++ lines p (Fail Bound ∷ []) ++ end_line (goal.Optimal 0))
+pub stayed_text : (p : Instance) (old : List ℕ) (new : Option (List ℕ)) (mid : List ℕ) → mid ≡ old ++ step_line p (Fail Bound) → new ≡ Some (mid ++ end_line (Goal.Optimal 0)) → new ≡ Some (old ++ lines p (Fail Bound ∷ []) ++ end_line (Goal.Optimal 0))
 stayed_text p old new mid line text =
-    text ∙ ap (λ a. Some (a ++ end_line (goal.Optimal 0))) line ∙ ap (λ a. Some (old ++ a ++ end_line (goal.Optimal 0))) (sym (one_line p (Fail Bound)))
+    text ∙ ap (λ a. Some (a ++ end_line (Goal.Optimal 0))) line ∙ ap (λ a. Some (old ++ a ++ end_line (Goal.Optimal 0))) (sym (one_line p (Fail Bound)))

@@ -1,9 +1,7 @@
 -- Lines after lines, and fronts of them.
-use Rattle.std.proofs.Common.{IsTrue}
-use Rattle.std.proofs.lemmas.Grind.{flat_map-append}
+use Rattle.std.proofs.{Common.IsTrue, lemmas.Grind.flat_map-append}
 use Rattle.base.proofs.Public.{◌≡◌, ℕ, List, [], ◌∷◌, ◌++◌, sym, ap, subst, ◌∙◌, append_assoc, append-nil, arith, Bool, StartsWith, common_steps}
 use Rattle.search.specs.Prelude.{end_line, Goal, Instance, LeavesLines, LeavesText, lines, Step, step_line}
-use Rattle.trees.specs.declared.steps.Goal.TheVariants as goal
 
 -- ---- fronts
 
@@ -79,16 +77,16 @@ module _ (p : Instance) (tells : Bool) where
   pub text_none : (old : List ℕ) → LeavesText p tells old old
   text_none old = record {
     some = [];
-    goal = goal.Infeasible;
-    front = λ t. longer (old ++ lines p []) (end_line goal.Infeasible) old (longer old (lines p []) old (whole_front old));
+    goal = Goal.Infeasible;
+    front = λ t. longer (old ++ lines p []) (end_line Goal.Infeasible) old (longer old (lines p []) old (whole_front old));
     stays = λ t. whole_front old;
   }
 
   pub text_some : (old new : List ℕ) → LeavesLines p tells old new → LeavesText p tells old new
   text_some old new l = record {
     some = l.some;
-    goal = goal.Infeasible;
-    front = λ t. longer (old ++ lines p l.some) (end_line goal.Infeasible) new (l.front t);
+    goal = Goal.Infeasible;
+    front = λ t. longer (old ++ lines p l.some) (end_line Goal.Infeasible) new (l.front t);
     stays = l.stays;
   }
 

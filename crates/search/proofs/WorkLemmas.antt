@@ -1,6 +1,6 @@
 -- How what was done composes.
 use Rattle.std.proofs.Common.{◌≡◌, ℕ, ◌+◌, ◌≤◌, Bool, List, [], ◌∷◌, ◌++◌, length, refl, sym, subst, ◌∙◌, append_assoc, append-nil, arith}
-use Rattle.search.specs.Prelude.{answered, by_rule, Counts, Cut, Decide, Fail, Goes, Instance, IsAsked, LeavesLines, Left, Meaning, Pairs, Plan, Reason, Rise, SameCover, SameRule, Sets, Step, Underway, Works}
+use Rattle.search.specs.Prelude.{answered, by_rule, Progress, Cut, Decide, Fail, Goes, Instance, IsAsked, LeavesLines, Left, Meaning, Pairs, Plan, Reason, Rise, SameCover, SameRule, Sets, Step, Underway, Works}
 use Rattle.reasons.specs.declared.reason.Reason.TheVariants.{Empty, Bound, Load, Pair, Place, Group, SetLoad, Power, Usable, Hall}
 use Rattle.prop_core.proofs.Public.{Pairs-same, Pairs-trans, Pairs-weaker, Rise-from_same, Rise-trans}
 use Rattle.search.proofs.TextLemmas.{leaves_then, lines_then}
@@ -61,7 +61,7 @@ module _ {B : Type 0} (m : B → Meaning) where
 -- ---- work after work
 
 module _ {B : Type 0} (m : B → Meaning) (p : Instance) (budget : ℕ) (tells : Bool) where
-  pub works_none : (k : Counts) (old : List ℕ) (xs ys : List B) (s : Sets) → Rise m 0 xs ys → Works m p budget tells k k old old xs ys s (s ∷ [])
+  pub works_none : (k : Progress) (old : List ℕ) (xs ys : List B) (s : Sets) → Rise m 0 xs ys → Works m p budget tells k k old old xs ys s (s ∷ [])
   works_none k old xs ys s r = record {
     more = [];
     text = λ t. sym (append-nil old);
@@ -70,7 +70,7 @@ module _ {B : Type 0} (m : B → Meaning) (p : Instance) (budget : ℕ) (tells :
   }
 
   -- the work on a region, and then on the one that it leaves open
-  pub works_then : (k l n : Counts) (old mid new : List ℕ) (xs ys zs : List B) (s t : Sets) (now : List Sets) → length ys ≡ length xs → length zs ≡ length ys →
+  pub works_then : (k l n : Progress) (old mid new : List ℕ) (xs ys zs : List B) (s t : Sets) (now : List Sets) → length ys ≡ length xs → length zs ≡ length ys →
       Works m p budget tells k l old mid xs ys s (t ∷ []) → Works m p budget tells l n mid new ys zs t now → Works m p budget tells k n old new xs zs s now
   works_then k l n old mid new xs ys zs s t now c d a b = record {
     more = a.more ++ b.more;
@@ -80,7 +80,7 @@ module _ {B : Type 0} (m : B → Meaning) (p : Instance) (budget : ℕ) (tells :
   }
 
   -- then propagators were told, which are the same
-  pub works_same : (k l : Counts) (old new : List ℕ) (xs ys zs : List B) (s : Sets) (now : List Sets) → length ys ≡ length xs → length zs ≡ length ys →
+  pub works_same : (k l : Progress) (old new : List ℕ) (xs ys zs : List B) (s : Sets) (now : List Sets) → length ys ≡ length xs → length zs ≡ length ys →
       Works m p budget tells k l old new xs ys s now → Rise m 0 ys zs → Works m p budget tells k l old new xs zs s now
   works_same k l old new xs ys zs s now c d a r = record {
     more = a.more;
@@ -89,10 +89,10 @@ module _ {B : Type 0} (m : B → Meaning) (p : Instance) (budget : ℕ) (tells :
     runs = a.runs;
   }
 
-  pub works_goes : (k l : Counts) (old new : List ℕ) (xs ys : List B) (s : Sets) (rest now : List Sets) → Works m p budget tells k l old new xs ys s now → Goes m p budget tells k l old new xs ys (s ∷ rest) (now ++ rest)
+  pub works_goes : (k l : Progress) (old new : List ℕ) (xs ys : List B) (s : Sets) (rest now : List Sets) → Works m p budget tells k l old new xs ys s now → Goes m p budget tells k l old new xs ys (s ∷ rest) (now ++ rest)
   works_goes k l old new xs ys s rest now a = record { more = a.more; text = a.text; given = a.given; runs = λ e u. a.runs e rest u }
 
-  pub goes_none : (k : Counts) (old : List ℕ) (xs : List B) (open_now : List Sets) → Goes m p budget tells k k old old xs xs open_now open_now
+  pub goes_none : (k : Progress) (old : List ℕ) (xs : List B) (open_now : List Sets) → Goes m p budget tells k k old old xs xs open_now open_now
   goes_none k old xs open_now = record {
     more = [];
     text = λ t. sym (append-nil old);
@@ -100,7 +100,7 @@ module _ {B : Type 0} (m : B → Meaning) (p : Instance) (budget : ℕ) (tells :
     runs = λ e u. subst (λ a. Underway p budget k a open_now) (sym (append-nil e)) u;
   }
 
-  pub goes_then : (k l n : Counts) (old mid new : List ℕ) (xs ys zs : List B) (from mids now : List Sets) → length ys ≡ length xs → length zs ≡ length ys →
+  pub goes_then : (k l n : Progress) (old mid new : List ℕ) (xs ys zs : List B) (from mids now : List Sets) → length ys ≡ length xs → length zs ≡ length ys →
       Goes m p budget tells k l old mid xs ys from mids → Goes m p budget tells l n mid new ys zs mids now → Goes m p budget tells k n old new xs zs from now
   goes_then k l n old mid new xs ys zs from mids now c d a b = record {
     more = a.more ++ b.more;
@@ -110,8 +110,8 @@ module _ {B : Type 0} (m : B → Meaning) (p : Instance) (budget : ℕ) (tells :
   }
 
   -- a front behind the lines of the work
-  pub works_front : (k l : Counts) (old mid new : List ℕ) (xs ys : List B) (s : Sets) (now : List Sets) → Works m p budget tells k l old mid xs ys s now → LeavesLines p tells mid new → LeavesLines p tells old new
+  pub works_front : (k l : Progress) (old mid new : List ℕ) (xs ys : List B) (s : Sets) (now : List Sets) → Works m p budget tells k l old mid xs ys s now → LeavesLines p tells mid new → LeavesLines p tells old new
   works_front k l old mid new xs ys s now w f = leaves_then p tells old mid new w.more w.text f
 
-  pub goes_front : (k l : Counts) (old mid new : List ℕ) (xs ys : List B) (from now : List Sets) → Goes m p budget tells k l old mid xs ys from now → LeavesLines p tells mid new → LeavesLines p tells old new
+  pub goes_front : (k l : Progress) (old mid new : List ℕ) (xs ys : List B) (from now : List Sets) → Goes m p budget tells k l old mid xs ys from now → LeavesLines p tells mid new → LeavesLines p tells old new
   goes_front k l old mid new xs ys from now g f = leaves_then p tells old mid new g.more g.text f

@@ -2,9 +2,7 @@
 use Rattle.std.specs.Prelude.{All, ◌≡◌, ℕ, ◌+◌, ◌<◌, ◌≤◌, Option, Some, None, IfSome}
 use Rattle.cert_write.specs.Prelude.{Choices, choices_of, cost_of, decisions, HasStep, Instance, IsCertificate, IsInfeasible, IsLean, IsOptimal, IsPlanOf, IsValid, least_of, machine_count, node_count, NoneUndercuts, PlanChoices, size, start_sets, steps_of, Tree, WasSearched}
 use Rattle.trees.specs.declared.steps.Goal.{Goal}
-use Rattle.trees.specs.declared.steps.Goal.TheVariants as goal
-use Rattle.search.specs.declared.found.Found.{Found}
-use Rattle.search.specs.declared.found.Found.TheVariants.{Optimal, Infeasible, Undecided}
+use Rattle.search.specs.declared.found.Found.{Found, TheVariants.Optimal, TheVariants.Infeasible, TheVariants.Undecided}
 
 -- the plan that is answered, if one is
 abbrev pub plan_in : Found → Option PlanChoices
@@ -19,9 +17,9 @@ choices_in (Some plan) = Some (choices_of plan)
 
 -- the goal that is claimed: the cost of the plan, that there is none, or that all decisions of the budget were made
 abbrev pub goal_in : Instance → ℕ → Found → Goal
-goal_in p budget (Optimal plan) = goal.Optimal (cost_of p (choices_of plan))
-goal_in p budget Infeasible = goal.Infeasible
-goal_in p budget (Undecided best least) = goal.Undecided budget
+goal_in p budget (Optimal plan) = Goal.Optimal (cost_of p (choices_of plan))
+goal_in p budget Infeasible = Goal.Infeasible
+goal_in p budget (Undecided best least) = Goal.Undecided budget
 
 -- the cost that no valid plan undercuts, where it is answered
 abbrev pub least_in : Found → Option ℕ

@@ -1,15 +1,10 @@
 -- Staying: the plan in which nothing is done, where it is one and valid.
 use Rattle.std.specs.Prelude.{◌≡◌, ℕ, List, [], ◌∷◌, ◌++◌, Option, Some, Bool, IsTrue}
 use Rattle.cert_write.specs.Prelude.{Choices, choices_of, end_line, Instance, IsPlan, IsValid, PlanChoices}
-use Rattle.cluster.specs.declared.choices.Choice.TheVariants.{Idle}
-use Rattle.cluster.specs.declared.ids.Element.{Element}
+use Rattle.cluster.specs.declared.{choices.Choice.TheVariants.Idle, ids.Element.Element}
 use Rattle.reasons.specs.declared.reason.Reason.TheVariants.{Bound}
-use Rattle.trees.specs.declared.steps.Step.TheVariants.{Fail}
-use Rattle.trees.specs.declared.steps.Goal.TheVariants as goal
-use Rattle.search.specs.declared.found.Found.{Found}
-use Rattle.search.specs.declared.found.Found.TheVariants.{Optimal}
-use Rattle.search.specs.Answers.{IsValidPlan}
-use Rattle.search.specs.Written.{lines}
+use Rattle.trees.specs.declared.steps.{Step.TheVariants.Fail, Goal.Goal}
+use Rattle.search.specs.{declared.found.Found.Found, declared.found.Found.TheVariants.Optimal, Answers.IsValidPlan, Written.lines}
 
 -- each element is idle
 abbrev pub all_idle : Choices
@@ -30,4 +25,4 @@ pub record IsStayed (p : Instance) (tells : Bool) (old : List ℕ) (new : Option
   pub plan : PlanChoices
   pub found_is : found ≡ Optimal plan
   pub stays : IsStayingPlan p plan
-  pub text : IsTrue tells → new ≡ Some (old ++ lines p (Fail Bound ∷ []) ++ end_line (goal.Optimal 0))
+  pub text : IsTrue tells → new ≡ Some (old ++ lines p (Fail Bound ∷ []) ++ end_line (Goal.Optimal 0))

@@ -2,10 +2,7 @@
 use Rattle.std.specs.Prelude.{All, ◌≡◌, ℕ, ◌≤◌, true, List, [], ◌∷◌, Option, Some, None, IfSome}
 use Rattle.cert_write.specs.Prelude.{choices_of, cost_of, decisions, FoundAt, gathered_along, has_left, HasStep, Instance, IsPlanFound, IsPlanOf, Leads, least_cost, left_set, lower, lowest, plan_costs, plan_set, PlanChoices, Sets, start_sets}
 use Rattle.trees.specs.declared.steps.Step.{Step}
-use Rattle.search.specs.declared.counts.Best.{Best}
-use Rattle.search.specs.declared.counts.Counts.{Counts}
-use Rattle.search.specs.declared.found.Found.{Found}
-use Rattle.search.specs.declared.found.Found.TheVariants.{Optimal, Infeasible, Undecided}
+use Rattle.search.specs.declared.{progress.Best.Best, progress.Progress.Progress, found.Found.Found, found.Found.TheVariants.Optimal, found.Found.TheVariants.Infeasible, found.Found.TheVariants.Undecided}
 use Rattle.search.specs.Answers.{choices_in}
 
 -- ---- the plan that is kept
@@ -38,7 +35,7 @@ abbrev pub left_along : Instance → List Step → List Sets
 left_along p steps = gathered_along left_set (start_sets p ∷ []) steps
 
 -- the steps lead from all legal choices to the sets that are open, what is kept is as they say, and each can be written
-pub record Underway (p : Instance) (budget : ℕ) (k : Counts) (steps : List Step) (now : List Sets) : Type 0 where
+pub record Underway (p : Instance) (budget : ℕ) (k : Progress) (steps : List Step) (now : List Sets) : Type 0 where
   pub leads : Leads (FoundAt p) [] (start_sets p ∷ []) steps now
   pub spent : k.spent ≡ decisions steps
   pub within : k.spent ≤ budget
@@ -54,5 +51,5 @@ found_of (Some best) None = Optimal best.plan
 found_of best (Some sum) = Undecided (plan_kept best) (lower sum (cost_kept best))
 
 -- nothing is kept yet
-abbrev pub none_yet : Counts
+abbrev pub none_yet : Progress
 none_yet = record { spent = 0; best = None; least = None }

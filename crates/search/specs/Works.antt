@@ -5,15 +5,8 @@ use Rattle.cert_write.specs.Prelude.{end_line, HaveChoices, inside, Instance, Is
 use Rattle.cluster.specs.declared.ids.Element.{Element}
 use Rattle.domains.specs.declared.parts.Part.{Part}
 use Rattle.trees.specs.declared.steps.Step.{Step}
-use Rattle.search.specs.declared.looks.Look.{Look}
-use Rattle.search.specs.declared.looks.Look.TheVariants.{Clear, Narrowed, Refuted}
-use Rattle.search.specs.declared.counts.Best.{Best}
-use Rattle.search.specs.declared.counts.Counts.{Counts}
-use Rattle.search.specs.declared.found.Found.{Found}
-use Rattle.search.specs.declared.ground.Ground.{Ground}
-use Rattle.search.specs.Answers.{IsTreeOf, goal_in}
-use Rattle.search.specs.Underway.{Underway, cost_kept}
-use Rattle.search.specs.Written.{answered, lines}
+use Rattle.search.specs.declared.{looks.Look.Look, looks.Look.TheVariants.Clear, looks.Look.TheVariants.Narrowed, looks.Look.TheVariants.Refuted, progress.Best.Best, progress.Progress.Progress, found.Found.Found, ground.Ground.Ground}
+use Rattle.search.specs.{Answers.IsTreeOf, Answers.goal_in, Underway.Underway, Underway.cost_kept, Written.answered, Written.lines}
 
 -- ---- what is kept of the regions
 
@@ -54,14 +47,14 @@ open_sets t splits = sets t.region ∷ outer_sides t.marks (reverse splits)
 
 -- The first of the open sets was worked on until these are open in its place, by more steps: their lines are in the file, and each that a
 -- propagator answered is counted. k, old and xs are from before; l, new and ys from after
-pub record Works {B : Type 0} (m : B → Meaning) (p : Instance) (budget : ℕ) (tells : Bool) (k l : Counts) (old new : List ℕ) (xs ys : List B) (s : Sets) (now : List Sets) : Type 0 where
+pub record Works {B : Type 0} (m : B → Meaning) (p : Instance) (budget : ℕ) (tells : Bool) (k l : Progress) (old new : List ℕ) (xs ys : List B) (s : Sets) (now : List Sets) : Type 0 where
   pub more : List Step
   pub text : IsTrue tells → new ≡ old ++ lines p more
   pub given : Rise m (answered more) xs ys
   pub runs : (steps : List Step) (rest : List Sets) → Underway p budget k steps (s ∷ rest) → Underway p budget l (steps ++ more) (now ++ rest)
 
 -- the same for all that is open
-pub record Goes {B : Type 0} (m : B → Meaning) (p : Instance) (budget : ℕ) (tells : Bool) (k l : Counts) (old new : List ℕ) (xs ys : List B) (from now : List Sets) : Type 0 where
+pub record Goes {B : Type 0} (m : B → Meaning) (p : Instance) (budget : ℕ) (tells : Bool) (k l : Progress) (old new : List ℕ) (xs ys : List B) (from now : List Sets) : Type 0 where
   pub more : List Step
   pub text : IsTrue tells → new ≡ old ++ lines p more
   pub given : Rise m (answered more) xs ys
@@ -79,25 +72,25 @@ open_after Narrowed s = s ∷ []
 open_after Refuted s = []
 
 -- a leaf was written
-pub record IsLeaf (p : Instance) (budget : ℕ) (tells : Bool) (k l : Counts) (old new : List ℕ) (s : Sets) : Type 0 where
+pub record IsLeaf (p : Instance) (budget : ℕ) (tells : Bool) (k l : Progress) (old new : List ℕ) (s : Sets) : Type 0 where
   pub step : Step
   pub text : IsTrue tells → new ≡ old ++ lines p (step ∷ [])
   pub given : answered (step ∷ []) ≡ 0
   pub runs : (steps : List Step) (rest : List Sets) → Underway p budget k steps (s ∷ rest) → Underway p budget l (steps ++ step ∷ []) rest
 
 -- none was due, and there is room for a decision
-pub record IsDue (budget : ℕ) (tells : Bool) (k l : Counts) (old new : List ℕ) (g : RegionView) : Type 0 where
-  pub counts : l ≡ k
+pub record IsDue (budget : ℕ) (tells : Bool) (k l : Progress) (old new : List ℕ) (g : RegionView) : Type 0 where
+  pub progress : l ≡ k
   pub text : IsTrue tells → new ≡ old
   pub free : ¬ IsFixed g
   pub room : k.spent < budget
 
-abbrev pub IsSettled : Instance → ℕ → Bool → Counts → Counts → List ℕ → List ℕ → RegionView → Bool → Type 0
-IsSettled p budget tells k l old new g true = IsLeaf p budget tells k l old new (sets g)
-IsSettled p budget tells k l old new g false = IsDue budget tells k l old new g
+abbrev pub IsLeafWritten : Instance → ℕ → Bool → Progress → Progress → List ℕ → List ℕ → RegionView → Bool → Type 0
+IsLeafWritten p budget tells k l old new g true = IsLeaf p budget tells k l old new (sets g)
+IsLeafWritten p budget tells k l old new g false = IsDue budget tells k l old new g
 
 -- the region was split: what is inside the part is at hand behind a mark, and what is outside it waits
-pub record Splits {B : Type 0} (m : B → Meaning) (p : Instance) (tells : Bool) (k l : Counts) (old new : List ℕ) (xs ys : List B) (t u : Marked) (s : Element × Part) : Type 0 where
+pub record Splits {B : Type 0} (m : B → Meaning) (p : Instance) (tells : Bool) (k l : Progress) (old new : List ℕ) (xs ys : List B) (t u : Marked) (s : Element × Part) : Type 0 where
   pub parted : IsParted p t.region s
   pub region : sets u.region ≡ inside s.0 s.1 (sets t.region)
   pub marks : u.marks ≡ t.region ∷ t.marks
@@ -105,13 +98,13 @@ pub record Splits {B : Type 0} (m : B → Meaning) (p : Instance) (tells : Bool)
   pub works : (budget : ℕ) → k.spent < budget → Works m p budget tells k l old new xs ys (sets t.region) (inside s.0 s.1 (sets t.region) ∷ outside s.0 s.1 (sets t.region) ∷ [])
 
 -- nothing is left open in the region
-pub record Ends {B : Type 0} (m : B → Meaning) (p : Instance) (budget : ℕ) (tells : Bool) (k l : Counts) (old new : List ℕ) (xs ys : List B) (t u : Marked) : Type 0 where
+pub record Ends {B : Type 0} (m : B → Meaning) (p : Instance) (budget : ℕ) (tells : Bool) (k l : Progress) (old new : List ℕ) (xs ys : List B) (t u : Marked) : Type 0 where
   pub marks : u.marks ≡ t.marks
   pub spent : l.spent ≡ k.spent
   pub works : Works m p budget tells k l old new xs ys (sets t.region) []
 
 -- it was closed and split: what is inside the part is at hand, behind a mark of the closed region
-pub record Enters {B : Type 0} (m : B → Meaning) (p : Instance) (budget : ℕ) (tells : Bool) (k l : Counts) (old new : List ℕ) (xs ys : List B) (t u : Marked) (s : Element × Part) : Type 0 where
+pub record Enters {B : Type 0} (m : B → Meaning) (p : Instance) (budget : ℕ) (tells : Bool) (k l : Progress) (old new : List ℕ) (xs ys : List B) (t u : Marked) (s : Element × Part) : Type 0 where
   pub mark : RegionView
   pub marks : u.marks ≡ mark ∷ t.marks
   pub parted : IsParted p mark s
@@ -120,20 +113,20 @@ pub record Enters {B : Type 0} (m : B → Meaning) (p : Instance) (budget : ℕ)
   pub room : k.spent < budget
   pub works : Works m p budget tells k l old new xs ys (sets t.region) (sets u.region ∷ outside s.0 s.1 (sets mark) ∷ [])
 
-abbrev pub IsVisited : {B : Type 0} → (B → Meaning) → Instance → ℕ → Bool → Counts → Counts → List ℕ → List ℕ → List B → List B → Marked → Marked → Option (Element × Part) → Type 0
+abbrev pub IsVisited : {B : Type 0} → (B → Meaning) → Instance → ℕ → Bool → Progress → Progress → List ℕ → List ℕ → List B → List B → Marked → Marked → Option (Element × Part) → Type 0
 IsVisited m p budget tells k l old new xs ys t u None = Ends m p budget tells k l old new xs ys t u
 IsVisited m p budget tells k l old new xs ys t u (Some s) = Enters m p budget tells k l old new xs ys t u s
 
 -- a next region is at hand
-pub record GoesOn {B : Type 0} (m : B → Meaning) (p : Instance) (budget : ℕ) (tells : Bool) (k l : Counts) (old new : List ℕ) (xs ys : List B) (t u : Marked) (splits left : List (Element × Part)) : Type 0 where
+pub record GoesOn {B : Type 0} (m : B → Meaning) (p : Instance) (budget : ℕ) (tells : Bool) (k l : Progress) (old new : List ℕ) (xs ys : List B) (t u : Marked) (splits left : List (Element × Part)) : Type 0 where
   pub paired : ArePaired p u.marks (reverse left)
   pub some : HaveChoices p (sets u.region)
   pub goes : Goes m p budget tells k l old new xs ys (open_sets t splits) (open_sets u left)
 
--- after a turn a next region is at hand, or nothing is open
-abbrev pub IsTurned : {B : Type 0} → (B → Meaning) → Instance → ℕ → Bool → Counts → Counts → List ℕ → List ℕ → List B → List B → Marked → Marked → List (Element × Part) → List (Element × Part) → Bool → Type 0
-IsTurned m p budget tells k l old new xs ys t u splits left true = GoesOn m p budget tells k l old new xs ys t u splits left
-IsTurned m p budget tells k l old new xs ys t u splits left false = Goes m p budget tells k l old new xs ys (open_sets t splits) []
+-- after a round a next region is at hand, or nothing is open
+abbrev pub IsRoundDone : {B : Type 0} → (B → Meaning) → Instance → ℕ → Bool → Progress → Progress → List ℕ → List ℕ → List B → List B → Marked → Marked → List (Element × Part) → List (Element × Part) → Bool → Type 0
+IsRoundDone m p budget tells k l old new xs ys t u splits left true = GoesOn m p budget tells k l old new xs ys t u splits left
+IsRoundDone m p budget tells k l old new xs ys t u splits left false = Goes m p budget tells k l old new xs ys (open_sets t splits) []
 
 -- ---- the whole search
 

@@ -1,14 +1,14 @@
 -- What a search leaves in the file of its certificate.
-use Rattle.std.specs.Prelude.{◌≡◌, ℕ, ◌+◌, List, [], ◌∷◌, ◌++◌, Option, Bool, true, false, IsTrue}
-use Rattle.std.specs.Io.{StartsWith}
-use Rattle.std.specs.List.{flat_map}
+use Rattle.std.specs.Prelude.{◌≡◌, ℕ, ◌+◌, List, [], ◌∷◌, ◌++◌, Option, Result, Bool, true, false, IsTrue}
+use Rattle.std.specs.{Io.StartsWith, List.flat_map}
+use Rattle.plan_io.specs.Prelude.{bytes_of, CountsWrites}
+use Rattle.plan_io.specs.declared.faults.OutFault.{OutFault}
 use Rattle.cert_write.specs.Prelude.{end_line, Files, Instance, OthersStay, step_line}
 use Rattle.cluster.specs.declared.ids.Element.{Element}
 use Rattle.domains.specs.declared.parts.Part.{Part}
 use Rattle.reasons.specs.declared.reason.Reason.{Reason}
 use Rattle.reasons.specs.declared.reason.Reason.TheVariants.{Empty, Bound, Load, Pair, Place, Group, SetLoad, Power, Usable, Hall}
-use Rattle.trees.specs.declared.steps.Goal.{Goal}
-use Rattle.trees.specs.declared.steps.Step.{Step}
+use Rattle.trees.specs.declared.steps.{Goal.Goal, Step.Step}
 use Rattle.trees.specs.declared.steps.Step.TheVariants.{Decide, Cut, Fail, Plan, Left}
 
 -- the lines of steps
@@ -20,6 +20,15 @@ pub record IsKept (tells : Bool) (name : List ℕ) (old new : Files) (current_ol
   pub others : IsTrue tells → OthersStay name old new
   pub current : current_new ≡ current_old
   pub reads : reads_new ≡ reads_old
+
+-- What a call does that writes on the certificate. Its file is the same after as before, and nothing else changes on the desk but the count of
+-- failed writes, which rises only where `Failed` is answered. From the old bytes of the file to the new ones it is as `leaves` says.
+-- D has the desks; the four functions are what is seen of one: its files, which was created last, and how many reads and writes failed
+pub record WritesOn {D T : Type 0} (tells : Bool) (files : D → Files) (current : D → Option (List ℕ)) (read_faults write_faults : D → ℕ) (old new : D) (file file_new : List ℕ) (leaves : List ℕ → List ℕ → Type 0) (result : Result T OutFault) : Type 0 where
+  pub name : file_new ≡ file
+  pub kept : IsKept tells file (files old) (files new) (current old) (current new) (read_faults old) (read_faults new)
+  pub cause : CountsWrites (write_faults old) (write_faults new) result
+  pub front : leaves (bytes_of (files old file)) (bytes_of (files new file))
 
 -- the file has its old bytes, and then a front of the lines of some steps
 pub record LeavesLines (p : Instance) (tells : Bool) (old new : List ℕ) : Type 0 where

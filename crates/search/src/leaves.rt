@@ -1,10 +1,10 @@
 //! What is written at a closed region: a leaf, or a split.
 ghost use Rattle.std.specs.Prelude.{◌≡◌, ℕ, ◌+◌, ◌<◌, ◌^◌, IfOk, OnOk, IsTrue, Some};
-ghost use Rattle.search.specs.Prelude.{AllFollow, bytes_of, CountsWrites, IsClear, IsFixed, IsGround, IsKept, IsSettled, LeavesLines, lower as the_lower, Pairs, SameRule, sets, Splits};
+ghost use Rattle.search.specs.Prelude.{AllFollow, bytes_of, IsClear, IsFixed, IsGround, IsLeafWritten, LeavesLines, lower as the_lower, Pairs, SameRule, sets, Splits, WritesOn};
 
-use crate::counts::{Best, Counts};
 use crate::ground::Ground;
 use crate::levels::{mark_levels, narrow_all};
+use crate::progress::{Best, Progress};
 use branching::brancher::Brancher;
 use catalogue::Problem;
 use cert_write::CertWriter;
@@ -27,38 +27,35 @@ pub fn lower(n: u64, known: Option<u64>) -> u64
 }
 
 /// Writes a leaf where one is due at a closed region. False where it is to be split.
-pub fn settle<D: Desk>(
+pub fn write_leaf<D: Desk>(
     alloc: Global,
     p: &Problem,
     budget: u64,
     ground: &Ground,
-    counts: &mut Counts,
+    progress: &mut Progress,
     brancher: &mut Box<dyn Brancher>,
     desk: &mut D,
     out: &mut CertWriter,
 ) -> Result<bool, OutFault>
     requires ground { IsGround p.now.given ground.now }
-    requires clear { IsClear p.now.given counts.old.best (sets ground.now.trail.region) }
+    requires clear { IsClear p.now.given progress.old.best (sets ground.now.trail.region) }
     requires writes { IsTrue (D.writes out.old) }
     requires current { D.current desk.old ≡ Some out.old }
-    ensures name { out.new ≡ out.old }
-    ensures kept { IsKept D.tells out.old (D.files desk.old) (D.files desk.new) (D.current desk.old) (D.current desk.new) (D.read_faults desk.old) (D.read_faults desk.new) }
-    ensures cause { CountsWrites (D.write_faults desk.old) (D.write_faults desk.new) result }
-    ensures front { LeavesLines p.now.given D.tells (bytes_of (D.files desk.old out.old)) (bytes_of (D.files desk.new out.old)) }
-    ensures spent { counts.new.spent ≡ counts.old.spent }
-    ensures settled { IfOk result (λ yes. IsSettled p.now.given budget D.tells counts.old counts.new (bytes_of (D.files desk.old out.old)) (bytes_of (D.files desk.new out.old)) ground.now.trail.region yes) }
+    ensures writes { WritesOn D.tells D.files D.current D.read_faults D.write_faults desk.old desk.new out.old out.new (LeavesLines p.now.given D.tells) result }
+    ensures spent { progress.new.spent ≡ progress.old.spent }
+    ensures leaf { IfOk result (λ yes. IsLeafWritten p.now.given budget D.tells progress.old progress.new (bytes_of (D.files desk.old out.old)) (bytes_of (D.files desk.new out.old)) ground.now.trail.region yes) }
 {
     let sum = ground.bound.sum();
     if ground.trail.region().is_fixed() {
         let plan = plan_of(alloc, p, ground.trail.region())?;
         out.step(desk, p, &Step::Plan(sum))?;
         brancher.met_plan(p, &plan);
-        counts.best = Some(Best { plan, cost: sum });
+        progress.best = Some(Best { plan, cost: sum });
         return Ok(true);
     }
-    if counts.spent >= budget {
+    if progress.spent >= budget {
         out.step(desk, p, &Step::Left)?;
-        counts.least = Some(lower(sum, counts.least));
+        progress.least = Some(lower(sum, progress.least));
         return Ok(true);
     }
     Ok(false)
@@ -68,31 +65,28 @@ pub fn settle<D: Desk>(
 pub fn split<D: Desk>(
     p: &Problem,
     ground: &mut Ground,
-    counts: &mut Counts,
+    progress: &mut Progress,
     rules: &mut Vec<Box<dyn Propagator>>,
     brancher: &mut Box<dyn Brancher>,
     desk: &mut D,
     out: &mut CertWriter,
 ) -> Result<(Element, Part), OutFault>
     requires ground { IsGround p.now.given ground.old }
-    requires clear { IsClear p.now.given counts.old.best (sets ground.old.trail.region) }
+    requires clear { IsClear p.now.given progress.old.best (sets ground.old.trail.region) }
     requires free { ¬ IsFixed ground.old.trail.region }
-    requires room { counts.old.spent + 1 < 2 ^ 64 }
+    requires room { progress.old.spent + 1 < 2 ^ 64 }
     requires follow { AllFollow (λ b. meaning b) p.now.given ground.old.trail rules.old.items }
     requires writes { IsTrue (D.writes out.old) }
     requires current { D.current desk.old ≡ Some out.old }
-    ensures name { out.new ≡ out.old }
-    ensures kept { IsKept D.tells out.old (D.files desk.old) (D.files desk.new) (D.current desk.old) (D.current desk.new) (D.read_faults desk.old) (D.read_faults desk.new) }
-    ensures cause { CountsWrites (D.write_faults desk.old) (D.write_faults desk.new) result }
-    ensures front { LeavesLines p.now.given D.tells (bytes_of (D.files desk.old out.old)) (bytes_of (D.files desk.new out.old)) }
+    ensures writes { WritesOn D.tells D.files D.current D.read_faults D.write_faults desk.old desk.new out.old out.new (LeavesLines p.now.given D.tells) result }
     ensures same { Pairs (λ b. meaning b) SameRule rules.old.items rules.new.items }
     ensures follow { OnOk result (AllFollow (λ b. meaning b) p.now.given ground.new.trail rules.new.items) }
     ensures ground { OnOk result (IsGround p.now.given ground.new) }
-    ensures split { IfOk result (λ s. Splits (λ b. meaning b) p.now.given D.tells counts.old counts.new (bytes_of (D.files desk.old out.old)) (bytes_of (D.files desk.new out.old)) rules.old.items rules.new.items ground.old.trail ground.new.trail s) }
+    ensures split { IfOk result (λ s. Splits (λ b. meaning b) p.now.given D.tells progress.old progress.new (bytes_of (D.files desk.old out.old)) (bytes_of (D.files desk.new out.old)) rules.old.items rules.new.items ground.old.trail ground.new.trail s) }
 {
     let (element, part) = brancher.choose(p, ground.trail.region());
     out.step(desk, p, &Step::Decide(element, part))?;
-    counts.spent += 1;
+    progress.spent += 1;
     mark_levels(p, ground, rules)?;
     let change = Change {
         element,

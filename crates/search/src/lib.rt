@@ -2,16 +2,16 @@
 //! written when it is found.
 #![tactic(auto)]
 
-mod counts;
 mod found;
 mod ground;
 pub mod laws;
 mod leaves;
 mod levels;
 mod looks;
+mod progress;
+mod rounds;
 mod solving;
 mod staying;
-mod turns;
 
 pub use found::Found;
 pub use solving::solve;

@@ -1,11 +1,11 @@
 //! Closing a region: propagators are asked until none of them objects, or until it is refuted.
 ghost use Rattle.std.specs.Prelude.{◌≡◌, ℕ, ◌<◌, ◌≤◌, ◌++◌, ◌∷◌, [], false, true, IfOk, OnOk, IfSome, IsTrue, Option, Some};
 ghost use Rattle.std.specs.Option.{IsSomeAnd};
-ghost use Rattle.search.specs.Prelude.{AllFollow, bytes_of, choice_count, cost_kept, CountsWrites, Covered, cut_steps, CutHolds, Element as AnyElement, Fail as FailStep, HasReason, HaveChoices, IsClear, IsElement, IsGround, IsKept, least_cost, LeavesLines, lines, machine_count, node_count, open_after, outside, Pairs, SameCover, SameRule, sets, step_line, still_open, Works};
+ghost use Rattle.search.specs.Prelude.{AllFollow, bytes_of, choice_count, cost_kept, Covered, cut_steps, CutHolds, Element as AnyElement, Fail as FailStep, HasReason, HaveChoices, IsClear, IsElement, IsGround, least_cost, LeavesLines, lines, machine_count, node_count, open_after, outside, Pairs, SameCover, SameRule, sets, step_line, still_open, Works, WritesOn};
 
-use crate::counts::Counts;
 use crate::ground::Ground;
 use crate::levels::narrow_all;
+use crate::progress::Progress;
 use branching::brancher::Brancher;
 use catalogue::Problem;
 use cert_write::CertWriter;
@@ -29,11 +29,11 @@ pub enum Look {
 }
 
 // whether a sum reaches the cost of the plan that is kept, if one is
-fn is_reached(counts: &Counts, sum: u64) -> bool
-    ensures yes { IsTrue result → IsSomeAnd (cost_kept counts.now.best) (λ known. known ≤ sum) }
-    ensures no { result ≡ false → IfSome (cost_kept counts.now.best) (λ known. sum < known) }
+fn is_reached(progress: &Progress, sum: u64) -> bool
+    ensures yes { IsTrue result → IsSomeAnd (cost_kept progress.now.best) (λ known. known ≤ sum) }
+    ensures no { result ≡ false → IfSome (cost_kept progress.now.best) (λ known. sum < known) }
 {
-    match &counts.best {
+    match &progress.best {
         None => false,
         Some(best) => best.cost <= sum,
     }
@@ -51,10 +51,7 @@ pub fn fail<D: Desk>(
     requires reason { HasReason p.now.given reason }
     requires writes { IsTrue (D.writes out.old) }
     requires current { D.current desk.old ≡ Some out.old }
-    ensures name { out.new ≡ out.old }
-    ensures kept { IsKept D.tells out.old (D.files desk.old) (D.files desk.new) (D.current desk.old) (D.current desk.new) (D.read_faults desk.old) (D.read_faults desk.new) }
-    ensures cause { CountsWrites (D.write_faults desk.old) (D.write_faults desk.new) result }
-    ensures front { LeavesLines p.now.given D.tells (bytes_of (D.files desk.old out.old)) (bytes_of (D.files desk.new out.old)) }
+    ensures writes { WritesOn D.tells D.files D.current D.read_faults D.write_faults desk.old desk.new out.old out.new (LeavesLines p.now.given D.tells) result }
     ensures written { IsTrue D.tells → OnOk result (D.files desk.new out.old ≡ Some ((bytes_of (D.files desk.old out.old)) ++ lines p.now.given (FailStep reason ∷ []))) }
 {
     out.step(desk, p, &Step::Fail(reason))?;
@@ -80,10 +77,7 @@ fn cut<D: Desk>(
     requires follow { AllFollow (λ b. meaning b) p.now.given ground.old.trail rules.old.items }
     requires writes { IsTrue (D.writes out.old) }
     requires current { D.current desk.old ≡ Some out.old }
-    ensures name { out.new ≡ out.old }
-    ensures kept { IsKept D.tells out.old (D.files desk.old) (D.files desk.new) (D.current desk.old) (D.current desk.new) (D.read_faults desk.old) (D.read_faults desk.new) }
-    ensures cause { CountsWrites (D.write_faults desk.old) (D.write_faults desk.new) result }
-    ensures front { LeavesLines p.now.given D.tells (bytes_of (D.files desk.old out.old)) (bytes_of (D.files desk.new out.old)) }
+    ensures writes { WritesOn D.tells D.files D.current D.read_faults D.write_faults desk.old desk.new out.old out.new (LeavesLines p.now.given D.tells) result }
     ensures same { Pairs (λ b. meaning b) SameRule rules.old.items rules.new.items }
     ensures follow { OnOk result (AllFollow (λ b. meaning b) p.now.given ground.new.trail rules.new.items) }
     ensures ground { OnOk result (IsGround p.now.given ground.new) }
@@ -118,7 +112,7 @@ fn cut<D: Desk>(
 /// Looks at the region once: by the sum of its least ends, and then by the propagators.
 fn look_once<D: Desk>(
     p: &Problem,
-    counts: &Counts,
+    progress: &Progress,
     ground: &mut Ground,
     rules: &mut Vec<Box<dyn Propagator>>,
     brancher: &mut Box<dyn Brancher>,
@@ -131,20 +125,17 @@ fn look_once<D: Desk>(
     requires follow { AllFollow (λ b. meaning b) p.now.given ground.old.trail rules.old.items }
     requires writes { IsTrue (D.writes out.old) }
     requires current { D.current desk.old ≡ Some out.old }
-    ensures name { out.new ≡ out.old }
-    ensures kept { IsKept D.tells out.old (D.files desk.old) (D.files desk.new) (D.current desk.old) (D.current desk.new) (D.read_faults desk.old) (D.read_faults desk.new) }
-    ensures cause { CountsWrites (D.write_faults desk.old) (D.write_faults desk.new) result }
-    ensures front { LeavesLines p.now.given D.tells (bytes_of (D.files desk.old out.old)) (bytes_of (D.files desk.new out.old)) }
+    ensures writes { WritesOn D.tells D.files D.current D.read_faults D.write_faults desk.old desk.new out.old out.new (LeavesLines p.now.given D.tells) result }
     ensures covers { Pairs (λ b. meaning b) SameCover rules.old.items rules.new.items }
     ensures follow { OnOk result (AllFollow (λ b. meaning b) p.now.given ground.new.trail rules.new.items) }
     ensures ground { OnOk result (IsGround p.now.given ground.new) }
     ensures marks { OnOk result (ground.new.trail.marks ≡ ground.old.trail.marks) }
-    ensures clear { IfOk result (λ found. found ≡ Look.Clear → IsClear p.now.given counts.now.best (sets ground.new.trail.region)) }
+    ensures clear { IfOk result (λ found. found ≡ Look.Clear → IsClear p.now.given progress.now.best (sets ground.new.trail.region)) }
     ensures some { IfOk result (λ found. found ≡ Look.Narrowed → HaveChoices p.now.given (sets ground.new.trail.region)) }
     ensures smaller { IfOk result (λ found. found ≡ Look.Narrowed → choice_count (machine_count p.now.given) (node_count p.now.given) (sets ground.new.trail.region) < choice_count (machine_count p.now.given) (node_count p.now.given) (sets ground.old.trail.region)) }
-    ensures works { IfOk result (λ found. (budget : ℕ) → Works (λ b. meaning b) p.now.given budget D.tells counts.now counts.now (bytes_of (D.files desk.old out.old)) (bytes_of (D.files desk.new out.old)) rules.old.items rules.new.items (sets ground.old.trail.region) (open_after found (sets ground.new.trail.region))) }
+    ensures works { IfOk result (λ found. (budget : ℕ) → Works (λ b. meaning b) p.now.given budget D.tells progress.now progress.now (bytes_of (D.files desk.old out.old)) (bytes_of (D.files desk.new out.old)) rules.old.items rules.new.items (sets ground.old.trail.region) (open_after found (sets ground.new.trail.region))) }
 {
-    if is_reached(counts, ground.bound.sum()) {
+    if is_reached(progress, ground.bound.sum()) {
         fail(p, None, Reason::Bound, brancher, desk, out)?;
         return Ok(Look::Refuted);
     }
@@ -168,7 +159,7 @@ fn look_once<D: Desk>(
 /// it is refuted.
 pub fn close<D: Desk>(
     p: &Problem,
-    counts: &Counts,
+    progress: &Progress,
     ground: &mut Ground,
     rules: &mut Vec<Box<dyn Propagator>>,
     brancher: &mut Box<dyn Brancher>,
@@ -181,19 +172,16 @@ pub fn close<D: Desk>(
     requires follow { AllFollow (λ b. meaning b) p.now.given ground.old.trail rules.old.items }
     requires writes { IsTrue (D.writes out.old) }
     requires current { D.current desk.old ≡ Some out.old }
-    ensures name { out.new ≡ out.old }
-    ensures kept { IsKept D.tells out.old (D.files desk.old) (D.files desk.new) (D.current desk.old) (D.current desk.new) (D.read_faults desk.old) (D.read_faults desk.new) }
-    ensures cause { CountsWrites (D.write_faults desk.old) (D.write_faults desk.new) result }
-    ensures front { LeavesLines p.now.given D.tells (bytes_of (D.files desk.old out.old)) (bytes_of (D.files desk.new out.old)) }
+    ensures writes { WritesOn D.tells D.files D.current D.read_faults D.write_faults desk.old desk.new out.old out.new (LeavesLines p.now.given D.tells) result }
     ensures covers { Pairs (λ b. meaning b) SameCover rules.old.items rules.new.items }
     ensures follow { OnOk result (AllFollow (λ b. meaning b) p.now.given ground.new.trail rules.new.items) }
     ensures ground { OnOk result (IsGround p.now.given ground.new) }
     ensures marks { OnOk result (ground.new.trail.marks ≡ ground.old.trail.marks) }
-    ensures clear { IfOk result (λ yes. yes ≡ true → IsClear p.now.given counts.now.best (sets ground.new.trail.region)) }
-    ensures works { IfOk result (λ yes. (budget : ℕ) → Works (λ b. meaning b) p.now.given budget D.tells counts.now counts.now (bytes_of (D.files desk.old out.old)) (bytes_of (D.files desk.new out.old)) rules.old.items rules.new.items (sets ground.old.trail.region) (still_open yes (sets ground.new.trail.region))) }
+    ensures clear { IfOk result (λ yes. yes ≡ true → IsClear p.now.given progress.now.best (sets ground.new.trail.region)) }
+    ensures works { IfOk result (λ yes. (budget : ℕ) → Works (λ b. meaning b) p.now.given budget D.tells progress.now progress.now (bytes_of (D.files desk.old out.old)) (bytes_of (D.files desk.new out.old)) rules.old.items rules.new.items (sets ground.old.trail.region) (still_open yes (sets ground.new.trail.region))) }
 {
     'looks: loop {
-        match look_once(p, counts, ground, rules, brancher, desk, out)? {
+        match look_once(p, progress, ground, rules, brancher, desk, out)? {
             Look::Clear => return Ok(true),
             Look::Refuted => return Ok(false),
             Look::Narrowed => {}

@@ -1,13 +1,13 @@
 //! The whole search.
 ghost use Rattle.std.specs.Prelude.{◌≡◌, ◌∷◌, [], Some, IfOk, IfSome, IsTrue, MatchOption};
-ghost use Rattle.search.specs.Prelude.{bytes_of, CountsWrites, Covered, found_of, goal_in, Goes, HaveChoices, IsElement, IsKept, IsPlanOf, IsShown, IsSized, IsStayed, IsTrueOf, LeavesLines, LeavesText, MayStay, none_yet, Pairs, plan_in, SameCover, sets, start_sets};
+ghost use Rattle.search.specs.Prelude.{bytes_of, Covered, found_of, goal_in, Goes, HaveChoices, IsElement, IsPlanOf, IsShown, IsSized, IsStayed, IsTrueOf, LeavesLines, LeavesText, MayStay, none_yet, Pairs, plan_in, SameCover, sets, start_sets, WritesOn};
 
-use crate::counts::Counts;
 use crate::found::Found;
 use crate::ground::Ground;
 use crate::looks::fail;
+use crate::progress::Progress;
+use crate::rounds::run;
 use crate::staying::{stay, staying_plan};
-use crate::turns::run;
 use branching::brancher::Brancher;
 use catalogue::Problem;
 use cert_write::CertWriter;
@@ -51,54 +51,51 @@ fn write_tree<D: Desk>(
     brancher: &mut Box<dyn Brancher>,
     desk: &mut D,
     out: &mut CertWriter,
-) -> Result<Counts, OutFault>
+) -> Result<Progress, OutFault>
     requires covered { Covered (λ b. meaning b) rules.old.items }
     requires writes { IsTrue (D.writes out.old) }
     requires current { D.current desk.old ≡ Some out.old }
-    ensures name { out.new ≡ out.old }
-    ensures kept { IsKept D.tells out.old (D.files desk.old) (D.files desk.new) (D.current desk.old) (D.current desk.new) (D.read_faults desk.old) (D.read_faults desk.new) }
-    ensures cause { CountsWrites (D.write_faults desk.old) (D.write_faults desk.new) result }
-    ensures front { LeavesLines p.now.given D.tells (bytes_of (D.files desk.old out.old)) (bytes_of (D.files desk.new out.old)) }
+    ensures writes { WritesOn D.tells D.files D.current D.read_faults D.write_faults desk.old desk.new out.old out.new (LeavesLines p.now.given D.tells) result }
     ensures covers { Pairs (λ b. meaning b) SameCover rules.old.items rules.new.items }
-    ensures goes { IfOk result (λ counts. Goes (λ b. meaning b) p.now.given budget D.tells none_yet counts (bytes_of (D.files desk.old out.old)) (bytes_of (D.files desk.new out.old)) rules.old.items rules.new.items (start_sets p.now.given ∷ []) []) }
+    ensures goes { IfOk result (λ progress. Goes (λ b. meaning b) p.now.given budget D.tells none_yet progress (bytes_of (D.files desk.old out.old)) (bytes_of (D.files desk.new out.old)) rules.old.items rules.new.items (start_sets p.now.given ∷ []) []) }
 {
     let start = start_region(alloc, p)?;
     post_all(p, &start, rules)?;
     let mut ground = Ground::new(alloc, p, start)?;
-    let mut counts = Counts {
+    let mut progress = Progress {
         spent: 0,
         best: None,
         least: None,
     };
     if let Some(x) = first_empty(p, ground.trail.region()) {
         fail(p, Some(x), Reason::Empty(x), brancher, desk, out)?;
-        return Ok(counts);
+        return Ok(progress);
     }
     run(
         alloc,
         p,
         budget,
         &mut ground,
-        &mut counts,
+        &mut progress,
         rules,
         brancher,
         desk,
         out,
     )?;
-    Ok(counts)
+    Ok(progress)
 }
 
 // the answer, by what was kept
-fn found_of(counts: Counts) -> Found
-    ensures { result ≡ found_of counts.best counts.least }
+fn found_of(progress: Progress) -> Found
+    ensures { result ≡ found_of progress.best progress.least }
 {
-    let Some(sum) = counts.least else {
-        return match counts.best {
+    let Some(sum) = progress.least else {
+        return match progress.best {
             None => Found::Infeasible,
             Some(best) => Found::Optimal(best.plan),
         };
     };
-    match counts.best {
+    match progress.best {
         None => Found::Undecided {
             best: None,
             least: sum,
@@ -135,16 +132,13 @@ fn search<D: Desk>(
     requires covered { Covered (λ b. meaning b) rules.old.items }
     requires writes { IsTrue (D.writes out.old) }
     requires current { D.current desk.old ≡ Some out.old }
-    ensures name { out.new ≡ out.old }
-    ensures kept { IsKept D.tells out.old (D.files desk.old) (D.files desk.new) (D.current desk.old) (D.current desk.new) (D.read_faults desk.old) (D.read_faults desk.new) }
-    ensures cause { CountsWrites (D.write_faults desk.old) (D.write_faults desk.new) result }
-    ensures front { LeavesText p.now.given D.tells (bytes_of (D.files desk.old out.old)) (bytes_of (D.files desk.new out.old)) }
+    ensures writes { WritesOn D.tells D.files D.current D.read_faults D.write_faults desk.old desk.new out.old out.new (LeavesText p.now.given D.tells) result }
     ensures covers { Pairs (λ b. meaning b) SameCover rules.old.items rules.new.items }
     ensures shown { IfOk result (IsShown (λ b. meaning b) p.now.given budget D.tells (bytes_of (D.files desk.old out.old)) (D.files desk.new out.old) rules.old.items rules.new.items) }
     ensures true_of { IfOk result (IsTrueOf p.now.given budget) }
 {
-    let counts = write_tree(alloc, p, budget, rules, brancher, desk, out)?;
-    let found = found_of(counts);
+    let progress = write_tree(alloc, p, budget, rules, brancher, desk, out)?;
+    let found = found_of(progress);
     out.end(desk, goal_of(p, budget, &found))?;
     Ok(found)
 }
@@ -168,10 +162,7 @@ pub fn solve<D: Desk>(
     requires covered { Covered (λ b. meaning b) rules.old.items }
     requires writes { IsTrue (D.writes out.old) }
     requires current { D.current desk.old ≡ Some out.old }
-    ensures name { out.new ≡ out.old }
-    ensures kept { IsKept D.tells out.old (D.files desk.old) (D.files desk.new) (D.current desk.old) (D.current desk.new) (D.read_faults desk.old) (D.read_faults desk.new) }
-    ensures cause { CountsWrites (D.write_faults desk.old) (D.write_faults desk.new) result }
-    ensures front { LeavesText p.now.given D.tells (bytes_of (D.files desk.old out.old)) (bytes_of (D.files desk.new out.old)) }
+    ensures writes { WritesOn D.tells D.files D.current D.read_faults D.write_faults desk.old desk.new out.old out.new (LeavesText p.now.given D.tells) result }
     ensures covers { Pairs (λ b. meaning b) SameCover rules.old.items rules.new.items }
     ensures shown { IfOk result (IsShown (λ b. meaning b) p.now.given budget D.tells (bytes_of (D.files desk.old out.old)) (D.files desk.new out.old) rules.old.items rules.new.items) }
     ensures true_of { IfOk result (IsTrueOf p.now.given budget) }

@@ -1,6 +1,6 @@
 //! Staying as all is, where that is a valid plan.
 ghost use Rattle.std.specs.Prelude.{◌≡◌, ◌↔◌, None, Some, IfOk, IfSome, IsTrue};
-ghost use Rattle.search.specs.Prelude.{bytes_of, choices_of, CountsWrites, IsKept, IsPlanOf, IsStayed, IsStayingPlan, IsValid, LeavesText, MayStay};
+ghost use Rattle.search.specs.Prelude.{bytes_of, choices_of, IsPlanOf, IsStayed, IsStayingPlan, IsValid, LeavesText, MayStay, WritesOn};
 
 use crate::found::Found;
 use base::Memory;
@@ -49,10 +49,7 @@ pub fn stay<D: Desk>(
     requires plan { IsStayingPlan p.now.given plan }
     requires writes { IsTrue (D.writes out.old) }
     requires current { D.current desk.old ≡ Some out.old }
-    ensures name { out.new ≡ out.old }
-    ensures kept { IsKept D.tells out.old (D.files desk.old) (D.files desk.new) (D.current desk.old) (D.current desk.new) (D.read_faults desk.old) (D.read_faults desk.new) }
-    ensures cause { CountsWrites (D.write_faults desk.old) (D.write_faults desk.new) result }
-    ensures front { LeavesText p.now.given D.tells (bytes_of (D.files desk.old out.old)) (bytes_of (D.files desk.new out.old)) }
+    ensures writes { WritesOn D.tells D.files D.current D.read_faults D.write_faults desk.old desk.new out.old out.new (LeavesText p.now.given D.tells) result }
     ensures stayed { IfOk result (IsStayed p.now.given D.tells (bytes_of (D.files desk.old out.old)) (D.files desk.new out.old)) }
 {
     out.step(desk, p, &Step::Fail(Reason::Bound))?;

@@ -13,25 +13,25 @@ looks-init g c = record {
   ground = c.requires.ground;
   some = c.requires.some;
   marks = refl;
-  works = λ budget. works_none _ _ budget _ c.args.counts.now _ _ _ _ (rise_none _ _);
+  works = λ budget. works_none _ _ budget _ c.args.progress.now _ _ _ _ (rise_none _ _);
 }
 
 pub look_once-requires-clause-covered : goal.look_once-requires-clause-covered
 look_once-requires-clause-covered g c = covered_after _ _ _ c.looks.invariant.covers c.requires.covered
 
-pub returns-in_err-look_once-clause-front : goal.returns-in_err-look_once-clause-front
-returns-in_err-look_once-clause-front g c = works_front _ _ _ _ _ _ _ _ _ _ _ _ _ (c.looks.invariant.works 0) (rw c.looks.invariant.name at c.look_once.ensures.front)
+pub returns-in_err-look_once-clause-writes : goal.returns-in_err-look_once-clause-writes
+returns-in_err-look_once-clause-writes g c = record { name = search rules; kept = search rules; cause = search rules; front = works_front _ _ _ _ _ _ _ _ _ _ _ _ _ (c.looks.invariant.works 0) (rw c.looks.invariant.name at c.look_once.ensures.writes.front) }
 
-pub returns-in-Clear-clause-front : goal.returns-in-Clear-clause-front
-returns-in-Clear-clause-front g c = works_front _ _ _ _ _ _ _ _ _ _ _ _ _ (c.looks.invariant.works 0) (rw c.looks.invariant.name at c.in_ok-look_once.ensures.front)
+pub returns-in-Clear-clause-writes : goal.returns-in-Clear-clause-writes
+returns-in-Clear-clause-writes g c = record { name = search rules; kept = search rules; cause = search rules; front = works_front _ _ _ _ _ _ _ _ _ _ _ _ _ (c.looks.invariant.works 0) (rw c.looks.invariant.name at c.in_ok-look_once.ensures.writes.front) }
 
 pub returns-in-Clear-clause-works : goal.returns-in-Clear-clause-works
 returns-in-Clear-clause-works g c =
     let w = rw (c.in-Clear.is, c.looks.invariant.name) at c.in_ok-look_once.ensures.works in
     λ budget. works_then _ _ budget _ _ _ _ _ _ _ _ _ _ _ _ _ c.looks.invariant.covers.count c.in_ok-look_once.ensures.covers.count (c.looks.invariant.works budget) (w budget)
 
-pub returns-in-Refuted-clause-front : goal.returns-in-Refuted-clause-front
-returns-in-Refuted-clause-front g c = works_front _ _ _ _ _ _ _ _ _ _ _ _ _ (c.looks.invariant.works 0) (rw c.looks.invariant.name at c.in_ok-look_once.ensures.front)
+pub returns-in-Refuted-clause-writes : goal.returns-in-Refuted-clause-writes
+returns-in-Refuted-clause-writes g c = record { name = search rules; kept = search rules; cause = search rules; front = works_front _ _ _ _ _ _ _ _ _ _ _ _ _ (c.looks.invariant.works 0) (rw c.looks.invariant.name at c.in_ok-look_once.ensures.writes.front) }
 
 pub returns-in-Refuted-clause-works : goal.returns-in-Refuted-clause-works
 returns-in-Refuted-clause-works g c =

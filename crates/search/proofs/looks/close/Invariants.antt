@@ -12,7 +12,7 @@ invariant-looks g l = record {
   ground : IsGround l.p.given l.ground;
   some : HaveChoices l.p.given (sets l.ground.trail.region);
   marks : l.ground.trail.marks ≡ l.fn.ground.trail.marks;
-  works : (budget : ℕ) → Works (λ b. (goal.Propagator-dyn g (b.vtable, b.value)).meaning b.value) l.p.given budget g.D.Desk.tells l.counts l.counts (bytes_of (g.D.Desk.files l.fn.desk l.fn.out)) (bytes_of (g.D.Desk.files l.desk l.fn.out)) l.fn.rules.items l.rules.items (sets l.fn.ground.trail.region) (sets l.ground.trail.region ∷ []);
+  works : (budget : ℕ) → Works (λ b. (goal.Propagator-dyn g (b.vtable, b.value)).meaning b.value) l.p.given budget g.D.Desk.tells l.progress l.progress (bytes_of (g.D.Desk.files l.fn.desk l.fn.out)) (bytes_of (g.D.Desk.files l.desk l.fn.out)) l.fn.rules.items l.rules.items (sets l.fn.ground.trail.region) (sets l.ground.trail.region ∷ []);
 }
 
 abbrev pub decreases-looks : goal.decreases-looks

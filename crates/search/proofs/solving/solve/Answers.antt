@@ -1,10 +1,9 @@
-use Rattle.search.proofs.StayLemmas.{stayed_shown, stayed_true}
-use Rattle.search.proofs.TextLemmas.{text_none}
-use Rattle.search.proofs.WorkLemmas.{cover_same}
+use Rattle.std.proofs.Common.{rules}
+use Rattle.search.proofs.{StayLemmas.stayed_shown, StayLemmas.stayed_true, TextLemmas.text_none, WorkLemmas.cover_same}
 use Rattle.search.proofs.solving.solve.Goals as goal
 
-pub returns-in_err-plan-clause-front : goal.returns-in_err-plan-clause-front
-returns-in_err-plan-clause-front g c = text_none _ _ _
+pub returns-in_err-plan-clause-writes : goal.returns-in_err-plan-clause-writes
+returns-in_err-plan-clause-writes g c = record { name = search rules; kept = search rules; cause = search rules; front = text_none _ _ _ }
 
 pub returns-in-Some-clause-covers : goal.returns-in-Some-clause-covers
 returns-in-Some-clause-covers g c = cover_same _ _

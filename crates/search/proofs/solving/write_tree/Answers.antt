@@ -1,26 +1,24 @@
-use Rattle.std.proofs.Common.{◌≡◌, ◌∙◌, [], ap, refl, sym}
+use Rattle.std.proofs.Common.{◌≡◌, ◌∙◌, [], ap, refl, sym, rules}
 use Rattle.search.specs.Prelude.{bytes_of, Marked, none_yet, sets}
 use Rattle.prop_core.proofs.Public.{all_posted, covered_after}
 use Rattle.trees.proofs.Public.{same_sets}
-use Rattle.search.proofs.TextLemmas.{leaves_none}
-use Rattle.search.proofs.WholeLemmas.{goes_start, start_empty}
-use Rattle.search.proofs.WorkLemmas.{cover_rule, cover_same, cover_trans}
+use Rattle.search.proofs.{TextLemmas.leaves_none, WholeLemmas.goes_start, WholeLemmas.start_empty, WorkLemmas.cover_rule, WorkLemmas.cover_same, WorkLemmas.cover_trans}
 use Rattle.search.proofs.solving.write_tree.Goals as goal
 
-pub returns-in_err-start-clause-front : goal.returns-in_err-start-clause-front
-returns-in_err-start-clause-front g c = leaves_none _ _ _
+pub returns-in_err-start-clause-writes : goal.returns-in_err-start-clause-writes
+returns-in_err-start-clause-writes g c = record { name = search rules; kept = search rules; cause = search rules; front = leaves_none _ _ _ }
 
 pub returns-in_err-start-clause-covers : goal.returns-in_err-start-clause-covers
 returns-in_err-start-clause-covers g c = cover_same _ _
 
-pub returns-in_err-post_all-clause-front : goal.returns-in_err-post_all-clause-front
-returns-in_err-post_all-clause-front g c = leaves_none _ _ _
+pub returns-in_err-post_all-clause-writes : goal.returns-in_err-post_all-clause-writes
+returns-in_err-post_all-clause-writes g c = record { name = search rules; kept = search rules; cause = search rules; front = leaves_none _ _ _ }
 
 pub returns-in_err-post_all-clause-covers : goal.returns-in_err-post_all-clause-covers
 returns-in_err-post_all-clause-covers g c = cover_rule _ _ _ c.post_all.ensures.same
 
-pub returns-in_err-ground-clause-front : goal.returns-in_err-ground-clause-front
-returns-in_err-ground-clause-front g c = leaves_none _ _ _
+pub returns-in_err-ground-clause-writes : goal.returns-in_err-ground-clause-writes
+returns-in_err-ground-clause-writes g c = record { name = search rules; kept = search rules; cause = search rules; front = leaves_none _ _ _ }
 
 pub returns-in_err-ground-clause-covers : goal.returns-in_err-ground-clause-covers
 returns-in_err-ground-clause-covers g c = cover_rule _ _ _ c.in_ok-post_all.ensures.same
@@ -39,7 +37,7 @@ returns-clause-covers g c = cover_trans _ _ _ _ (cover_rule _ _ _ c.in_ok-post_a
 
 pub returns-clause-goes : goal.returns-clause-goes
 returns-clause-goes g c =
-    goes_start _ _ c.args.budget _ none_yet c.run.new.counts _ _ _ _ _ _ refl (ap (λ (v : Marked). sets v.region) c.in_ok-ground.ensures.trail ∙ same_sets _ _ c.in_ok-start.ensures.sets) c.in_ok-post_all.ensures.same c.in_ok-run.ensures.covers.count c.in_ok-run.ensures.goes
+    goes_start _ _ c.args.budget _ none_yet c.run.new.progress _ _ _ _ _ _ refl (ap (λ (v : Marked). sets v.region) c.in_ok-ground.ensures.trail ∙ same_sets _ _ c.in_ok-start.ensures.sets) c.in_ok-post_all.ensures.same c.in_ok-run.ensures.covers.count c.in_ok-run.ensures.goes
 
 pub returns-in-Some-clause-covers : goal.returns-in-Some-clause-covers
 returns-in-Some-clause-covers g c = cover_rule _ _ _ c.in_ok-post_all.ensures.same

@@ -1,12 +1,12 @@
 //! The loop over the regions: the one at hand, and the outer sides that wait.
 ghost use Rattle.std.specs.Prelude.{◌≡◌, ℕ, ◌+◌, ◌*◌, ◌-◌, ◌<◌, ◌∷◌, [], true, IfOk, MatchOption, OnOk, IsTrue, Some, reverse, vec_len};
-ghost use Rattle.search.specs.Prelude.{AllFollow, ArePaired, bytes_of, CountsWrites, Covered, Goes, HaveChoices, IsElement, IsGround, IsKept, IsSized, IsTurned, IsVisited, LeavesLines, Pairs, SameCover, sets};
+ghost use Rattle.search.specs.Prelude.{AllFollow, ArePaired, bytes_of, Covered, Goes, HaveChoices, IsElement, IsGround, IsRoundDone, IsSized, IsVisited, LeavesLines, Pairs, SameCover, sets, WritesOn};
 
-use crate::counts::Counts;
 use crate::ground::Ground;
-use crate::leaves::{settle, split};
+use crate::leaves::{split, write_leaf};
 use crate::levels::{back_levels, narrow_all};
 use crate::looks::{close, fail};
+use crate::progress::Progress;
 use branching::brancher::Brancher;
 use catalogue::Problem;
 use cert_write::CertWriter;
@@ -23,7 +23,7 @@ fn at_region<D: Desk>(
     p: &Problem,
     budget: u64,
     ground: &mut Ground,
-    counts: &mut Counts,
+    progress: &mut Progress,
     rules: &mut Vec<Box<dyn Propagator>>,
     brancher: &mut Box<dyn Brancher>,
     desk: &mut D,
@@ -35,36 +35,33 @@ fn at_region<D: Desk>(
     requires follow { AllFollow (λ b. meaning b) p.now.given ground.old.trail rules.old.items }
     requires writes { IsTrue (D.writes out.old) }
     requires current { D.current desk.old ≡ Some out.old }
-    ensures name { out.new ≡ out.old }
-    ensures kept { IsKept D.tells out.old (D.files desk.old) (D.files desk.new) (D.current desk.old) (D.current desk.new) (D.read_faults desk.old) (D.read_faults desk.new) }
-    ensures cause { CountsWrites (D.write_faults desk.old) (D.write_faults desk.new) result }
-    ensures front { LeavesLines p.now.given D.tells (bytes_of (D.files desk.old out.old)) (bytes_of (D.files desk.new out.old)) }
+    ensures writes { WritesOn D.tells D.files D.current D.read_faults D.write_faults desk.old desk.new out.old out.new (LeavesLines p.now.given D.tells) result }
     ensures covers { Pairs (λ b. meaning b) SameCover rules.old.items rules.new.items }
     ensures follow { OnOk result (AllFollow (λ b. meaning b) p.now.given ground.new.trail rules.new.items) }
     ensures ground { OnOk result (IsGround p.now.given ground.new) }
-    ensures visited { IfOk result (λ s. IsVisited (λ b. meaning b) p.now.given budget D.tells counts.old counts.new (bytes_of (D.files desk.old out.old)) (bytes_of (D.files desk.new out.old)) rules.old.items rules.new.items ground.old.trail ground.new.trail s) }
+    ensures visited { IfOk result (λ s. IsVisited (λ b. meaning b) p.now.given budget D.tells progress.old progress.new (bytes_of (D.files desk.old out.old)) (bytes_of (D.files desk.new out.old)) rules.old.items rules.new.items ground.old.trail ground.new.trail s) }
 {
-    let is_clear = close(p, counts, ground, rules, brancher, desk, out)?;
+    let is_clear = close(p, progress, ground, rules, brancher, desk, out)?;
     if !is_clear {
         return Ok(None);
     }
-    let is_leaf = settle(alloc, p, budget, ground, counts, brancher, desk, out)?;
+    let is_leaf = write_leaf(alloc, p, budget, ground, progress, brancher, desk, out)?;
     if is_leaf {
         return Ok(None);
     }
-    let side = split(p, ground, counts, rules, brancher, desk, out)?;
+    let side = split(p, ground, progress, rules, brancher, desk, out)?;
     Ok(Some(side))
 }
 
-/// One turn: the region is worked on, and where nothing is left open in it the next outer side is taken.
+/// One round: the region is worked on, and where nothing is left open in it the next outer side is taken.
 /// False where none is left.
-fn turn<D: Desk>(
+fn round<D: Desk>(
     alloc: Global,
     p: &Problem,
     budget: u64,
     ground: &mut Ground,
     splits: &mut Vec<(Element, Part)>,
-    counts: &mut Counts,
+    progress: &mut Progress,
     rules: &mut Vec<Box<dyn Propagator>>,
     brancher: &mut Box<dyn Brancher>,
     desk: &mut D,
@@ -77,17 +74,16 @@ fn turn<D: Desk>(
     requires follow { AllFollow (λ b. meaning b) p.now.given ground.old.trail rules.old.items }
     requires writes { IsTrue (D.writes out.old) }
     requires current { D.current desk.old ≡ Some out.old }
-    ensures name { out.new ≡ out.old }
-    ensures kept { IsKept D.tells out.old (D.files desk.old) (D.files desk.new) (D.current desk.old) (D.current desk.new) (D.read_faults desk.old) (D.read_faults desk.new) }
-    ensures cause { CountsWrites (D.write_faults desk.old) (D.write_faults desk.new) result }
-    ensures front { LeavesLines p.now.given D.tells (bytes_of (D.files desk.old out.old)) (bytes_of (D.files desk.new out.old)) }
+    ensures writes { WritesOn D.tells D.files D.current D.read_faults D.write_faults desk.old desk.new out.old out.new (LeavesLines p.now.given D.tells) result }
     ensures covers { Pairs (λ b. meaning b) SameCover rules.old.items rules.new.items }
     ensures follow { OnOk result (AllFollow (λ b. meaning b) p.now.given ground.new.trail rules.new.items) }
     ensures ground { OnOk result (IsGround p.now.given ground.new) }
-    ensures turned { IfOk result (λ yes. IsTurned (λ b. meaning b) p.now.given budget D.tells counts.old counts.new (bytes_of (D.files desk.old out.old)) (bytes_of (D.files desk.new out.old)) rules.old.items rules.new.items ground.old.trail ground.new.trail splits.old.items splits.new.items yes) }
-    ensures smaller { IfOk result (λ yes. yes ≡ true → 2 * (budget - counts.new.spent) + vec_len splits.new < 2 * (budget - counts.old.spent) + vec_len splits.old) }
+    ensures done { IfOk result (λ yes. IsRoundDone (λ b. meaning b) p.now.given budget D.tells progress.old progress.new (bytes_of (D.files desk.old out.old)) (bytes_of (D.files desk.new out.old)) rules.old.items rules.new.items ground.old.trail ground.new.trail splits.old.items splits.new.items yes) }
+    ensures smaller { IfOk result (λ yes. yes ≡ true → 2 * (budget - progress.new.spent) + vec_len splits.new < 2 * (budget - progress.old.spent) + vec_len splits.old) }
 {
-    if let Some(side) = at_region(alloc, p, budget, ground, counts, rules, brancher, desk, out)? {
+    if let Some(side) = at_region(
+        alloc, p, budget, ground, progress, rules, brancher, desk, out,
+    )? {
         splits.push(side)?;
         return Ok(true);
     }
@@ -104,13 +100,13 @@ fn turn<D: Desk>(
     Ok(true)
 }
 
-/// All turns, until nothing is open.
+/// All rounds, until nothing is open.
 pub fn run<D: Desk>(
     alloc: Global,
     p: &Problem,
     budget: u64,
     ground: &mut Ground,
-    counts: &mut Counts,
+    progress: &mut Progress,
     rules: &mut Vec<Box<dyn Propagator>>,
     brancher: &mut Box<dyn Brancher>,
     desk: &mut D,
@@ -123,22 +119,19 @@ pub fn run<D: Desk>(
     requires follow { AllFollow (λ b. meaning b) p.now.given ground.old.trail rules.old.items }
     requires writes { IsTrue (D.writes out.old) }
     requires current { D.current desk.old ≡ Some out.old }
-    ensures name { out.new ≡ out.old }
-    ensures kept { IsKept D.tells out.old (D.files desk.old) (D.files desk.new) (D.current desk.old) (D.current desk.new) (D.read_faults desk.old) (D.read_faults desk.new) }
-    ensures cause { CountsWrites (D.write_faults desk.old) (D.write_faults desk.new) result }
-    ensures front { LeavesLines p.now.given D.tells (bytes_of (D.files desk.old out.old)) (bytes_of (D.files desk.new out.old)) }
+    ensures writes { WritesOn D.tells D.files D.current D.read_faults D.write_faults desk.old desk.new out.old out.new (LeavesLines p.now.given D.tells) result }
     ensures covers { Pairs (λ b. meaning b) SameCover rules.old.items rules.new.items }
-    ensures goes { OnOk result (Goes (λ b. meaning b) p.now.given budget D.tells counts.old counts.new (bytes_of (D.files desk.old out.old)) (bytes_of (D.files desk.new out.old)) rules.old.items rules.new.items (sets ground.old.trail.region ∷ []) []) }
+    ensures goes { OnOk result (Goes (λ b. meaning b) p.now.given budget D.tells progress.old progress.new (bytes_of (D.files desk.old out.old)) (bytes_of (D.files desk.new out.old)) rules.old.items rules.new.items (sets ground.old.trail.region ∷ []) []) }
 {
     let mut splits = Vec::new(alloc);
-    'turns: loop {
-        let more = turn(
+    'rounds: loop {
+        let more = round(
             alloc,
             p,
             budget,
             ground,
             &mut splits,
-            counts,
+            progress,
             rules,
             brancher,
             desk,

@@ -1,7 +1,6 @@
 -- From region to region.
-use Rattle.std.proofs.Common.{reverse}
-use Rattle.base.proofs.Public.{◌≡◌, ℕ, ◌+◌, ◌<◌, Bool, List, [], ◌∷◌, ◌++◌, length, refl, sym, ap, subst, ◌∙◌, arith, reverse-append}
-use Rattle.search.specs.Prelude.{ArePaired, Counts, Element, Ends, Enters, Goes, GoesOn, inside, Instance, IsDue, IsLeaf, IsParted, lines, Marked, Meaning, open_sets, outer_sides, outside, Pairs, Part, RegionView, Rise, SameRule, Sets, sets, Splits, Works}
+use Rattle.base.proofs.Public.{◌≡◌, ℕ, ◌+◌, ◌<◌, Bool, List, [], ◌∷◌, ◌++◌, length, refl, sym, ap, subst, ◌∙◌, arith, reverse-append, reverse}
+use Rattle.search.specs.Prelude.{ArePaired, Progress, Element, Ends, Enters, Goes, GoesOn, inside, Instance, IsDue, IsLeaf, IsParted, lines, Marked, Meaning, open_sets, outer_sides, outside, Pairs, Part, RegionView, Rise, SameRule, Sets, sets, Splits, Works}
 use Rattle.trees.proofs.Public.{same_sets}
 use Rattle.prop_core.proofs.Public.{Rise-trans}
 use Rattle.search.proofs.RegionLemmas.{some_inside, some_outside}
@@ -34,23 +33,23 @@ pub record IsTakenOff (p : Instance) (marks : List RegionView) (b : Marked) (s :
 pub taken_off : (p : Instance) (marks kept : List RegionView) (b : Marked) (s : Element × Part) (splits left : List (Element × Part)) → ArePaired p marks (reverse splits) → splits ≡ left ++ s ∷ [] → kept ≡ marks → kept ≡ b.region ∷ b.marks → IsTakenOff p marks b s splits left
 taken_off p marks kept b s splits left h pop same back =
     let is : marks ≡ b.region ∷ b.marks = sym same ∙ back in
-    let turned : reverse splits ≡ s ∷ reverse left = ap reverse pop ∙ reverse_push left s in
-    let pair : ArePaired p (b.region ∷ b.marks) (s ∷ reverse left) = subst (λ ms. ArePaired p ms (s ∷ reverse left)) is (subst (ArePaired p marks) turned h) in
+    let backwards : reverse splits ≡ s ∷ reverse left = ap reverse pop ∙ reverse_push left s in
+    let pair : ArePaired p (b.region ∷ b.marks) (s ∷ reverse left) = subst (λ ms. ArePaired p ms (s ∷ reverse left)) is (subst (ArePaired p marks) backwards h) in
     record {
       parted = pair.0;
       paired = pair.1;
-      waits = ap (outer_sides marks) turned ∙ ap (λ ms. outer_sides ms (s ∷ reverse left)) is;
+      waits = ap (outer_sides marks) backwards ∙ ap (λ ms. outer_sides ms (s ∷ reverse left)) is;
     }
 
 module _ {B : Type 0} (m : B → Meaning) (p : Instance) (budget : ℕ) (tells : Bool) where
   -- ---- at one region
 
   -- refuted
-  pub ends_refuted : (k : Counts) (old new : List ℕ) (xs ys : List B) (t u : Marked) → u.marks ≡ t.marks → Works m p budget tells k k old new xs ys (sets t.region) [] → Ends m p budget tells k k old new xs ys t u
+  pub ends_refuted : (k : Progress) (old new : List ℕ) (xs ys : List B) (t u : Marked) → u.marks ≡ t.marks → Works m p budget tells k k old new xs ys (sets t.region) [] → Ends m p budget tells k k old new xs ys t u
   ends_refuted k old new xs ys t u e w = record { marks = e; spent = refl; works = w }
 
   -- closed, and a leaf
-  pub ends_leaf : (k l : Counts) (old mid new : List ℕ) (xs ys : List B) (t u : Marked) → u.marks ≡ t.marks → length ys ≡ length xs → Works m p budget tells k k old mid xs ys (sets t.region) (sets u.region ∷ []) → IsLeaf p budget tells k l mid new (sets u.region) → l.spent ≡ k.spent →
+  pub ends_leaf : (k l : Progress) (old mid new : List ℕ) (xs ys : List B) (t u : Marked) → u.marks ≡ t.marks → length ys ≡ length xs → Works m p budget tells k k old mid xs ys (sets t.region) (sets u.region ∷ []) → IsLeaf p budget tells k l mid new (sets u.region) → l.spent ≡ k.spent →
       Ends m p budget tells k l old new xs ys t u
   ends_leaf k l old mid new xs ys t u e c w leaf spent = record {
     marks = e;
@@ -64,18 +63,18 @@ module _ {B : Type 0} (m : B → Meaning) (p : Instance) (budget : ℕ) (tells :
   }
 
   -- closed, and split
-  pub enters_split : (k k' l : Counts) (old mid mid' new : List ℕ) (xs ys zs : List B) (t v u : Marked) (s : Element × Part) → v.marks ≡ t.marks → length ys ≡ length xs → length zs ≡ length ys → Works m p budget tells k k old mid xs ys (sets t.region) (sets v.region ∷ []) →
+  pub enters_split : (k k' l : Progress) (old mid mid' new : List ℕ) (xs ys zs : List B) (t v u : Marked) (s : Element × Part) → v.marks ≡ t.marks → length ys ≡ length xs → length zs ≡ length ys → Works m p budget tells k k old mid xs ys (sets t.region) (sets v.region ∷ []) →
       IsDue budget tells k k' mid mid' v.region → Splits m p tells k' l mid' new ys zs v u s → Enters m p budget tells k l old new xs zs t u s
   enters_split k k' l old mid mid' new xs ys zs t v u s e c d w due q =
-      let same : k' ≡ k = due.counts in
-      let room : k'.spent < budget = subst (λ (n : Counts). n.spent < budget) (sym same) due.room in
-      let go : Works m p budget tells k l mid' new ys zs (sets v.region) (inside s.0 s.1 (sets v.region) ∷ outside s.0 s.1 (sets v.region) ∷ []) = subst (λ (n : Counts). Works m p budget tells n l mid' new ys zs (sets v.region) (inside s.0 s.1 (sets v.region) ∷ outside s.0 s.1 (sets v.region) ∷ [])) same (q.works budget room) in
+      let same : k' ≡ k = due.progress in
+      let room : k'.spent < budget = subst (λ (n : Progress). n.spent < budget) (sym same) due.room in
+      let go : Works m p budget tells k l mid' new ys zs (sets v.region) (inside s.0 s.1 (sets v.region) ∷ outside s.0 s.1 (sets v.region) ∷ []) = subst (λ (n : Progress). Works m p budget tells n l mid' new ys zs (sets v.region) (inside s.0 s.1 (sets v.region) ∷ outside s.0 s.1 (sets v.region) ∷ [])) same (q.works budget room) in
       record {
         mark = v.region;
         marks = q.marks ∙ ap (λ ms. v.region ∷ ms) e;
         parted = q.parted;
         region = q.region;
-        spent = subst (λ (n : Counts). l.spent ≡ n.spent + 1) same q.spent;
+        spent = subst (λ (n : Progress). l.spent ≡ n.spent + 1) same q.spent;
         room = due.room;
         works = subst (λ (r : Sets). Works m p budget tells k l old new xs zs (sets t.region) (r ∷ outside s.0 s.1 (sets v.region) ∷ [])) (sym q.region)
             (works_then m p budget tells k k l old mid new xs ys zs (sets t.region) (sets v.region) (inside s.0 s.1 (sets v.region) ∷ outside s.0 s.1 (sets v.region) ∷ []) c d w (record {
@@ -89,19 +88,19 @@ module _ {B : Type 0} (m : B → Meaning) (p : Instance) (budget : ℕ) (tells :
   -- ---- the next region
 
   -- inside a split
-  pub next_inside : (k l : Counts) (old new : List ℕ) (xs ys : List B) (t u : Marked) (splits left : List (Element × Part)) (s : Element × Part) → Enters m p budget tells k l old new xs ys t u s → left ≡ splits ++ s ∷ [] → ArePaired p t.marks (reverse splits) → GoesOn m p budget tells k l old new xs ys t u splits left
+  pub next_inside : (k l : Progress) (old new : List ℕ) (xs ys : List B) (t u : Marked) (splits left : List (Element × Part)) (s : Element × Part) → Enters m p budget tells k l old new xs ys t u s → left ≡ splits ++ s ∷ [] → ArePaired p t.marks (reverse splits) → GoesOn m p budget tells k l old new xs ys t u splits left
   next_inside k l old new xs ys t u splits left s w push pair =
-      let turned : reverse left ≡ s ∷ reverse splits = ap reverse push ∙ reverse_push splits s in
-      let behind : outer_sides u.marks (reverse left) ≡ outside s.0 s.1 (sets w.mark) ∷ outer_sides t.marks (reverse splits) = ap (λ ms. outer_sides ms (reverse left)) w.marks ∙ ap (outer_sides (w.mark ∷ t.marks)) turned in
+      let backwards : reverse left ≡ s ∷ reverse splits = ap reverse push ∙ reverse_push splits s in
+      let behind : outer_sides u.marks (reverse left) ≡ outside s.0 s.1 (sets w.mark) ∷ outer_sides t.marks (reverse splits) = ap (λ ms. outer_sides ms (reverse left)) w.marks ∙ ap (outer_sides (w.mark ∷ t.marks)) backwards in
       record {
-        paired = subst (λ ms. ArePaired p ms (reverse left)) (sym w.marks) (subst (ArePaired p (w.mark ∷ t.marks)) (sym turned) (w.parted, pair));
+        paired = subst (λ ms. ArePaired p ms (reverse left)) (sym w.marks) (subst (ArePaired p (w.mark ∷ t.marks)) (sym backwards) (w.parted, pair));
         some = some_inside p (sets w.mark) (sets u.region) s.0 s.1 w.parted.some w.parted.split (λ e. ap (λ (r : Sets). r e) w.region);
         goes = subst (λ waiting. Goes m p budget tells k l old new xs ys (open_sets t splits) (sets u.region ∷ waiting)) (sym behind)
             (works_goes m p budget tells k l old new xs ys (sets t.region) (outer_sides t.marks (reverse splits)) (sets u.region ∷ outside s.0 s.1 (sets w.mark) ∷ []) w.works);
       }
 
   -- the newest outer side
-  pub next_outside : (k l : Counts) (old new : List ℕ) (xs ys zs ws : List B) (t v b u : Marked) (splits left : List (Element × Part)) (s : Element × Part) → Ends m p budget tells k l old new xs ys t v → length ys ≡ length xs → Pairs m SameRule ys zs → Pairs m SameRule zs ws →
+  pub next_outside : (k l : Progress) (old new : List ℕ) (xs ys zs ws : List B) (t v b u : Marked) (splits left : List (Element × Part)) (s : Element × Part) → Ends m p budget tells k l old new xs ys t v → length ys ≡ length xs → Pairs m SameRule ys zs → Pairs m SameRule zs ws →
       IsTakenOff p t.marks b s splits left → ((e : Element) → sets u.region e ≡ outside s.0 s.1 (sets b.region) e) → u.marks ≡ b.marks → GoesOn m p budget tells k l old new xs ws t u splits left
   next_outside k l old new xs ys zs ws t v b u splits left s d c r q o kept marks =
       let w : Works m p budget tells k l old new xs ws (sets t.region) [] = works_same m p budget tells k l old new xs ys ws (sets t.region) [] c (q.count ∙ r.count) d.works
@@ -116,7 +115,7 @@ module _ {B : Type 0} (m : B → Meaning) (p : Instance) (budget : ℕ) (tells :
       }
 
   -- none waits
-  pub nothing_waits : (k l : Counts) (old new : List ℕ) (xs ys : List B) (t v : Marked) (splits : List (Element × Part)) → Ends m p budget tells k l old new xs ys t v → splits ≡ [] → Goes m p budget tells k l old new xs ys (open_sets t splits) []
+  pub nothing_waits : (k l : Progress) (old new : List ℕ) (xs ys : List B) (t v : Marked) (splits : List (Element × Part)) → Ends m p budget tells k l old new xs ys t v → splits ≡ [] → Goes m p budget tells k l old new xs ys (open_sets t splits) []
   nothing_waits k l old new xs ys t v splits d none =
       let nothing : outer_sides t.marks (reverse splits) ≡ [] = ap (λ ss. outer_sides t.marks (reverse ss)) none ∙ none_waits t.marks in
       subst (λ now. Goes m p budget tells k l old new xs ys (open_sets t splits) now) nothing
@@ -126,7 +125,7 @@ module _ {B : Type 0} (m : B → Meaning) (p : Instance) (budget : ℕ) (tells :
 open_start : (t : Marked) (splits : List (Element × Part)) → t.marks ≡ [] → splits ≡ [] → open_sets t splits ≡ sets t.region ∷ []
 open_start t splits unmarked none = ap (λ ms. sets t.region ∷ outer_sides ms (reverse splits)) unmarked
 
-pub goes_start_open : {B : Type 0} (m : B → Meaning) (p : Instance) (budget : ℕ) (tells : Bool) (k : Counts) (old : List ℕ) (xs : List B) (t : Marked) (splits : List (Element × Part)) → t.marks ≡ [] → splits ≡ [] → Goes m p budget tells k k old old xs xs (sets t.region ∷ []) (open_sets t splits)
+pub goes_start_open : {B : Type 0} (m : B → Meaning) (p : Instance) (budget : ℕ) (tells : Bool) (k : Progress) (old : List ℕ) (xs : List B) (t : Marked) (splits : List (Element × Part)) → t.marks ≡ [] → splits ≡ [] → Goes m p budget tells k k old old xs xs (sets t.region ∷ []) (open_sets t splits)
 goes_start_open m p budget tells k old xs t splits unmarked none =
     subst (λ now. Goes m p budget tells k k old old xs xs (sets t.region ∷ []) now) (sym (open_start t splits unmarked none)) (goes_none m p budget tells k old xs (sets t.region ∷ []))
 

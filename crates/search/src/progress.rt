@@ -10,7 +10,7 @@ pub struct Best {
 
 /// What is kept of the steps so far.
 #[derive(Drop)]
-pub struct Counts {
+pub struct Progress {
     /// How many decisions were written.
     pub spent: u64,
     /// The cheapest plan that was met, if any was.
