@@ -1,13 +1,10 @@
 -- What was written is read back.
-use Rattle.std.proofs.Common.{length-append}
-use Rattle.base.proofs.Public.{◌≡◌, ◌∙◌, ℕ, ◌+◌, ◌<◌, ◌≤◌, ◌==◌, true, false, List, [], ◌∷◌, ◌++◌, length, drop, nat_lt, Some, Ok, refl, sym, ap, arith, add-zero, lit<, lit≤, inl, inr, append_assoc, cases_eq, nat_tests, drop-drop, AllPass-from_list_all, position_or_len_is, drop-append-add, take-append_seam, Contains, flat_map, slice_index_or}
+use Rattle.base.proofs.Public.{◌≡◌, ◌∙◌, ℕ, ◌+◌, ◌<◌, ◌≤◌, ◌==◌, true, false, List, [], ◌∷◌, ◌++◌, length, drop, nat_lt, Some, Ok, refl, sym, ap, arith, add-zero, lit<, lit≤, inl, inr, append_assoc, cases_eq, nat_tests, drop-drop, AllPass-from_list_all, position_or_len_is, drop-append-add, take-append_seam, Contains, flat_map, slice_index_or, length-append}
 use Rattle.cert_read.specs.Prelude.{AreWritable, as_line, bytes_before_newline, certificate_text, End, end_at, end_line, first_line_at, Goal, header, header_bytes, header_line, Instance, is_end, IsGoal, IsInstance, IsLine, joined, Line, line_at, line_bytes, line_words, lines_of, LineText, max_line, Over, Position, position_after, reading, ReadsOn, start, Step as StepLine, step_line, step_text, text_at, turn}
 use Rattle.trees.specs.declared.steps.Step.{Step}
 use Rattle.cert_text.specs.declared.text.LineText.TheVariants.{Step as StepText, End as EndText}
 use Rattle.cert_text.proofs.Public.{lines_fit, lines_have_no_newline, readings_are_exact, steps_are_lines}
-use Rattle.cert_read.proofs.LineLemmas.{nothing_left}
-use Rattle.cert_read.proofs.NewlineLemmas.{before_both, step_by}
-use Rattle.cert_read.proofs.TurnLemmas.{turn_goes_on, turn_is_end}
+use Rattle.cert_read.proofs.{LineLemmas.nothing_left, NewlineLemmas.before_both, NewlineLemmas.step_by, TurnLemmas.turn_goes_on, TurnLemmas.turn_is_end}
 
 -- ---- one line
 

@@ -1,6 +1,5 @@
 -- What is known of a line from the bytes that are held.
-use Rattle.std.proofs.Common.{Result, Err, take-append-drop, length-take, length-append}
-use Rattle.base.proofs.Public.{◌≡◌, ◌∙◌, ℕ, ◌+◌, ◌<◌, ◌≤◌, List, [], ◌∷◌, ◌++◌, length, take, drop, Ok, true, false, nat_lt, refl, sym, ap, arith, inl, inr, cases_lt, nat_tests, take-append-le, StartsWith, all_of}
+use Rattle.base.proofs.Public.{◌≡◌, ◌∙◌, ℕ, ◌+◌, ◌<◌, ◌≤◌, List, [], ◌∷◌, ◌++◌, length, take, drop, Ok, true, false, nat_lt, refl, sym, ap, arith, inl, inr, cases_lt, nat_tests, take-append-le, StartsWith, all_of, Result, Err, take-append-drop, length-take, length-append}
 use Rattle.cert_read.specs.Prelude.{bytes_before_newline, end_at, end_of, Faults, IsOutside, line_bytes, LineFault, max_line, Memory, NotALine, Over, Position, ReadFault, Short, TooLong}
 use Rattle.cert_read.proofs.NewlineLemmas.{before_both, before_first, before_le}
 

@@ -1,6 +1,5 @@
 -- How many bytes come before the first newline.
-use Rattle.std.proofs.Common.{if◌then◌else◌}
-use Rattle.base.proofs.Public.{◌≡◌, ◌∙◌, ℕ, ◌+◌, ◌<◌, ◌≤◌, ◌==◌, Bool, true, false, not, List, [], ◌∷◌, ◌++◌, length, Some, None, refl, sym, arith, inl, inr, cases_lt, nat_tests, common_steps, prefix_len-le-length, position, position_or_len}
+use Rattle.base.proofs.Public.{◌≡◌, ◌∙◌, ℕ, ◌+◌, ◌<◌, ◌≤◌, ◌==◌, Bool, true, false, not, List, [], ◌∷◌, ◌++◌, length, Some, None, refl, sym, arith, inl, inr, cases_lt, nat_tests, common_steps, prefix_len-le-length, position, position_or_len, if◌then◌else◌}
 use Rattle.cert_read.specs.Lines.{bytes_before_newline}
 
 pub position_found : (bytes : List ℕ) (n : ℕ) → position (λ b. b == 10) bytes ≡ Some n → n ≡ bytes_before_newline bytes

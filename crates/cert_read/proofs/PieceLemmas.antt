@@ -1,6 +1,5 @@
 -- What a read adds to the bytes that are held.
-use Rattle.std.proofs.Common.{length-drop}
-use Rattle.base.proofs.Public.{◌≡◌, ◌∙◌, ℕ, ◌+◌, ◌-◌, ◌≤◌, List, ◌++◌, length, take, drop, sym, ap, arith, drop-drop, take-append-le, StartsWith, grown}
+use Rattle.base.proofs.Public.{◌≡◌, ◌∙◌, ℕ, ◌+◌, ◌-◌, ◌≤◌, List, ◌++◌, length, take, drop, sym, ap, arith, drop-drop, take-append-le, StartsWith, grown, length-drop}
 use Rattle.plan_io.specs.Files.{ReadsAt}
 
 -- what was read after the bytes that were held goes on from them

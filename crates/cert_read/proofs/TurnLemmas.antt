@@ -1,6 +1,5 @@
 -- From the bytes of a line to what is read, and to the position after it.
-use Rattle.std.proofs.Common.{Result, Err, length-take, if◌then◌else◌}
-use Rattle.base.proofs.Public.{◌≡◌, ◌∙◌, ℕ, ◌+◌, ◌<◌, ◌==◌, Bool, true, false, List, ◌++◌, length, take, drop, Some, None, Ok, refl, sym, ap, arith, nat_tests, drop-append-le, drop-drop, StartsWith, bytes_eq, longer}
+use Rattle.base.proofs.Public.{◌≡◌, ◌∙◌, ℕ, ◌+◌, ◌<◌, ◌==◌, Bool, true, false, List, ◌++◌, length, take, drop, Some, None, Ok, refl, sym, ap, arith, nat_tests, drop-append-le, drop-drop, StartsWith, bytes_eq, longer, Result, Err, length-take, if◌then◌else◌}
 use Rattle.cert_read.specs.Prelude.{as_line, end_at, Faults, first_line_at, Gives, header, header_bytes, is_end, Line, line_at, line_bytes, LineFault, LineText, Memory, NotALine, Position, position_after, ReadFault, reading, Short, text_at, TooLong, turn}
 use Rattle.cert_read.proofs.LineLemmas.{split}
 

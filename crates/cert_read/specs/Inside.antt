@@ -1,7 +1,6 @@
 -- What the fields of a cursor are to contracts.
 use Rattle.std.specs.Prelude.{◌+◌, ◌<◌, ◌≤◌, ◌^◌, length, string_bytes}
-use Rattle.cert_read.specs.declared.cursor.Cursor.TheInside.{Inside}
-use Rattle.cert_read.specs.Reader.{ReaderState, max_held}
+use Rattle.cert_read.specs.{declared.cursor.Cursor.TheInside.Inside, Reader.ReaderState, Reader.max_held}
 
 abbrev pub state_of : Inside → ReaderState
 state_of a = record { name = string_bytes a.name; at = a.at; held = a.held }

@@ -1,12 +1,8 @@
 -- What is proved of certificates that were written: they are read back.
 use Rattle.std.specs.Prelude.{◌≡◌, ℕ, List, [], ◌∷◌, Ok}
 use Rattle.cert_text.specs.Prelude.{certificate_text, HasStep, Instance, IsGoal, IsInstance, step_text}
-use Rattle.trees.specs.declared.steps.Goal.{Goal}
-use Rattle.trees.specs.declared.steps.Step.{Step}
-use Rattle.cert_read.specs.declared.line.Line.{Line}
-use Rattle.cert_read.specs.declared.line.Line.TheVariants.{Step as StepLine, End, Over}
-use Rattle.cert_read.specs.declared.position.Position.{Position}
-use Rattle.cert_read.specs.Lines.{start, turn}
+use Rattle.trees.specs.declared.steps.{Goal.Goal, Step.Step}
+use Rattle.cert_read.specs.{declared.line.Line.Line, declared.line.Line.TheVariants.Step as StepLine, declared.line.Line.TheVariants.End, declared.line.Line.TheVariants.Over, declared.position.Position.Position, Lines.start, Lines.turn}
 
 -- each of the steps can be written
 abbrev pub AreWritable : Instance → List Step → Type 0

@@ -1,14 +1,8 @@
 -- What is read of a certificate at a place, line by line.
 use Rattle.std.specs.Prelude.{ℕ, ◌+◌, ◌==◌, Bool, true, false, List, [], ◌∷◌, length, take, drop, nat_lt, Option, Some, None, Result, Ok, Err, if◌then◌else◌}
-use Rattle.std.specs.List.{position_or_len}
-use Rattle.std.specs.Str.{bytes_eq}
-use Rattle.cert_text.specs.Prelude.{header, max_line, reading}
-use Rattle.cert_text.specs.declared.text.LineText.{LineText}
-use Rattle.cert_text.specs.declared.text.LineText.TheVariants.{Step as StepLine, End as EndLine}
-use Rattle.cert_read.specs.declared.line.Line.{Line}
-use Rattle.cert_read.specs.declared.line.Line.TheVariants.{Step, End, Over}
-use Rattle.cert_read.specs.declared.line.LineFault.{LineFault}
-use Rattle.cert_read.specs.declared.line.LineFault.TheVariants.{NotALine, TooLong, Short}
+use Rattle.std.specs.{List.position_or_len, Str.bytes_eq}
+use Rattle.cert_text.specs.{Prelude.header, Prelude.max_line, Prelude.reading, declared.text.LineText.LineText, declared.text.LineText.TheVariants.Step as StepLine, declared.text.LineText.TheVariants.End as EndLine}
+use Rattle.cert_read.specs.declared.line.{Line.Line, Line.TheVariants.Step, Line.TheVariants.End, Line.TheVariants.Over, LineFault.LineFault, LineFault.TheVariants.NotALine, LineFault.TheVariants.TooLong, LineFault.TheVariants.Short}
 use Rattle.cert_read.specs.declared.position.Position.{Position}
 
 -- how many bytes come before the first newline, or before the end where there is none

@@ -7,12 +7,9 @@ pub use Rattle.plan_io.specs.Files.{bytes_of}
 pub use Rattle.trees.specs.declared.steps.Goal.{Goal}
 unfoldable pub use Rattle.cert_text.specs.Spelling.{header_line}
 pub use Rattle.cert_text.specs.declared.text.LineText.{LineText}
-pub use Rattle.cert_read.specs.Laws.{AreWritable, lines_of, ReadsOn}
+pub use Rattle.cert_read.specs.{Laws.AreWritable, Laws.lines_of, Laws.ReadsOn, declared.line.Line.Line, declared.line.Line.TheVariants.End, declared.line.Line.TheVariants.Over, declared.line.Line.TheVariants.Step, declared.line.LineFault.LineFault}
 pub use Rattle.cert_read.specs.Lines.{as_line, end_of, is_end, position_after, start}
 unfoldable pub use Rattle.cert_read.specs.Lines.{bytes_before_newline, end_at, first_line_at, header_bytes, line_at, line_bytes, text_at, turn}
 pub use Rattle.cert_read.specs.Reader.{CountsLine, Faults, Gives, IsOutside, max_held}
-pub use Rattle.cert_read.specs.declared.line.Line.{Line}
-pub use Rattle.cert_read.specs.declared.line.Line.TheVariants.{End, Over, Step}
-pub use Rattle.cert_read.specs.declared.line.LineFault.{LineFault}
 pub use Rattle.cert_read.specs.declared.line.LineFault.TheVariants.{Memory, NotALine, ReadFault, Short, TooLong}
 pub use Rattle.cert_read.specs.declared.position.Position.{Position}

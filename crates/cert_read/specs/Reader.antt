@@ -1,13 +1,9 @@
 -- What a reader is to contracts, and what its calls answer.
-use Rattle.std.specs.Prelude.{◌≡◌, ℕ, ◌<◌, ◌≤◌, true, false, List, [], drop, Result, Ok, Err}
+use Rattle.std.specs.Prelude.{◌≡◌, ℕ, ◌<◌, ◌≤◌, Bool, true, false, List, [], drop, Option, Result, Ok, Err, IsTrue}
 use Rattle.std.specs.Io.{StartsWith}
-use Rattle.plan_io.specs.Causes.{Rose}
-use Rattle.cert_read.specs.Lines.{start}
-use Rattle.cert_read.specs.declared.line.Line.{Line}
-use Rattle.cert_read.specs.declared.line.Line.TheVariants.{Step, End, Over}
-use Rattle.cert_read.specs.declared.line.LineFault.{LineFault}
+use Rattle.plan_io.specs.Prelude.{Files, Rose}
+use Rattle.cert_read.specs.{Lines.start, declared.line.Line.Line, declared.line.Line.TheVariants.Step, declared.line.Line.TheVariants.End, declared.line.Line.TheVariants.Over, declared.line.LineFault.LineFault, declared.position.Position.Position}
 use Rattle.cert_read.specs.declared.line.LineFault.TheVariants.{NotALine, TooLong, Short, ReadFault, Memory}
-use Rattle.cert_read.specs.declared.position.Position.{Position}
 
 -- the name of the file, the position, and the bytes from there on that were read already
 pub record ReaderState : Type 0 where
@@ -52,6 +48,15 @@ CountsLine before now (Err (TooLong n)) = now ≡ before
 CountsLine before now (Err Short) = now ≡ before
 CountsLine before now (Err ReadFault) = (before ≤ now) × Rose before now
 CountsLine before now (Err Memory) = now ≡ before
+
+-- A call that only reads, for a line. Of a desk that tells, all files stay; of each, the file that was created last and the count of failed writes stay,
+-- and a failed read is answered only where the count of failed reads rose. D has the desks; the four functions are what is seen of one: its files, which
+-- was created last, and how many reads and writes failed
+pub record OnlyReads {D A : Type 0} (tells : Bool) (files : D → Files) (current : D → Option (List ℕ)) (read_faults write_faults : D → ℕ) (old new : D) (result : Result A LineFault) : Type 0 where
+  pub files_stay : IsTrue tells → files new ≡ files old
+  pub created : current new ≡ current old
+  pub cause : CountsLine (read_faults old) (read_faults new) result
+  pub writes_kept : write_faults new ≡ write_faults old
 
 -- a line lies before the new position, which is the same where the file is over; only the end line ends it
 abbrev pub IsMoved : Position → Position → Line → Type 0

@@ -1,12 +1,10 @@
 //! A position in a file, with the bytes from there on that were read already.
 ghost use Rattle.std.specs.Prelude.{◌≡◌, ◌+◌, ◌<◌, ◌≤◌, ◌^◌, ◌==◌, [], true, IsTrue, IfErr, IfOk, OnOk, OnErr, length, drop, take};
-ghost use Rattle.std.specs.Io.{StartsWith};
-ghost use Rattle.std.specs.List.{position};
-ghost use Rattle.std.specs.Str.{bytes_eq};
+ghost use Rattle.std.specs.{Io.StartsWith, List.position, Str.bytes_eq};
 ghost use Rattle.plan_io.specs.Files.{bytes_of};
 ghost use Rattle.cert_text.specs.Texts.{header, max_line};
 ghost use Rattle.cert_read.specs.Lines.{as_line, bytes_before_newline, end_at, first_line_at, is_end, line_at, line_bytes, position_after, start, text_at};
-ghost use Rattle.cert_read.specs.Reader.{CountsLine, Gives, IsMoved, IsOutside, StandsIn, max_held};
+ghost use Rattle.cert_read.specs.Reader.{Gives, IsMoved, IsOutside, OnlyReads, StandsIn, max_held};
 
 use crate::held::Held;
 use crate::line::{Line, LineFault};
@@ -93,10 +91,7 @@ fn read_piece<D: Desk>(
         IsTrue D.tells → StartsWith rest held.old → IfOk result (λ n. n ≡ 0 → held.new ≡ rest) }
     ensures refused { OnErr result (held.new ≡ held.old) }
     ensures outside { IfErr result IsOutside }
-    ensures files { IsTrue D.tells → D.files desk.new ≡ D.files desk.old }
-    ensures current { D.current desk.new ≡ D.current desk.old }
-    ensures cause { CountsLine (D.read_faults desk.old) (D.read_faults desk.new) result }
-    ensures writes_kept { D.write_faults desk.new ≡ D.write_faults desk.old }
+    ensures desk { OnlyReads D.tells D.files D.current D.read_faults D.write_faults desk.old desk.new result }
 {
     let at = place + held.bytes().len() as u64;
     let want = (u64::MAX - at).min(PIECE as u64) as usize;
@@ -127,10 +122,7 @@ fn fill<D: Desk>(
     ensures few { length held.new ≤ max_held }
     ensures stands { let rest = drop at.place (bytes_of (D.files desk.old name.now)) in
         IsTrue D.tells → StartsWith rest held.old → StartsWith rest held.new }
-    ensures files { IsTrue D.tells → D.files desk.new ≡ D.files desk.old }
-    ensures current { D.current desk.new ≡ D.current desk.old }
-    ensures cause { CountsLine (D.read_faults desk.old) (D.read_faults desk.new) result }
-    ensures writes_kept { D.write_faults desk.new ≡ D.write_faults desk.old }
+    ensures desk { OnlyReads D.tells D.files D.current D.read_faults D.write_faults desk.old desk.new result }
 {
     let mut clean = 0;
     'pieces: loop {
@@ -217,10 +209,7 @@ impl Cursor {
             → IfOk result (λ n. n ≡ 0 → self.new.held ≡ drop self.old.at.place file) }
         ensures refused { OnErr result (self.new ≡ self.old) }
         ensures outside { IfErr result IsOutside }
-        ensures files { IsTrue D.tells → D.files desk.new ≡ D.files desk.old }
-        ensures current { D.current desk.new ≡ D.current desk.old }
-        ensures cause { CountsLine (D.read_faults desk.old) (D.read_faults desk.new) result }
-        ensures writes_kept { D.write_faults desk.new ≡ D.write_faults desk.old }
+        ensures desk { OnlyReads D.tells D.files D.current D.read_faults D.write_faults desk.old desk.new result }
     {
         read_piece(desk, self.name.as_str(), self.at.place, &mut self.held)
     }
@@ -238,10 +227,7 @@ impl Cursor {
         ensures within { self.new.at.place < 2 ^ 64 }
         ensures few { length self.new.held ≤ max_held }
         ensures stands { IsTrue D.tells → StandsIn (bytes_of (D.files desk.old self.old.name)) self.new }
-        ensures files { IsTrue D.tells → D.files desk.new ≡ D.files desk.old }
-        ensures current { D.current desk.new ≡ D.current desk.old }
-        ensures cause { CountsLine (D.read_faults desk.old) (D.read_faults desk.new) result }
-        ensures writes_kept { D.write_faults desk.new ≡ D.write_faults desk.old }
+        ensures desk { OnlyReads D.tells D.files D.current D.read_faults D.write_faults desk.old desk.new result }
     {
         fill(desk, self.name.as_str(), self.at, &mut self.held)
     }
@@ -258,10 +244,7 @@ impl Cursor {
         ensures same { self.new ≡ record self.old { held = self.new.held } }
         ensures prefix { StartsWith self.new.held self.old.held }
         ensures stands { IsTrue D.tells → StandsIn (bytes_of (D.files desk.old self.old.name)) self.new }
-        ensures files { IsTrue D.tells → D.files desk.new ≡ D.files desk.old }
-        ensures current { D.current desk.new ≡ D.current desk.old }
-        ensures cause { CountsLine (D.read_faults desk.old) (D.read_faults desk.new) result }
-        ensures writes_kept { D.write_faults desk.new ≡ D.write_faults desk.old }
+        ensures desk { OnlyReads D.tells D.files D.current D.read_faults D.write_faults desk.old desk.new result }
     {
         let count = match self.fill(desk) {
             Ok(count) => count,
@@ -299,10 +282,7 @@ impl Cursor {
         ensures few { length self.new.held ≤ max_held }
         ensures name { self.new.name ≡ self.old.name }
         ensures refused { OnErr result (self.new ≡ self.old) }
-        ensures files { IsTrue D.tells → D.files desk.new ≡ D.files desk.old }
-        ensures current { D.current desk.new ≡ D.current desk.old }
-        ensures cause { CountsLine (D.read_faults desk.old) (D.read_faults desk.new) result }
-        ensures writes_kept { D.write_faults desk.new ≡ D.write_faults desk.old }
+        ensures desk { OnlyReads D.tells D.files D.current D.read_faults D.write_faults desk.old desk.new result }
     {
         let held = self.held.bytes().len();
         match self.parse(desk) {
@@ -331,10 +311,7 @@ impl Cursor {
         ensures within { self.new.at.place < 2 ^ 64 }
         ensures few { length self.new.held ≤ max_held }
         ensures name { self.new.name ≡ self.old.name }
-        ensures files { IsTrue D.tells → D.files desk.new ≡ D.files desk.old }
-        ensures current { D.current desk.new ≡ D.current desk.old }
-        ensures cause { CountsLine (D.read_faults desk.old) (D.read_faults desk.new) result }
-        ensures writes_kept { D.write_faults desk.new ≡ D.write_faults desk.old }
+        ensures desk { OnlyReads D.tells D.files D.current D.read_faults D.write_faults desk.old desk.new result }
     {
         let count = match self.fill(desk) {
             Ok(count) => count,
@@ -361,10 +338,7 @@ impl Cursor {
         ensures few { length self.new.held ≤ max_held }
         ensures name { self.new.name ≡ self.old.name }
         ensures refused { OnErr result (self.new ≡ self.old) }
-        ensures files { IsTrue D.tells → D.files desk.new ≡ D.files desk.old }
-        ensures current { D.current desk.new ≡ D.current desk.old }
-        ensures cause { CountsLine (D.read_faults desk.old) (D.read_faults desk.new) result }
-        ensures writes_kept { D.write_faults desk.new ≡ D.write_faults desk.old }
+        ensures desk { OnlyReads D.tells D.files D.current D.read_faults D.write_faults desk.old desk.new result }
     {
         if !self.held.bytes().is_empty() {
             return Err(LineFault::NotALine(self.at.lines + 1));

@@ -2,7 +2,7 @@
 ghost use Rattle.std.specs.Prelude.{◌≡◌, ◌<◌, ◌≤◌, ◌^◌, [], length, IsTrue, IfOk, OnErr};
 ghost use Rattle.plan_io.specs.Files.{bytes_of};
 ghost use Rattle.cert_read.specs.Lines.{start, turn};
-ghost use Rattle.cert_read.specs.Reader.{CountsLine, Gives, IsMoved, StandsIn, max_held};
+ghost use Rattle.cert_read.specs.Reader.{Gives, IsMoved, OnlyReads, StandsIn, max_held};
 
 use crate::cursor::Cursor;
 use crate::line::{Line, LineFault};
@@ -67,10 +67,7 @@ impl CertReader {
         ensures few { length self.new.held ≤ max_held }
         ensures name { self.new.name ≡ self.old.name }
         ensures refused { OnErr result (self.new ≡ self.old) }
-        ensures files { IsTrue D.tells → D.files desk.new ≡ D.files desk.old }
-        ensures current { D.current desk.new ≡ D.current desk.old }
-        ensures cause { CountsLine (D.read_faults desk.old) (D.read_faults desk.new) result }
-        ensures writes_kept { D.write_faults desk.new ≡ D.write_faults desk.old }
+        ensures desk { OnlyReads D.tells D.files D.current D.read_faults D.write_faults desk.old desk.new result }
     {
         let at = self.cursor.at();
         if at.ended {

@@ -1,5 +1,4 @@
-use Rattle.std.proofs.Common.{◌^◌, IsTrue}
-use Rattle.base.proofs.Public.{◌≡◌, ◌+◌, ◌-◌, ◌<◌, ◌≤◌, length, take, drop, StartsWith}
+use Rattle.base.proofs.Public.{◌≡◌, ◌+◌, ◌-◌, ◌<◌, ◌≤◌, length, take, drop, StartsWith, ◌^◌, IsTrue}
 use Rattle.cert_read.specs.Prelude.{bytes_before_newline, bytes_of, max_held}
 use Rattle.cert_read.proofs.cursor.fill.Given as goal
 
