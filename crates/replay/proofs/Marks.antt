@@ -1,6 +1,5 @@
 -- Marks at instants.
-use Rattle.std.proofs.Common.{slice_index_or, slice_set}
-use Rattle.base.proofs.Public.{◌≡◌, inl, inr, ℕ, ◌+◌, ◌<◌, replicate, ◌||◌, ◌==◌, Bool, true, false, List, length, take, ◌++◌, refl, sym, ◌∙◌, ap, arith, cases_eq, nat_tests, get_or-set_same, get_or-set_other, length-replicate, length-set, or_assoc, take-append_seam, copies_at}
+use Rattle.base.proofs.Public.{◌≡◌, inl, inr, ℕ, ◌+◌, ◌<◌, replicate, ◌||◌, ◌==◌, Bool, true, false, List, length, take, ◌++◌, refl, sym, ◌∙◌, ap, arith, cases_eq, nat_tests, get_or-set_same, get_or-set_other, length-replicate, length-set, or_assoc, take-append_seam, copies_at, slice_index_or, slice_set}
 use Rattle.replay.specs.Prelude.{Act, Choice, Element, end_of, Instance, Place, turns}
 
 -- one mark more

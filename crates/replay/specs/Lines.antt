@@ -1,12 +1,9 @@
 -- The lines of a report.
 use Rattle.std.specs.Prelude.{ℕ, List, [], ◌++◌, length, slice_index_or, Option, Some, None, codes}
-use Rattle.std.specs.Fmt.{decimal}
-use Rattle.std.specs.List.{flat_map, range_with_len}
+use Rattle.std.specs.{Fmt.decimal, List.flat_map, List.range_with_len}
 use Rattle.judge.specs.Prelude.{Choices, cost_of, Instance, inventory_of, Loads, loads_of, name_of, node, node_count, snapshot_at, vm}
 use Rattle.cluster.specs.declared.ids.Element.{Element}
-use Rattle.slices.specs.declared.rule.Broken.{Broken}
-use Rattle.slices.specs.declared.rule.Rule.{Rule}
-use Rattle.slices.specs.declared.rule.Rule.TheVariants.{Load, Usable, Constraint}
+use Rattle.slices.specs.declared.rule.{Broken.Broken, Rule.Rule, Rule.TheVariants.Load, Rule.TheVariants.Usable, Rule.TheVariants.Constraint}
 
 -- a word after a blank
 abbrev pub spaced : List ℕ → List ℕ

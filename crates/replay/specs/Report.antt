@@ -1,11 +1,9 @@
 -- The report on a plan.
 use Rattle.std.specs.Prelude.{◌↔◌, ℕ, List, ◌++◌, Option, IsNone, IfSome}
-use Rattle.std.specs.Io.{StartsWith}
-use Rattle.std.specs.List.{flat_map}
+use Rattle.std.specs.{Io.StartsWith, List.flat_map}
 use Rattle.judge.specs.Prelude.{Choices, Instance, IsFirstBroken, IsValid}
 use Rattle.slices.specs.declared.rule.Broken.{Broken}
-use Rattle.replay.specs.Events.{events}
-use Rattle.replay.specs.Lines.{at_line, verdict_line}
+use Rattle.replay.specs.{Events.events, Lines.at_line, Lines.verdict_line}
 
 -- what is broken first: nothing exactly where the plan is valid
 pub record IsVerdict (p : Instance) (plan : Choices) (answer : Option Broken) : Type 0 where

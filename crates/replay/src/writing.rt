@@ -1,7 +1,6 @@
 //! The report on a plan.
 ghost use Rattle.std.specs.Prelude.{◌≡◌, ◌++◌, IsTrue, IfOk, OnOk};
-ghost use Rattle.std.specs.Io.{StartsWith};
-ghost use Rattle.std.specs.List.{flat_map};
+ghost use Rattle.std.specs.{Io.StartsWith, List.flat_map};
 ghost use Rattle.replay.specs.Prelude.{at_line, choices_of, CountsWrites, IsPlanOf, IsPrefixOfReport, IsVerdict, report_text};
 
 use crate::events::events;

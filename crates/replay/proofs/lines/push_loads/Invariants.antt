@@ -1,5 +1,4 @@
-use Rattle.std.proofs.Common.{string_bytes}
-use Rattle.base.proofs.Public.{◌≡◌, ◌++◌, decimal, flat_map, range_with_len}
+use Rattle.base.proofs.Public.{◌≡◌, ◌++◌, decimal, flat_map, range_with_len, string_bytes}
 use Rattle.replay.specs.Prelude.{cell, spaced}
 use Rattle.replay.proofs.lines.push_loads.Given as goal
 

@@ -1,5 +1,4 @@
-use Rattle.std.proofs.Common.{IsTrue}
-use Rattle.base.proofs.Public.{◌≡◌, ◌++◌, drop, StartsWith, flat_map}
+use Rattle.base.proofs.Public.{◌≡◌, ◌++◌, drop, StartsWith, flat_map, IsTrue}
 use Rattle.replay.specs.Prelude.{at_line, choices_of}
 use Rattle.replay.proofs.writing.write_instants.Given as goal
 
