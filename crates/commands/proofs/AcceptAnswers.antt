@@ -5,7 +5,6 @@ use Rattle.cert_read.specs.declared.line.LineFault.TheVariants.{Memory as NoRoom
 use Rattle.cert_check.specs.Laws.{IsAccepted}
 use Rattle.search.specs.Answers.{plan_in}
 use Rattle.cert_check.proofs.Public.{certificate_is_accepted, is_writable}
-use Rattle.commands.specs.declared.status.Status.TheVariants as status
 
 -- ---- the plan
 
@@ -43,9 +42,9 @@ written_is_accepted plan_file certificate budget few p before after found is = r
 
 -- ---- what `check` says
 
-yes_is_said : (goal : Goal) (least : Option ℕ) (given : Result Verdict CheckFault) (before after : Outside) (result : Status) → IsYesUnlessOutside goal least given → SaysGiven given before after result → Says (verdict_line (Yes goal least)) status.Good before after result
+yes_is_said : (goal : Goal) (least : Option ℕ) (given : Result Verdict CheckFault) (before after : Outside) (result : Status) → IsYesUnlessOutside goal least given → SaysGiven given before after result → Says (verdict_line (Yes goal least)) Status.Good before after result
 yes_is_said goal least (Ok (Yes shown low)) before after result is says =
-    subst (λ g. Says (verdict_line (Yes g least)) status.Good before after result) is.0 (subst (λ l. Says (verdict_line (Yes shown l)) status.Good before after result) is.1 says)
+    subst (λ g. Says (verdict_line (Yes g least)) Status.Good before after result) is.0 (subst (λ l. Says (verdict_line (Yes shown l)) Status.Good before after result) is.1 says)
 yes_is_said goal least (Ok (No line why)) before after result is says = absurd is
 yes_is_said goal least (Err (Line (NotALine n))) before after result is says = absurd is
 yes_is_said goal least (Err (Line (TooLong n))) before after result is says = absurd is
@@ -55,7 +54,7 @@ yes_is_said goal least (Err (Line NoRoom)) before after result is says = absurd 
 yes_is_said goal least (Err Memory) before after result is says = absurd says
 
 checked_is_yes : (plan_file certificate : List ℕ) (budget : ℕ) (p : Instance) (found : Found) (strict : Bool) (before after : Outside) (result : Status) → AreAccepted plan_file certificate budget p found before.files → IsChecked plan_file certificate strict p before after result →
-    Says (verdict_line (yes_to p budget found)) status.Good before after result
+    Says (verdict_line (yes_to p budget found)) Status.Good before after result
 checked_is_yes plan_file certificate budget p found strict before after result are checked =
     let checks : Checks p certificate strict (choices_handed (plan_in found)) before after result = subst (λ reading. AnswersBy (Checks p certificate strict) reading before after result) are.plan checked in
     yes_is_said (goal_in p budget found) (least_in found) checks.given before after result ((are.accepted strict).alone checks.given checks.gives) checks.says

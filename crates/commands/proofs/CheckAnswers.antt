@@ -1,13 +1,7 @@
 -- What `check` answers, by the readings of its inputs and what the check gives.
-use Rattle.std.proofs.Common.{codes, Result, Err, IfOk, IfErr}
-use Rattle.base.proofs.Public.{◌≡◌, ◌∙◌, ℕ, Bool, List, ◌++◌, Option, Some, Ok, refl, sym, inl, inr, append_assoc, decimal}
+use Rattle.base.proofs.Public.{◌≡◌, ◌∙◌, ℕ, Bool, List, ◌++◌, Option, Some, Ok, refl, sym, inl, inr, append_assoc, decimal, codes, Result, Err, IfOk, IfErr}
 use Rattle.commands.specs.Prelude.{any_plan_in, bytes_of, check, CheckFault, CheckGives, Checks, Choices, CountsCheck, Ending, Ends, Fault, Files, Instance, instance_in, IsAnswer, IsChecked, IsLastLine, IsLineRefusal, IsOfReading, IsRefusal, IsSound, LineFault, not_a_line, Outside, outside, ReadCauses, SaysGiven, short_line, Status, too_long_line, undecided_line, Verdict, verdict_line, verdict_status}
-use Rattle.cert_read.specs.declared.line.LineFault.TheVariants as line
-use Rattle.cert_check.specs.declared.verdict.CheckFault.TheVariants as check_fault
-use Rattle.commands.specs.declared.fault.Fault.TheVariants as fault
-use Rattle.commands.specs.declared.status.Status.TheVariants as status
-use Rattle.commands.proofs.Ends.{says, answers_well, answers_refused, ends_more}
-use Rattle.commands.proofs.LastLines.{ends_with_line}
+use Rattle.commands.proofs.{Ends.says, Ends.answers_well, Ends.answers_refused, Ends.ends_more, LastLines.ends_with_line}
 
 -- ---- a verdict
 
@@ -32,80 +26,80 @@ verdict_ends p certificate strict plan before after printed verdict ended kept g
 -- it is no fault of the outside
 pub verdict_causes : (before now : ℕ) (said : List ℕ) (status_said : Status) (ended : Result Ending Fault) → now ≡ before → IsLastLine ended said status_said → ReadCauses before now ended
 verdict_causes before now said status_said (Ok ending) kept is = record { failed = λ e. absurd (cc); kept = inl kept }
-verdict_causes before now said status_said (Err fault.Words) kept is = absurd is
-verdict_causes before now said status_said (Err (fault.Input text)) kept is = record { failed = λ e. absurd (cc); kept = inl kept }
-verdict_causes before now said status_said (Err fault.ReadFault) kept is = absurd is
-verdict_causes before now said status_said (Err fault.WriteFault) kept is = absurd is
-verdict_causes before now said status_said (Err fault.Memory) kept is = record { failed = λ e. absurd (cc); kept = inl kept }
+verdict_causes before now said status_said (Err Fault.Words) kept is = absurd is
+verdict_causes before now said status_said (Err (Fault.Input text)) kept is = record { failed = λ e. absurd (cc); kept = inl kept }
+verdict_causes before now said status_said (Err Fault.ReadFault) kept is = absurd is
+verdict_causes before now said status_said (Err Fault.WriteFault) kept is = absurd is
+verdict_causes before now said status_said (Err Fault.Memory) kept is = record { failed = λ e. absurd (cc); kept = inl kept }
 
 pub verdict_kind : (said : List ℕ) (status_said : Status) (ended : Result Ending Fault) → IsLastLine ended said status_said → IfErr ended IsOfReading
 verdict_kind said status_said (Ok ending) is = tt
-verdict_kind said status_said (Err fault.Words) is = absurd is
-verdict_kind said status_said (Err (fault.Input text)) is = tt
-verdict_kind said status_said (Err fault.ReadFault) is = absurd is
-verdict_kind said status_said (Err fault.WriteFault) is = absurd is
-verdict_kind said status_said (Err fault.Memory) is = tt
+verdict_kind said status_said (Err Fault.Words) is = absurd is
+verdict_kind said status_said (Err (Fault.Input text)) is = tt
+verdict_kind said status_said (Err Fault.ReadFault) is = absurd is
+verdict_kind said status_said (Err Fault.WriteFault) is = absurd is
+verdict_kind said status_said (Err Fault.Memory) is = tt
 
 -- ---- a line that cannot be read
 
 -- the fault of a line is the last line
-refusal_is_last : (f : Fault) (said : List ℕ) → IsRefusal f said → IsLastLine (Err f) said status.Input
-refusal_is_last fault.Words said is = absurd is
-refusal_is_last (fault.Input text) said is = (is, refl)
-refusal_is_last fault.ReadFault said is = absurd is
-refusal_is_last fault.WriteFault said is = absurd is
-refusal_is_last fault.Memory said is = tt
+refusal_is_last : (f : Fault) (said : List ℕ) → IsRefusal f said → IsLastLine (Err f) said Status.Input
+refusal_is_last Fault.Words said is = absurd is
+refusal_is_last (Fault.Input text) said is = (is, refl)
+refusal_is_last Fault.ReadFault said is = absurd is
+refusal_is_last Fault.WriteFault said is = absurd is
+refusal_is_last Fault.Memory said is = tt
 
 -- it is due
 pub line_ends : (p : Instance) (certificate : List ℕ) (strict : Bool) (plan : Option Choices) (before after : Files) (printed : List ℕ) (what : LineFault) (f : Fault) →
-    after ≡ before → CheckGives p plan strict (bytes_of (before certificate)) (Err (check_fault.Line what)) → IsLineRefusal f what →
+    after ≡ before → CheckGives p plan strict (bytes_of (before certificate)) (Err (CheckFault.Line what)) → IsLineRefusal f what →
     Ends (Checks p certificate strict plan (outside before printed)) (outside after printed) (Err f)
 unfolding Ends
 line_ends p certificate strict plan before after printed what f kept gives is = by_fault what gives is
   where
     checks : (given : Result Verdict CheckFault) (said : List ℕ) → CheckGives p plan strict (bytes_of (before certificate)) given → IfOk given (IsSound p plan)
-        → SaysGiven given (outside before printed) (outside after (printed ++ said)) status.Input → Checks p certificate strict plan (outside before printed) (outside after (printed ++ said)) status.Input
+        → SaysGiven given (outside before printed) (outside after (printed ++ said)) Status.Input → Checks p certificate strict plan (outside before printed) (outside after (printed ++ said)) Status.Input
     checks given said gives sound says = record { given = given; gives = gives; sound = sound; says = says }
 
-    ends : (said : List ℕ) → IsRefusal f said → Checks p certificate strict plan (outside before printed) (outside after (printed ++ said)) status.Input → Ends (Checks p certificate strict plan (outside before printed)) (outside after printed) (Err f)
-    ends said is stands = ends_with_line (Checks p certificate strict plan (outside before printed)) (outside after printed) said status.Input (Err f) (refusal_is_last f said is) stands
+    ends : (said : List ℕ) → IsRefusal f said → Checks p certificate strict plan (outside before printed) (outside after (printed ++ said)) Status.Input → Ends (Checks p certificate strict plan (outside before printed)) (outside after printed) (Err f)
+    ends said is stands = ends_with_line (Checks p certificate strict plan (outside before printed)) (outside after printed) said Status.Input (Err f) (refusal_is_last f said is) stands
 
-    by_fault : (what : LineFault) → CheckGives p plan strict (bytes_of (before certificate)) (Err (check_fault.Line what)) → IsLineRefusal f what → Ends (Checks p certificate strict plan (outside before printed)) (outside after printed) (Err f)
-    by_fault (line.NotALine number) gives is = ends (not_a_line number) is (checks _ _ gives tt (says (not_a_line number) status.Input before after printed kept))
-    by_fault (line.TooLong number) gives is = ends (too_long_line number) is (checks _ _ gives tt (says (too_long_line number) status.Input before after printed kept))
-    by_fault line.Short gives is = ends short_line is (checks _ _ gives tt (says short_line status.Input before after printed kept))
-    by_fault line.ReadFault gives is = rw is tt
-    by_fault line.Memory gives is = rw is tt
+    by_fault : (what : LineFault) → CheckGives p plan strict (bytes_of (before certificate)) (Err (CheckFault.Line what)) → IsLineRefusal f what → Ends (Checks p certificate strict plan (outside before printed)) (outside after printed) (Err f)
+    by_fault (LineFault.NotALine number) gives is = ends (not_a_line number) is (checks _ _ gives tt (says (not_a_line number) Status.Input before after printed kept))
+    by_fault (LineFault.TooLong number) gives is = ends (too_long_line number) is (checks _ _ gives tt (says (too_long_line number) Status.Input before after printed kept))
+    by_fault LineFault.Short gives is = ends short_line is (checks _ _ gives tt (says short_line Status.Input before after printed kept))
+    by_fault LineFault.ReadFault gives is = rw is tt
+    by_fault LineFault.Memory gives is = rw is tt
 
 -- only a failed read raises the count
 refused_causes : (before now : ℕ) (f : Fault) (said : List ℕ) → now ≡ before → IsRefusal f said → ReadCauses {T = Ending} before now (Err f)
-refused_causes before now f said kept is = verdict_causes before now said status.Input (Err f) kept (refusal_is_last f said is)
+refused_causes before now f said kept is = verdict_causes before now said Status.Input (Err f) kept (refusal_is_last f said is)
 
-pub line_causes : (before now : ℕ) (what : LineFault) (f : Fault) → CountsCheck {A = Verdict} before now (Err (check_fault.Line what)) → IsLineRefusal f what → ReadCauses {T = Ending} before now (Err f)
-line_causes before now (line.NotALine number) f counts is = refused_causes before now f (not_a_line number) counts is
-line_causes before now (line.TooLong number) f counts is = refused_causes before now f (too_long_line number) counts is
-line_causes before now line.Short f counts is = refused_causes before now f short_line counts is
-line_causes before now line.ReadFault f counts is = rw is (record { failed = λ e. counts.1; kept = inr refl })
-line_causes before now line.Memory f counts is = rw is (record { failed = λ e. absurd (cc); kept = inl counts })
+pub line_causes : (before now : ℕ) (what : LineFault) (f : Fault) → CountsCheck {A = Verdict} before now (Err (CheckFault.Line what)) → IsLineRefusal f what → ReadCauses {T = Ending} before now (Err f)
+line_causes before now (LineFault.NotALine number) f counts is = refused_causes before now f (not_a_line number) counts is
+line_causes before now (LineFault.TooLong number) f counts is = refused_causes before now f (too_long_line number) counts is
+line_causes before now LineFault.Short f counts is = refused_causes before now f short_line counts is
+line_causes before now LineFault.ReadFault f counts is = rw is (record { failed = λ e. counts.1; kept = inr refl })
+line_causes before now LineFault.Memory f counts is = rw is (record { failed = λ e. absurd (cc); kept = inl counts })
 
 refused_kind : (f : Fault) (said : List ℕ) → IsRefusal f said → IsOfReading f
-refused_kind f said is = verdict_kind said status.Input (Err f) (refusal_is_last f said is)
+refused_kind f said is = verdict_kind said Status.Input (Err f) (refusal_is_last f said is)
 
 pub line_kind : (what : LineFault) (f : Fault) → IsLineRefusal f what → IsOfReading f
-line_kind (line.NotALine number) f is = refused_kind f (not_a_line number) is
-line_kind (line.TooLong number) f is = refused_kind f (too_long_line number) is
-line_kind line.Short f is = refused_kind f short_line is
-line_kind line.ReadFault f is = rw is tt
-line_kind line.Memory f is = rw is tt
+line_kind (LineFault.NotALine number) f is = refused_kind f (not_a_line number) is
+line_kind (LineFault.TooLong number) f is = refused_kind f (too_long_line number) is
+line_kind LineFault.Short f is = refused_kind f short_line is
+line_kind LineFault.ReadFault f is = rw is tt
+line_kind LineFault.Memory f is = rw is tt
 
 -- ---- by the files
 
 -- the line that refuses the instance
 pub refused_instance : (instance plan_file certificate : List ℕ) (strict : Bool) (source : Option (List ℕ)) (before after : Files) (printed said : List ℕ) → after ≡ before → instance_in before instance ≡ Err said →
-    IsAnswer (Some (check instance plan_file certificate strict)) source (outside before printed) (outside after (printed ++ said)) status.Input
+    IsAnswer (Some (check instance plan_file certificate strict)) source (outside before printed) (outside after (printed ++ said)) Status.Input
 unfolding IsAnswer
 refused_instance instance plan_file certificate strict source before after printed said kept read =
-    answers_refused (IsChecked plan_file certificate strict) _ said _ _ _ read (says said status.Input before after printed kept)
+    answers_refused (IsChecked plan_file certificate strict) _ said _ _ _ read (says said Status.Input before after printed kept)
 
 -- what is answered where the instance has a problem
 pub well : (instance plan_file certificate : List ℕ) (strict : Bool) (source : Option (List ℕ)) (before after : Outside) (p : Instance) (result : Status) → instance_in before.files instance ≡ Ok p → IsChecked plan_file certificate strict p before after result →
@@ -124,9 +118,9 @@ answered instance plan_file certificate strict source before between after print
 
 -- the line that refuses the plan
 pub refused_plan : (plan_file certificate : List ℕ) (strict : Bool) (before after : Files) (printed said : List ℕ) (p : Instance) → after ≡ before → any_plan_in p before plan_file ≡ Err said →
-    IsChecked plan_file certificate strict p (outside before printed) (outside after (printed ++ said)) status.Input
+    IsChecked plan_file certificate strict p (outside before printed) (outside after (printed ++ said)) Status.Input
 refused_plan plan_file certificate strict before after printed said p kept plan_read =
-    answers_refused (Checks p certificate strict) _ said _ _ _ plan_read (says said status.Input before after printed kept)
+    answers_refused (Checks p certificate strict) _ said _ _ _ plan_read (says said Status.Input before after printed kept)
 
 -- what the check of the certificate gives
 pub checked : (plan_file certificate : List ℕ) (strict : Bool) (before between after : Files) (printed : List ℕ) (p : Instance) (plan : Option Choices) (ended : Result Ending Fault) → between ≡ before → any_plan_in p before plan_file ≡ Ok plan →

@@ -1,11 +1,7 @@
 -- What `demo` answers and leaves.
-use Rattle.std.proofs.Common.{Result, Err, codes}
-use Rattle.base.proofs.Public.{◌≡◌, ◌≢◌, ◌∙◌, ℕ, true, false, List, ◌++◌, Option, Some, Ok, refl, sym, ap, subst, inl, inr, append_assoc, bytes_eq-Decides, decimal}
+use Rattle.base.proofs.Public.{◌≡◌, ◌≢◌, ◌∙◌, ℕ, true, false, List, ◌++◌, Option, Some, Ok, refl, sym, ap, subst, inl, inr, append_assoc, bytes_eq-Decides, decimal, Result, Err, codes}
 use Rattle.commands.specs.Prelude.{Command, demo, DEMO_BUDGET, demo_certificate, demo_instance, demo_line, demo_plan, Ending, Ends, EndsAnyhow, Fault, Files, Follows, Found, found_line, found_status, HasGenerated, Infeasible, Instance, instance_in, IsAnswer, IsChecked, IsConcluded, IsDemonstrated, IsPlannedAndChecked, IsWritten, LeavesDemo, LeavesGenerated, LeavesPlanned, Optimal, optimal_line, Outside, outside, Status, Takes, Taking, Undecided}
-use Rattle.commands.specs.declared.fault.Fault.TheVariants as fault
-use Rattle.commands.specs.declared.status.Status.TheVariants as status
-use Rattle.commands.proofs.Ends.{says, answers_well, answers_refused, ends_more}
-use Rattle.commands.proofs.LastLines.{always_anyhow}
+use Rattle.commands.proofs.{Ends.says, Ends.answers_well, Ends.answers_refused, Ends.ends_more, LastLines.always_anyhow}
 
 -- ---- its files and its line
 
@@ -23,7 +19,7 @@ optimal_text seed cost line is = is ∙ sym
 -- ---- after the check
 
 -- a yes
-pub said_yes : (seed : ℕ) (p : Instance) (found : Found) (before after checked : Outside) (line : List ℕ) (said result : Status) → after ≡ before → IsChecked demo_plan demo_certificate false p before checked said → said ≡ status.Good →
+pub said_yes : (seed : ℕ) (p : Instance) (found : Found) (before after checked : Outside) (line : List ℕ) (said result : Status) → after ≡ before → IsChecked demo_plan demo_certificate false p before checked said → said ≡ Status.Good →
     line ≡ demo_line seed p found → result ≡ found_status found → IsConcluded seed p found before (outside after.files (after.printed ++ line)) result
 said_yes seed p found before after checked line said result same is good text status_is = record {
   checked = checked;
@@ -34,17 +30,17 @@ said_yes seed p found before after checked line said result same is good text st
 }
 
 -- anything else
-pub said_other : (seed : ℕ) (p : Instance) (found : Found) (before checked : Outside) (said : Status) → IsChecked demo_plan demo_certificate false p before checked said → said ≢ status.Good → IsConcluded seed p found before checked said
+pub said_other : (seed : ℕ) (p : Instance) (found : Found) (before checked : Outside) (said : Status) → IsChecked demo_plan demo_certificate false p before checked said → said ≢ Status.Good → IsConcluded seed p found before checked said
 said_other seed p found before checked said is bad = record { checked = checked; said = said; check_is = is; yes = λ good. absurd (bad good); other = λ _. (refl, refl) }
 
 -- a fault of the check
 pub said_fault : (seed : ℕ) (p : Instance) (found : Found) (before after : Outside) (f : Fault) → Ends (IsChecked demo_plan demo_certificate false p before) after (Err f) → Ends (IsConcluded seed p found before) after (Err f)
 unfolding Ends
-said_fault seed p found before after fault.Words is = said_other seed p found before _ status.Words is (λ e. absurd (cc))
-said_fault seed p found before after (fault.Input line) is = said_other seed p found before _ status.Input is (λ e. absurd (cc))
-said_fault seed p found before after fault.ReadFault is = tt
-said_fault seed p found before after fault.WriteFault is = tt
-said_fault seed p found before after fault.Memory is = tt
+said_fault seed p found before after Fault.Words is = said_other seed p found before _ Status.Words is (λ e. absurd (cc))
+said_fault seed p found before after (Fault.Input line) is = said_other seed p found before _ Status.Input is (λ e. absurd (cc))
+said_fault seed p found before after Fault.ReadFault is = tt
+said_fault seed p found before after Fault.WriteFault is = tt
+said_fault seed p found before after Fault.Memory is = tt
 
 -- ---- by the problem
 
@@ -79,12 +75,12 @@ checked_then seed p found before between after printed ended written some ends =
 
 -- the generated instance is refused
 pub refused_instance : (seed : ℕ) (source : Option (List ℕ)) (before between after : Files) (printed line : List ℕ) → HasGenerated seed demo_instance before between → after ≡ between → instance_in between demo_instance ≡ Err line →
-    IsAnswer (Some (demo seed)) source (outside before printed) (outside after (printed ++ line)) status.Input
+    IsAnswer (Some (demo seed)) source (outside before printed) (outside after (printed ++ line)) Status.Input
 unfolding IsAnswer
 refused_instance seed source before between after printed line is same read = record {
   between = between;
   generated_is = is;
-  ends = answers_refused (IsPlannedAndChecked seed) _ line (outside between printed) (outside after (printed ++ line)) status.Input read (says line status.Input between after printed same);
+  ends = answers_refused (IsPlannedAndChecked seed) _ line (outside between printed) (outside after (printed ++ line)) Status.Input read (says line Status.Input between after printed same);
 }
 
 -- it is planned

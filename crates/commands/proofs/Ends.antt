@@ -1,30 +1,27 @@
 -- How commands end: what each command's answers are built of.
 use Rattle.std.proofs.Common.{◌≡◌, ℕ, List, ◌++◌, Option, None, Result, Ok, Err, refl}
 use Rattle.commands.specs.Prelude.{AnswersBy, Ending, Ends, Fault, Files, IsAnswer, out_fault, OutFault, Outside, outside, Says, Status}
-use Rattle.plan_io.specs.declared.faults.OutFault.TheVariants as out
-use Rattle.commands.specs.declared.status.Status.TheVariants as status
-use Rattle.commands.specs.declared.fault.Fault.TheVariants as fault
 
 -- words that are in no command end with their fault, and leave all as it was
-pub no_command : (source : Option (List ℕ)) (before : Outside) → Ends (IsAnswer None source before) before (Err fault.Words)
+pub no_command : (source : Option (List ℕ)) (before : Outside) → Ends (IsAnswer None source before) before (Err Fault.Words)
 unfolding Ends IsAnswer
 no_command source before = record { printed = refl; status = refl; files = refl }
 
 -- a refused write has no line
 pub refused_write : (answer : Outside → Status → Type 0) (after : Outside) (refused : OutFault) → Ends answer after (Err (out_fault refused))
 unfolding Ends
-refused_write answer after out.Failed = tt
-refused_write answer after out.Memory = tt
+refused_write answer after OutFault.Failed = tt
+refused_write answer after OutFault.Memory = tt
 
 -- a part that ends with an answer ends with each answer that follows from it
 pub ends_more : (answer wider : Outside → Status → Type 0) (after : Outside) (ended : Result Ending Fault) → ((then : Outside) (result : Status) → answer then result → wider then result) → Ends answer after ended → Ends wider after ended
 unfolding Ends
 ends_more answer wider after (Ok ending) more ends = more _ _ ends
-ends_more answer wider after (Err fault.Words) more ends = more _ _ ends
-ends_more answer wider after (Err (fault.Input line)) more ends = more _ _ ends
-ends_more answer wider after (Err fault.ReadFault) more ends = tt
-ends_more answer wider after (Err fault.WriteFault) more ends = tt
-ends_more answer wider after (Err fault.Memory) more ends = tt
+ends_more answer wider after (Err Fault.Words) more ends = more _ _ ends
+ends_more answer wider after (Err (Fault.Input line)) more ends = more _ _ ends
+ends_more answer wider after (Err Fault.ReadFault) more ends = tt
+ends_more answer wider after (Err Fault.WriteFault) more ends = tt
+ends_more answer wider after (Err Fault.Memory) more ends = tt
 
 -- a line that was due, where no file has changed
 pub says : (line : List ℕ) (said : Status) (before after : Files) (printed : List ℕ) → after ≡ before → Says line said (outside before printed) (outside after (printed ++ line)) said
@@ -35,5 +32,5 @@ pub answers_well : {X : Type 0} (answer : X → Outside → Outside → Status �
 answers_well answer reading x before after result read is = rw read is
 
 -- the line that refuses an input
-pub answers_refused : {X : Type 0} (answer : X → Outside → Outside → Status → Type 0) (reading : Result X (List ℕ)) (line : List ℕ) (before after : Outside) (result : Status) → reading ≡ Err line → Says line status.Input before after result → AnswersBy answer reading before after result
+pub answers_refused : {X : Type 0} (answer : X → Outside → Outside → Status → Type 0) (reading : Result X (List ℕ)) (line : List ℕ) (before after : Outside) (result : Status) → reading ≡ Err line → Says line Status.Input before after result → AnswersBy answer reading before after result
 answers_refused answer reading line before after result read is = rw read is

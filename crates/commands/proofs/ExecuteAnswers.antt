@@ -1,14 +1,10 @@
 -- What `execute` answers and takes, by the readings of its inputs and by its transcript.
-use Rattle.std.proofs.Common.{Result, Err, IsTrue, string_bytes}
-use Rattle.base.proofs.Public.{◌≡◌, ℕ, List, ◌++◌, Bool, true, false, Option, Some, None, Ok, String, refl, sym, subst, ◌∙◌, inl, inr, Global, StartsWith, whole, longer, longer_text}
+use Rattle.base.proofs.Public.{◌≡◌, ℕ, List, ◌++◌, Bool, true, false, Option, Some, None, Ok, String, refl, sym, subst, ◌∙◌, inl, inr, Global, StartsWith, whole, longer, longer_text, Result, Err, IsTrue, string_bytes}
 use Rattle.commands.specs.Prelude.{Broken, broken_line, Choices, choices_of, Conclusion, conclusion_line, conclusion_status, Done, Ending, Ends, EndsAnyhow, execute, ExecuteFault, ExecuteGives, Executes, Fault, Files, first_point, Instance, instance_in, IsAnswer, IsBegun, IsExecuted, IsFirstBroken, IsOfReading, IsPartOfAnswer, IsPlanOf, IsValid, LineEnds, NotValid, Outside, outside, plan_in, PlanChoices, PrintsPrefix, Reads, Refused, RunGives, Starts, Status, StoppedEnd, StoppedFail, Takes, TakesNothing, TakesRead, Taking, told, Took, TookBy, WriteFault}
 use Rattle.transcript.specs.declared.conclusion.ExecuteFault.TheVariants.{ReadFault, Memory}
 use Rattle.executor.proofs.Public.{begins_well}
 use Rattle.transcript.proofs.Public.{faults_leave_a_beginning}
-use Rattle.commands.specs.declared.fault.Fault.TheVariants as fault
-use Rattle.commands.specs.declared.status.Status.TheVariants as status
-use Rattle.commands.proofs.Ends.{says, answers_well, answers_refused, ends_more}
-use Rattle.commands.proofs.LastLines.{anyhow_more}
+use Rattle.commands.proofs.{Ends.says, Ends.answers_well, Ends.answers_refused, Ends.ends_more, LastLines.anyhow_more}
 
 -- ---- by the transcript
 
@@ -28,7 +24,7 @@ executes_conclusion false p plan bytes rest before written c files valid gives =
 
 -- so is the first broken rule
 pub executes_broken : (source : Option (List ℕ)) (p : Instance) (plan : Choices) (broken : Broken) (files : Files) (before : List ℕ) → IsFirstBroken p plan broken →
-    Executes source p plan (outside files before) (outside files (before ++ broken_line p broken)) status.Negative
+    Executes source p plan (outside files before) (outside files (before ++ broken_line p broken)) Status.Negative
 unfolding Executes
 executes_broken source p plan broken files before first = inl (broken, first, record { printed = refl; status = refl; files = refl })
 
@@ -46,14 +42,14 @@ pub part_of_broken : (source : Option (List ℕ)) (p : Instance) (plan : Choices
     written ≡ before → IsPartOfAnswer source p plan files before written
 part_of_broken source p plan broken files before written first same = record {
   whole = before ++ broken_line p broken;
-  result = status.Negative;
+  result = Status.Negative;
   answered = executes_broken source p plan broken files before first;
   prefix = subst (λ (x : List ℕ). StartsWith (before ++ broken_line p broken) x) (sym same) (longer before (broken_line p broken));
 }
 
 untold : (p : Instance) (plan : Choices) (files : Files) (before written : List ℕ) → IsValid p plan → IsPartOfAnswer None p plan files before written
 unfolding Executes
-untold p plan files before written valid = record { whole = written; result = status.Good; answered = inr (valid, refl, tt); prefix = whole written }
+untold p plan files before written valid = record { whole = written; result = Status.Good; answered = inr (valid, refl, tt); prefix = whole written }
 
 begun : (p : Instance) (plan : Choices) (files : Files) (bytes before written : List ℕ) → IsValid p plan → IsBegun p plan (first_point plan bytes before) written →
     IsPartOfAnswer (Some bytes) p plan files before written
@@ -103,16 +99,16 @@ took_broken p plan taking before line broken after said first =
     record { printed = λ valid. absurd (not_valid valid); failed = λ now begun cut valid. absurd (not_valid valid); memory = λ now begun cut valid. absurd (not_valid valid) }
 
 pub took_read : (p : Instance) (plan : Choices) (taking : Taking) (before : List ℕ) (after : Outside) → ExecuteGives p plan taking.bytes before (Err ReadFault) taking.rest after.printed →
-    EndsAnyhow (TookBy p plan taking before) after (Err fault.ReadFault)
+    EndsAnyhow (TookBy p plan taking before) after (Err Fault.ReadFault)
 unfolding EndsAnyhow
 took_read p plan taking before after gives = λ valid. inr gives.1
 
 pub took_write : (p : Instance) (plan : Choices) (taking : Taking) (before : List ℕ) (after : Outside) → ExecuteGives p plan taking.bytes before (Err WriteFault) taking.rest after.printed →
-    EndsAnyhow (TookBy p plan taking before) after (Err fault.WriteFault)
+    EndsAnyhow (TookBy p plan taking before) after (Err Fault.WriteFault)
 unfolding EndsAnyhow
 took_write p plan taking before after gives = λ valid. inl gives.1
 
-pub took_memory : (p : Instance) (plan : Choices) (taking : Taking) (before : List ℕ) (after : Outside) → EndsAnyhow (TookBy p plan taking before) after (Err fault.Memory)
+pub took_memory : (p : Instance) (plan : Choices) (taking : Taking) (before : List ℕ) (after : Outside) → EndsAnyhow (TookBy p plan taking before) after (Err Fault.Memory)
 unfolding EndsAnyhow
 took_memory p plan taking before after = λ valid. tt
 
@@ -120,17 +116,17 @@ took_memory p plan taking before after = λ valid. tt
 
 -- the line that refuses the instance
 pub refused_instance : (instance plan_file : List ℕ) (source : Option (List ℕ)) (before after : Files) (printed line : List ℕ) → after ≡ before → instance_in before instance ≡ Err line →
-    IsAnswer (Some (execute instance plan_file)) source (outside before printed) (outside after (printed ++ line)) status.Input
+    IsAnswer (Some (execute instance plan_file)) source (outside before printed) (outside after (printed ++ line)) Status.Input
 unfolding IsAnswer
 refused_instance instance plan_file source before after printed line kept read =
-    answers_refused (IsExecuted source plan_file) _ line _ _ _ read (says line status.Input before after printed kept)
+    answers_refused (IsExecuted source plan_file) _ line _ _ _ read (says line Status.Input before after printed kept)
 
 -- the line that refuses the plan
 pub refused_plan : (instance plan_file : List ℕ) (source : Option (List ℕ)) (before after : Files) (printed line : List ℕ) (p : Instance) → after ≡ before → instance_in before instance ≡ Ok p →
-    plan_in p before plan_file ≡ Err line → IsAnswer (Some (execute instance plan_file)) source (outside before printed) (outside after (printed ++ line)) status.Input
+    plan_in p before plan_file ≡ Err line → IsAnswer (Some (execute instance plan_file)) source (outside before printed) (outside after (printed ++ line)) Status.Input
 unfolding IsAnswer
 refused_plan instance plan_file source before after printed line p kept read plan_read =
-    answers_well (IsExecuted source plan_file) _ p _ _ _ read (answers_refused (Executes source p) _ line _ _ _ plan_read (says line status.Input before after printed kept))
+    answers_well (IsExecuted source plan_file) _ p _ _ _ read (answers_refused (Executes source p) _ line _ _ _ plan_read (says line Status.Input before after printed kept))
 
 -- the execution of the plan
 executed : (instance plan_file : List ℕ) (source : Option (List ℕ)) (before after : Outside) (p : Instance) (plan : Choices) (result : Status) → instance_in before.files instance ≡ Ok p →
@@ -180,29 +176,29 @@ not_read : (instance plan_file : List ℕ) (taking : Taking) (before after : Out
 unfolding TakesRead Starts
 not_read instance plan_file taking before after result refused p plan read plan_read valid = absurd (refused (p, plan, read, plan_read, valid))
 
-nothing_taken : (instance plan_file : List ℕ) (taking : Taking) (before after : Outside) → TakesNothing taking before.printed after.printed → TakesRead instance plan_file taking before after status.ReadFault
+nothing_taken : (instance plan_file : List ℕ) (taking : Taking) (before after : Outside) → TakesNothing taking before.printed after.printed → TakesRead instance plan_file taking before after Status.ReadFault
 unfolding TakesRead
 nothing_taken instance plan_file taking before after nothing p plan read plan_read valid = inl nothing
 
-no_memory : (instance plan_file : List ℕ) (taking : Taking) (before after : Outside) → TakesRead instance plan_file taking before after status.Memory
+no_memory : (instance plan_file : List ℕ) (taking : Taking) (before after : Outside) → TakesRead instance plan_file taking before after Status.Memory
 unfolding TakesRead
 no_memory instance plan_file taking before after p plan read plan_read valid = tt
 
 -- where an input was refused or not read, nothing is taken
 pub takes_unread : (instance plan_file : List ℕ) (taking : Taking) (before after : Outside) (f : Fault) → IsOfReading f → TakesNothing taking before.printed after.printed →
-    ((line : String Global) → f ≡ fault.Input line → ¬ Starts before.files instance plan_file) → EndsAnyhow (Takes (Some (execute instance plan_file)) taking before) after (Err f)
+    ((line : String Global) → f ≡ Fault.Input line → ¬ Starts before.files instance plan_file) → EndsAnyhow (Takes (Some (execute instance plan_file)) taking before) after (Err f)
 unfolding EndsAnyhow
-takes_unread instance plan_file taking before after fault.Words kind nothing refused = absurd kind
-takes_unread instance plan_file taking before after (fault.Input line) kind nothing refused =
+takes_unread instance plan_file taking before after Fault.Words kind nothing refused = absurd kind
+takes_unread instance plan_file taking before after (Fault.Input line) kind nothing refused =
     let no = refused line refl in
     record {
       printed = not_read instance plan_file taking before _ _ no;
       failed = λ now begun cut. not_read instance plan_file taking before _ _ no;
       memory = λ now begun cut. not_read instance plan_file taking before _ _ no;
     }
-takes_unread instance plan_file taking before after fault.ReadFault kind nothing refused = nothing_taken instance plan_file taking before after nothing
-takes_unread instance plan_file taking before after fault.WriteFault kind nothing refused = absurd kind
-takes_unread instance plan_file taking before after fault.Memory kind nothing refused = no_memory instance plan_file taking before after
+takes_unread instance plan_file taking before after Fault.ReadFault kind nothing refused = nothing_taken instance plan_file taking before after nothing
+takes_unread instance plan_file taking before after Fault.WriteFault kind nothing refused = absurd kind
+takes_unread instance plan_file taking before after Fault.Memory kind nothing refused = no_memory instance plan_file taking before after
 
 -- a refused instance or plan has no valid plan
 pub no_instance : (files : Files) (instance plan_file line : List ℕ) → instance_in files instance ≡ Err line → ¬ Starts files instance plan_file
@@ -227,15 +223,15 @@ no_plan files instance plan_file line p read plan_read starts =
 -- where the plan was refused or not read, nothing is taken
 pub takes_no_plan : {X : Type 0} (view : X → Choices) (instance plan_file : List ℕ) (taking : Taking) (before after : Outside) (p : Instance) (f : Fault) → IsOfReading f →
     TakesNothing taking before.printed after.printed → instance_in before.files instance ≡ Ok p →
-    ((◌≡◌ {A = Result X Fault} (Err f) (Err fault.ReadFault) → ⊥) → Reads {X = X} view (Err f) (plan_in p before.files plan_file)) →
+    ((◌≡◌ {A = Result X Fault} (Err f) (Err Fault.ReadFault) → ⊥) → Reads {X = X} view (Err f) (plan_in p before.files plan_file)) →
     EndsAnyhow (Takes (Some (execute instance plan_file)) taking before) after (Err f)
 takes_no_plan {X} view instance plan_file taking before after p f kind nothing read reads =
     takes_unread instance plan_file taking before after f kind nothing (λ line is. no_plan before.files instance plan_file (string_bytes line) p read (refused f line is reads))
   where
-    refused : (f : Fault) (line : String Global) → f ≡ fault.Input line →
-        ((◌≡◌ {A = Result X Fault} (Err f) (Err fault.ReadFault) → ⊥) → Reads {X = X} view (Err f) (plan_in p before.files plan_file)) → plan_in p before.files plan_file ≡ Err (string_bytes line)
+    refused : (f : Fault) (line : String Global) → f ≡ Fault.Input line →
+        ((◌≡◌ {A = Result X Fault} (Err f) (Err Fault.ReadFault) → ⊥) → Reads {X = X} view (Err f) (plan_in p before.files plan_file)) → plan_in p before.files plan_file ≡ Err (string_bytes line)
     refused f line is reads =
-        let there : (◌≡◌ {A = Result X Fault} (Err (fault.Input line)) (Err fault.ReadFault) → ⊥) → Reads {X = X} view (Err (fault.Input line)) (plan_in p before.files plan_file) = rw is at reads in
+        let there : (◌≡◌ {A = Result X Fault} (Err (Fault.Input line)) (Err Fault.ReadFault) → ⊥) → Reads {X = X} view (Err (Fault.Input line)) (plan_in p before.files plan_file) = rw is at reads in
         there (λ e. cc)
 
 -- what an execution takes is what the command takes

@@ -1,12 +1,12 @@
 -- What `generate` answers and leaves.
 use Rattle.std.proofs.Common.{◌≡◌, ℕ, List, ◌++◌, Option, Some, Result, refl, ap, inl}
 use Rattle.commands.specs.Prelude.{Command, Ending, EndsAnyhow, Fault, Files, generate, generated as problem_of, generated_line, HasGenerated, instance_text, IsAnswer, LeavesGenerated, OthersStay, Outside, outside, Takes, Taking}
-use Rattle.commands.specs.declared.status.Status.TheVariants as status
+use Rattle.commands.specs.declared.status.Status.{Status}
 use Rattle.commands.proofs.LastLines.{always_anyhow}
 
 -- the answer where the text was written
 pub answered : (seed : ℕ) (instance : List ℕ) (source : Option (List ℕ)) (before after : Files) (printed line : List ℕ) → HasGenerated seed instance before after → line ≡ generated_line seed
-    → IsAnswer (Some (generate seed instance)) source (outside before printed) (outside after (printed ++ line)) status.Good
+    → IsAnswer (Some (generate seed instance)) source (outside before printed) (outside after (printed ++ line)) Status.Good
 unfolding IsAnswer
 answered seed instance source before after printed line is text_is = record {
   written = is;

@@ -1,8 +1,6 @@
 -- How a part ends that has a last line, and what is so however it ends.
-use Rattle.std.proofs.Common.{Result, Err, option_map, string_bytes}
-use Rattle.base.proofs.Public.{◌≡◌, ℕ, Bool, List, ◌++◌, Option, Some, None, Ok, String, refl, sym, subst, Global, whole, longer}
+use Rattle.base.proofs.Public.{◌≡◌, ℕ, Bool, List, ◌++◌, Option, Some, None, Ok, String, refl, sym, subst, Global, whole, longer, Result, Err, option_map, string_bytes}
 use Rattle.commands.specs.Prelude.{check, Command, Ending, Ends, EndsAnyhow, Fault, fault_status, IsLastLine, LastEnds, line_of, LineEnds, outcome_status, Outside, outside, plan, printed_with, replay, Status, Takes, Taking}
-use Rattle.commands.specs.declared.fault.Fault.TheVariants as fault
 
 -- the line that is due is printed
 printed_is : (printed line : List ℕ) (o : Option (String Global)) → option_map string_bytes o ≡ Some line → printed_with printed o ≡ printed ++ line
@@ -16,22 +14,22 @@ unfolding Ends
 ends_with_line answer after line said (Ok ending) is stands =
     subst (λ (s : Status). answer (outside after.files (printed_with after.printed ending.line)) s) (sym is.1)
     (subst (λ (l : List ℕ). answer (outside after.files l) said) (sym (printed_is after.printed line ending.line is.0)) stands)
-ends_with_line answer after line said (Err fault.Words) is stands = absurd is
-ends_with_line answer after line said (Err (fault.Input text)) is stands = rw is.0 (subst (λ (s : Status). answer (outside after.files (after.printed ++ line)) s) is.1 stands)
-ends_with_line answer after line said (Err fault.ReadFault) is stands = absurd is
-ends_with_line answer after line said (Err fault.WriteFault) is stands = absurd is
-ends_with_line answer after line said (Err fault.Memory) is stands = tt
+ends_with_line answer after line said (Err Fault.Words) is stands = absurd is
+ends_with_line answer after line said (Err (Fault.Input text)) is stands = rw is.0 (subst (λ (s : Status). answer (outside after.files (after.printed ++ line)) s) is.1 stands)
+ends_with_line answer after line said (Err Fault.ReadFault) is stands = absurd is
+ends_with_line answer after line said (Err Fault.WriteFault) is stands = absurd is
+ends_with_line answer after line said (Err Fault.Memory) is stands = tt
 
 -- what is so however the line ends
 pub anyhow_with_line : (takes : Outside → Status → Type 0) (after : Outside) (line : List ℕ) (said : Status) (ended : Result Ending Fault) → IsLastLine ended line said →
     LineEnds takes after line said → EndsAnyhow takes after ended
 unfolding EndsAnyhow
 anyhow_with_line takes after line said (Ok ending) is ends = rw (is.0, is.1) ends
-anyhow_with_line takes after line said (Err fault.Words) is ends = absurd is
-anyhow_with_line takes after line said (Err (fault.Input text)) is ends = rw is.0 (subst (λ (s : Status). LineEnds takes after line s) is.1 ends)
-anyhow_with_line takes after line said (Err fault.ReadFault) is ends = absurd is
-anyhow_with_line takes after line said (Err fault.WriteFault) is ends = absurd is
-anyhow_with_line takes after line said (Err fault.Memory) is ends = ends.memory after.printed (whole after.printed) (longer after.printed line)
+anyhow_with_line takes after line said (Err Fault.Words) is ends = absurd is
+anyhow_with_line takes after line said (Err (Fault.Input text)) is ends = rw is.0 (subst (λ (s : Status). LineEnds takes after line s) is.1 ends)
+anyhow_with_line takes after line said (Err Fault.ReadFault) is ends = absurd is
+anyhow_with_line takes after line said (Err Fault.WriteFault) is ends = absurd is
+anyhow_with_line takes after line said (Err Fault.Memory) is ends = ends.memory after.printed (whole after.printed) (longer after.printed line)
 
 -- ---- what follows from what is so
 

@@ -1,6 +1,5 @@
 -- Which words are a number.
-use Rattle.std.proofs.Common.{◌^◌, Result, Err, if◌then◌else◌}
-use Rattle.base.proofs.Public.{◌≡◌, ◌≢◌, ℕ, zero, suc, ◌<◌, ◌==◌, ◌&&◌, Bool, true, false, not, List, [], ◌∷◌, length, get_or, nat_lt, Some, None, Ok, refl, sym, ap, ◌∙◌, arith, common_steps, lt-ltb, ltb-true, and_parts, decimal-digits_value, decimal_digit, first_decimal, parse-decimal, decimal_nonempty, OkIff-at_ok, bytes_eq-Decides, IsNumeralModel, numerals_by_value, tells_digits, parse_plain, decimal, bytes_eq, AllDigits, ParsesUnsigned, digits_value}
+use Rattle.base.proofs.Public.{◌≡◌, ◌≢◌, ℕ, zero, suc, ◌<◌, ◌==◌, ◌&&◌, Bool, true, false, not, List, [], ◌∷◌, length, get_or, nat_lt, Some, None, Ok, refl, sym, ap, ◌∙◌, arith, common_steps, lt-ltb, ltb-true, and_parts, decimal-digits_value, decimal_digit, first_decimal, parse-decimal, decimal_nonempty, OkIff-at_ok, bytes_eq-Decides, IsNumeralModel, numerals_by_value, tells_digits, parse_plain, decimal, bytes_eq, AllDigits, ParsesUnsigned, digits_value, ◌^◌, Result, Err, if◌then◌else◌}
 use Rattle.commands.specs.Words.{is_plain, number_of}
 
 own : IsNumeralModel (AllDigits 10) (digits_value 10)

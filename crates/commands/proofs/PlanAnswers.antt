@@ -1,11 +1,9 @@
 -- What `plan` answers and leaves, by what was found of its problem.
-use Rattle.std.proofs.Common.{IsTrue, Result, Err, codes}
-use Rattle.base.proofs.Public.{◌≡◌, ◌≢◌, ◌⊎◌, ◌∙◌, ◌+◌, ℕ, List, [], ◌++◌, Option, Some, None, Bool, Ok, refl, sym, ap, subst, inl, inr, append_assoc, IfSome, StartsWith, decimal, flat_map, longer_text, sum_to-none}
+use Rattle.base.proofs.Public.{◌≡◌, ◌≢◌, ◌⊎◌, ◌∙◌, ◌+◌, ℕ, List, [], ◌++◌, Option, Some, None, Bool, Ok, refl, sym, ap, subst, inl, inr, append_assoc, IfSome, StartsWith, decimal, flat_map, longer_text, sum_to-none, IsTrue, Result, Err, codes}
 use Rattle.commands.specs.Prelude.{bytes_of, certificate_text, choices_of, Element, end_line, end_of, Ending, Ends, Fault, Files, Found, found_line, found_status, goal_in, header_line, Idle, Infeasible, Instance, instance_in, IsAnswer, IsCertificateCut, IsCertified, IsCut, IsInstance, IsPlanCut, IsPlanned, IsPlanOf, IsShown, IsStayed, IsToStay, IsTrueOf, IsWritten, LeavesBy, LeavesPlanned, LeavesText, machine_count, MayStay, Meaning, node, node_count, Optimal, OthersStay, Outside, outside, plan, plan_cost, plan_of, plan_text, PlanChoices, RestStays, Status, step_line, steps_of, sum_to, Undecided, vm}
 use Rattle.trees.specs.declared.steps.Goal.TheVariants.{Infeasible as NonePlanned}
 use Rattle.search.specs.Answers.{plan_in}
 use Rattle.commands.specs.Planning.{undecided_line}
-use Rattle.commands.specs.declared.status.Status.TheVariants as status
 use Rattle.commands.proofs.Ends.{says, answers_well, answers_refused, ends_more}
 
 -- ---- the line
@@ -145,10 +143,10 @@ planned plan_file certificate budget p found before after printed line said is t
 -- ---- by the file of the instance
 
 -- the line that refuses the instance
-pub refused_instance : (instance plan_file certificate : List ℕ) (budget : ℕ) (source : Option (List ℕ)) (before after : Files) (printed line : List ℕ) → after ≡ before → instance_in before instance ≡ Err line → IsAnswer (Some (plan instance plan_file certificate budget)) source (outside before printed) (outside after (printed ++ line)) status.Input
+pub refused_instance : (instance plan_file certificate : List ℕ) (budget : ℕ) (source : Option (List ℕ)) (before after : Files) (printed line : List ℕ) → after ≡ before → instance_in before instance ≡ Err line → IsAnswer (Some (plan instance plan_file certificate budget)) source (outside before printed) (outside after (printed ++ line)) Status.Input
 unfolding IsAnswer
 refused_instance instance plan_file certificate budget source before after printed line kept read =
-    answers_refused (IsPlanned plan_file certificate budget) _ line _ _ _ read (says line status.Input before after printed kept)
+    answers_refused (IsPlanned plan_file certificate budget) _ line _ _ _ read (says line Status.Input before after printed kept)
 
 -- what is answered where the instance has a problem
 pub well : (instance plan_file certificate : List ℕ) (budget : ℕ) (source : Option (List ℕ)) (before after : Outside) (p : Instance) (result : Status) → instance_in before.files instance ≡ Ok p → IsPlanned plan_file certificate budget p before after result → IsAnswer (Some (plan instance plan_file certificate budget)) source before after result

@@ -1,12 +1,8 @@
 -- What the readings of an instance and of a plan answer.
-use Rattle.std.proofs.Common.{Err, if◌then◌else◌, codes}
-use Rattle.base.proofs.Public.{◌≡◌, ◌<◌, ◌≤◌, ℕ, List, Bool, length, nat_le, true, false, Option, Some, None, Ok, refl, ap, arith, nat_tests}
-use Rattle.commands.specs.Prelude.{any_plan_lined, any_plan_reading_of, choices_handed, choices_of, Fails, input_line, Instance, instance_fault_of, instance_line, instance_of, InstanceFault, inventory_of, lined, MAX_TEXT_BYTES, plan_fault_of, plan_line, plan_lined, plan_of, plan_reading_of, PlanChoices, reading_of, whole_of}
+use Rattle.base.proofs.Public.{◌≡◌, ◌<◌, ◌≤◌, ℕ, List, Bool, length, nat_le, true, false, Option, Some, None, Ok, refl, ap, arith, nat_tests, Err, Result, if◌then◌else◌, codes}
+use Rattle.commands.specs.Prelude.{any_plan_lined, any_plan_reading_of, Choices, choices_handed, choices_of, Fails, Fault, input_line, Instance, instance_fault_of, instance_line, instance_of, InstanceFault, inventory_of, lined, MAX_TEXT_BYTES, needed, plan_fault_of, plan_line, plan_of, PlanChoices, reading_of, Reads, whole_of}
 use Rattle.instance_json.specs.Texts.{fault_text as instance_fault_text}
-use Rattle.plan_json.specs.Texts.{fault_text as plan_fault_text}
-use Rattle.plan_json.specs.declared.fault.PlanFault.{PlanFault}
-use Rattle.instance_json.specs.declared.fault.InstanceFault.TheVariants as of_instance
-use Rattle.plan_json.specs.declared.fault.PlanFault.TheVariants as of_plan
+use Rattle.plan_json.specs.{Texts.fault_text as plan_fault_text, declared.fault.PlanFault.PlanFault}
 
 -- ---- all bytes of an input
 
@@ -39,53 +35,22 @@ long_line input bytes line = by_size (nat_le (length bytes) MAX_TEXT_BYTES) refl
 -- ---- an instance
 
 -- a fault that is not want of memory is the instance's first one
-pub first_instance_fault : (bytes : List ℕ) (f : InstanceFault) → ¬ (f ≡ of_instance.Memory) → Fails (instance_fault_of f) (instance_of bytes) → reading_of bytes ≡ Err (instance_line (instance_fault_text f))
+pub first_instance_fault : (bytes : List ℕ) (f : InstanceFault) → ¬ (f ≡ InstanceFault.Memory) → Fails (instance_fault_of f) (instance_of bytes) → reading_of bytes ≡ Err (instance_line (instance_fault_text f))
 unfolding reading_of
-first_instance_fault bytes of_instance.TooLong other h = ap lined h
-first_instance_fault bytes of_instance.NotJson other h = ap lined h
-first_instance_fault bytes (of_instance.Field x) other h = ap lined h
-first_instance_fault bytes (of_instance.Twice x) other h = ap lined h
-first_instance_fault bytes (of_instance.NoSuch x) other h = ap lined h
-first_instance_fault bytes (of_instance.BadHost x) other h = ap lined h
-first_instance_fault bytes (of_instance.Limit x) other h = ap lined h
-first_instance_fault bytes of_instance.Memory other h = absurd (other refl)
+first_instance_fault bytes InstanceFault.TooLong other h = ap lined h
+first_instance_fault bytes InstanceFault.NotJson other h = ap lined h
+first_instance_fault bytes (InstanceFault.Field x) other h = ap lined h
+first_instance_fault bytes (InstanceFault.Twice x) other h = ap lined h
+first_instance_fault bytes (InstanceFault.NoSuch x) other h = ap lined h
+first_instance_fault bytes (InstanceFault.BadHost x) other h = ap lined h
+first_instance_fault bytes (InstanceFault.Limit x) other h = ap lined h
+first_instance_fault bytes InstanceFault.Memory other h = absurd (other refl)
 
 -- the line that its bytes are too many refuses an instance
 pub long_instance : (bytes line : List ℕ) → whole_of (codes "instance") bytes ≡ Err line → reading_of bytes ≡ Err line
 unfolding reading_of instance_of instance_fault_text
 long_instance bytes line h =
     let long = long_line (codes "instance") bytes line h in
-    rw (long.0, long.1) refl
-
--- ---- a plan
-
--- the choices of a plan
-pub the_plan : (p : Instance) (bytes : List ℕ) (plan : PlanChoices) → plan_of p bytes ≡ Ok (Some plan) → plan_reading_of p bytes ≡ Ok (choices_of plan)
-unfolding plan_reading_of
-the_plan p bytes plan h = ap (plan_lined p) h
-
--- no plan
-pub no_plan : (p : Instance) (bytes : List ℕ) → plan_of p bytes ≡ Ok None → plan_reading_of p bytes ≡ Err (plan_line (codes "no plan"))
-unfolding plan_reading_of
-no_plan p bytes h = ap (plan_lined p) h
-
--- a fault that is not want of memory is the plan's first one
-pub first_plan_fault : (p : Instance) (bytes : List ℕ) (f : PlanFault) → ¬ (f ≡ of_plan.Memory) → Fails (plan_fault_of f) (plan_of p bytes) → plan_reading_of p bytes ≡ Err (plan_line (plan_fault_text (inventory_of p) f))
-unfolding plan_reading_of
-first_plan_fault p bytes of_plan.TooLong other h = ap (plan_lined p) h
-first_plan_fault p bytes of_plan.NotJson other h = ap (plan_lined p) h
-first_plan_fault p bytes (of_plan.Field x) other h = ap (plan_lined p) h
-first_plan_fault p bytes (of_plan.NoSuch x) other h = ap (plan_lined p) h
-first_plan_fault p bytes (of_plan.Twice x) other h = ap (plan_lined p) h
-first_plan_fault p bytes (of_plan.NotLegal x) other h = ap (plan_lined p) h
-first_plan_fault p bytes (of_plan.MustAct x) other h = ap (plan_lined p) h
-first_plan_fault p bytes of_plan.Memory other h = absurd (other refl)
-
--- the line that its bytes are too many refuses a plan
-pub long_plan : (p : Instance) (bytes line : List ℕ) → whole_of (codes "plan") bytes ≡ Err line → plan_reading_of p bytes ≡ Err line
-unfolding plan_reading_of plan_of plan_fault_text
-long_plan p bytes line h =
-    let long = long_line (codes "plan") bytes line h in
     rw (long.0, long.1) refl
 
 -- ---- a plan or none
@@ -96,16 +61,16 @@ unfolding any_plan_reading_of
 any_plan p bytes plan h = ap (any_plan_lined p) h
 
 -- a fault that is not want of memory is the first one
-pub first_fault_of_any_plan : (p : Instance) (bytes : List ℕ) (f : PlanFault) → ¬ (f ≡ of_plan.Memory) → Fails (plan_fault_of f) (plan_of p bytes) → any_plan_reading_of p bytes ≡ Err (plan_line (plan_fault_text (inventory_of p) f))
+pub first_fault_of_any_plan : (p : Instance) (bytes : List ℕ) (f : PlanFault) → ¬ (f ≡ PlanFault.Memory) → Fails (plan_fault_of f) (plan_of p bytes) → any_plan_reading_of p bytes ≡ Err (plan_line (plan_fault_text (inventory_of p) f))
 unfolding any_plan_reading_of
-first_fault_of_any_plan p bytes of_plan.TooLong other h = ap (any_plan_lined p) h
-first_fault_of_any_plan p bytes of_plan.NotJson other h = ap (any_plan_lined p) h
-first_fault_of_any_plan p bytes (of_plan.Field x) other h = ap (any_plan_lined p) h
-first_fault_of_any_plan p bytes (of_plan.NoSuch x) other h = ap (any_plan_lined p) h
-first_fault_of_any_plan p bytes (of_plan.Twice x) other h = ap (any_plan_lined p) h
-first_fault_of_any_plan p bytes (of_plan.NotLegal x) other h = ap (any_plan_lined p) h
-first_fault_of_any_plan p bytes (of_plan.MustAct x) other h = ap (any_plan_lined p) h
-first_fault_of_any_plan p bytes of_plan.Memory other h = absurd (other refl)
+first_fault_of_any_plan p bytes PlanFault.TooLong other h = ap (any_plan_lined p) h
+first_fault_of_any_plan p bytes PlanFault.NotJson other h = ap (any_plan_lined p) h
+first_fault_of_any_plan p bytes (PlanFault.Field x) other h = ap (any_plan_lined p) h
+first_fault_of_any_plan p bytes (PlanFault.NoSuch x) other h = ap (any_plan_lined p) h
+first_fault_of_any_plan p bytes (PlanFault.Twice x) other h = ap (any_plan_lined p) h
+first_fault_of_any_plan p bytes (PlanFault.NotLegal x) other h = ap (any_plan_lined p) h
+first_fault_of_any_plan p bytes (PlanFault.MustAct x) other h = ap (any_plan_lined p) h
+first_fault_of_any_plan p bytes PlanFault.Memory other h = absurd (other refl)
 
 -- the line that its bytes are too many refuses it
 pub long_any_plan : (p : Instance) (bytes line : List ℕ) → whole_of (codes "plan") bytes ≡ Err line → any_plan_reading_of p bytes ≡ Err line
@@ -113,3 +78,25 @@ unfolding any_plan_reading_of plan_of plan_fault_text
 long_any_plan p bytes line h =
     let long = long_line (codes "plan") bytes line h in
     rw (long.0, long.1) refl
+
+-- ---- where there has to be a plan
+
+-- there is one
+pub the_plan : (reading : Result (Option Choices) (List ℕ)) (plan : PlanChoices) → reading ≡ Ok (choices_handed (Some plan)) → needed reading ≡ Ok (choices_of plan)
+the_plan reading plan h = ap needed h
+
+-- there is none
+pub no_plan : (reading : Result (Option Choices) (List ℕ)) → reading ≡ Ok (choices_handed None) → needed reading ≡ Err (plan_line (codes "no plan"))
+no_plan reading h = ap needed h
+
+-- it is refused
+pub refused_plan : (reading : Result (Option Choices) (List ℕ)) (f : Fault) → Reads choices_handed (Err f) reading → Reads choices_of (Err f) (needed reading)
+refused_plan reading Fault.Words h = absurd h
+refused_plan reading (Fault.Input line) h = ap needed h
+refused_plan reading Fault.ReadFault h = absurd h
+refused_plan reading Fault.WriteFault h = absurd h
+refused_plan reading Fault.Memory h = tt
+
+-- the line that its bytes are too many refuses it
+pub long_plan : (p : Instance) (bytes line : List ℕ) → whole_of (codes "plan") bytes ≡ Err line → needed (any_plan_reading_of p bytes) ≡ Err line
+long_plan p bytes line h = ap needed (long_any_plan p bytes line h)

@@ -1,9 +1,7 @@
 -- What `replay` answers, by the readings of its inputs.
-use Rattle.std.proofs.Common.{Result, Err}
-use Rattle.base.proofs.Public.{◌≡◌, ℕ, List, ◌++◌, Option, Some, Ok, refl, inr, StartsWith}
+use Rattle.base.proofs.Public.{◌≡◌, ℕ, List, ◌++◌, Option, Some, Ok, refl, inr, StartsWith, Result, Err}
 use Rattle.commands.specs.Prelude.{Choices, Ending, Ends, Fault, Files, Instance, instance_in, IsAnswer, IsPrefixOfReport, IsReplayed, Outside, outside, plan_in, PrintsPrefix, replay, Replays, report_text, Status}
 use Rattle.commands.specs.Replaying.{verdict_status}
-use Rattle.commands.specs.declared.status.Status.TheVariants as status
 use Rattle.commands.proofs.Ends.{says, answers_well, answers_refused, ends_more}
 
 -- a value is no fault
@@ -11,16 +9,16 @@ pub value_is_no_fault : {T : Type 0} (x : T) (f : Fault) → ◌≡◌ {A = Resu
 value_is_no_fault x f e = cc
 
 -- the line that refuses the instance
-pub refused_instance : (instance plan_file : List ℕ) (source : Option (List ℕ)) (before after : Files) (printed line : List ℕ) → after ≡ before → instance_in before instance ≡ Err line → IsAnswer (Some (replay instance plan_file)) source (outside before printed) (outside after (printed ++ line)) status.Input
+pub refused_instance : (instance plan_file : List ℕ) (source : Option (List ℕ)) (before after : Files) (printed line : List ℕ) → after ≡ before → instance_in before instance ≡ Err line → IsAnswer (Some (replay instance plan_file)) source (outside before printed) (outside after (printed ++ line)) Status.Input
 unfolding IsAnswer
 refused_instance instance plan_file source before after printed line kept read =
-    answers_refused (IsReplayed plan_file) _ line _ _ _ read (says line status.Input before after printed kept)
+    answers_refused (IsReplayed plan_file) _ line _ _ _ read (says line Status.Input before after printed kept)
 
 -- the line that refuses the plan
-pub refused_plan : (instance plan_file : List ℕ) (source : Option (List ℕ)) (before after : Files) (printed line : List ℕ) (p : Instance) → after ≡ before → instance_in before instance ≡ Ok p → plan_in p before plan_file ≡ Err line → IsAnswer (Some (replay instance plan_file)) source (outside before printed) (outside after (printed ++ line)) status.Input
+pub refused_plan : (instance plan_file : List ℕ) (source : Option (List ℕ)) (before after : Files) (printed line : List ℕ) (p : Instance) → after ≡ before → instance_in before instance ≡ Ok p → plan_in p before plan_file ≡ Err line → IsAnswer (Some (replay instance plan_file)) source (outside before printed) (outside after (printed ++ line)) Status.Input
 unfolding IsAnswer
 refused_plan instance plan_file source before after printed line p kept read plan_read =
-    answers_well (IsReplayed plan_file) _ p _ _ _ read (answers_refused (Replays p) _ line _ _ _ plan_read (says line status.Input before after printed kept))
+    answers_well (IsReplayed plan_file) _ p _ _ _ read (answers_refused (Replays p) _ line _ _ _ plan_read (says line Status.Input before after printed kept))
 
 -- the report with its verdict
 pub replayed : (instance plan_file : List ℕ) (source : Option (List ℕ)) (before after : Outside) (p : Instance) (plan : Choices) (result : Status) → instance_in before.files instance ≡ Ok p → plan_in p before.files plan_file ≡ Ok plan → Replays p plan before after result → IsAnswer (Some (replay instance plan_file)) source before after result

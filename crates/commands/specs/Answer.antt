@@ -2,7 +2,6 @@
 use Rattle.std.specs.Prelude.{◌≡◌, ◌++◌, Bool, ℕ, List, Option, Some, None, Result, Ok, Err, if◌then◌else◌}
 use Rattle.plan_io.specs.Files.{Files}
 use Rattle.commands.specs.declared.status.Status.{Status}
-use Rattle.commands.specs.declared.status.Status.TheVariants as status
 
 -- The files of the desk, and what the sink has got.
 pub record Outside : Type 0 where
@@ -25,7 +24,7 @@ pub record Says (line : List ℕ) (said : Status) (before after : Outside) (resu
 -- The answer by what an input means: by its value, or else by the line that refuses it.
 abbrev pub AnswersBy : {X : Type 0} → (X → Outside → Outside → Status → Type 0) → Result X (List ℕ) → Outside → Outside → Status → Type 0
 AnswersBy answer (Ok value) before after result = answer value before after result
-AnswersBy answer (Err line) before after result = Says line status.Input before after result
+AnswersBy answer (Err line) before after result = Says line Status.Input before after result
 
 -- What is left in the files by what an input means: by its value, and all as before where it is refused.
 abbrev pub LeavesBy : {X : Type 0} → (X → Files → Files → Type 0) → Result X (List ℕ) → Files → Files → Type 0

@@ -5,32 +5,20 @@ use Rattle.cert_check.specs.Prelude.{bytes_of, CheckGives, Choices, Instance, Is
 use Rattle.trees.specs.declared.steps.Goal.TheVariants.{Optimal, Infeasible, Undecided}
 use Rattle.cert_model.specs.declared.why.Why.{Why}
 use Rattle.cert_read.specs.declared.line.LineFault.{LineFault}
-use Rattle.cert_check.specs.declared.verdict.CheckFault.{CheckFault}
-use Rattle.cert_check.specs.declared.verdict.Verdict.{Verdict}
-use Rattle.cert_check.specs.declared.verdict.Verdict.TheVariants.{Yes, No}
-use Rattle.cert_model.specs.declared.why.Why.TheVariants as why
-use Rattle.cert_read.specs.declared.line.LineFault.TheVariants as line
-use Rattle.cert_check.specs.declared.verdict.CheckFault.TheVariants as check_fault
-use Rattle.commands.specs.Answer.{Outside, Says, AnswersBy}
-use Rattle.commands.specs.Inputs.{input_line}
-use Rattle.commands.specs.Inputs.Plan.{any_plan_in}
-use Rattle.commands.specs.declared.fault.Fault.{Fault}
-use Rattle.commands.specs.declared.fault.Fault.TheVariants as fault
-use Rattle.commands.specs.declared.status.Status.{Status}
-use Rattle.commands.specs.declared.status.Status.TheVariants as status
-use Rattle.commands.specs.Endings.{IsRefusal}
+use Rattle.cert_check.specs.declared.verdict.{CheckFault.CheckFault, Verdict.Verdict, Verdict.TheVariants.Yes, Verdict.TheVariants.No}
+use Rattle.commands.specs.{Answer.Outside, Answer.Says, Answer.AnswersBy, Inputs.input_line, Inputs.Plan.any_plan_in, declared.fault.Fault.Fault, declared.status.Status.Status, Endings.IsRefusal}
 
 -- ---- the words
 
 -- Why a line does not hold.
 abbrev pub why_text : Why → List ℕ
-why_text why.Structure = codes "structure"
-why_text why.Name = codes "name"
-why_text why.Part = codes "part"
-why_text why.Reason = codes "reason"
-why_text why.Plan = codes "plan"
-why_text why.Goal = codes "goal"
-why_text why.Lean = codes "lean"
+why_text Why.Structure = codes "structure"
+why_text Why.Name = codes "name"
+why_text Why.Part = codes "part"
+why_text Why.Reason = codes "reason"
+why_text Why.Plan = codes "plan"
+why_text Why.Goal = codes "goal"
+why_text Why.Lean = codes "lean"
 
 -- The line of a yes to what is undecided, with the least cost that is proved of it, if one is.
 abbrev pub undecided_line : (count : ℕ) (least : Option ℕ) → List ℕ
@@ -50,8 +38,8 @@ verdict_line (No number cause) = no_line number cause
 
 -- Its status.
 abbrev pub verdict_status : Verdict → Status
-verdict_status (Yes goal least) = status.Good
-verdict_status (No number cause) = status.Negative
+verdict_status (Yes goal least) = Status.Good
+verdict_status (No number cause) = Status.Negative
 
 -- The line that refuses a certificate.
 abbrev pub certificate_line : (text : List ℕ) → List ℕ
@@ -71,12 +59,12 @@ short_line = certificate_line (codes "short")
 -- What the check gives is said. A failed read and want of memory are no answer.
 abbrev pub SaysGiven : Result Verdict CheckFault → Outside → Outside → Status → Type 0
 SaysGiven (Ok verdict) before after result = Says (verdict_line verdict) (verdict_status verdict) before after result
-SaysGiven (Err (check_fault.Line (line.NotALine number))) before after result = Says (not_a_line number) status.Input before after result
-SaysGiven (Err (check_fault.Line (line.TooLong number))) before after result = Says (too_long_line number) status.Input before after result
-SaysGiven (Err (check_fault.Line line.Short)) before after result = Says short_line status.Input before after result
-SaysGiven (Err (check_fault.Line line.ReadFault)) before after result = ⊥
-SaysGiven (Err (check_fault.Line line.Memory)) before after result = ⊥
-SaysGiven (Err check_fault.Memory) before after result = ⊥
+SaysGiven (Err (CheckFault.Line (LineFault.NotALine number))) before after result = Says (not_a_line number) Status.Input before after result
+SaysGiven (Err (CheckFault.Line (LineFault.TooLong number))) before after result = Says (too_long_line number) Status.Input before after result
+SaysGiven (Err (CheckFault.Line LineFault.Short)) before after result = Says short_line Status.Input before after result
+SaysGiven (Err (CheckFault.Line LineFault.ReadFault)) before after result = ⊥
+SaysGiven (Err (CheckFault.Line LineFault.Memory)) before after result = ⊥
+SaysGiven (Err CheckFault.Memory) before after result = ⊥
 
 -- A certificate is checked: what is said is what its bytes give, a yes means that its goal is so, and no file changes.
 pub record Checks (p : Instance) (certificate : List ℕ) (strict : Bool) (plan : Option Choices) (before after : Outside) (result : Status) : Type 0 where
@@ -92,8 +80,8 @@ IsChecked plan_file certificate strict p before after result = AnswersBy (Checks
 -- ---- helping only: the fault of a command by that of a line
 
 abbrev pub IsLineRefusal : Fault → LineFault → Type 0
-IsLineRefusal f (line.NotALine number) = IsRefusal f (not_a_line number)
-IsLineRefusal f (line.TooLong number) = IsRefusal f (too_long_line number)
-IsLineRefusal f line.Short = IsRefusal f short_line
-IsLineRefusal f line.ReadFault = f ≡ fault.ReadFault
-IsLineRefusal f line.Memory = f ≡ fault.Memory
+IsLineRefusal f (LineFault.NotALine number) = IsRefusal f (not_a_line number)
+IsLineRefusal f (LineFault.TooLong number) = IsRefusal f (too_long_line number)
+IsLineRefusal f LineFault.Short = IsRefusal f short_line
+IsLineRefusal f LineFault.ReadFault = f ≡ Fault.ReadFault
+IsLineRefusal f LineFault.Memory = f ≡ Fault.Memory

@@ -2,16 +2,9 @@
 use Rattle.std.specs.Prelude.{◌≡◌, Bool, ℕ, List, Option, Some, None, IsTrue, codes}
 use Rattle.plan_io.specs.Files.{Files}
 use Rattle.commands.specs.Words.{Command, plan, check, replay, execute, generate, demo}
-use Rattle.commands.specs.Inputs.Instance.{instance_in}
-use Rattle.commands.specs.Answer.{Outside, Says, AnswersBy, LeavesBy}
-use Rattle.commands.specs.Planning.{IsPlanned, LeavesPlanned}
-use Rattle.commands.specs.Checking.{IsChecked}
-use Rattle.commands.specs.Replaying.{IsReplayed}
-use Rattle.commands.specs.Executing.{IsExecuted, Starts, Taking, TakesRead}
-use Rattle.commands.specs.Generating.{IsGenerated, LeavesGenerated}
+use Rattle.commands.specs.{Inputs.Instance.instance_in, Answer.Outside, Answer.Says, Answer.AnswersBy, Answer.LeavesBy, Planning.IsPlanned, Planning.LeavesPlanned, Checking.IsChecked, Replaying.IsReplayed}
+use Rattle.commands.specs.{Executing.IsExecuted, Executing.Starts, Executing.Taking, Executing.TakesRead, Generating.IsGenerated, Generating.LeavesGenerated, declared.status.Status.Status}
 use Rattle.commands.specs.Demonstrating.{IsDemonstrated, LeavesDemo, demo_certificate, demo_instance, demo_plan}
-use Rattle.commands.specs.declared.status.Status.{Status}
-use Rattle.commands.specs.declared.status.Status.TheVariants as status
 
 -- The desk reads the files that the command reads, and writes those that it creates.
 abbrev pub MayRun : (reads writes : List ℕ → Bool) → Option Command → Type 0
@@ -25,7 +18,7 @@ MayRun reads writes (Some (demo seed)) = IsTrue (writes demo_instance) × IsTrue
 
 -- The answer to what was asked, from what the source has left and from what stood before.
 unfoldable pub IsAnswer : Option Command → Option (List ℕ) → Outside → Outside → Status → Type 0
-IsAnswer None source before after result = Says (codes "words\n") status.Words before after result
+IsAnswer None source before after result = Says (codes "words\n") Status.Words before after result
 IsAnswer (Some (plan instance plan_file certificate budget)) source before after result =
     AnswersBy (IsPlanned plan_file certificate budget) (instance_in before.files instance) before after result
 IsAnswer (Some (check instance plan_file certificate strict)) source before after result =

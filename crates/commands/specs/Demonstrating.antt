@@ -2,16 +2,10 @@
 use Rattle.std.specs.Prelude.{◌≡◌, ◌≢◌, ◌⊎◌, ◌++◌, ℕ, false, List, codes}
 use Rattle.std.specs.Fmt.{decimal}
 use Rattle.cert_write.specs.Prelude.{Files, Instance}
-use Rattle.search.specs.declared.found.Found.{Found}
-use Rattle.search.specs.declared.found.Found.TheVariants.{Optimal, Infeasible, Undecided}
+use Rattle.search.specs.declared.found.Found.{Found, TheVariants.Optimal, TheVariants.Infeasible, TheVariants.Undecided}
 use Rattle.commands.specs.Answer.{Outside, Says, AnswersBy, LeavesBy, outside}
-use Rattle.commands.specs.Inputs.Instance.{instance_in}
-use Rattle.commands.specs.Checking.{IsChecked}
-use Rattle.commands.specs.Generating.{HasGenerated, LeavesGenerated}
+use Rattle.commands.specs.{Inputs.Instance.instance_in, Checking.IsChecked, Generating.HasGenerated, Generating.LeavesGenerated, declared.demonstrating.TheConstants.DEMO_BUDGET, declared.status.Status.Status}
 use Rattle.commands.specs.Planning.{IsWritten, LeavesPlanned, found_line, found_status, plan_cost}
-use Rattle.commands.specs.declared.demonstrating.TheConstants.{DEMO_BUDGET}
-use Rattle.commands.specs.declared.status.Status.{Status}
-use Rattle.commands.specs.declared.status.Status.TheVariants as status
 
 -- ---- its files
 
@@ -41,8 +35,8 @@ pub record IsConcluded (seed : ℕ) (p : Instance) (found : Found) (before after
   pub checked : Outside
   pub said : Status
   pub check_is : IsChecked demo_plan demo_certificate false p before checked said
-  pub yes : said ≡ status.Good → Says (demo_line seed p found) (found_status found) before after result
-  pub other : said ≢ status.Good → (after ≡ checked) × (result ≡ said)
+  pub yes : said ≡ Status.Good → Says (demo_line seed p found) (found_status found) before after result
+  pub other : said ≢ Status.Good → (after ≡ checked) × (result ≡ said)
 
 -- What follows: a plan, and what stayed undecided, is checked; that there is no plan is said as `plan` says it.
 abbrev pub Follows : ℕ → Instance → Found → Outside → Outside → Status → Type 0

@@ -1,23 +1,14 @@
 -- What `execute` answers, and which bytes it takes from the source.
 use Rattle.std.specs.Prelude.{◌≡◌, ◌⊎◌, ℕ, List, ◌++◌, Option, Some, None, Ok, codes}
-use Rattle.std.specs.Fmt.{decimal}
-use Rattle.std.specs.Io.{StartsWith}
+use Rattle.std.specs.{Fmt.decimal, Io.StartsWith}
 use Rattle.cluster.specs.Inventory.{name_of}
-use Rattle.slices.specs.Rules.{IsFirstBroken}
+use Rattle.slices.specs.{Rules.IsFirstBroken, declared.rule.Broken.Broken}
 use Rattle.transcript.specs.Prelude.{Choices, first_point, Instance, inventory_of, IsValid, StopsInEvent, StopsInStart}
-use Rattle.slices.specs.declared.rule.Broken.{Broken}
 use Rattle.replay.specs.Lines.{broken_line}
-use Rattle.transcript.specs.declared.conclusion.Conclusion.{Conclusion}
-use Rattle.transcript.specs.declared.conclusion.Conclusion.TheVariants.{Done, StoppedFail, StoppedEnd, Refused}
-use Rattle.transcript.specs.Lines.{fault_text}
-use Rattle.transcript.specs.Transcript.{EndsFrom}
+use Rattle.transcript.specs.declared.conclusion.Conclusion.{Conclusion, TheVariants.Done, TheVariants.StoppedFail, TheVariants.StoppedEnd, TheVariants.Refused}
+use Rattle.transcript.specs.{Lines.fault_text, Transcript.EndsFrom}
 use Rattle.plan_io.specs.Files.{Files}
-use Rattle.commands.specs.Answer.{Outside, outside, Says, AnswersBy}
-use Rattle.commands.specs.Inputs.{input_line}
-use Rattle.commands.specs.Inputs.Instance.{instance_in}
-use Rattle.commands.specs.Inputs.Plan.{plan_in}
-use Rattle.commands.specs.declared.status.Status.{Status}
-use Rattle.commands.specs.declared.status.Status.TheVariants as status
+use Rattle.commands.specs.{Answer.Outside, Answer.outside, Answer.Says, Answer.AnswersBy, Inputs.input_line, Inputs.Instance.instance_in, Inputs.Plan.plan_in, declared.status.Status.Status}
 
 -- ---- the last line
 
@@ -33,10 +24,10 @@ conclusion_line p StoppedEnd = codes "stopped end\n"
 conclusion_line p (Refused number fault) = events_line (decimal number ++ codes " " ++ fault_text fault)
 
 abbrev pub conclusion_status : Conclusion → Status
-conclusion_status Done = status.Good
-conclusion_status (StoppedFail e) = status.Negative
-conclusion_status StoppedEnd = status.Negative
-conclusion_status (Refused number fault) = status.Input
+conclusion_status Done = Status.Good
+conclusion_status (StoppedFail e) = Status.Negative
+conclusion_status StoppedEnd = Status.Negative
+conclusion_status (Refused number fault) = Status.Input
 
 -- ---- the answer
 
@@ -56,7 +47,7 @@ TranscribesTold p plan (Some bytes) before after result = (rest : List ℕ) × T
 -- A plan is executed: where it is not valid its first broken rule is said, and else its transcript is written.
 unfoldable pub Executes : Option (List ℕ) → Instance → Choices → Outside → Outside → Status → Type 0
 Executes source p plan before after result =
-    ((broken : Broken) × IsFirstBroken p plan broken × Says (broken_line p broken) status.Negative before after result)
+    ((broken : Broken) × IsFirstBroken p plan broken × Says (broken_line p broken) Status.Negative before after result)
     ⊎ (IsValid p plan × (after.files ≡ before.files) × TranscribesTold p plan source before.printed after.printed result)
 
 -- What has been written is the beginning of what is written at an answer.
@@ -98,19 +89,19 @@ pub record StopsInConclusion (p : Instance) (plan : Choices) (bytes before rest 
 
 -- What the execution of a valid plan has taken and printed, by its status.
 abbrev pub Took : Instance → Choices → Taking → (before after : List ℕ) → Status → Type 0
-Took p plan taking before after status.Good = Transcribes p plan taking.bytes before taking.rest after status.Good
-Took p plan taking before after status.Negative = Transcribes p plan taking.bytes before taking.rest after status.Negative
-Took p plan taking before after status.Undecided = Transcribes p plan taking.bytes before taking.rest after status.Undecided
-Took p plan taking before after status.Words = Transcribes p plan taking.bytes before taking.rest after status.Words
-Took p plan taking before after status.Input = Transcribes p plan taking.bytes before taking.rest after status.Input
+Took p plan taking before after Status.Good = Transcribes p plan taking.bytes before taking.rest after Status.Good
+Took p plan taking before after Status.Negative = Transcribes p plan taking.bytes before taking.rest after Status.Negative
+Took p plan taking before after Status.Undecided = Transcribes p plan taking.bytes before taking.rest after Status.Undecided
+Took p plan taking before after Status.Words = Transcribes p plan taking.bytes before taking.rest after Status.Words
+Took p plan taking before after Status.Input = Transcribes p plan taking.bytes before taking.rest after Status.Input
 -- a file or an event line could not be read: no byte is taken past the line in which the read failed, and each line before it is printed
-Took p plan taking before after status.ReadFault =
+Took p plan taking before after Status.ReadFault =
     TakesNothing taking before after ⊎ StopsInEvent p plan (first_point plan taking.bytes before) taking.rest after
 -- a line was not taken whole: no byte is taken that is read after it
-Took p plan taking before after status.WriteFault =
+Took p plan taking before after Status.WriteFault =
     StopsInStart p plan (first_point plan taking.bytes before) taking.rest after ⊎ StopsInConclusion p plan taking.bytes before taking.rest after
 -- want of memory: nothing is said
-Took p plan taking before after status.Memory = Unit {0}
+Took p plan taking before after Status.Memory = Unit {0}
 
 -- The same of a plan that may not be valid, of which nothing is said then.
 abbrev pub TookBy : Instance → Choices → Taking → (before : List ℕ) → Outside → Status → Type 0

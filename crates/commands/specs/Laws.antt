@@ -3,19 +3,9 @@ use Rattle.std.specs.Prelude.{◌≡◌, ◌≢◌, ℕ, ◌<◌, ◌^◌, Bool,
 use Rattle.search.specs.Prelude.{bytes_of, goal_in, Instance, least_in, plan_in}
 use Rattle.plan_io.specs.Files.{Files}
 use Rattle.cert_model.specs.Walks.{choices_handed}
-use Rattle.cert_check.specs.Laws.{IsAccepted}
-use Rattle.cert_check.specs.declared.verdict.Verdict.{Verdict}
-use Rattle.cert_check.specs.declared.verdict.Verdict.TheVariants.{Yes}
+use Rattle.cert_check.specs.{Laws.IsAccepted, declared.verdict.Verdict.Verdict, declared.verdict.Verdict.TheVariants.Yes}
 use Rattle.search.specs.declared.found.Found.{Found}
-use Rattle.commands.specs.Words.{check}
-use Rattle.commands.specs.Answer.{Outside, Says}
-use Rattle.commands.specs.Inputs.Instance.{instance_in}
-use Rattle.commands.specs.Inputs.Plan.{any_plan_in}
-use Rattle.commands.specs.Commands.{IsAnswer}
-use Rattle.commands.specs.Checking.{verdict_line}
-use Rattle.commands.specs.Planning.{IsPlanned, IsWritten}
-use Rattle.commands.specs.declared.status.Status.{Status}
-use Rattle.commands.specs.declared.status.Status.TheVariants as status
+use Rattle.commands.specs.{Words.check, Answer.Outside, Answer.Says, Inputs.Instance.instance_in, Inputs.Plan.any_plan_in, Commands.IsAnswer, Checking.verdict_line, Planning.IsPlanned, Planning.IsWritten, declared.status.Status.Status}
 
 -- The files of an answer, read for its problem: the plan's has the plan that is answered, or none. For it the certificate has the verdict yes,
 -- with the goal and the least of the answer, and no other; strictly or not.
@@ -39,4 +29,4 @@ PlannedIsChecked =
     (instance plan_file certificate : List ℕ) (budget : ℕ) → budget < 2 ^ 64 → instance ≢ plan_file → instance ≢ certificate →
     (p : Instance) (before between : Outside) (said : Status) → instance_in before.files instance ≡ Ok p → (planned : IsPlanned plan_file certificate budget p before between said) →
     (start after : Outside) (source : Option (List ℕ)) (strict : Bool) (result : Status) → start.files ≡ between.files → IsAnswer (Some (check instance plan_file certificate strict)) source start after result →
-    Says (verdict_line (yes_to p budget planned.found)) status.Good start after result
+    Says (verdict_line (yes_to p budget planned.found)) Status.Good start after result

@@ -1,18 +1,13 @@
 -- What `plan` answers, and what it leaves in the files.
-use Rattle.std.specs.Prelude.{◌≡◌, ◌≢◌, ◌⊎◌, ◌++◌, ℕ, List, Option, Some, None, Ok, option_map, codes}
-use Rattle.std.specs.Fmt.{decimal}
-use Rattle.std.specs.Io.{StartsWith}
+use Rattle.std.specs.Prelude.{◌≡◌, ◌≢◌, ◌⊎◌, ◌++◌, Bool, ℕ, List, Option, Some, None, Result, Ok, IfOk, IsTrue, option_map, codes}
+use Rattle.std.specs.{Fmt.decimal, Io.StartsWith}
 use Rattle.plan_json.specs.Prelude.{plan_of, plan_text}
-use Rattle.search.specs.Prelude.{bytes_of, choices_of, cost_of, goal_in, Instance, IsInstance, IsStayingPlan, IsTreeOf, IsTrueOf, MayStay, plan_in, PlanChoices, steps_of, Tree}
-use Rattle.plan_io.specs.Files.{Files, IsCut}
-use Rattle.trees.specs.declared.steps.Goal.{Goal}
-use Rattle.trees.specs.declared.steps.Step.{Step}
+use Rattle.search.specs.Prelude.{bytes_of, choices_of, cost_of, CountsWrites, goal_in, Instance, IsInstance, IsStayingPlan, IsTreeOf, IsTrueOf, MayStay, plan_in, PlanChoices, steps_of, Tree}
+use Rattle.plan_io.specs.{Prelude.Files, Prelude.IsCut, Prelude.OthersStay, declared.faults.OutFault.OutFault}
+use Rattle.trees.specs.declared.steps.{Goal.Goal, Step.Step}
 use Rattle.cert_text.specs.Spelling.{certificate_text}
-use Rattle.search.specs.declared.found.Found.{Found}
-use Rattle.search.specs.declared.found.Found.TheVariants.{Optimal, Infeasible, Undecided}
-use Rattle.commands.specs.Answer.{Outside}
-use Rattle.commands.specs.declared.status.Status.{Status}
-use Rattle.commands.specs.declared.status.Status.TheVariants as status
+use Rattle.search.specs.declared.found.Found.{Found, TheVariants.Optimal, TheVariants.Infeasible, TheVariants.Undecided}
+use Rattle.commands.specs.{Answer.Outside, declared.status.Status.Status}
 
 -- ---- what is said
 
@@ -32,9 +27,9 @@ found_line p (Undecided best least) = undecided_line (option_map (plan_cost p) b
 
 -- Its status.
 abbrev pub found_status : Found → Status
-found_status (Optimal plan) = status.Good
-found_status Infeasible = status.Negative
-found_status (Undecided best least) = status.Undecided
+found_status (Optimal plan) = Status.Good
+found_status Infeasible = Status.Negative
+found_status (Undecided best least) = Status.Undecided
 
 -- ---- what is written
 
@@ -68,6 +63,18 @@ pub record IsToStay (p : Instance) (found : Found) : Type 0 where
   pub found_is : found ≡ Optimal plan
   pub stays : IsStayingPlan p plan
   pub costs : plan_cost p plan ≡ 0
+
+-- What a solver does that certifies an answer to a problem. The certificate is whole, the answer is so of all plans of the problem, and where staying is a valid plan it is the answer.
+-- However it ends, no other file changes and what is left of the certificate is a prefix of one; `Failed` comes only where the count of failed writes rose, and no read fails.
+-- D has the desks; the three functions are what is seen of one: its files, and how many reads and writes failed.
+pub record Certifies {D : Type 0} (p : Instance) (budget : ℕ) (certificate : List ℕ) (tells : Bool) (files : D → Files) (read_faults write_faults : D → ℕ) (old new : D) (result : Result Found OutFault) : Type 0 where
+  pub whole : IsTrue tells → IfOk result (λ found. IsCertified p budget found (files new certificate))
+  pub cut : IsTrue tells → IsCertificateCut p (files old certificate) (files new certificate)
+  pub others : IsTrue tells → OthersStay certificate (files old) (files new)
+  pub true_of : IfOk result (IsTrueOf p budget)
+  pub stays : MayStay p → IfOk result (IsToStay p)
+  pub cause : CountsWrites (write_faults old) (write_faults new) result
+  pub reads_kept : read_faults new ≡ read_faults old
 
 -- An answer is written: one tree shows it, it is so of all plans of the problem, the two files are whole, the plan's is read back, and no other file changes. Where staying is a valid plan it is the answer, whatever the budget.
 pub record IsWritten (plan_file certificate : List ℕ) (budget : ℕ) (p : Instance) (before after : Files) (found : Found) : Type 0 where

@@ -1,10 +1,7 @@
 -- What the sink has got, however a run ends.
 use Rattle.std.specs.Prelude.{◌≡◌, ◌⊎◌, ℕ, List, Option}
 use Rattle.std.specs.Io.{StartsWith}
-use Rattle.commands.specs.Words.{Command}
-use Rattle.commands.specs.Answer.{Outside, outside}
-use Rattle.commands.specs.Commands.{IsAnswer}
-use Rattle.commands.specs.declared.status.Status.{Status}
+use Rattle.commands.specs.{Words.Command, Answer.Outside, Answer.outside, Commands.IsAnswer, declared.status.Status.Status}
 
 -- What the sink has got is a prefix of what it has got at an answer.
 pub record PrefixOfAnswer (command : Option Command) (source : Option (List ℕ)) (before after : Outside) : Type 0 where

@@ -2,15 +2,12 @@
 use Rattle.std.specs.Prelude.{◌≡◌, ◌++◌, ℕ, List, Option, Some, None}
 use Rattle.replay.specs.Prelude.{Choices, Instance, IsVerdict, report_text}
 use Rattle.slices.specs.declared.rule.Broken.{Broken}
-use Rattle.commands.specs.Answer.{Outside, AnswersBy}
-use Rattle.commands.specs.Inputs.Plan.{plan_in}
-use Rattle.commands.specs.declared.status.Status.{Status}
-use Rattle.commands.specs.declared.status.Status.TheVariants as status
+use Rattle.commands.specs.{Answer.Outside, Answer.AnswersBy, Inputs.Plan.plan_in, declared.status.Status.Status}
 
 -- The status of a verdict.
 abbrev pub verdict_status : Option Broken → Status
-verdict_status None = status.Good
-verdict_status (Some broken) = status.Negative
+verdict_status None = Status.Good
+verdict_status (Some broken) = Status.Negative
 
 -- A plan is replayed: its report with the verdict on it, and no file changes.
 pub record Replays (p : Instance) (plan : Choices) (before after : Outside) (result : Status) : Type 0 where

@@ -1,9 +1,6 @@
 -- What the words of the command line ask for.
 use Rattle.std.specs.Prelude.{◌&&◌, ◌==◌, ◌^◌, Bool, true, false, not, ℕ, List, [], ◌∷◌, length, nat_le, nat_lt, Option, Some, None, if◌then◌else◌, map, codes, String, string_bytes, bytes_eq, option_map}
-use Rattle.std.specs.List.{list_all}
-use Rattle.std.specs.Fmt.{decimal}
-use Rattle.std.specs.Str.Parse.{digits_value}
-use Rattle.std.specs.declared.alloc.Global.{Global}
+use Rattle.std.specs.{List.list_all, Fmt.decimal, Str.Parse.digits_value, declared.alloc.Global.Global}
 use Rattle.commands.specs.declared.words.TheConstants.{BUDGET, LONGEST_NAME}
 
 -- A command, with the names of its files, and its seed, its budget of decisions, or whether the check is strict.

@@ -2,7 +2,7 @@
 
 ghost use Rattle.std.specs.Prelude.{◌≡◌, ◌≢◌, ℕ, List, Option, Some, Err, IsTrue, IfErr, IfOk, IfSome, string_bytes};
 ghost use Rattle.std.specs.Option.{option_copied};
-ghost use Rattle.commands.specs.Prelude.{check, Checks, choices_handed, Ends, IsAnswer, IsChecked, IsLastLine, IsLineRefusal, IsOfReading, IsPlanOf, IsRefusal, MayRun, no_line, not_a_line, outcome_status, outside, PartCauses, ReadCauses, too_long_line, undecided_line, verdict_line, verdict_status, why_text};
+ghost use Rattle.commands.specs.Prelude.{check, Checks, choices_handed, Ends, IsAnswer, IsChecked, IsLastLine, IsLineRefusal, IsPlanOf, IsRefusal, MayRun, no_line, not_a_line, OnlyReads, outcome_status, outside, PartCauses, too_long_line, undecided_line, verdict_line, verdict_status, why_text};
 
 use crate::fault::{Ending, Fault, Outcome};
 use crate::inputs::instance::problem_at;
@@ -142,10 +142,7 @@ fn check_certificate<D: Desk>(
     ensures ends { let checks = Checks p.now.given certificate.now strict (choices_handed (option_copied plan.entry)) in
         IsTrue D.tells → (printed : List ℕ)
         → Ends (checks (outside (D.files desk.old) printed)) (outside (D.files desk.new) printed) result }
-    ensures files { IsTrue D.tells → D.files desk.new ≡ D.files desk.old }
-    ensures causes { ReadCauses (D.read_faults desk.old) (D.read_faults desk.new) result }
-    ensures writes_kept { D.write_faults desk.new ≡ D.write_faults desk.old }
-    ensures kind { IfErr result IsOfReading }
+    ensures desk { OnlyReads D.tells D.files D.read_faults D.write_faults desk.old desk.new result }
 {
     match cert_check::check(alloc, p, plan, desk, certificate, strict) {
         Ok(verdict) => say_verdict(alloc, verdict),
@@ -170,10 +167,7 @@ pub fn check_problem<D: Desk>(
     ensures ends { let checked = IsChecked plan_file.now certificate.now strict p.now.given in
         IsTrue D.tells → (printed : List ℕ)
         → Ends (checked (outside (D.files desk.old) printed)) (outside (D.files desk.new) printed) result }
-    ensures files { IsTrue D.tells → D.files desk.new ≡ D.files desk.old }
-    ensures causes { ReadCauses (D.read_faults desk.old) (D.read_faults desk.new) result }
-    ensures writes_kept { D.write_faults desk.new ≡ D.write_faults desk.old }
-    ensures kind { IfErr result IsOfReading }
+    ensures desk { OnlyReads D.tells D.files D.read_faults D.write_faults desk.old desk.new result }
 {
     let plan = any_plan_at(alloc, desk, p, plan_file)?;
     check_certificate(alloc, desk, p, plan.as_ref(), certificate, strict)

@@ -1,7 +1,7 @@
 //! The command `demo`.
 
 ghost use Rattle.std.specs.Prelude.{◌≡◌, ◌≢◌, ℕ, false, List, Option, Some, Err, IsTrue, IfErr, IfOk, IfSome, string_bytes};
-ghost use Rattle.commands.specs.Prelude.{demo, demo_certificate, demo_line, demo_plan, Ends, Found as AnyFound, IsAnswer, IsChecked, IsConcluded, IsOfReading, IsPlannedAndChecked, IsPlanOf, Leaves, LeavesPlanned, MayRun, optimal_line, Outside, outside, PartCauses, ReadCauses};
+ghost use Rattle.commands.specs.Prelude.{demo, demo_certificate, demo_line, demo_plan, Ends, Found as AnyFound, IsAnswer, IsChecked, IsConcluded, IsOfReading, IsPlannedAndChecked, IsPlanOf, Leaves, LeavesPlanned, MayRun, OnlyReads, optimal_line, Outside, outside, PartCauses};
 ghost use Rattle.search.specs.Answers.{plan_in};
 
 use crate::checking::check_problem;
@@ -97,10 +97,7 @@ fn check_found<D: Desk>(
     ensures ends { let concluded = IsConcluded seed p.now.given found.now in
         IsTrue D.tells → (printed : List ℕ) → Ends (concluded (outside (D.files desk.old) printed))
         (outside (D.files desk.new) printed) result }
-    ensures files { IsTrue D.tells → D.files desk.new ≡ D.files desk.old }
-    ensures causes { ReadCauses (D.read_faults desk.old) (D.read_faults desk.new) result }
-    ensures writes_kept { D.write_faults desk.new ≡ D.write_faults desk.old }
-    ensures kind { IfErr result IsOfReading }
+    ensures desk { OnlyReads D.tells D.files D.read_faults D.write_faults desk.old desk.new result }
 {
     let checked = check_problem(alloc, desk, p, DEMO_PLAN, DEMO_CERTIFICATE, false);
     conclude(alloc, p, found, seed, checked)

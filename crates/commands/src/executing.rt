@@ -1,8 +1,7 @@
 //! The command `execute`.
 
 ghost use Rattle.std.specs.Prelude.{◌≡◌, ◌≢◌, ◌++◌, Some, Err, IsTrue, IfOk, IfErr, codes, string_bytes};
-ghost use Rattle.std.specs.Fmt.{decimal};
-ghost use Rattle.std.specs.Io.{StartsWith};
+ghost use Rattle.std.specs.{Fmt.decimal, Io.StartsWith};
 ghost use Rattle.commands.specs.Prelude.{broken_line, choices_of, CommandCauses, conclusion_line, conclusion_status, counts, Ends, EndsAnyhow, events_line, execute, Executes, Files, InRange, IsAnswer, IsLastLine, IsOfExecuting, IsPartOfAnswer, IsPlanOf, IsRefusal, IsValid, KeepsSource, MayRun, NamesListed, outside, PartCauses, PrintsPrefix, Takes, taking, told, TookBy};
 ghost use Rattle.transcript.specs.Lines.{fault_text};
 ghost use Rattle.commands.specs.declared.status.Status.TheVariants as Status;

@@ -1,7 +1,7 @@
 //! The inputs that commands read from files, each in a room of its own, and what they share.
 
 ghost use Rattle.std.specs.Prelude.{◌≡◌, ◌≢◌, IsTrue, IfOk, IfErr, Err};
-ghost use Rattle.commands.specs.Prelude.{bytes_of, input_line, IsOfReading, IsRefusal, ReadCauses, Reads, whole_of};
+ghost use Rattle.commands.specs.Prelude.{bytes_of, input_line, IsRefusal, OnlyReads, Reads, whole_of};
 
 use crate::fault::Fault;
 use json_walk::MAX_TEXT_BYTES;
@@ -35,10 +35,7 @@ pub fn bytes_at<D: Desk>(
     ensures reading { let bytes = bytes_of (D.files desk.old name.now) in
         IsTrue D.tells → result ≢ Err Fault.ReadFault
         → Reads (λ v. v.items) result (whole_of input.now bytes) }
-    ensures files { IsTrue D.tells → D.files desk.new ≡ D.files desk.old }
-    ensures causes { ReadCauses (D.read_faults desk.old) (D.read_faults desk.new) result }
-    ensures writes_kept { D.write_faults desk.new ≡ D.write_faults desk.old }
-    ensures kind { IfErr result IsOfReading }
+    ensures desk { OnlyReads D.tells D.files D.read_faults D.write_faults desk.old desk.new result }
 {
     match read_whole(alloc, desk, name, MAX_TEXT_BYTES as u64) {
         Ok(bytes) => Ok(bytes),

@@ -1,7 +1,7 @@
 //! The search that commands ask for: by a solver, which makes its rules and its brancher when it is asked.
 
-ghost use Rattle.std.specs.Prelude.{◌≡◌, IsTrue, IfOk};
-ghost use Rattle.commands.specs.Prelude.{CountsWrites, Covered, IsCertificateCut, IsCertified, IsToStay, IsTrueOf, MayStay, OthersStay};
+ghost use Rattle.std.specs.Prelude.{IsTrue};
+ghost use Rattle.commands.specs.Prelude.{Certifies, Covered};
 
 use branching::brancher::Brancher;
 use catalogue::Problem;
@@ -25,16 +25,7 @@ pub trait Solver {
         certificate: &str,
     ) -> Result<Found, OutFault>
         requires writes { IsTrue (D.writes certificate.now) }
-        ensures whole { IsTrue D.tells
-            → IfOk result (λ found. IsCertified p.now.given budget found (D.files desk.new certificate.now)) }
-        ensures cut { IsTrue D.tells
-            → IsCertificateCut p.now.given (D.files desk.old certificate.now) (D.files desk.new certificate.now) }
-        ensures others { IsTrue D.tells
-            → OthersStay certificate.now (D.files desk.old) (D.files desk.new) }
-        ensures true_of { IfOk result (IsTrueOf p.now.given budget) }
-        ensures stays { MayStay p.now.given → IfOk result (IsToStay p.now.given) }
-        ensures cause { CountsWrites (D.write_faults desk.old) (D.write_faults desk.new) result }
-        ensures reads_kept { D.read_faults desk.new ≡ D.read_faults desk.old };
+        ensures { Certifies p.now.given budget certificate.now D.tells D.files D.read_faults D.write_faults desk.old desk.new result };
 }
 
 /// Searches as a solver does, by the rules and the brancher that are handed in.
@@ -49,16 +40,7 @@ pub fn certify<D: Desk>(
 ) -> Result<Found, OutFault>
     requires covered { Covered (λ b. meaning b) rules.old.items }
     requires writes { IsTrue (D.writes certificate.now) }
-    ensures whole { IsTrue D.tells
-        → IfOk result (λ found. IsCertified p.now.given budget found (D.files desk.new certificate.now)) }
-    ensures cut { IsTrue D.tells
-        → IsCertificateCut p.now.given (D.files desk.old certificate.now) (D.files desk.new certificate.now) }
-    ensures others { IsTrue D.tells
-        → OthersStay certificate.now (D.files desk.old) (D.files desk.new) }
-    ensures true_of { IfOk result (IsTrueOf p.now.given budget) }
-    ensures stays { MayStay p.now.given → IfOk result (IsToStay p.now.given) }
-    ensures cause { CountsWrites (D.write_faults desk.old) (D.write_faults desk.new) result }
-    ensures reads_kept { D.read_faults desk.new ≡ D.read_faults desk.old }
+    ensures { Certifies p.now.given budget certificate.now D.tells D.files D.read_faults D.write_faults desk.old desk.new result }
 {
     let mut writer = CertWriter::new(alloc, desk, certificate)?;
     let found = solve(alloc, p, budget, rules, brancher, desk, &mut writer)?;

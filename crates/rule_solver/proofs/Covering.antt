@@ -2,7 +2,6 @@
 use Rattle.std.proofs.Common.{◌≡◌, ◌∙◌, ap, sym, refl, subst, List, [], ◌∷◌, ◌++◌, Bool, true, false, ◌||◌}
 use Rattle.std.specs.declared.dyn_box.DynBox.{DynBox}
 use Rattle.rule_solver.specs.Prelude.{Covered, forbidden_kinds, group_kinds, is_covered, is_load, IsStandard, Meaning, pair_kinds, place_kinds, ReasonKind, set_kinds}
-use Rattle.reasons.specs.declared.reason.ReasonKind.TheVariants as kind
 
 -- what a box covers, by the type behind it
 covers_of : {V A : Type 0} {D : V → Type 0} (m : DynBox V A D → Meaning) (b : DynBox V A D) (a : V) (kinds : ReasonKind → Bool) → b.vtable ≡ a →
@@ -25,16 +24,16 @@ six m a b c d e f forbidden load place pair amount group = record { each = λ k 
     whole k = rw (forbidden, load, place, pair, amount, group) refl
 
     by : (k : ReasonKind) → IsStandard k → any k ≡ true
-    by kind.Empty is = absurd is
-    by kind.Bound is = absurd is
-    by kind.Load is = refl
-    by kind.Pair is = refl
-    by kind.Place is = refl
-    by kind.Group is = refl
-    by kind.SetLoad is = refl
-    by kind.Power is = refl
-    by kind.Usable is = refl
-    by kind.Hall is = absurd is
+    by ReasonKind.Empty is = absurd is
+    by ReasonKind.Bound is = absurd is
+    by ReasonKind.Load is = refl
+    by ReasonKind.Pair is = refl
+    by ReasonKind.Place is = refl
+    by ReasonKind.Group is = refl
+    by ReasonKind.SetLoad is = refl
+    by ReasonKind.Power is = refl
+    by ReasonKind.Usable is = refl
+    by ReasonKind.Hall is = absurd is
 
 -- six boxes that are pushed one after another
 pub six_boxes : {V A : Type 0} {D : V → Type 0} (m : DynBox V A D → Meaning) (a b c d e f : DynBox V A D) (i j k l n o : V) (none one two three four five all : List (DynBox V A D)) →

@@ -1,8 +1,8 @@
 //! The solver of the program: the five rules, with forbidden places before all else, and a brancher.
 #![tactic(auto)]
 
-ghost use Rattle.std.specs.Prelude.{◌≡◌, IsTrue, IfOk};
-ghost use Rattle.rule_solver.specs.Prelude.{CountsWrites, IsCertificateCut, IsCertified, IsToStay, IsTrueOf, MayStay, OthersStay};
+ghost use Rattle.std.specs.Prelude.{IsTrue};
+ghost use Rattle.rule_solver.specs.Prelude.{Certifies};
 
 use branching::brancher::Brancher;
 use catalogue::Problem;
@@ -30,16 +30,7 @@ pub fn certify_by_rules<D: Desk>(
     certificate: &str,
 ) -> Result<Found, OutFault>
     requires writes { IsTrue (D.writes certificate.now) }
-    ensures whole { IsTrue D.tells
-        → IfOk result (λ found. IsCertified p.now.given budget found (D.files desk.new certificate.now)) }
-    ensures cut { IsTrue D.tells
-        → IsCertificateCut p.now.given (D.files desk.old certificate.now) (D.files desk.new certificate.now) }
-    ensures others { IsTrue D.tells
-        → OthersStay certificate.now (D.files desk.old) (D.files desk.new) }
-    ensures true_of { IfOk result (IsTrueOf p.now.given budget) }
-    ensures stays { MayStay p.now.given → IfOk result (IsToStay p.now.given) }
-    ensures cause { CountsWrites (D.write_faults desk.old) (D.write_faults desk.new) result }
-    ensures reads_kept { D.read_faults desk.new ≡ D.read_faults desk.old }
+    ensures { Certifies p.now.given budget certificate.now D.tells D.files D.read_faults D.write_faults desk.old desk.new result }
 {
     let mut rules: Vec<Box<dyn Propagator>> = Vec::new(alloc);
     // The first that answers ends a round, so those that look at least come first. A place that is forbidden is cut for good,

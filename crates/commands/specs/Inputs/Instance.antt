@@ -2,9 +2,7 @@
 use Rattle.std.specs.Prelude.{ℕ, List, Result, Ok, Err, codes}
 use Rattle.plan_io.specs.Files.{Files, bytes_of}
 use Rattle.catalogue.specs.Instance.{Instance}
-use Rattle.instance_json.specs.Instance.{instance_of}
-use Rattle.instance_json.specs.Texts.{fault_text}
-use Rattle.instance_json.specs.declared.fault.InstanceFault.{InstanceFault}
+use Rattle.instance_json.specs.{Instance.instance_of, Texts.fault_text, declared.fault.InstanceFault.InstanceFault}
 use Rattle.commands.specs.Inputs.{input_line}
 
 abbrev pub instance_line : (text : List ℕ) → List ℕ

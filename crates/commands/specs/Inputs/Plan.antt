@@ -2,27 +2,11 @@
 use Rattle.std.specs.Prelude.{ℕ, List, Option, Some, None, Result, Ok, Err, codes}
 use Rattle.cert_write.specs.Prelude.{choices_of, Files, PlanChoices}
 use Rattle.cert_check.specs.Prelude.{bytes_of, Choices, choices_handed, Instance, inventory_of}
-use Rattle.plan_json.specs.Plans.{plan_of}
-use Rattle.plan_json.specs.Texts.{fault_text}
-use Rattle.plan_json.specs.declared.fault.PlanFault.{PlanFault}
+use Rattle.plan_json.specs.{Plans.plan_of, Texts.fault_text, declared.fault.PlanFault.PlanFault}
 use Rattle.commands.specs.Inputs.{input_line}
 
 abbrev pub plan_line : (text : List ℕ) → List ℕ
 plan_line text = input_line (codes "plan") text
-
--- The choices of a plan, or the line that says that there is none, or that of its first fault.
-abbrev pub plan_lined : Instance → Result (Option PlanChoices) PlanFault → Result Choices (List ℕ)
-plan_lined p (Ok (Some plan)) = Ok (choices_of plan)
-plan_lined p (Ok None) = Err (plan_line (codes "no plan"))
-plan_lined p (Err f) = Err (plan_line (fault_text (inventory_of p) f))
-
--- The plan that these bytes are for a problem, or the line that refuses them.
-unfoldable pub plan_reading_of : Instance → List ℕ → Result Choices (List ℕ)
-plan_reading_of p bytes = plan_lined p (plan_of p bytes)
-
--- The plan for a problem in the file of this name, or the line that refuses it.
-abbrev pub plan_in : Instance → Files → (name : List ℕ) → Result Choices (List ℕ)
-plan_in p files name = plan_reading_of p (bytes_of (files name))
 
 -- ---- where there may be no plan
 
@@ -38,3 +22,15 @@ any_plan_reading_of p bytes = any_plan_lined p (plan_of p bytes)
 -- The plan for a problem, or none, in the file of this name, or the line that refuses it.
 abbrev pub any_plan_in : Instance → Files → (name : List ℕ) → Result (Option Choices) (List ℕ)
 any_plan_in p files name = any_plan_reading_of p (bytes_of (files name))
+
+-- ---- where there has to be one
+
+-- The same, and where there is none the line that says so.
+abbrev pub needed : Result (Option Choices) (List ℕ) → Result Choices (List ℕ)
+needed (Ok (Some plan)) = Ok plan
+needed (Ok None) = Err (plan_line (codes "no plan"))
+needed (Err line) = Err line
+
+-- The plan for a problem in the file of this name, or the line that refuses it.
+abbrev pub plan_in : Instance → Files → (name : List ℕ) → Result Choices (List ℕ)
+plan_in p files name = needed (any_plan_in p files name)

@@ -1,7 +1,7 @@
 //! The instance that a command reads.
 
 ghost use Rattle.std.specs.Prelude.{◌≡◌, ◌≢◌, Result, IsTrue, IfErr, Err};
-ghost use Rattle.commands.specs.Prelude.{instance_in, instance_line, IsOfReading, IsRefusal, ReadCauses, reading_of, Reads};
+ghost use Rattle.commands.specs.Prelude.{instance_in, instance_line, IsOfReading, IsRefusal, OnlyReads, reading_of, Reads};
 ghost use Rattle.instance_json.specs.Texts.{fault_text};
 
 use crate::fault::Fault;
@@ -41,10 +41,7 @@ pub fn problem_at<D: Desk>(alloc: Global, desk: &mut D, name: &str) -> Result<Pr
     requires { IsTrue (D.reads name.now) }
     ensures reading { IsTrue D.tells → result ≢ Err Fault.ReadFault
         → Reads (λ p. p.given) result (instance_in (D.files desk.old) name.now) }
-    ensures files { IsTrue D.tells → D.files desk.new ≡ D.files desk.old }
-    ensures causes { ReadCauses (D.read_faults desk.old) (D.read_faults desk.new) result }
-    ensures writes_kept { D.write_faults desk.new ≡ D.write_faults desk.old }
-    ensures kind { IfErr result IsOfReading }
+    ensures desk { OnlyReads D.tells D.files D.read_faults D.write_faults desk.old desk.new result }
 {
     let bytes = bytes_at(alloc, desk, name, "instance")?;
     problem_of(alloc, &bytes)

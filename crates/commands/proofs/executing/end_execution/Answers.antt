@@ -1,7 +1,7 @@
 use Rattle.std.proofs.Common.{◌≡◌, ℕ, List, ◌++◌, sym, ap, subst}
 use Rattle.commands.specs.Prelude.{broken_line, choices_of, conclusion_line, conclusion_status, Executes, IsFirstBroken, IsValid, outside, taking, told, TookBy, WriteFault}
 use Rattle.transcript.specs.declared.conclusion.ExecuteFault.TheVariants.{ReadFault, Memory}
-use Rattle.commands.specs.declared.status.Status.TheVariants as status
+use Rattle.commands.specs.declared.status.Status.{Status}
 use Rattle.commands.proofs.ExecuteAnswers.{executes_broken, executes_conclusion, part_of_broken, part_of_conclusion, part_of_fault, took_broken, took_conclusion, took_memory, took_read, took_write}
 use Rattle.commands.proofs.LastLines.{anyhow_with_line, ends_with_line}
 use Rattle.commands.proofs.executing.end_execution.Goals as goal
@@ -53,8 +53,8 @@ returns-in-Err-NotValid-clause-ends g c = λ sink_told files.
     let source = told g.I.Source.tells (g.I.Source.rest c.args.input.now) in
     let first : IsFirstBroken p plan broken = rw c.in-Err-NotValid.field-0-is at c.in-Err-NotValid.ensures.judged in
     let same : c.execute.new.out ≡ c.args.out.now = rw c.in-Err-NotValid.field-0-is at c.in-Err-NotValid.ensures.sink in
-    ends_with_line (Executes source p plan (outside files before)) (outside files now) (broken_line p broken) status.Negative c.say_broken.result c.say_broken.ensures
-    (subst (λ (l : List ℕ). Executes source p plan (outside files before) (outside files (l ++ broken_line p broken)) status.Negative) (sym (ap g.O.Sink.written same)) (executes_broken source p plan broken files before first))
+    ends_with_line (Executes source p plan (outside files before)) (outside files now) (broken_line p broken) Status.Negative c.say_broken.result c.say_broken.ensures
+    (subst (λ (l : List ℕ). Executes source p plan (outside files before) (outside files (l ++ broken_line p broken)) Status.Negative) (sym (ap g.O.Sink.written same)) (executes_broken source p plan broken files before first))
 
 pub returns-in-Err-NotValid-clause-part : goal.returns-in-Err-NotValid-clause-part
 returns-in-Err-NotValid-clause-part g c = λ sink_told files.
@@ -74,8 +74,8 @@ returns-in-Err-NotValid-clause-took g c = λ source_told sink_told files.
     let now = g.O.Sink.written c.execute.new.out in
     let change = taking (g.I.Source.rest c.args.input.now) (g.I.Source.rest c.execute.new.input) (g.I.Source.faults c.args.input.now) (g.I.Source.faults c.execute.new.input) in
     let first : IsFirstBroken p plan broken = rw c.in-Err-NotValid.field-0-is at c.in-Err-NotValid.ensures.judged in
-    anyhow_with_line (TookBy p plan change before) (outside files now) (broken_line p broken) status.Negative c.say_broken.result c.say_broken.ensures
-    (took_broken p plan change before (broken_line p broken) broken (outside files now) status.Negative first)
+    anyhow_with_line (TookBy p plan change before) (outside files now) (broken_line p broken) Status.Negative c.say_broken.result c.say_broken.ensures
+    (took_broken p plan change before (broken_line p broken) broken (outside files now) Status.Negative first)
 
 pub returns-in-Err-NotValid-clause-source : goal.returns-in-Err-NotValid-clause-source
 returns-in-Err-NotValid-clause-source g c = λ invalid.

@@ -1,8 +1,7 @@
 use Rattle.std.proofs.Common.{◌≡◌, Ok, Err, inl, inr, refl, ◌∙◌, subst, rules}
 use Rattle.commands.specs.Prelude.{choices_of, Files, instance_in, outside, plan_in}
 use Rattle.commands.proofs.ExecuteAnswers.{concluded, part_printed, starts, takes_executed, takes_no_plan}
-use Rattle.commands.proofs.Causing.{causes_of_rest}
-use Rattle.commands.proofs.ReplayAnswers.{value_is_no_fault}
+use Rattle.commands.proofs.{Causing.causes_of_rest, ReplayAnswers.value_is_no_fault}
 use Rattle.commands.proofs.executing.execute.Goals as goal
 
 pub returns-clause-ends : goal.returns-clause-ends
@@ -10,23 +9,23 @@ returns-clause-ends g c = λ told sink_told.
     let problem = c.in_ok-problem.problem.given in
     let read : instance_in (g.D.Desk.files c.args.desk.now) c.args.instance.now ≡ Ok problem = c.in_ok-problem.ensures.reading told (value_is_no_fault _ _) in
     let plan_read : plan_in problem (g.D.Desk.files c.problem_at.new.desk) c.args.plan_file.now ≡ Ok (choices_of c.in_ok-plan.plan) = c.in_ok-plan.ensures.reading told (value_is_no_fault _ _) in
-    let there : plan_in problem (g.D.Desk.files c.args.desk.now) c.args.plan_file.now ≡ Ok (choices_of c.in_ok-plan.plan) = subst (λ (files : Files). plan_in problem files c.args.plan_file.now ≡ Ok (choices_of c.in_ok-plan.plan)) (c.in_ok-problem.ensures.files told) plan_read in
-    concluded c.args.instance.now c.args.plan_file.now _ _ _ _ _ problem (choices_of c.in_ok-plan.plan) c.end_execution.result (c.in_ok-plan.ensures.files told ∙ c.in_ok-problem.ensures.files told) read there (c.end_execution.ensures.ends sink_told (g.D.Desk.files c.args.desk.now))
+    let there : plan_in problem (g.D.Desk.files c.args.desk.now) c.args.plan_file.now ≡ Ok (choices_of c.in_ok-plan.plan) = subst (λ (files : Files). plan_in problem files c.args.plan_file.now ≡ Ok (choices_of c.in_ok-plan.plan)) (c.in_ok-problem.ensures.desk.files_stay told) plan_read in
+    concluded c.args.instance.now c.args.plan_file.now _ _ _ _ _ problem (choices_of c.in_ok-plan.plan) c.end_execution.result (c.in_ok-plan.ensures.desk.files_stay told ∙ c.in_ok-problem.ensures.desk.files_stay told) read there (c.end_execution.ensures.ends sink_told (g.D.Desk.files c.args.desk.now))
 
 pub returns-clause-printed : goal.returns-clause-printed
 returns-clause-printed g c = λ told sink_told.
     let problem = c.in_ok-problem.problem.given in
     let read : instance_in (g.D.Desk.files c.args.desk.now) c.args.instance.now ≡ Ok problem = c.in_ok-problem.ensures.reading told (value_is_no_fault _ _) in
     let plan_read : plan_in problem (g.D.Desk.files c.problem_at.new.desk) c.args.plan_file.now ≡ Ok (choices_of c.in_ok-plan.plan) = c.in_ok-plan.ensures.reading told (value_is_no_fault _ _) in
-    let there : plan_in problem (g.D.Desk.files c.args.desk.now) c.args.plan_file.now ≡ Ok (choices_of c.in_ok-plan.plan) = subst (λ (files : Files). plan_in problem files c.args.plan_file.now ≡ Ok (choices_of c.in_ok-plan.plan)) (c.in_ok-problem.ensures.files told) plan_read in
-    part_printed c.args.instance.now c.args.plan_file.now _ _ _ _ _ problem (choices_of c.in_ok-plan.plan) (c.in_ok-plan.ensures.files told ∙ c.in_ok-problem.ensures.files told) read there (c.end_execution.ensures.stays sink_told) (c.end_execution.ensures.part sink_told (g.D.Desk.files c.args.desk.now))
+    let there : plan_in problem (g.D.Desk.files c.args.desk.now) c.args.plan_file.now ≡ Ok (choices_of c.in_ok-plan.plan) = subst (λ (files : Files). plan_in problem files c.args.plan_file.now ≡ Ok (choices_of c.in_ok-plan.plan)) (c.in_ok-problem.ensures.desk.files_stay told) plan_read in
+    part_printed c.args.instance.now c.args.plan_file.now _ _ _ _ _ problem (choices_of c.in_ok-plan.plan) (c.in_ok-plan.ensures.desk.files_stay told ∙ c.in_ok-problem.ensures.desk.files_stay told) read there (c.end_execution.ensures.stays sink_told) (c.end_execution.ensures.part sink_told (g.D.Desk.files c.args.desk.now))
 
 pub returns-clause-takes : goal.returns-clause-takes
 returns-clause-takes g c = λ told source_told sink_told.
     let problem = c.in_ok-problem.problem.given in
     let read : instance_in (g.D.Desk.files c.args.desk.now) c.args.instance.now ≡ Ok problem = c.in_ok-problem.ensures.reading told (value_is_no_fault _ _) in
     let plan_read : plan_in problem (g.D.Desk.files c.problem_at.new.desk) c.args.plan_file.now ≡ Ok (choices_of c.in_ok-plan.plan) = c.in_ok-plan.ensures.reading told (value_is_no_fault _ _) in
-    let there : plan_in problem (g.D.Desk.files c.args.desk.now) c.args.plan_file.now ≡ Ok (choices_of c.in_ok-plan.plan) = subst (λ (files : Files). plan_in problem files c.args.plan_file.now ≡ Ok (choices_of c.in_ok-plan.plan)) (c.in_ok-problem.ensures.files told) plan_read in
+    let there : plan_in problem (g.D.Desk.files c.args.desk.now) c.args.plan_file.now ≡ Ok (choices_of c.in_ok-plan.plan) = subst (λ (files : Files). plan_in problem files c.args.plan_file.now ≡ Ok (choices_of c.in_ok-plan.plan)) (c.in_ok-problem.ensures.desk.files_stay told) plan_read in
     takes_executed c.args.instance.now c.args.plan_file.now _ _ _ problem (choices_of c.in_ok-plan.plan) c.end_execution.result read there (c.end_execution.ensures.took source_told sink_told (g.D.Desk.files c.plan_at.new.desk))
 
 pub returns-clause-source : goal.returns-clause-source
@@ -34,7 +33,7 @@ returns-clause-source g c = λ told not_starts.
     let problem = c.in_ok-problem.problem.given in
     let read : instance_in (g.D.Desk.files c.args.desk.now) c.args.instance.now ≡ Ok problem = c.in_ok-problem.ensures.reading told (value_is_no_fault _ _) in
     let plan_read : plan_in problem (g.D.Desk.files c.problem_at.new.desk) c.args.plan_file.now ≡ Ok (choices_of c.in_ok-plan.plan) = c.in_ok-plan.ensures.reading told (value_is_no_fault _ _) in
-    let there : plan_in problem (g.D.Desk.files c.args.desk.now) c.args.plan_file.now ≡ Ok (choices_of c.in_ok-plan.plan) = subst (λ (files : Files). plan_in problem files c.args.plan_file.now ≡ Ok (choices_of c.in_ok-plan.plan)) (c.in_ok-problem.ensures.files told) plan_read in
+    let there : plan_in problem (g.D.Desk.files c.args.desk.now) c.args.plan_file.now ≡ Ok (choices_of c.in_ok-plan.plan) = subst (λ (files : Files). plan_in problem files c.args.plan_file.now ≡ Ok (choices_of c.in_ok-plan.plan)) (c.in_ok-problem.ensures.desk.files_stay told) plan_read in
     c.end_execution.ensures.source (λ valid. not_starts (starts (g.D.Desk.files c.args.desk.now) c.args.instance.now c.args.plan_file.now problem (choices_of c.in_ok-plan.plan) read there valid))
 
 pub returns-in_err-plan-clause-takes : goal.returns-in_err-plan-clause-takes
@@ -44,13 +43,13 @@ returns-in_err-plan-clause-takes g c = λ told source_told sink_told.
     let read : instance_in files c.args.instance.now ≡ Ok problem = c.in_ok-problem.ensures.reading told (value_is_no_fault _ _) in
     let is : c.from_residual-in_err-plan.result ≡ Err c.in_err-plan.field-0.0 = search rules in
     rw is
-    (takes_no_plan choices_of c.args.instance.now c.args.plan_file.now _ (outside files (g.O.Sink.written c.args.out.now)) (outside (g.D.Desk.files c.plan_at.new.desk) (g.O.Sink.written c.args.out.now)) problem c.in_err-plan.field-0.0 c.in_err-plan.ensures.kind
-    (record { rest = refl; printed = refl; faults = refl }) read (rw (c.in_ok-problem.ensures.files told) at (c.in_err-plan.ensures.reading told)))
+    (takes_no_plan choices_of c.args.instance.now c.args.plan_file.now _ (outside files (g.O.Sink.written c.args.out.now)) (outside (g.D.Desk.files c.plan_at.new.desk) (g.O.Sink.written c.args.out.now)) problem c.in_err-plan.field-0.0 c.in_err-plan.ensures.desk.kind
+    (record { rest = refl; printed = refl; faults = refl }) read (rw (c.in_ok-problem.ensures.desk.files_stay told) at (c.in_err-plan.ensures.reading told)))
 
 pub returns-clause-causes : goal.returns-clause-causes
 returns-clause-causes g c =
-    let first : g.D.Desk.read_faults c.problem_at.new.desk ≡ g.D.Desk.read_faults c.args.desk.now = elim c.in_ok-problem.ensures.causes.kept [ inl e ↦ e | inr e ↦ absurd (value_is_no_fault _ _ e) ] in
-    let then : g.D.Desk.read_faults c.plan_at.new.desk ≡ g.D.Desk.read_faults c.problem_at.new.desk = elim c.in_ok-plan.ensures.causes.kept [ inl e ↦ e | inr e ↦ absurd (value_is_no_fault _ _ e) ] in
+    let first : g.D.Desk.read_faults c.problem_at.new.desk ≡ g.D.Desk.read_faults c.args.desk.now = elim c.in_ok-problem.ensures.desk.causes.kept [ inl e ↦ e | inr e ↦ absurd (value_is_no_fault _ _ e) ] in
+    let then : g.D.Desk.read_faults c.plan_at.new.desk ≡ g.D.Desk.read_faults c.problem_at.new.desk = elim c.in_ok-plan.ensures.desk.causes.kept [ inl e ↦ e | inr e ↦ absurd (value_is_no_fault _ _ e) ] in
     causes_of_rest (g.D.Desk.read_faults c.args.desk.now) (g.D.Desk.read_faults c.plan_at.new.desk) (g.I.Source.faults c.args.input.now) (g.O.Sink.faults c.args.out.now) (g.D.Desk.write_faults c.args.desk.now) (g.I.Source.faults c.end_execution.new.input) (g.D.Desk.write_faults c.plan_at.new.desk) (g.O.Sink.faults c.end_execution.new.out) c.end_execution.result (then ∙ first)
-    (c.in_ok-plan.ensures.writes_kept ∙ c.in_ok-problem.ensures.writes_kept)
+    (c.in_ok-plan.ensures.desk.writes_kept ∙ c.in_ok-problem.ensures.desk.writes_kept)
     c.end_execution.ensures.causes

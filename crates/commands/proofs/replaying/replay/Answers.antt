@@ -8,4 +8,4 @@ returns-clause-ends g c = λ told sink_told source.
     let problem = c.in_ok-problem.problem.given in
     let read : instance_in (g.D.Desk.files c.args.desk.now) c.args.instance.now ≡ Ok problem = c.in_ok-problem.ensures.reading told (value_is_no_fault _ _) in
     let plan_read : plan_in problem (g.D.Desk.files c.problem_at.new.desk) c.args.plan_file.now ≡ Ok (choices_of c.in_ok-plan.plan) = c.in_ok-plan.ensures.reading told (value_is_no_fault _ _) in
-    reported c.args.instance.now c.args.plan_file.now source _ _ _ _ _ problem (choices_of c.in_ok-plan.plan) c.end_report.result (c.in_ok-problem.ensures.files told) (c.in_ok-plan.ensures.files told) read plan_read (c.end_report.ensures.ends sink_told (g.D.Desk.files c.args.desk.now))
+    reported c.args.instance.now c.args.plan_file.now source _ _ _ _ _ problem (choices_of c.in_ok-plan.plan) c.end_report.result (c.in_ok-problem.ensures.desk.files_stay told) (c.in_ok-plan.ensures.desk.files_stay told) read plan_read (c.end_report.ensures.ends sink_told (g.D.Desk.files c.args.desk.now))
