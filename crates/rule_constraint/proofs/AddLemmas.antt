@@ -1,9 +1,5 @@
 -- A constraint in the lists of all that it looks at.
-use Rattle.std.proofs.Common.{IsTrue}
-use Rattle.base.proofs.Public.{◌≡◌, ◌⊎◌, inl, inr, ℕ, zero, suc, ◌+◌, ◌<◌, ◌≤◌, false, List, [], ◌∷◌, length, Some, None, refl, sym, subst, ◌∙◌, arith, slice_get, slice_index_or, Contains, cases_eq, cases_lt}
-use Rattle.rule_constraint.specs.Prelude.{actions_of, AreLooking, AreMarked, Constraint, constraint_watch, Element, has_node, HasList, Instance, IsAdded, IsElement, IsIndexOf, IsListed, IsPut, IsUnseen, Levels, Lists, Node as TheNode, NodeId, NodeSet, nothing, presences_of, Scope, scope_of, Vm, VmId, watch_of}
-use Rattle.closing.specs.Kinds.{powered_in_set}
-use Rattle.closing.specs.Watches.{IsMachineUnseen, IsNodeUnseen}
+use Rattle.rule_constraint.proofs.Prelude.{IsTrue, ◌≡◌, ◌⊎◌, inl, inr, ℕ, zero, suc, ◌+◌, ◌<◌, ◌≤◌, false, List, [], ◌∷◌, length, Some, None, refl, sym, subst, ◌∙◌, arith, slice_get, slice_index_or, Contains, cases_eq, cases_lt, actions_of, AreLooking, AreDirty, Constraint, constraint_watch, Element, has_node, HasList, Instance, IsAdded, IsElement, IsIndexOf, IsListed, IsPut, IsUnseen, Levels, Lists, TheNode, NodeId, NodeSet, nothing, presences_of, Scope, scope_of, Vm, VmId, watch_of, powered_in_set, IsMachineUnseen, IsNodeUnseen}
 
 -- ---- by where a constraint looks
 
@@ -87,7 +83,7 @@ index_more p c k old new is index added = record {
         subst (λ i. IsUnseen (constraint_watch p i).scope e) (sym same) (subst (λ o. IsUnseen (watch_of p o).scope e) (sym is) (added.unseen e (has_list e element) (subst (λ i. ¬ IsListed new e i) same out)))
     unseen e d element h out (inr ne) = index.unseen e d element (omega (arith, h, ne)) (λ x. out (added.kept e d x))
 
--- ---- marks of all constraints that look at an element
+-- ---- all constraints that look at an element are dirty
 
 -- past the constraints there is none, which looks at nothing
 none-past : (ks : List Constraint) (c : ℕ) → length ks ≤ c → slice_get ks c ≡ None
@@ -104,7 +100,7 @@ module _ (p : Instance) (l : Lists) (index : IsIndexOf p (length p.constraints) 
   unseen-where e c element (inl low) out = index.unseen e c element low out
   unseen-where e c element (inr high) out = rw (none-past p.constraints c high) (nothing-seen e)
 
-  pub looking_machine : (v : VmId) (named : List ℕ) (n o : Levels) → IsElement p (Vm v) → named ≡ slice_index_or l.machines v.0 [] → AreMarked (length named) named m n → AreMarked (length l.everywhere) l.everywhere n o → AreLooking p (Vm v) m o
+  pub looking_machine : (v : VmId) (named : List ℕ) (n o : Levels) → IsElement p (Vm v) → named ≡ slice_index_or l.machines v.0 [] → AreDirty (length named) named m n → AreDirty (length l.everywhere) l.everywhere n o → AreLooking p (Vm v) m o
   looking_machine v named n o element is first second = record {
     older = second.older ∙ first.older;
     count = second.count ∙ first.count;
@@ -116,7 +112,7 @@ module _ (p : Instance) (l : Lists) (index : IsIndexOf p (length p.constraints) 
       out c h e (inl x) = let y = subst (λ xs. Contains xs c) (sym is) x in first.others c y.0 (omega (arith, h, second.count)) (second.kept c h e) y.1 y.2
       out c h e (inr x) = second.others c x.0 h e x.1 x.2
 
-  pub looking_node : (k : NodeId) (named : List ℕ) (n : Levels) → IsElement p (TheNode k) → named ≡ slice_index_or l.nodes k.0 [] → AreMarked (length named) named m n → AreLooking p (TheNode k) m n
+  pub looking_node : (k : NodeId) (named : List ℕ) (n : Levels) → IsElement p (TheNode k) → named ≡ slice_index_or l.nodes k.0 [] → AreDirty (length named) named m n → AreLooking p (TheNode k) m n
   looking_node k named n element is first = record {
     older = first.older;
     count = first.count;

@@ -1,8 +1,5 @@
 -- Where a machine comes to under one choice.
-use Rattle.base.proofs.Public.{◌≡◌, ℕ, ◌≤◌, Bool, true, false, ◌&&◌, List, [], ◌∷◌, Option, Some, None, refl, sym, subst, ◌∙◌, arith, Contains, filter, nat_tests}
-use Rattle.rule_constraint.specs.Prelude.{Act, Arrival, At, Choice, comes_by, has_come, in_part, Instance, IsStanding, leave_of, NodeId, Nowhere, Standing, Upto}
-use Rattle.cluster.specs.declared.choices.Choice.TheVariants.{Idle}
-use Rattle.domains.proofs.Public.{contains_filter}
+use Rattle.rule_constraint.proofs.Prelude.{◌≡◌, ℕ, ◌≤◌, Bool, true, false, ◌&&◌, List, [], ◌∷◌, Option, Some, None, refl, sym, subst, ◌∙◌, arith, Contains, filter, nat_tests, Act, Arrival, At, Choice, comes_by, has_come, in_part, Instance, IsStanding, leave_of, NodeId, Nowhere, Standing, Upto, Idle, contains_filter}
 
 abbrev pub arrival : Choice → Option Arrival
 arrival Idle = None

@@ -1,7 +1,5 @@
 -- Lists of constraints, filled one constraint after the other.
-use Rattle.std.proofs.Common.{IsTrue}
-use Rattle.base.proofs.Public.{◌≡◌, ◌≢◌, ◌⊎◌, inl, inr, ℕ, suc, ◌+◌, ◌<◌, ◌≤◌, ◌==◌, true, false, List, [], ◌∷◌, ◌++◌, length, get_or, set, refl, sym, subst, ◌∙◌, arith, Contains, both_ways, cases_eq, cases_lt, eqb-true, false≢true, or_cases, get_or-set_other, get_or_default, get_or_past, length-set, get_or-set_at, Contains-append_cases, Contains-append_left, Contains-append_right}
-use Rattle.rule_constraint.specs.Prelude.{AreMarked, has_node, is_member, IsInPart, IsMember, IsPut, Levels, NodeSet, VmId}
+use Rattle.rule_constraint.proofs.Prelude.{IsTrue, ◌≡◌, ◌≢◌, ◌⊎◌, inl, inr, ℕ, suc, ◌+◌, ◌<◌, ◌≤◌, ◌==◌, true, false, List, [], ◌∷◌, ◌++◌, length, get_or, set, refl, sym, subst, ◌∙◌, arith, Contains, both_ways, cases_eq, cases_lt, eqb-true, false≢true, or_cases, get_or-set_other, get_or_default, get_or_past, length-set, get_or-set_at, Contains-append_cases, Contains-append_left, Contains-append_right, AreDirty, has_node, is_member, IsInPart, IsMember, IsPut, Levels, NodeSet, VmId}
 
 contains-one : (c d : ℕ) → Contains (c ∷ []) d → d ≡ c
 contains-one c d (k, h, e) = at k h e
@@ -55,17 +53,17 @@ put_then P Q R c a b d either first second = record {
 pub put_fewer : (P R : ℕ → Type 0) (c : ℕ) (a b : List (List ℕ)) → ((k : ℕ) → R k → P k) → IsPut P c a b → IsPut R c a b
 put_fewer P R c a b of put = record { count = put.count; added = λ k h r. put.added k h (of k r); kept = put.kept; only = put.only }
 
--- ---- marks by numbers
+-- ---- dirty by numbers
 
--- one number more is marked
-pub marked_more : (numbers : List ℕ) (k : ℕ) (m n : Levels) → k < length numbers → get_or numbers k 0 < length n.top → AreMarked k numbers m n → AreMarked (k + 1) numbers m (record n { top = set n.top (get_or numbers k 0) true })
-marked_more numbers k m n within low marked = record {
-  older = marked.older;
-  count = length-set n.top (get_or numbers k 0) true ∙ marked.count;
-  kept = λ i h e. marked.kept i (below i h) (was i e (cases_eq i (get_or numbers k 0)) (below i h));
+-- one number more is dirty
+pub dirty_more : (numbers : List ℕ) (k : ℕ) (m n : Levels) → k < length numbers → get_or numbers k 0 < length n.top → AreDirty k numbers m n → AreDirty (k + 1) numbers m (record n { top = set n.top (get_or numbers k 0) true })
+dirty_more numbers k m n within low dirty = record {
+  older = dirty.older;
+  count = length-set n.top (get_or numbers k 0) true ∙ dirty.count;
+  kept = λ i h e. dirty.kept i (below i h) (was i e (cases_eq i (get_or numbers k 0)) (below i h));
   others = λ i j h e l same. elim (cases_eq j k) [
     | inl at ↦ differs i e (below i h) (sym (subst (λ y. get_or numbers y i ≡ i) at same) ∙ get_or_default numbers k i 0 within)
-    | inr ne ↦ marked.others i j (below i h) (was i e (cases_eq i (get_or numbers k 0)) (below i h)) (omega (arith, l, ne)) same
+    | inr ne ↦ dirty.others i j (below i h) (was i e (cases_eq i (get_or numbers k 0)) (below i h)) (omega (arith, l, ne)) same
   ];
 }
   where

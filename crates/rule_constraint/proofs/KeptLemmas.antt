@@ -1,7 +1,5 @@
 -- Why a constraint is broken that a rule watches.
-use Rattle.std.proofs.Common.{IsTrue}
-use Rattle.base.proofs.Public.{◌≡◌, ℕ, Bool, true, false, ◌||◌, ◌==◌, Option, Some, None, refl, IsSomeAnd}
-use Rattle.rule_constraint.specs.Prelude.{broken_at, broken_by, choose, Constraint, Instance, is_continuous, IsBrokenBy, kept_watch, no_watch, passes, reason_kind, ReasonKind, rule_watch, Snapshot}
+use Rattle.rule_constraint.proofs.Prelude.{IsTrue, ◌≡◌, ℕ, Bool, true, false, ◌||◌, ◌==◌, Option, Some, None, refl, IsSomeAnd, broken_at, broken_by, choose, Constraint, Instance, is_continuous, IsBrokenBy, kept_watch, no_watch, passes, reason_kind, ReasonKind, rule_watch, Snapshot}
 
 -- one that is broken as a watch of a rule applies, and is broken by what a kind that passes says
 pub kept_applies : (kinds : ReasonKind → Bool) (p : Instance) (o : Option Constraint) (t : ℕ) (b : Snapshot) (P : Constraint → Type 0) → ((k : Constraint) (kind : ReasonKind) → reason_kind k ≡ Some kind → kinds kind ≡ true → IsBrokenBy p b k kind → P k) → broken_at (kept_watch kinds p o) p t b → IsSomeAnd o (λ k. IsTrue (is_continuous k || (t == p.horizon)) × P k)

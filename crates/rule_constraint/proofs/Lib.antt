@@ -1,8 +1,8 @@
+mod Prelude
 pub mod Public
 mod AddLemmas
 mod ChoiceLemmas
 mod IndexLemmas
 mod KeptLemmas
-mod MarkLemmas
-mod MemberLemmas
+mod DirtyLemmas
 mod SettingLemmas

@@ -1,9 +1,6 @@
 -- Helping only: what breaks a constraint is of the kind that its form gives.
 use Rattle.std.proofs.Common.{◌≡◌, inl, inr, ℕ, Some, refl, subst}
-use Rattle.rule_frame.specs.Prelude.{Allowed, Apart, Bounded, BreaksGroup, ExceedsAmount, ExceedsPower, Form, form_of, FormForbidsPair, FormForbidsPlace, Instance, InTurn, IsBroken, Ordered, Powered, Settled, Snapshot, Together}
-use Rattle.catalogue.specs.declared.constraint.Constraint.{Constraint}
-use Rattle.reasons.specs.declared.reason.ReasonKind.{ReasonKind}
-use Rattle.reasons.specs.declared.reason.ReasonKind.TheVariants.{Empty, Bound, Load, Pair, Place, Group, SetLoad, Power, Usable, Hall}
+use Rattle.rule_constraint.specs.Words.{Allowed, Apart, Bounded, BreaksGroup, ExceedsAmount, ExceedsPower, Form, form_of, FormForbidsPair, FormForbidsPlace, Instance, InTurn, IsBroken, Ordered, Powered, Settled, Snapshot, Together, Constraint, ReasonKind, Empty, Bound, Load, Pair, Place, Group, SetLoad, Power, Usable, Hall}
 use Rattle.rule_constraint.specs.Given.{IsBrokenBy, kind_of, reason_kind}
 
 module _ (p : Instance) (s : Snapshot) where

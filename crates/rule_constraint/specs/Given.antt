@@ -1,9 +1,6 @@
 -- Which kind of reasons a constraint gives, by its form.
 use Rattle.std.specs.Prelude.{Option, Some, None}
-use Rattle.rule_frame.specs.Prelude.{Allowed, Apart, Bounded, Form, form_of, HasPair, HasPlace, Instance, InTurn, IsGroup, IsPower, IsSetLoad, Ordered, Powered, Settled, Snapshot, Together}
-use Rattle.catalogue.specs.declared.constraint.Constraint.{Constraint}
-use Rattle.reasons.specs.declared.reason.ReasonKind.{ReasonKind}
-use Rattle.reasons.specs.declared.reason.ReasonKind.TheVariants.{Empty, Bound, Load, Pair, Place, Group, SetLoad, Power, Usable, Hall}
+use Rattle.rule_constraint.specs.Words.{Allowed, Apart, Bounded, Form, form_of, HasPair, HasPlace, Instance, InTurn, IsGroup, IsPower, IsSetLoad, Ordered, Powered, Settled, Snapshot, Together, Constraint, ReasonKind, Empty, Bound, Load, Pair, Place, Group, SetLoad, Power, Usable, Hall}
 
 -- the kind of the reasons that constraints of a form give where they are broken; none where nothing is left to ask
 abbrev pub kind_of : Form → Option ReasonKind

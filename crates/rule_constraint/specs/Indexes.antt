@@ -1,10 +1,7 @@
 -- Which constraints look at each machine and at each node.
 use Rattle.std.specs.Prelude.{◌≡◌, ◌≢◌, ◌⊎◌, ℕ, ◌<◌, false, List, [], length, slice_index_or}
 use Rattle.std.specs.List.{Contains}
-use Rattle.rule_frame.specs.Prelude.{constraint_watch, Instance, IsElement, IsUnseen, Levels, machine_count, node_count, scope_of}
-use Rattle.cluster.specs.declared.ids.Element.{Element}
-use Rattle.cluster.specs.declared.ids.Element.TheVariants.{Vm, Node as TheNode}
-use Rattle.catalogue.specs.declared.constraint.Constraint.{Constraint}
+use Rattle.rule_constraint.specs.Words.{constraint_watch, Instance, IsElement, IsUnseen, Levels, machine_count, node_count, scope_of, Element, Vm, TheNode, Constraint}
 
 -- of each machine and each node a list of numbers of constraints, and one list for all machines
 pub record Lists : Type 0 where
@@ -47,16 +44,16 @@ pub record IsAdded (k : Constraint) (c : ℕ) (old new : Lists) : Type 0 where
   pub kept : (e : Element) (d : ℕ) → IsListed old e d → IsListed new e d
   pub only : (e : Element) (d : ℕ) → IsListed new e d → IsListed old e d ⊎ (d ≡ c)
 
--- ---- marks by the lists
+-- ---- dirty by the lists
 
--- the first of these numbers are marked, and no mark is gone
-pub record AreMarked (first : ℕ) (numbers : List ℕ) (m n : Levels) : Type 0 where
+-- the first of these numbers are dirty, and what was dirty still is
+pub record AreDirty (first : ℕ) (numbers : List ℕ) (m n : Levels) : Type 0 where
   pub older : n.older ≡ m.older
   pub count : length n.top ≡ length m.top
   pub kept : (i : ℕ) → i < length n.top → slice_index_or n.top i false ≡ false → slice_index_or m.top i false ≡ false
   pub others : (i k : ℕ) → i < length n.top → slice_index_or n.top i false ≡ false → k < first → slice_index_or numbers k i ≢ i
 
--- each constraint that looks at the element is marked, and no mark is gone
+-- each constraint that looks at the element is dirty, and what was dirty still is
 pub record AreLooking (p : Instance) (x : Element) (m n : Levels) : Type 0 where
   pub older : n.older ≡ m.older
   pub count : length n.top ≡ length m.top

@@ -6,4 +6,5 @@ pub mod Indexes
 pub mod Broken
 pub mod Laws
 pub mod Quiet
+pub mod Words
 pub mod Prelude

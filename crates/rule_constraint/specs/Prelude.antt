@@ -1,27 +1,9 @@
 -- What is cited together of this crate and of those below it, passed on from one place. Declares nothing.
-pub use Rattle.closing.specs.Prelude.{actions_of, Between, Each, form_seen, if_so, is_continuous, is_member, presences_of, present_at, row_at, Separates, Separation, stands_on, StandsUnder, unit_of, usable_watch}
-pub use Rattle.profiles.specs.Prelude.{AreLeaves, AreMovers, base, comes_by, goes_in, has_come, have_come, hosted_in, IsStanding, least, leave_of, max_amount, state_of, sum_to}
-unfoldable pub use Rattle.profiles.specs.Prelude.{held_at, usable_at}
-pub use Rattle.rule_frame.specs.Prelude.{AllClean, Allowed, Apart, Bounded, broken_at, choices, Climbs, constraint_watch, DomainView, Form, form_of, in_part, Instance, InTurn, IsCacheFor, IsClean, IsDisturbed, IsElement, IsEnd, IsInPart, IsLocal, IsLook, IsMember, IsQuietKind, IsSized, IsStill, IsUnseen, Levels, machine_count, no_row, node, node_count, Nodes, nothing, one, Ordered, Powered, rule_watch, Scope, scope_of, Sets, sets, setting, Settled, Snapshot, Together, vm, Watch, watch_of}
-unfoldable pub use Rattle.rule_frame.specs.Prelude.{has_node, sure}
-pub use Rattle.cluster.specs.declared.choices.Choice.{Choice}
-pub use Rattle.cluster.specs.declared.choices.Choice.TheVariants.{Act}
-pub use Rattle.cluster.specs.declared.choices.Place.TheVariants.{At, Nowhere}
-pub use Rattle.cluster.specs.declared.ids.Element.{Element}
-pub use Rattle.cluster.specs.declared.ids.Element.TheVariants.{Node, Vm}
-pub use Rattle.cluster.specs.declared.ids.NodeId.{NodeId}
-pub use Rattle.cluster.specs.declared.ids.VmId.{VmId}
-pub use Rattle.cluster.specs.declared.sets.NodeSet.{NodeSet}
-pub use Rattle.catalogue.specs.declared.constraint.Constraint.{Constraint}
-pub use Rattle.domains.specs.declared.parts.Part.TheVariants.{Upto}
-pub use Rattle.domains.specs.declared.parts.Row.{Row}
-pub use Rattle.slices.specs.Holds.{ForbidsPlace}
-pub use Rattle.reasons.specs.declared.reason.ReasonKind.{ReasonKind}
-pub use Rattle.profiles.specs.declared.standing.numbers.Arrival.{Arrival}
-pub use Rattle.profiles.specs.declared.standing.numbers.Standing.{Standing}
+pub use Rattle.rule_constraint.specs.Words.{Act, actions_of, AllClean, Allowed, Apart, AreLeaves, AreMovers, Arrival, At, base, Between, Bounded, broken_at, Choice, choices, Climbs, comes_by, Constraint, constraint_watch, DomainView, Each, Element, FailHolds, ForbidsPlace, Form, form_of, form_seen, goes_in, has_come, have_come, hosted_in, if_so, in_part, Instance, InTurn, is_continuous, is_member, IsCacheFor, IsClean, IsDisturbed, IsElement, IsEnd, IsInPart, IsLocal, IsLook, IsMember, IsQuietKind, IsSized, IsStanding, IsStill, IsUnseen, least, leave_of, Levels, machine_count, max_amount, MayAnswer, no_row, node, Node, node_count, NodeId, Nodes, NodeSet, nothing, Nowhere, one, Ordered, Powered, presences_of, present_at, ReasonKind, Row, row_at, rule_watch, Scope, scope_of, Separates, Separation, Sets, sets, setting, Settled, Snapshot, Standing, stands_on, StandsUnder, state_of, sum_to, Together, unit_of, Upto, usable_watch, vm, Vm, VmId, Watch, watch_of}
+unfoldable pub use Rattle.rule_constraint.specs.Words.{has_node, held_at, sure, usable_at}
 pub use Rattle.rule_constraint.specs.Broken.{broken_by}
 pub use Rattle.rule_constraint.specs.Given.{IsBrokenBy, kind_of, reason_kind}
-pub use Rattle.rule_constraint.specs.Indexes.{AreLooking, AreMarked, HasList, IsAdded, IsIndexOf, IsListed, IsPut, Lists}
+pub use Rattle.rule_constraint.specs.Indexes.{AreLooking, AreDirty, HasList, IsAdded, IsIndexOf, IsListed, IsPut, Lists}
 pub use Rattle.rule_constraint.specs.Laws.{LookingDisturbs}
 pub use Rattle.rule_constraint.specs.Quiet.{kinds_are_quiet, watches_are_local}
 pub use Rattle.rule_constraint.specs.Watches.{choose, kept_watch, no_watch, passes, watch_at, watch_count}

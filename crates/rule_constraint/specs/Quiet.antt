@@ -1,13 +1,7 @@
 -- Helping only: the watches of a rule over constraints look at nothing past their scopes, and where all are clean its kinds are quiet.
 use Rattle.std.proofs.Common.{◌≡◌, ℕ, zero, suc, ◌<◌, ◌≤◌, Bool, true, false, ◌==◌, List, [], ◌∷◌, length, Option, Some, None, arith}
 use Rattle.std.specs.Prelude.{slice_get}
-use Rattle.rule_frame.specs.Prelude.{AllClean, Instance, IsElement, IsEnd, IsFree, IsLocal, IsQuietKind, NoneBroken, Sets, setting, sure, Watch, watch_of}
-use Rattle.cluster.specs.declared.choices.Choice.{Choice}
-use Rattle.cluster.specs.declared.ids.Element.{Element}
-use Rattle.catalogue.specs.declared.constraint.Constraint.{Constraint}
-use Rattle.reasons.specs.declared.reason.ReasonKind.{ReasonKind}
-use Rattle.reasons.specs.declared.reason.ReasonKind.TheVariants.{Empty, Bound, Load, Pair, Place, Group, SetLoad, Power, Usable, Hall}
-use Rattle.closing.proofs.Public.{constraint_is_local}
+use Rattle.rule_constraint.specs.Words.{AllClean, Instance, IsElement, IsEnd, IsFree, IsLocal, IsQuietKind, NoneBroken, Sets, setting, sure, Watch, watch_of, Choice, Element, Constraint, ReasonKind, Empty, Bound, Load, Pair, Place, Group, SetLoad, Power, Usable, Hall, constraint_is_local}
 use Rattle.rule_constraint.specs.Given.{IsBrokenBy, reason_kind}
 use Rattle.rule_constraint.specs.Broken.{breaks, by_kind}
 use Rattle.rule_constraint.specs.Watches.{choose, kept_watch, no_watch, passes, watch_at, watch_count}

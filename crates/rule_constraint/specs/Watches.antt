@@ -1,8 +1,6 @@
 -- The watches of rules over constraints.
 use Rattle.std.specs.Prelude.{ℕ, Bool, true, false, length, slice_get, Option, Some, None}
-use Rattle.rule_frame.specs.Prelude.{Instance, nothing, rule_watch, Watch}
-use Rattle.catalogue.specs.declared.constraint.Constraint.{Constraint}
-use Rattle.reasons.specs.declared.reason.ReasonKind.{ReasonKind}
+use Rattle.rule_constraint.specs.Words.{Instance, nothing, rule_watch, Watch, Constraint, ReasonKind}
 use Rattle.rule_constraint.specs.Given.{reason_kind}
 
 -- nothing breaks it

@@ -3,17 +3,13 @@ ghost use Rattle.std.specs.Prelude.{◌≡◌, ◌<◌, ◌≤◌, ℕ, IfOk, Is
 ghost use Rattle.std.specs.List.{Contains};
 ghost use Rattle.rule_frame.specs.Prelude.{constraint_watch, has_node, IsDisturbed, IsElement, IsInPart, IsMember, max_nodes};
 ghost use Rattle.cluster.specs.declared.choices.Choice.{Choice as AnyChoice};
-ghost use Rattle.rule_constraint.specs.Indexes.{AreLooking, AreMarked, IsAdded, IsIndexOf, IsPut};
+ghost use Rattle.rule_constraint.specs.Indexes.{AreLooking, AreDirty, IsAdded, IsIndexOf, IsPut};
 
-use base::Memory;
-use catalogue::{Constraint, Problem, Vms};
-use cluster::{Element, NodeId, NodeSet, VmId};
-use domains::{Before, Change, Domain, Region};
 use profiles::number_lists::NumberLists;
-use rule_frame::keeper::Keeper;
-use rule_frame::marks::Marks;
-use slices::Form;
-use slices::form::{Separation, form_of};
+use rule_frame::{
+    Before, Change, Constraint, DirtySet, Domain, Element, Form, Keeper, Memory, NodeId, NodeSet,
+    Problem, Region, Separation, VmId, Vms, form_of,
+};
 use std::alloc::Global;
 use std::default::MadeWith;
 use std::marker::Model;
@@ -211,30 +207,30 @@ impl Keeper for ConstraintIndex {
     }
 }
 
-// marks each of the watches of these numbers
-fn mark_each(numbers: &[u32], marks: &mut Marks)
-    requires { (i : ℕ) → Contains numbers.now i → i < length marks.old.top }
-    ensures { AreMarked (length numbers.now) numbers.now marks.old marks.new }
+// sets dirty each of the watches of these numbers
+fn set_each_dirty(numbers: &[u32], dirty: &mut DirtySet)
+    requires { (i : ℕ) → Contains numbers.now i → i < length dirty.old.top }
+    ensures { AreDirty (length numbers.now) numbers.now dirty.old dirty.new }
 {
     for k in 0..numbers.len() {
-        marks.put(numbers[k] as usize, true);
+        dirty.set_dirty(numbers[k] as usize, true);
     }
 }
 
-/// Marks each constraint that looks at an element, by its number, and so each on which a change of the element
+/// Sets dirty each constraint that looks at an element, by its number, and so each on which a change of the element
 /// weighs. No other constraint is looked for.
-pub fn mark_looking(index: &ConstraintIndex, p: &Problem, e: Element, marks: &mut Marks)
+pub fn set_looking_dirty(index: &ConstraintIndex, p: &Problem, e: Element, dirty: &mut DirtySet)
     requires right { IsIndexOf p.now.given (length p.now.given.constraints) index.now.lists }
     requires element { IsElement p.now.given e }
-    requires count { length p.now.given.constraints ≤ length marks.old.top }
-    ensures looking { AreLooking p.now.given e marks.old marks.new }
-    ensures disturbed { (old now : List AnyChoice) → IsDisturbed (constraint_watch p.now.given) p.now.given e old now marks.old marks.new }
+    requires count { length p.now.given.constraints ≤ length dirty.old.top }
+    ensures looking { AreLooking p.now.given e dirty.old dirty.new }
+    ensures disturbed { (old now : List AnyChoice) → IsDisturbed (constraint_watch p.now.given) p.now.given e old now dirty.old dirty.new }
 {
     match e {
         Element::Vm(v) => {
-            mark_each(index.lists.of_machine(v), marks);
-            mark_each(index.lists.everywhere(), marks);
+            set_each_dirty(index.lists.of_machine(v), dirty);
+            set_each_dirty(index.lists.everywhere(), dirty);
         }
-        Element::Node(n) => mark_each(index.lists.of_node(n), marks),
+        Element::Node(n) => set_each_dirty(index.lists.of_node(n), dirty),
     }
 }

@@ -2,10 +2,7 @@
 ghost use Rattle.std.specs.Prelude.{◌≡◌};
 ghost use Rattle.rule_constraint.specs.Prelude.{form_seen, kind_of as the_kind_of, reason_kind as the_reason_kind};
 
-use catalogue::Constraint;
-use reasons::ReasonKind;
-use slices::Form;
-use slices::form::form_of;
+use rule_frame::{Constraint, Form, ReasonKind, form_of};
 
 // the kind of the reasons that constraints of a form give
 fn kind_of(form: &Form) -> Option<ReasonKind>

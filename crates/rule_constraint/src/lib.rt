@@ -6,3 +6,7 @@ pub mod index;
 pub mod kinds;
 pub mod machines;
 pub mod watcher;
+
+pub use index::ConstraintIndex;
+pub use machines::host;
+pub use watcher::{ConstraintWatcher, Kinds};

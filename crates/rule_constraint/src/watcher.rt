@@ -4,19 +4,15 @@ ghost use Rattle.rule_frame.specs.Prelude.{IsLook, IsSized, sets};
 ghost use Rattle.rule_constraint.specs.Watches.{kept_watch, watch_at, watch_count};
 ghost use Rattle.rule_constraint.specs.Quiet.{kinds_are_quiet, watches_are_local};
 
-use crate::index::{ConstraintIndex, mark_looking};
+use crate::ConstraintIndex;
+use crate::index::set_looking_dirty;
 use crate::kinds::reason_kind;
-use base::Memory;
-use catalogue::Problem;
-use closing::look::Look;
 use closing::watch::look_at_constraint;
-use cluster::{Element, Instant};
-use domains::{Before, Change, Domain, Part, Region, View};
-use reasons::{Reason, ReasonKind};
 use relax::refutes::refutes_inside;
-use rule_frame::marks::Marks;
-use rule_frame::suggestion::Suggestion;
-use rule_frame::watcher::Watcher;
+use rule_frame::{
+    Before, Change, DirtySet, Domain, Element, Instant, Look, Memory, Part, Problem, Reason,
+    ReasonKind, Region, Suggestion, View, Watcher,
+};
 
 /// The kinds of reasons that a rule covers, of those that constraints give, and how it looks at a constraint.
 pub trait Kinds: Drop {
@@ -129,7 +125,7 @@ impl<S: Kinds> Watcher<ConstraintIndex> for ConstraintWatcher<S> {
         self.kinds.covers(kind)
     }
 
-    #[tactic(auto, using(crate::proofs::MarkLemmas::kept_disturbed))]
+    #[tactic(auto, using(crate::proofs::DirtyLemmas::kept_disturbed))]
     fn disturb(
         &self,
         k: &ConstraintIndex,
@@ -138,17 +134,13 @@ impl<S: Kinds> Watcher<ConstraintIndex> for ConstraintWatcher<S> {
         change: Change,
         _before: Before,
         _kept: &Domain,
-        marks: &mut Marks,
+        dirty: &mut DirtySet,
     ) {
-        mark_looking(k, p, change.element, marks);
+        set_looking_dirty(k, p, change.element, dirty);
     }
 
     fn refuted(&self, _k: &ConstraintIndex, p: &Problem, g: &Region, i: usize) -> Option<Reason> {
         self.kinds.refuted(p, g, i as u32)
-    }
-
-    fn names_all(&self, _p: &Problem, _i: usize) -> bool {
-        false
     }
 
     fn look(&self, _k: &ConstraintIndex, p: &Problem, g: &Region, i: usize) -> Look {

@@ -1,8 +1,6 @@
 -- A watch stays clean under a change that does not weigh on it.
-use Rattle.base.proofs.Public.{◌≡◌, inl, inr, ℕ, ◌≤◌, Bool, true, false, cond, List, [], ◌∷◌, refl, sym, subst, ◌∙◌, arith, eq-eqb, false_from_ne_true, false≢true}
+use Rattle.rule_frame.proofs.Prelude.{◌≡◌, inl, inr, ℕ, ◌≤◌, Bool, true, false, cond, List, [], ◌∷◌, refl, sym, subst, ◌∙◌, arith, eq-eqb, false_from_ne_true, false≢true, putting, same_is}
 use Rattle.rule_frame.specs.Prelude.{broken_at, Choice, Element, Instance, IsClean, IsElement, IsEnd, IsLess, IsLocal, IsPartWithin, IsStill, IsUnseen, node, Node as TheNode, same_element, Scope, Sets, setting, StillClean, sure, UnseenStill, Vm, vm, Watch}
-use Rattle.domains.specs.SetsBefore.{putting}
-use Rattle.domains.proofs.Public.{same_is}
 
 self : (x : Element) → same_element x x ≡ true
 self (Vm v) = eq-eqb v.0 v.0 refl

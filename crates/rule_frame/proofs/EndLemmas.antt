@@ -1,12 +1,6 @@
 -- The part that has one end of an element's choices and no other choice.
 use mathlib.Core.Path.{fun_ext}
-use Rattle.std.proofs.Common.{slice_index_or}
-use Rattle.base.proofs.Public.{◌≡◌, ◌≢◌, ◌⊎◌, inl, inr, ℕ, zero, suc, ◌+◌, ◌-◌, ◌<◌, ◌≤◌, Bool, true, false, cond, List, [], ◌∷◌, ◌++◌, length, refl, sym, ap, subst, ◌∙◌, arith, append-nil, filter, flat_map, Contains, nat_tests, filter-append}
-use Rattle.rule_frame.specs.Prelude.{Act, Choice, choices, Climbs, DomainView, Element, From, Idle, in_part, IsEnd, keeping, no_row, place_index, Row, row_choices, same_element, Sets, setting, starts_from, Upto}
-use Rattle.cluster.specs.declared.choices.Choice.TheVariants.{Idle as Stay}
-use Rattle.cluster.specs.declared.choices.Place.{Place}
-use Rattle.domains.proofs.Public.{contains_filter, same_is}
-use Rattle.reasons.proofs.Public.{ends_of_rows}
+use Rattle.rule_frame.proofs.Prelude.{slice_index_or, ◌≡◌, ◌≢◌, ◌⊎◌, inl, inr, ℕ, zero, suc, ◌+◌, ◌-◌, ◌<◌, ◌≤◌, Bool, true, false, cond, List, [], ◌∷◌, ◌++◌, length, refl, sym, ap, subst, ◌∙◌, arith, append-nil, filter, flat_map, Contains, nat_tests, filter-append, Act, Choice, choices, Climbs, DomainView, Element, From, Idle, in_part, IsEnd, keeping, no_row, place_index, Row, row_choices, same_element, Sets, setting, starts_from, Upto, Stay, Place, contains_filter, same_is, ends_of_rows}
 
 -- ---- the starts of one place
 

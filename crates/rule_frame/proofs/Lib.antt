@@ -1,3 +1,4 @@
+mod Prelude
 pub mod Public
 mod AskLemmas
 mod ChangeLemmas

@@ -1,10 +1,8 @@
 -- What telling leaves clean.
-use Rattle.std.proofs.Common.{ℕ, List, arith}
-use Rattle.rule_frame.specs.Prelude.{AreClean, Choice, Element, Instance, IsDisturbed, IsElement, IsKept, IsLocal, Levels, Sets, Watch}
-use Rattle.domains.specs.SetsBefore.{putting}
+use Rattle.rule_frame.proofs.Prelude.{ℕ, List, arith, AreClean, Choice, Element, Instance, IsDisturbed, IsElement, IsKept, IsLocal, Levels, Sets, Watch, putting}
 use Rattle.rule_frame.proofs.ChangeLemmas.{still_clean}
 
--- what is not marked was clean before the change, and the change does not weigh on it
+-- what is not dirty was clean before the change, and the change does not weigh on it
 pub told_kept : (watch : ℕ → Watch) (p : Instance) (s : Sets) (x : Element) (old : List Choice) (m n : Levels) → ((i : ℕ) → IsLocal (watch i)) → IsElement p x → IsDisturbed watch p x old (s x) m n → AreClean watch p (putting x old s) m.top → IsKept watch p s m n
 told_kept watch p s x old m n local element d clean = record {
   older = d.older;

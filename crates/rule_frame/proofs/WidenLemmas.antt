@@ -1,12 +1,5 @@
 -- Parts that a reason takes away.
-use Rattle.std.proofs.Common.{IsTrue}
-use Rattle.base.proofs.Public.{◌≡◌, ℕ, Bool, true, false, [], ◌∷◌, cond, List, None, refl, sym, subst, Contains, filter}
-use Rattle.rule_frame.specs.Prelude.{Act, Choice, CutHolds, domain_at, Element, From, Idle, in_part, Instance, IsElement, IsEnd, Part, Reason, Refutes, RegionView, Row, Sets, sets, setting, Upto}
-use Rattle.cluster.specs.declared.choices.Choice.TheVariants.{Idle as Stay}
-use Rattle.cluster.specs.declared.choices.Place.{Place}
-use Rattle.prop_core.specs.Propagators.{FailHolds}
-use Rattle.domains.proofs.Public.{contains_here, filter_contains}
-use Rattle.reasons.proofs.Public.{end_is_choice}
+use Rattle.rule_frame.proofs.Prelude.{IsTrue, ◌≡◌, ◌⊎◌, inl, inr, ℕ, ◌≤◌, ◌==◌, Bool, true, false, [], ◌∷◌, cond, List, None, refl, sym, subst, arith, add-zero, both_ways, eq-eqb, eqb-true, nat_tests, Contains, filter, Act, Choice, CutHolds, domain_at, Element, From, Idle, in_part, Instance, IsElement, IsEnd, keeping, Part, part_past, Reason, Refutes, RegionView, Row, Sets, sets, setting, Upto, Stay, Place, FailHolds, contains_here, filter_contains, end_is_choice}
 use Rattle.rule_frame.proofs.EndLemmas.{idle_is_part, keeping_one}
 
 -- what a test leaves alone passes it
@@ -40,9 +33,30 @@ pub idle_holds : (p : Instance) (g : RegionView) (x : Element) (c : Choice) (r :
 idle_holds p g x c r is element end fails =
     end_holds p (sets g) x Stay Idle r element (rw is at end) (idle_is_part (domain_at g x) (rw is at end)) (subst (λ y. FailHolds p (setting x y (sets g)) r) is fails)
 
--- an end of a row, by the part that has it alone: the first start or the last
-pub first_holds : (p : Instance) (g : RegionView) (x : Element) (q : Place) (s : ℕ) (row : Row) (r : Reason) → row.place ≡ q → row.lo ≡ s → IsElement p x → IsEnd (sets g x) (Act q s) → filter (in_part (Upto q s)) (sets g x) ≡ Act q s ∷ [] → FailHolds p (setting x (Act q s) (sets g)) r → CutHolds p (sets g) x (Upto row.place row.lo) r
-first_holds p g x q s row r at first element end one fails = rw (at, first) (end_holds p (sets g) x (Act q s) (Upto q s) r element end one fails)
+-- ---- the starts of a row from an end of it on
 
-pub last_holds : (p : Instance) (g : RegionView) (x : Element) (q : Place) (s : ℕ) (row : Row) (r : Reason) → row.place ≡ q → row.hi ≡ s → IsElement p x → IsEnd (sets g x) (Act q s) → filter (in_part (From q s)) (sets g x) ≡ Act q s ∷ [] → FailHolds p (setting x (Act q s) (sets g)) r → CutHolds p (sets g) x (From row.place row.hi) r
-last_holds p g x q s row r at last element end one fails = rw (at, last) (end_holds p (sets g) x (Act q s) (From q s) r element end one fails)
+-- what is near is in what reaches further
+further : (row : Row) (b : Bool) (near far : ℕ) (c : Choice) → near ≤ far → IsTrue (in_part (part_past row b near) c) → IsTrue (in_part (part_past row b far) c)
+further row true near far Stay l h = h
+further row false near far Stay l h = h
+further row true near far (Act q s) l h = grind (arith, nat_tests, l, h)
+further row false near far (Act q s) l h = grind (arith, nat_tests, l, h)
+
+pub further_holds : (p : Instance) (s : Sets) (x : Element) (row : Row) (b : Bool) (near far : ℕ) (r q : Reason) → near ≤ far → CutHolds p s x (part_past row b near) r → FailHolds p (keeping x (in_part (part_past row b far)) s) q → CutHolds p s x (part_past row b far) q
+further_holds p s x row b near far r q l cut fails = record {
+  exists = cut.exists;
+  held = (cut.held.0, cut.held.1.0, further row b near far cut.held.0 l cut.held.1.1);
+  may = fails.may;
+  refuted = fails.refuted;
+}
+
+-- an end of a row, by the part that has it alone: the first start or the last
+pub end_of_row_holds : (p : Instance) (g : RegionView) (x : Element) (q : Place) (s : ℕ) (row : Row) (b : Bool) (r : Reason) → b ≡ (row.lo == s) → row.place ≡ q → (row.lo ≡ s) ⊎ (row.hi ≡ s) → IsElement p x → IsEnd (sets g x) (Act q s) → (row.lo ≡ s → filter (in_part (Upto q s)) (sets g x) ≡ Act q s ∷ []) → (row.hi ≡ s → filter (in_part (From q s)) (sets g x) ≡ Act q s ∷ []) → FailHolds p (setting x (Act q s) (sets g)) r → CutHolds p (sets g) x (part_past row b 0) r
+end_of_row_holds p g x q s row true r is at end element one first last fails =
+    let low : row.lo ≡ s = eqb-true row.lo s (sym is) in
+    rw (add-zero row.lo, at, low) (end_holds p (sets g) x (Act q s) (Upto q s) r element one (first low) fails)
+end_of_row_holds p g x q s row false r is at end element one first last fails =
+    elim end [
+      | inl low ↦ absurd (both_ways (row.lo == s) (sym is) (eq-eqb row.lo s low))
+      | inr high ↦ rw (at, high) (end_holds p (sets g) x (Act q s) (From q s) r element one (last high) fails)
+    ]

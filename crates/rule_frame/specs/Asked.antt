@@ -1,7 +1,6 @@
 -- What is asked of the watches of a rule.
 use Rattle.std.specs.Prelude.{ℕ, ◌<◌, ◌≤◌}
-use Rattle.closing.specs.Prelude.{broken_at, Instance, IsClean, IsMetWith, Sets, sure, Watch}
-use Rattle.prop_core.specs.Propagators.{FailHolds}
+use Rattle.rule_frame.specs.Words.{broken_at, Instance, IsClean, IsMetWith, Sets, sure, Watch, FailHolds}
 use Rattle.rule_frame.specs.declared.watcher.Asked.{Asked}
 use Rattle.rule_frame.specs.declared.watcher.Asked.TheVariants.{Quiet, Failed, Cuts, Refuted}
 

@@ -1,11 +1,6 @@
 -- What a change of one element's choices weighs on.
 use Rattle.std.specs.Prelude.{◌≡◌, ◌⊎◌, ℕ, ◌<◌, ◌≤◌, Bool, false, List, [], ◌∷◌, length, slice_index_or, IsTrue}
-use Rattle.closing.specs.Prelude.{action_at, held_at, Instance, IsClean, IsEnd, least, may, Nodes, powered_at, present_at, Scope, Sets, surely, usable_at, Watch}
-use Rattle.cluster.specs.declared.choices.Choice.{Choice}
-use Rattle.cluster.specs.declared.ids.Element.{Element}
-use Rattle.cluster.specs.declared.ids.Element.TheVariants.{Vm, Node as TheNode}
-use Rattle.slices.specs.declared.slice.Weight.{Weight}
-use Rattle.slices.specs.declared.stage.Progress.{Progress}
+use Rattle.rule_frame.specs.Words.{action_at, held_at, Instance, IsClean, IsEnd, least, may, Nodes, powered_at, present_at, Scope, Sets, surely, usable_at, Watch, Choice, Element, Vm, TheNode, Weight, Progress}
 use Rattle.rule_frame.specs.Levels.{Levels}
 
 -- ---- one set of choices beside another, at an instant
@@ -33,26 +28,26 @@ pub record IsStill (p : Instance) (k : Scope) (x : Element) (old now : List Choi
   pub ends : (c : Choice) → IsEnd now c → (t : ℕ) → t ≤ p.horizon →
       IsLess p k x t (c ∷ []) old ⊎ ((d : Choice) × IsEnd old d × IsLess p k x t (c ∷ []) (d ∷ []))
 
--- ---- marks
+-- ---- dirty watches
 
--- each watch that is not marked is clean
+-- each watch that is not dirty is clean
 pub record AreClean (watch : ℕ → Watch) (p : Instance) (s : Sets) (flags : List Bool) : Type 0 where
   pub clean : (i : ℕ) → i < length flags → slice_index_or flags i false ≡ false → IsClean (watch i) p s
 
--- each watch on which a change of x weighs is marked, and no mark is gone
+-- each watch on which a change of x weighs is dirty, and what was dirty still is
 pub record IsDisturbed (watch : ℕ → Watch) (p : Instance) (x : Element) (old now : List Choice) (m n : Levels) : Type 0 where
   pub older : n.older ≡ m.older
   pub count : length n.top ≡ length m.top
   pub kept : (i : ℕ) → i < length n.top → slice_index_or n.top i false ≡ false → slice_index_or m.top i false ≡ false
   pub still : (i : ℕ) → i < length n.top → slice_index_or n.top i false ≡ false → IsStill p (watch i).scope x old now
 
--- each watch that is not marked is clean, and the levels below are as they were
+-- each watch that is not dirty is clean, and the levels below are as they were
 pub record IsKept (watch : ℕ → Watch) (p : Instance) (s : Sets) (m n : Levels) : Type 0 where
   pub older : n.older ≡ m.older
   pub count : length n.top ≡ length m.top
   pub clean : AreClean watch p s n.top
 
--- and the first watches are not marked
-pub record IsSettling (watch : ℕ → Watch) (p : Instance) (s : Sets) (first : ℕ) (m n : Levels) : Type 0 where
+-- and the first watches are not dirty
+pub record IsCleanUpTo (watch : ℕ → Watch) (p : Instance) (s : Sets) (first : ℕ) (m n : Levels) : Type 0 where
   pub kept : IsKept watch p s m n
   pub done : (i : ℕ) → i < first → slice_index_or n.top i false ≡ false

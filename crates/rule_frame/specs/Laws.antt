@@ -1,9 +1,6 @@
 -- Helping only: what a change leaves clean.
 use Rattle.std.specs.Prelude.{ℕ, List}
-use Rattle.closing.specs.Prelude.{Instance, IsClean, IsElement, IsLocal, IsUnseen, Scope, Sets, Watch}
-use Rattle.cluster.specs.declared.choices.Choice.{Choice}
-use Rattle.cluster.specs.declared.ids.Element.{Element}
-use Rattle.domains.specs.SetsBefore.{putting}
+use Rattle.rule_frame.specs.Words.{Instance, IsClean, IsElement, IsLocal, IsUnseen, Scope, Sets, Watch, Choice, Element, putting}
 use Rattle.rule_frame.specs.Changes.{IsDisturbed, IsStill}
 use Rattle.rule_frame.specs.Levels.{Levels}
 

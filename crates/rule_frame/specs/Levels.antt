@@ -1,4 +1,4 @@
--- Marks with levels: a flag for each watch, and the flags of each level that stands below.
+-- Which watches are dirty, with levels: a flag for each watch, and the flags of each level that stands below.
 use Rattle.std.specs.Prelude.{ℕ, Bool, List, [], ◌∷◌, ◌++◌, slice_index_or}
 
 -- the flags of the levels below, the lowest first, and those of the top

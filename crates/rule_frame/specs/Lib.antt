@@ -6,4 +6,6 @@ pub mod Asked
 pub mod Rules
 -- what the laws say beside it
 pub mod Laws
+pub mod Parts
+pub mod Words
 pub mod Prelude

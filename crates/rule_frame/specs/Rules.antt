@@ -1,16 +1,11 @@
 -- What a rule of watches means.
 use Rattle.std.specs.Prelude.{◌≡◌, ℕ, Bool, true, length}
-use Rattle.prop_core.specs.Prelude.{CutHolds, Instance, IsQuietKind, Meaning, Sets}
-use Rattle.reasons.specs.declared.reason.ReasonKind.{ReasonKind}
-use Rattle.closing.specs.Watches.{Watch}
-use Rattle.prop_core.specs.declared.propagator.Answer.{Answer}
-use Rattle.prop_core.specs.declared.propagator.Answer.TheVariants.{Quiet, Cut, Fail}
-use Rattle.prop_core.specs.Propagators.{FailHolds}
+use Rattle.rule_frame.specs.Words.{CutHolds, Instance, IsQuietKind, Meaning, Sets, ReasonKind, Watch, Answer, Quiet, Cut, Fail, FailHolds}
 use Rattle.rule_frame.specs.Caches.{Cache}
 use Rattle.rule_frame.specs.Changes.{AreClean}
 use Rattle.rule_frame.specs.Levels.{Levels, level_at}
 
--- at a level there is a flag for each watch, each watch without a mark is clean, what is kept is right, and both have as many levels
+-- at a level there is a flag for each watch, each watch that is not dirty is clean, what is kept is right, and both have as many levels
 pub record AreRight (watch : ℕ → Watch) (count : ℕ) (p : Instance) (s : Sets) (m : Levels) (c : Cache) (k : ℕ) : Type 0 where
   pub flags : length (level_at m k) ≡ count
   pub clean : AreClean watch p s (level_at m k)

@@ -4,9 +4,7 @@ ghost use Rattle.prop_core.specs.Prelude.{IsNarrowed, IsRegionOf, most, sets};
 ghost use Rattle.domains.specs.SetsBefore.{sets_before};
 ghost use Rattle.rule_frame.specs.Caches.{Cache, IsCacheBack, IsCacheFor, IsCacheMarked, IsCachePosted, IsCacheSame, IsCacheTold};
 
-use base::Memory;
-use catalogue::Problem;
-use domains::{Before, Change, Domain, Region};
+use crate::{Before, Change, Domain, Memory, Problem, Region};
 
 /// Keeps what a rule's looks need of the region, in levels from 0 on.
 pub trait Keeper: Drop {

@@ -1,21 +1,17 @@
-//! A rule: watches with marks, and what is kept beside them.
+//! A rule: watches, each dirty or clean, and what is kept beside them.
 ghost use Rattle.std.specs.Prelude.{◌≡◌, ◌<◌, ◌≤◌};
 ghost use Rattle.prop_core.specs.Prelude.{counted, IsRegionOf, sets};
 ghost use Rattle.rule_frame.specs.Asked.{IsAskedOf};
 ghost use Rattle.rule_frame.specs.Caches.{IsCacheFor};
 ghost use Rattle.rule_frame.specs.Rules.{AnswerHolds, meaning_of};
 
-use crate::keeper::Keeper;
-use crate::marks::Marks;
-use crate::suggestion::{Suggestion, take_one};
-use crate::watcher::{Asked, Watcher, ask, tell};
+use crate::suggestion::take_one;
+use crate::watcher::{Asked, ask, tell};
 use crate::widen::widen;
-use base::Memory;
-use catalogue::Problem;
-use cluster::Choice;
-use domains::{Before, Change, Domain, Lens, Part, Region, View};
-use prop_core::propagator::{Answer, Propagator};
-use reasons::ReasonKind;
+use crate::{
+    Answer, Before, Change, Choice, DirtySet, Domain, Keeper, Lens, Memory, Part, Problem,
+    Propagator, ReasonKind, Region, Suggestion, View, Watcher,
+};
 use std::alloc::Global;
 use std::default::MadeWith;
 
@@ -128,12 +124,12 @@ fn count(given: u64, answer: Answer) -> u64
     }
 }
 
-/// A rule of watches: each has a mark where it may have to be looked at, and whatever has none is clean.
+/// A rule of watches: each is dirty where it may have to be looked at, and whatever is not is clean.
 #[derive(Drop)]
 pub struct Rule<W, K> {
     watcher: W,
     keeper: K,
-    marks: Marks,
+    dirty: DirtySet,
     suggestions: Vec<Suggestion>,
     given: u64,
 }
@@ -146,7 +142,7 @@ impl<K: Keeper, W: Watcher<K>> Rule<W, K> {
         Rule {
             watcher,
             keeper,
-            marks: Marks::new(alloc),
+            dirty: DirtySet::new(alloc),
             suggestions: Vec::new(alloc),
             given: 0,
         }
@@ -163,14 +159,14 @@ impl<K: Keeper + MadeWith<Global>, W: Watcher<K> + Default> Rule<W, K> {
 }
 
 impl<K: Keeper, W: Watcher<K> + Drop> Propagator for Rule<W, K> {
-    ghost meaning = { λ r. meaning_of (W.Watcher.watch r.watcher) (W.Watcher.count_of r.watcher) (W.Watcher.kinds r.watcher) r.marks (K.cache r.keeper) r.given };
+    ghost meaning = { λ r. meaning_of (W.Watcher.watch r.watcher) (W.Watcher.count_of r.watcher) (W.Watcher.kinds r.watcher) r.dirty (K.cache r.keeper) r.given };
 
     fn covers(&self, kind: ReasonKind) -> bool {
         self.watcher.covers(kind)
     }
 
     fn level(&self) -> u64 {
-        self.marks.level()
+        self.dirty.level()
     }
 
     fn given(&self) -> u64 {
@@ -180,7 +176,7 @@ impl<K: Keeper, W: Watcher<K> + Drop> Propagator for Rule<W, K> {
     fn post(&mut self, p: &Problem, g: &Region) -> Result<(), Memory> {
         self.suggestions.clear();
         self.keeper.post(p, g)?;
-        self.marks.reset(self.watcher.count(p))
+        self.dirty.reset(self.watcher.count(p))
     }
 
     fn told(
@@ -200,14 +196,14 @@ impl<K: Keeper, W: Watcher<K> + Drop> Propagator for Rule<W, K> {
             change,
             before,
             kept,
-            &mut self.marks,
+            &mut self.dirty,
         );
         Ok(())
     }
 
     fn mark(&mut self) -> Result<(), Memory> {
         self.keeper.mark()?;
-        match self.marks.mark() {
+        match self.dirty.mark() {
             Ok(()) => Ok(()),
             Err(e) => {
                 self.keeper.back();
@@ -219,7 +215,7 @@ impl<K: Keeper, W: Watcher<K> + Drop> Propagator for Rule<W, K> {
     fn back(&mut self) {
         self.suggestions.clear();
         self.keeper.back();
-        self.marks.back()
+        self.dirty.back()
     }
 
     fn propagate(&mut self, p: &Problem, g: &Region) -> Result<Answer, Memory> {
@@ -228,7 +224,7 @@ impl<K: Keeper, W: Watcher<K> + Drop> Propagator for Rule<W, K> {
             self.given = count(self.given, found);
             return Ok(found);
         }
-        let asked = ask(&self.watcher, &self.keeper, p, g, &mut self.marks);
+        let asked = ask(&self.watcher, &self.keeper, p, g, &mut self.dirty);
         suggest_first(
             &self.watcher,
             &self.keeper,

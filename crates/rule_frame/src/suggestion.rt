@@ -1,16 +1,9 @@
 //! Cuts that are worth a try: they are looked at exactly before they are answered.
 ghost use Rattle.std.specs.Prelude.{◌≡◌, IfSome, IsTrue};
 ghost use Rattle.std.specs.List.{Contains};
-ghost use Rattle.rule_frame.specs.Prelude.{Choice as AnyChoice, CutHolds, in_part, IsCacheFor, IsElement, IsRegionOf, sets};
-ghost use Rattle.prop_core.specs.Propagators.{MayAnswer};
+ghost use Rattle.rule_frame.specs.Prelude.{Choice as AnyChoice, CutHolds, in_part, IsCacheFor, IsElement, IsRegionOf, MayAnswer, sets};
 
-use crate::keeper::Keeper;
-use crate::watcher::Watcher;
-use catalogue::Problem;
-use cluster::Element;
-use domains::{Change, Part, Region, Side};
-use reasons::Reason;
-use slices::elements::has_element;
+use crate::{Change, Element, Keeper, Part, Problem, Reason, Region, Side, Watcher, has_element};
 
 /// A cut that may hold: a part of an element's choices, and why they may be taken away.
 #[derive(Clone, Copy)]

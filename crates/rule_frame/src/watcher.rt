@@ -7,15 +7,10 @@ ghost use Rattle.rule_frame.specs.Asked.{IsAskedOf};
 ghost use Rattle.rule_frame.specs.Caches.{IsCacheFor};
 ghost use Rattle.rule_frame.specs.Changes.{AreClean, IsDisturbed, IsKept};
 
-use crate::keeper::Keeper;
-use crate::marks::Marks;
-use crate::suggestion::Suggestion;
-use base::Memory;
-use catalogue::Problem;
-use closing::look::Look;
-use cluster::{Choice, Element, Instant};
-use domains::{Before, Change, Domain, Part, Region, View};
-use reasons::{Reason, ReasonKind};
+use crate::{
+    Before, Change, Choice, DirtySet, Domain, Element, Instant, Keeper, Look, Memory, Part,
+    Problem, Reason, ReasonKind, Region, Suggestion, View,
+};
 
 /// What asking the watches finds.
 #[derive(Clone, Copy)]
@@ -51,7 +46,7 @@ pub trait Watcher<K: Keeper> {
     fn covers(&self, kind: ReasonKind) -> bool
         ensures { result ≡ kinds self.now kind };
 
-    /// Marks each watch on which a change weighs. What is kept has been told of the change.
+    /// Sets dirty each watch on which a change weighs. What is kept has been told of the change.
     fn disturb(
         &self,
         k: &K,
@@ -60,13 +55,13 @@ pub trait Watcher<K: Keeper> {
         change: Change,
         before: Before,
         kept: &Domain,
-        marks: &mut Marks,
+        dirty: &mut DirtySet,
     )
         requires region { IsRegionOf p.now.given g.now }
         requires right { IsCacheFor (K.cache k.now) p.now.given (sets g.now) }
         requires narrowed { IsNarrowed p.now.given g.now change before kept.now }
-        requires count { length marks.old.top ≡ count_of self.now p.now.given }
-        ensures { IsDisturbed (watch self.now p.now.given) p.now.given change.element (choices (domain_before before kept.now (domain_at g.now change.element))) (sets g.now change.element) marks.old marks.new };
+        requires count { length dirty.old.top ≡ count_of self.now p.now.given }
+        ensures { IsDisturbed (watch self.now p.now.given) p.now.given change.element (choices (domain_before before kept.now (domain_at g.now change.element))) (sets g.now change.element) dirty.old dirty.new };
 
     /// A reason that refutes the region, where one is seen before a look at a watch: one that takes many
     /// elements together, say, of which each alone may still be where it is. None need be seen.
@@ -74,11 +69,16 @@ pub trait Watcher<K: Keeper> {
         requires region { IsRegionOf p.now.given g.now }
         requires right { IsCacheFor (K.cache k.now) p.now.given (sets g.now) }
         requires watch { i < count_of self.now p.now.given }
-        ensures { IfSome result (FailHolds p.now.given (sets g.now)) };
+        ensures { IfSome result (FailHolds p.now.given (sets g.now)) }
+    {
+        None
+    }
 
     /// Whether what is suggested after a find at a watch names that find too, as wide as may be. Then the find
     /// itself need not be widened first.
-    fn names_all(&self, p: &Problem, i: usize) -> bool;
+    fn names_all(&self, _p: &Problem, _i: usize) -> bool {
+        false
+    }
 
     /// A look at one watch at all instants.
     fn look(&self, k: &K, p: &Problem, g: &Region, i: usize) -> Look
@@ -113,26 +113,29 @@ pub trait Watcher<K: Keeper> {
         ensures { IsTrue result → FailHolds p.now.given (keeping e (in_part part) (sets g.now)) reason.now };
 
     /// Puts cuts into a list that are worth a try after one was found by a look at a watch: what they are looked
-    /// at for is left to the caller, who looks at them exactly.
+    /// at for is left to the caller, who looks at them exactly. None need be put.
     fn suggest(
         &self,
         k: &K,
         p: &Problem,
         g: &Region,
         i: usize,
-        found: &Suggestion,
-        them: &mut Vec<Suggestion>,
+        _found: &Suggestion,
+        _them: &mut Vec<Suggestion>,
     ) -> Result<(), Memory>
         requires region { IsRegionOf p.now.given g.now }
         requires right { IsCacheFor (K.cache k.now) p.now.given (sets g.now) }
-        requires watch { i < count_of self.now p.now.given };
+        requires watch { i < count_of self.now p.now.given }
+    {
+        Ok(())
+    }
 
     ghost local: { (w : Self) (p : Instance) (i : ℕ) → IsLocal (watch w p i) };
 
     ghost quiet: { (w : Self) (p : Instance) (s : Sets) (kind : AnyKind) → kinds w kind ≡ true → AllClean (watch w p) p s (count_of w p) → IsQuietKind p s kind };
 }
 
-/// Marks what a change weighs on, of which what is kept has been told.
+/// Sets dirty what a change weighs on, of which what is kept has been told.
 pub fn tell<K: Keeper, W: Watcher<K>>(
     w: &W,
     k: &K,
@@ -141,46 +144,46 @@ pub fn tell<K: Keeper, W: Watcher<K>>(
     change: Change,
     before: Before,
     kept: &Domain,
-    marks: &mut Marks,
+    dirty: &mut DirtySet,
 )
     requires region { IsRegionOf p.now.given g.now }
     requires right { IsCacheFor (K.cache k.now) p.now.given (sets g.now) }
     requires narrowed { IsNarrowed p.now.given g.now change before kept.now }
-    requires count { length marks.old.top ≡ W.count_of w.now p.now.given }
-    requires agreed { AreClean (W.watch w.now p.now.given) p.now.given (sets_before g.now change.element before kept.now) marks.old.top }
-    ensures { IsKept (W.watch w.now p.now.given) p.now.given (sets g.now) marks.old marks.new }
+    requires count { length dirty.old.top ≡ W.count_of w.now p.now.given }
+    requires agreed { AreClean (W.watch w.now p.now.given) p.now.given (sets_before g.now change.element before kept.now) dirty.old.top }
+    ensures { IsKept (W.watch w.now p.now.given) p.now.given (sets g.now) dirty.old dirty.new }
 {
-    w.disturb(k, p, g, change, before, kept, marks);
+    w.disturb(k, p, g, change, before, kept, dirty);
 }
 
-/// Looks at each watch that is marked, until something is found. What is clean has no mark afterwards.
+/// Looks at each dirty watch, until something is found. What is clean is not dirty afterwards.
 pub fn ask<K: Keeper, W: Watcher<K>>(
     w: &W,
     k: &K,
     p: &Problem,
     g: &Region,
-    marks: &mut Marks,
+    dirty: &mut DirtySet,
 ) -> Asked
     requires region { IsRegionOf p.now.given g.now }
     requires right { IsCacheFor (K.cache k.now) p.now.given (sets g.now) }
-    requires count { length marks.old.top ≡ W.count_of w.now p.now.given }
-    requires agreed { AreClean (W.watch w.now p.now.given) p.now.given (sets g.now) marks.old.top }
-    ensures kept { IsKept (W.watch w.now p.now.given) p.now.given (sets g.now) marks.old marks.new }
+    requires count { length dirty.old.top ≡ W.count_of w.now p.now.given }
+    requires agreed { AreClean (W.watch w.now p.now.given) p.now.given (sets g.now) dirty.old.top }
+    ensures kept { IsKept (W.watch w.now p.now.given) p.now.given (sets g.now) dirty.old dirty.new }
     ensures answer { IsAskedOf (W.watch w.now p.now.given) p.now.given (sets g.now) (W.count_of w.now p.now.given) result }
 {
-    for i in marks.first()..marks.count() {
-        if marks.is_set(i) {
-            marks.pass(i);
+    for i in dirty.first()..dirty.count() {
+        if dirty.is_dirty(i) {
+            dirty.pass(i);
             if let Some(reason) = w.refuted(k, p, g, i) {
                 return Asked::Refuted(reason);
             }
             match w.look(k, p, g, i) {
-                Look::Clean => marks.put(i, false),
+                Look::Clean => dirty.set_dirty(i, false),
                 Look::Fail(t) => return Asked::Failed(i, t),
                 Look::Cut(e, c, t) => return Asked::Cuts(i, e, c, t),
             }
         }
     }
-    marks.pass(marks.count());
+    dirty.pass(dirty.count());
     Asked::Quiet
 }

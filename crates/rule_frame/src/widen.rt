@@ -1,14 +1,10 @@
 //! The widest part of an element's choices that a reason is seen to take away.
-ghost use Rattle.std.specs.Prelude.{◌≡◌, ◌⊎◌, ◌<◌, ◌≤◌, [], ◌∷◌, filter, IfSome, None};
-ghost use Rattle.rule_frame.specs.Prelude.{Choice as AnyChoice, choices, CutHolds, in_part, IsCacheFor, IsElement, IsEnd, IsRegionOf, keeping, sets, setting};
-ghost use Rattle.prop_core.specs.Propagators.{FailHolds, MayAnswer};
+ghost use Rattle.std.specs.Prelude.{◌≡◌, ◌⊎◌, ◌-◌, ◌==◌, ◌<◌, ◌≤◌, [], ◌∷◌, filter, IfSome, None};
+ghost use Rattle.rule_frame.specs.Prelude.{Choice as AnyChoice, choices, CutHolds, FailHolds, in_part, IsCacheFor, IsElement, IsEnd, IsRegionOf, keeping, MayAnswer, part_past as the_part_past, sets, setting, start_past as the_start_past};
 
-use crate::keeper::Keeper;
-use crate::watcher::Watcher;
-use catalogue::Problem;
-use cluster::{Choice, Element, Instant, Place};
-use domains::{Domain, Part, Region, Row};
-use reasons::Reason;
+use crate::{
+    Choice, Domain, Element, Instant, Keeper, Part, Place, Problem, Reason, Region, Row, Watcher,
+};
 use relax::measures::end;
 
 // the row that an end of the choices is of: its first start, or its last
@@ -110,53 +106,29 @@ fn refuting<K: Keeper, W: Watcher<K>>(
     None
 }
 
-// as many of the starts from the first one on as the reason takes away, up to the last one of the row: sought in
-// steps that double while they hold, and from the first that does not by halving
-fn from_the_first<K: Keeper, W: Watcher<K>>(
-    w: &W,
-    k: &K,
-    p: &Problem,
-    g: &Region,
-    e: Element,
-    row: Row,
-    t: Instant,
-    reason: Reason,
-) -> (Part, Reason)
-    requires region { IsRegionOf p.now.given g.now }
-    requires right { IsCacheFor (K.cache k.now) p.now.given (sets g.now) }
-    requires element { IsElement p.now.given e }
-    requires holds { CutHolds p.now.given (sets g.now) e (Part.Upto row.place row.lo) reason }
-    ensures { CutHolds p.now.given (sets g.now) e result.0 result.1 }
+// the start that stands so far past an end of a row: past its first start, or before its last
+fn start_past(row: Row, from_first: bool, far: u32) -> Instant
+    requires { far ≤ row.hi - row.lo }
+    ensures { result ≡ the_start_past row from_first far }
 {
-    let place = row.place;
-    let mut best = row.lo;
-    let mut found = reason;
-    let mut top = row.hi;
-    // whatever starts by the instant is there at the instant
-    let mut step = t.min(row.hi).saturating_sub(row.lo).max(1);
-    let mut next = 1u32;
-    'steps: while best < top {
-        let middle = best + stride(step, top - best);
-        match refuting(
-            w,
-            k,
-            p,
-            g,
-            e,
-            Part::Upto(place, middle),
-            t.max(middle),
-            reason,
-        ) {
-            Some(r) => {
-                best = middle;
-                found = r;
-                step = next;
-                next = next.saturating_mul(2);
-            }
-            None => top = middle - 1,
-        }
+    if from_first {
+        row.lo + far
+    } else {
+        row.hi - far
     }
-    (Part::Upto(place, best), found)
+}
+
+// the starts from that end to it
+fn part_past(row: Row, from_first: bool, far: u32) -> Part
+    requires { far ≤ row.hi - row.lo }
+    ensures { result ≡ the_part_past row from_first far }
+{
+    let start = start_past(row, from_first, far);
+    if from_first {
+        Part::Upto(row.place, start)
+    } else {
+        Part::From(row.place, start)
+    }
 }
 
 // the first start of a row with which an element's action ends past an instant
@@ -172,53 +144,64 @@ fn first_past(p: &Problem, e: Element, row: Row, t: Instant) -> Instant
     first.clamp(u64::from(row.lo), u64::from(row.hi.max(row.lo))) as Instant
 }
 
-// as many of the starts up to the last one as the reason takes away, from the first one of the row on, sought in
-// the same way
-fn up_to_the_last<K: Keeper, W: Watcher<K>>(
+// how far past that end an instant tells it: what starts by the instant is there at it, and so is what has not ended by it
+fn told_past(p: &Problem, e: Element, row: Row, from_first: bool, t: Instant) -> u32
+    requires { IsElement p.now.given e }
+{
+    if from_first {
+        t.min(row.hi).saturating_sub(row.lo)
+    } else {
+        row.hi.saturating_sub(first_past(p, e, row, t))
+    }
+}
+
+// as many of the starts from an end of a row on as the reason takes away: sought in steps that double while they hold,
+// and from the first that does not by halving
+#[tactic(auto, using(crate::proofs::WidenLemmas::further_holds))]
+fn from_an_end<K: Keeper, W: Watcher<K>>(
     w: &W,
     k: &K,
     p: &Problem,
     g: &Region,
     e: Element,
     row: Row,
+    from_first: bool,
     t: Instant,
     reason: Reason,
 ) -> (Part, Reason)
     requires region { IsRegionOf p.now.given g.now }
     requires right { IsCacheFor (K.cache k.now) p.now.given (sets g.now) }
     requires element { IsElement p.now.given e }
-    requires holds { CutHolds p.now.given (sets g.now) e (Part.From row.place row.hi) reason }
+    requires holds { CutHolds p.now.given (sets g.now) e (the_part_past row from_first 0) reason }
     ensures { CutHolds p.now.given (sets g.now) e result.0 result.1 }
 {
-    let place = row.place;
-    let mut best = row.hi;
+    let mut best = 0;
     let mut found = reason;
-    let mut low = row.lo;
-    // whatever has not ended by the instant is there at the instant
-    let mut step = row.hi.saturating_sub(first_past(p, e, row, t)).max(1);
+    let mut top = row.hi.saturating_sub(row.lo);
+    let mut step = told_past(p, e, row, from_first, t).max(1);
     let mut next = 1u32;
-    'steps: while low < best {
-        let middle = best - stride(step, best - low);
-        match refuting(
-            w,
-            k,
-            p,
-            g,
-            e,
-            Part::From(place, middle),
-            t.max(middle),
-            reason,
-        ) {
+    'steps: while best < top {
+        let far = best + stride(step, top - best);
+        let part = part_past(row, from_first, far);
+        let at = t.max(start_past(row, from_first, far));
+        match refuting(w, k, p, g, e, part, at, reason) {
             Some(r) => {
-                best = middle;
+                best = far;
                 found = r;
                 step = next;
                 next = next.saturating_mul(2);
             }
-            None => low = middle + 1,
+            None => top = far - 1,
         }
     }
-    (Part::From(place, best), found)
+    (part_past(row, from_first, best), found)
+}
+
+// whether a start is the first one of a row
+fn is_first(row: Row, start: Instant) -> bool
+    ensures { result ≡ (row.lo == start) }
+{
+    row.lo == start
 }
 
 // the widest part that is seen for an end of a row: the whole row, or what is found from that end on
@@ -245,11 +228,7 @@ fn widened_row<K: Keeper, W: Watcher<K>>(
     if let Some(r) = refuting(w, k, p, g, e, whole, p.horizon(), reason) {
         return (whole, r);
     }
-    if row.lo == start {
-        from_the_first(w, k, p, g, e, row, t, reason)
-    } else {
-        up_to_the_last(w, k, p, g, e, row, t, reason)
-    }
+    from_an_end(w, k, p, g, e, row, is_first(row, start), t, reason)
 }
 
 /// A part that holds an end of an element's choices, and a reason that refutes the region inside it, where

@@ -2,13 +2,8 @@
 ghost use Rattle.std.specs.Prelude.{refl};
 ghost use Rattle.rule_group.specs.Covers.{group_kinds};
 
-use catalogue::Problem;
-use cluster::Instant;
-use domains::View;
-use reasons::{Reason, ReasonKind};
-use rule_constraint::index::ConstraintIndex;
-use rule_constraint::watcher::{ConstraintWatcher, Kinds};
-use rule_frame::rule::Rule;
+use rule_constraint::{ConstraintIndex, ConstraintWatcher, Kinds};
+use rule_frame::{Instant, Problem, Reason, ReasonKind, Rule, View};
 
 /// Whole groups of machines: `gather`, `among`, `precedence`, `serialize`.
 #[derive(Clone, Copy, Default)]

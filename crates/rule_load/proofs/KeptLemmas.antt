@@ -1,12 +1,6 @@
 -- The machines near each node, told of one more.
-use Rattle.base.proofs.Public.{◌≡◌, inl, inr, ℕ, ◌-◌, ◌<◌, Bool, true, false, cond, nat_le, List, length, Some, None, refl, sym, ap, subst, ◌∙◌, arith, slice_index_or, Contains, and_parts, cases_eq, false≢true, ne_eqb, nat_tests}
-use Rattle.rule_load.specs.Prelude.{AreFirstAt, AreFirsts, AreKept, AreKeptAt, AreMovers, AreStanding, Arrival, Before, cache_of, Change, Choice, choices, comes_by, domain_at, domain_before, DomainView, Element, FixedView, Grows, HaveCome, Instance, IsCacheTold, IsGrown, IsListedBy, IsListedFor, IsNarrowed, IsNear, IsPut, level_at, list_at, machine_count, no_standing, Node as TheNode, node_count, on_side, one, RegionView, same_element, Sets, sets, Standing, Tables, Vm, vm}
+use Rattle.rule_load.proofs.Prelude.{◌≡◌, inl, inr, ℕ, ◌-◌, ◌<◌, Bool, true, false, cond, nat_le, List, length, Some, None, refl, sym, ap, subst, ◌∙◌, arith, slice_index_or, Contains, and_parts, cases_eq, false≢true, ne_eqb, nat_tests, AreFirstAt, AreFirsts, AreKept, AreKeptAt, AreMovers, AreStanding, Arrival, Before, cache_of, Change, Choice, choices, comes_by, domain_at, domain_before, DomainView, Element, FixedView, Grows, HaveCome, Instance, IsCacheTold, IsGrown, IsListedBy, IsListedFor, IsNarrowed, IsNear, IsPut, level_at, list_at, machine_count, no_standing, TheNode, node_count, on_side, one, RegionView, same_element, Sets, sets, Standing, Tables, Vm, vm, sets_before, filter_is_fewer, same_is, level_below, level_top, near_put, movers_grown, firsts_fewer}
 use Rattle.profiles.specs.Levels.{Levels}
-use Rattle.domains.specs.SetsBefore.{sets_before}
-use Rattle.domains.proofs.Public.{filter_is_fewer, same_is}
-use Rattle.profiles.proofs.Public.{level_below, level_top, near_put}
-use Rattle.profiles.proofs.Public.{movers_grown}
-use Rattle.profiles.proofs.Public.{firsts_fewer}
 
 -- ---- one machine more
 

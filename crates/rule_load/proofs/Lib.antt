@@ -1,11 +1,12 @@
+mod Prelude
 pub mod DoubtLemmas
 pub mod FreeLemmas
 pub mod KeptLemmas
-pub mod MarkLemmas
+pub mod DirtyLemmas
 pub mod OverLemmas
 pub mod RoomLemmas
 pub mod SetLemmas
-pub mod SettleLemmas
+pub mod ConfirmLemmas
 pub mod StayLemmas
 mod StillLemmas
 pub mod TotalLemmas

@@ -1,9 +1,6 @@
 -- What machines surely use of a node in what is seen.
-use Rattle.base.proofs.Public.{◌≡◌, ◌≢◌, ℕ, zero, suc, ◌+◌, ◌-◌, ◌<◌, ◌≤◌, true, false, List, [], ◌∷◌, length, take, refl, sym, ap, ◌∙◌, append-nil, arith, slice_index_or, Contains, sum_by, get_or_default, sum_by-cons}
+use Rattle.rule_load.proofs.Prelude.{◌≡◌, ◌≢◌, ℕ, zero, suc, ◌+◌, ◌-◌, ◌<◌, ◌≤◌, true, false, List, [], ◌∷◌, length, take, refl, sym, ap, ◌∙◌, append-nil, arith, slice_index_or, Contains, sum_by, get_or_default, sum_by-cons, contains_here, over_once, kept_law}
 use Rattle.rule_load.specs.Prelude.{Amount, AreMachines, AreStanding, At, Choice, choices, Climbs, DomainView, gain, has_come, held_at, Instance, IsStanding, kept_use, least, load, machine_count, never, no_standing, NodeId, one, Row, row_choices, Sets, Snapshot, Standing, sure, vm}
-use Rattle.domains.proofs.Public.{contains_here}
-use Rattle.profiles.proofs.Public.{over_once}
-use Rattle.profiles.proofs.Public.{kept_law}
 use Rattle.rule_load.proofs.StayLemmas.{row_came}
 use Rattle.rule_load.proofs.StillLemmas.{held_parts, least_above}
 

@@ -1,8 +1,6 @@
 -- Which room a node has during a period.
-use Rattle.base.proofs.Public.{◌≡◌, ℕ, suc, ◌+◌, ◌<◌, ◌≤◌, ◌==◌, ◌&&◌, ◌||◌, Bool, true, false, not, nat_le, nat_lt, cond, List, [], ◌∷◌, length, refl, sym, subst, arith, Contains, false≢true, lt-ltb, Decides-eqb, nat_tests, sum_to-le, sum_to-term}
+use Rattle.rule_load.proofs.Prelude.{◌≡◌, ℕ, suc, ◌+◌, ◌<◌, ◌≤◌, ◌==◌, ◌&&◌, ◌||◌, Bool, true, false, not, nat_le, nat_lt, cond, List, [], ◌∷◌, length, refl, sym, subst, arith, Contains, false≢true, lt-ltb, Decides-eqb, nat_tests, sum_to-le, sum_to-term, contains_here, surely_each, setting_room}
 use Rattle.rule_load.specs.Prelude.{Act, action_duration, all_nodes, capacity_of, Choice, choices, DomainView, HasRoom, Idle, Instance, is_online, is_steady, IsDuring, may, node, node_count, NodesFit, one, Period, room, Row, Sets, setting, Snapshot, stage_at, sum_to, sure, surely, usable_at}
-use Rattle.domains.proofs.Public.{contains_here, surely_each}
-use Rattle.reasons.proofs.Public.{setting_room}
 
 -- ---- an online node is usable until a start, an offline one from an end
 

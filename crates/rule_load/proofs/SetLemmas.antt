@@ -1,6 +1,5 @@
 -- Sets of nodes.
-use Rattle.base.proofs.Public.{◌≡◌, ℕ, ◌<◌, ◌≤◌, false, refl, ap, ◌∙◌, arith, Decides-eqb, nat_tests}
-use Rattle.rule_load.specs.Prelude.{AreListed, has_bit, has_node, Instance, node_count, NodeSet, one}
+use Rattle.rule_load.proofs.Prelude.{◌≡◌, ℕ, ◌<◌, ◌≤◌, false, refl, ◌∙◌, arith, Decides-eqb, nat_tests, AreListed, has_node, Instance, node_count, NodeSet, one}
 
 -- the set of one node of the instance is listed
 pub one_listed : (p : Instance) (set : NodeSet) (n : ℕ) → n < node_count p → ((m : ℕ) → has_node set m ≡ one n m) → AreListed p set
@@ -11,8 +10,3 @@ one_listed p set n low each = record {
   where
     off : (m : ℕ) → node_count p ≤ m → one n m ≡ false
     off m past = grind (arith, nat_tests, past, low)
-
--- sets of the same words have the same nodes
-pub same_nodes : (a b : NodeSet) → a.words ≡ b.words → has_node a ≡ has_node b
-unfolding has_node
-same_nodes a b same = ap (λ words n. has_bit words n) same

@@ -1,10 +1,5 @@
 -- A change of a machine does not weigh on the load of a node that is not its host, unless all its choices come there sooner now.
-use Rattle.base.proofs.Public.{◌≡◌, ◌≢◌, ◌⊎◌, inl, inr, ℕ, zero, suc, ◌+◌, ◌<◌, ◌≤◌, Bool, true, false, ◌&&◌, nat_le, nat_lt, cond, Option, Some, None, List, [], ◌∷◌, refl, sym, ap, subst, ◌∙◌, arith, cases_eq, cases_lt, false≢true, nat_tests, Contains}
-use Rattle.rule_load.specs.Prelude.{Act, Amount, AreFewer, Arrival, At, base, Choice, comes_by, gain, has_come, have_come, held_at, hosted_in, Idle, Instance, IsEnd, IsLess, IsMachineLess, IsStanding, IsStill, kept_use, least, leave_of, load_scope, never, node, NodeId, Nowhere, one, Standing, state_of, surely, vm, Weight}
-use Rattle.cluster.specs.declared.choices.Place.{Place}
-use Rattle.domains.proofs.Public.{contains_here}
-use Rattle.rule_frame.proofs.Public.{unseen_still}
-use Rattle.profiles.proofs.Public.{kept_law}
+use Rattle.rule_load.proofs.Prelude.{◌≡◌, ◌≢◌, ◌⊎◌, inl, inr, ℕ, zero, suc, ◌+◌, ◌<◌, ◌≤◌, Bool, true, false, ◌&&◌, nat_le, nat_lt, cond, Option, Some, None, List, [], ◌∷◌, refl, sym, ap, subst, ◌∙◌, arith, cases_eq, cases_lt, false≢true, nat_tests, Contains, Act, Amount, AreFewer, Arrival, At, base, Choice, comes_by, gain, has_come, have_come, held_at, hosted_in, Idle, Instance, IsEnd, IsLess, IsMachineLess, IsStanding, IsStill, kept_use, least, leave_of, load_scope, never, node, NodeId, Nowhere, one, Standing, state_of, surely, vm, Weight, Place, contains_here, unseen_still, kept_law}
 
 -- ---- one choice, away from the host
 

@@ -1,10 +1,6 @@
 -- What one machine uses at the most on the nodes of any set.
-use Rattle.base.proofs.Public.{slice_index_or, Contains, sum_by, nat_lt, ◌≡◌, inl, inr, ℕ, suc, ◌+◌, ◌-◌, ◌<◌, ◌≤◌, Bool, true, false, not, ◌&&◌, nat_le, cond, Option, Some, None, List, [], ◌∷◌, refl, sym, ◌∙◌, arith, cases_lt, false≢true, nat_tests}
+use Rattle.rule_load.proofs.Prelude.{slice_index_or, Contains, sum_by, nat_lt, ◌≡◌, inl, inr, ℕ, suc, ◌+◌, ◌-◌, ◌<◌, ◌≤◌, Bool, true, false, not, ◌&&◌, nat_le, cond, Option, Some, None, List, [], ◌∷◌, refl, sym, ◌∙◌, arith, cases_lt, false≢true, nat_tests, Place, ends_by_duration, contains_here, least_of_each, may_each, sum_but_for}
 use Rattle.rule_load.specs.Prelude.{Act, acting_slices, action_duration, Allocate, Amount, AreMost, AreMovers, AreStanding, At, base, Boot, Choice, demand_of, end_of, Gone, had_there, HasLeft, held_at, held_by, Idle, idle_slices, Init, Instance, IsDuring, IsMost, IsStanding, kept_until, Kill, Kind, kind_of, least, leave_of, machine_count, may, may_wait, Migrate, most_anywhere, never, no_standing, Nodes, Period, Ready, RegionView, Resume, Running, sets, Shutdown, Sleeping, Slices, slices_by, slices_of, Stage, stage_at, stage_from, Standing, start_count, StartsAfter, State, state_of, sum_to, sure, Suspend, use_of, vm, waits, weigh, weight_if}
-use Rattle.cluster.specs.declared.choices.Place.{Place}
-use Rattle.slices.proofs.Public.{ends_by_duration}
-use Rattle.domains.proofs.Public.{contains_here, least_of_each, may_each}
-use Rattle.profiles.proofs.Public.{sum_but_for}
 use Rattle.rule_load.proofs.StillLemmas.{least_attained}
 
 -- ---- what slices weigh

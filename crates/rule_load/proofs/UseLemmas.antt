@@ -1,8 +1,6 @@
 -- What one machine uses of a node at the most during a period.
-use Rattle.base.proofs.Public.{◌≡◌, ◌≢◌, ℕ, ◌+◌, ◌-◌, ◌<◌, ◌≤◌, ◌==◌, Bool, true, false, ◌&&◌, nat_lt, nat_le, cond, Option, Some, None, List, [], ◌∷◌, ◌++◌, length, refl, sym, ap, subst, ◌∙◌, arith, IfSome, slice_index_or, Contains, filter, false≢true, get_or_default, Decides-eqb, nat_tests}
+use Rattle.rule_load.proofs.Prelude.{◌≡◌, ◌≢◌, ℕ, ◌+◌, ◌-◌, ◌<◌, ◌≤◌, ◌==◌, Bool, true, false, ◌&&◌, nat_lt, nat_le, cond, Option, Some, None, List, [], ◌∷◌, ◌++◌, length, refl, sym, ap, subst, ◌∙◌, arith, IfSome, slice_index_or, Contains, filter, false≢true, get_or_default, Decides-eqb, nat_tests, contains_filter, least_of_each, surely_each, kept_law}
 use Rattle.rule_load.specs.Prelude.{Act, Allocate, Amount, AreFirstAt, AreMost, AreStanding, Arrival, At, base, Boot, brought, Choice, choices, comes_by, demand_of, DomainView, Forge, gain, has_come, HasLeft, have_come, hosted_in, Idle, in_part, Inside, Instance, IsDuring, IsMost, IsMostBrought, IsMostLeft, IsStanding, kept_use, Kill, Kind, kind_of, least, leave_of, left_over, machine_count, Migrate, most_kept, never, no_standing, NodeBoot, NodeId, NodeShutdown, Nowhere, on_side, one, Period, Resume, Row, Sets, Shutdown, Standing, StartsPast, state_of, sure, Suspend, Upto, vm, Weight, weight_if}
-use Rattle.domains.proofs.Public.{contains_filter, least_of_each, surely_each}
-use Rattle.profiles.proofs.Public.{kept_law}
 use Rattle.rule_load.proofs.StillLemmas.{held_parts}
 
 -- ---- what counts only where a test holds

@@ -1,7 +1,5 @@
 -- Who may wait until the last instant.
-use Rattle.base.proofs.Public.{◌≡◌, ℕ, zero, suc, ◌+◌, ◌≤◌, Bool, true, false, nat_lt, List, [], ◌∷◌, refl, arith, flat_map, list_any, nat_tests, list_any-append}
-use Rattle.rule_load.specs.Prelude.{choices, DomainView, may, Row, row_choices, starts_from, waits}
-use Rattle.cluster.specs.declared.choices.Place.{Place}
+use Rattle.rule_load.proofs.Prelude.{◌≡◌, ℕ, zero, suc, ◌+◌, ◌≤◌, Bool, true, false, nat_lt, List, [], ◌∷◌, refl, arith, flat_map, list_any, nat_tests, list_any-append, choices, DomainView, may, Row, row_choices, starts_from, waits, Place}
 
 module _ (last to : ℕ) (over : nat_lt to last ≡ false) where
   none-waits : (place : Place) (from count : ℕ) → list_any (waits last to) (starts_from place from count) ≡ false

@@ -3,10 +3,7 @@
 use Rattle.std.specs.Prelude.{◌≡◌, ℕ, ◌<◌, true, List, length, slice_index_or}
 use Rattle.std.specs.List.{Contains}
 use Rattle.profiles.specs.Prelude.{AreFirstAt, AreFirsts, AreMachines, AreMovers, AreStanding, comes_by, FixedView, have_come, hosted_in, Instance, IsFixed, IsNear, level_at, Levels, list_at, machine_count, no_standing, node_count, one, Sets, state_of, Tables, vm}
-use Rattle.cluster.specs.declared.ids.Element.{Element}
-use Rattle.cluster.specs.declared.ids.Element.TheVariants.{Vm, Node as TheNode}
-use Rattle.rule_frame.specs.Caches.{Cache}
-use Rattle.profiles.specs.declared.standing.numbers.Standing.{Standing}
+use Rattle.rule_load.specs.Words.{Element, Vm, TheNode, Cache, Standing}
 
 -- each machine of which all choices have come to a node is in the list of the node
 pub record HaveCome (p : Instance) (s : Sets) (xs : List (List ℕ)) : Type 0 where

@@ -2,10 +2,11 @@
 pub mod Watched
 pub mod Kept
 -- what the code's contracts and the rule's laws say beside it
-pub mod Marking
+pub mod Dirty
 pub mod Measured
 pub mod Parts
 pub mod Periods
 pub mod Quiet
 pub mod Totals
+pub mod Words
 pub mod Prelude

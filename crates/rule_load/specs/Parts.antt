@@ -1,11 +1,7 @@
 -- What the code says of single machines and nodes.
 use Rattle.std.specs.Prelude.{ℕ, ◌-◌, ◌<◌, ◌≤◌, ◌&&◌, List, nat_lt, if◌then◌else◌}
 use Rattle.std.specs.List.{Contains}
-use Rattle.profiles.specs.Prelude.{base, gain, has_come, hosted_in, Instance, leave_of, never, one, start_count, state_of, usable_at}
-use Rattle.cluster.specs.declared.choices.Choice.{Choice}
-use Rattle.cluster.specs.declared.choices.Choice.TheVariants.{Act}
-use Rattle.cluster.specs.declared.choices.Place.TheVariants.{At}
-use Rattle.slices.specs.declared.slice.Weight.TheVariants.{Amount}
+use Rattle.rule_load.specs.Words.{base, gain, has_come, hosted_in, Instance, leave_of, never, one, start_count, state_of, usable_at, Choice, Act, At, Amount}
 
 -- under each of these choices machine v gives its host up by the instant
 pub record HasLeft (p : Instance) (v : ℕ) (cs : List Choice) (by : ℕ) : Type 0 where

@@ -1,12 +1,7 @@
 -- What is so at each instant of a period.
 use Rattle.std.specs.Prelude.{ℕ, ◌+◌, ◌<◌, ◌≤◌, ◌&&◌, List, nat_lt, if◌then◌else◌}
 use Rattle.std.specs.List.{Contains}
-use Rattle.profiles.specs.Prelude.{base, comes_by, gain, held_at, hosted_in, Instance, machine_count, node, node_count, Nodes, one, room, Sets, setting, Snapshot, state_of, sure, vm}
-use Rattle.rule_frame.specs.Prelude.{IsFreeOf, IsOverloaded}
-use Rattle.cluster.specs.declared.choices.Choice.{Choice}
-use Rattle.slices.specs.declared.slice.Weight.{Weight}
-use Rattle.slices.specs.declared.slice.Weight.TheVariants.{Amount}
-use Rattle.profiles.specs.declared.standing.numbers.Standing.{Standing}
+use Rattle.rule_load.specs.Words.{base, comes_by, gain, held_at, hosted_in, Instance, machine_count, node, node_count, Nodes, one, room, Sets, setting, Snapshot, state_of, sure, vm, IsFreeOf, IsOverloaded, Choice, Weight, Amount, Standing}
 use Rattle.rule_load.specs.declared.period.Period.{Period}
 
 -- the instant is one of the period

@@ -1,41 +1,8 @@
 -- What is cited together of this crate and of those below it, passed on from one place. Declares nothing.
-pub use Rattle.relax.specs.Prelude.{AreListed, has_bit, is_above_none, is_nought, max_held, use_of}
-pub use Rattle.closing.specs.Prelude.{HasElement, load_scope, load_watch, max_capacity, max_machines, total_load_watch}
-pub use Rattle.profiles.specs.Prelude.{acting_slices, AreFirstAt, AreFirsts, AreMachines, AreMovers, AreStanding, base, brought, comes_by, FixedView, gain, goes_in, had_there, has_come, have_come, hosted_in, idle_slices, is_online, IsFixed, IsGrown, IsNear, IsOrder, IsPut, IsStanding, kept_until, kept_use, least, leave_climbs, leave_of, level_at, list_at, load, lost_choices, lower_option, lowest, max_amount, may, most_use, never, no_standing, restored, room, stage_from, start_count, state_of, sum_to, surely, Tables, weigh, weight_if}
-unfoldable pub use Rattle.profiles.specs.Prelude.{action_duration, capacity_of, demand_of, end_of, held_at, held_by, kind_of, slices_by, slices_of, stage_at, usable_at}
-pub use Rattle.prop_core.specs.Prelude.{AreFewer, domain_before, IsNarrowed, on_side}
-pub use Rattle.rule_frame.specs.Prelude.{all_nodes, choices, Climbs, domain_at, DomainView, in_part, Instance, IsCacheFor, IsDisturbed, IsElement, IsEnd, IsFreeOf, IsLess, IsLook, IsOverload, IsOverloaded, IsSized, IsStill, keeping, Levels, machine_count, max_nodes, no_row, node, node_count, Nodes, one, RegionView, row_choices, same_element, seen, Sets, sets, setting, Snapshot, starts_from, vm}
-unfoldable pub use Rattle.rule_frame.specs.Prelude.{has_node, sure}
-pub use Rattle.cluster.specs.declared.choices.Choice.{Choice}
-pub use Rattle.cluster.specs.declared.choices.Choice.TheVariants.{Act, Idle}
-pub use Rattle.cluster.specs.declared.choices.Place.TheVariants.{At, Nowhere}
-pub use Rattle.cluster.specs.declared.ids.Element.{Element}
-pub use Rattle.cluster.specs.declared.ids.Element.TheVariants.{Node, Vm}
-pub use Rattle.cluster.specs.declared.ids.NodeId.{NodeId}
-pub use Rattle.cluster.specs.declared.ids.VmId.{VmId}
-pub use Rattle.cluster.specs.declared.kinds.Kind.{Kind}
-pub use Rattle.cluster.specs.declared.kinds.Kind.TheVariants.{Allocate, Boot, Forge, Kill, Migrate, NodeBoot, NodeShutdown, Resume, Shutdown, Suspend}
-pub use Rattle.cluster.specs.declared.sets.NodeSet.{NodeSet}
-pub use Rattle.cluster.specs.declared.states.State.{State}
-pub use Rattle.cluster.specs.declared.states.State.TheVariants.{Gone, Init, Ready, Running, Sleeping}
-pub use Rattle.domains.specs.declared.parts.Change.{Change}
-pub use Rattle.domains.specs.declared.parts.Part.TheVariants.{From, Upto}
-pub use Rattle.domains.specs.declared.parts.Row.{Row}
-pub use Rattle.domains.specs.declared.parts.Side.TheVariants.{Inside}
-pub use Rattle.domains.specs.declared.undo.Before.{Before}
-pub use Rattle.domains.specs.declared.undo.Lost.{Lost}
-pub use Rattle.slices.specs.declared.slice.Slices.{Slices}
-pub use Rattle.slices.specs.declared.slice.Weight.{Weight}
-pub use Rattle.slices.specs.declared.slice.Weight.TheVariants.{Amount}
-pub use Rattle.slices.specs.declared.stage.Stage.{Stage}
-pub use Rattle.closing.specs.declared.look.Look.TheVariants.{Cut}
-pub use Rattle.profiles.specs.declared.fixed.MostUse.{MostUse}
-pub use Rattle.profiles.specs.declared.standing.numbers.Arrival.{Arrival}
-pub use Rattle.profiles.specs.declared.standing.numbers.Standing.{Standing}
-pub use Rattle.rule_frame.specs.Caches.{IsCacheTold}
-pub use Rattle.rule_frame.specs.Changes.{IsMachineLess}
+pub use Rattle.rule_load.specs.Words.{Act, acting_slices, all_nodes, Allocate, Amount, AreFewer, AreFirstAt, AreFirsts, AreListed, AreMachines, AreMovers, AreStanding, Arrival, At, base, Before, Boot, brought, Change, Choice, choices, Climbs, comes_by, Cut, domain_at, domain_before, DomainView, Element, FailHolds, FixedView, Forge, From, gain, goes_in, Gone, had_there, has_bit, has_come, HasElement, have_come, hosted_in, Idle, idle_slices, in_part, Init, Inside, Instance, is_above_none, is_nought, is_online, IsCacheFor, IsCacheTold, IsDisturbed, IsElement, IsEnd, IsFixed, IsFreeOf, IsGrown, IsLess, IsLook, IsMachineLess, IsNarrowed, IsNear, IsOrder, IsOverload, IsOverloaded, IsPut, IsSized, IsStanding, IsStill, keeping, kept_until, kept_use, Kill, Kind, least, leave_climbs, leave_of, level_at, Levels, list_at, load, load_scope, load_watch, Lost, lost_choices, lower_option, lowest, machine_count, max_amount, max_capacity, max_held, max_machines, max_nodes, may, MayAnswer, Migrate, most_use, MostUse, never, no_row, no_standing, node, Node, node_count, NodeBoot, NodeId, Nodes, NodeSet, NodeShutdown, Nowhere, on_side, one, Ready, RegionView, restored, Resume, room, Row, row_choices, Running, same_element, seen, Sets, sets, setting, Shutdown, Sleeping, Slices, Snapshot, Stage, stage_from, Standing, start_count, starts_from, State, state_of, sum_to, surely, Suspend, Tables, total_load_watch, Upto, use_of, vm, Vm, VmId, weigh, Weight, weight_if}
+unfoldable pub use Rattle.rule_load.specs.Words.{action_duration, capacity_of, demand_of, end_of, has_node, held_at, held_by, kind_of, slices_by, slices_of, stage_at, sure, usable_at}
 pub use Rattle.rule_load.specs.Kept.{AreKept, AreKeptAt, AreNearAt, cache_of, Grows, HaveCome, IsListedBy, IsListedFor}
-pub use Rattle.rule_load.specs.Marking.{AreSpared, CameBefore, KeepsHost}
+pub use Rattle.rule_load.specs.Dirty.{AreSpared, CameBefore, KeepsHost}
 pub use Rattle.rule_load.specs.Parts.{HasLeft, IsMostBrought, IsMostLeft, left_over, StartsAfter, StartsPast}
 pub use Rattle.rule_load.specs.Periods.{AreMost, HasRoom, IsDuring, IsFreeDuring, IsFreePast, IsMost, MachinesFit, most_kept, NodesFit}
 pub use Rattle.rule_load.specs.Quiet.{one_at}

@@ -3,11 +3,7 @@ use Rattle.std.specs.Prelude.{◌≡◌, ℕ, ◌+◌, ◌<◌, ◌≤◌, ◌==
 use Rattle.std.proofs.Common.{arith, subst, sym}
 use Rattle.std.proofs.lemmas.Bool.{lt-ltb}
 use Rattle.std.proofs.lemmas.Bool.Decides.{nat_tests}
-use Rattle.rule_frame.specs.Prelude.{all_nodes, AllClean, Instance, IsElement, IsEnd, IsFree, IsOverload, IsOverloaded, IsQuietKind, node_count, Nodes, one, Sets, setting, Snapshot, sure}
-use Rattle.cluster.specs.declared.choices.Choice.{Choice}
-use Rattle.cluster.specs.declared.ids.Element.{Element}
-use Rattle.reasons.specs.declared.reason.ReasonKind.{ReasonKind}
-use Rattle.reasons.specs.declared.reason.ReasonKind.TheVariants.{Load}
+use Rattle.rule_load.specs.Words.{all_nodes, AllClean, Instance, IsElement, IsEnd, IsFree, IsOverload, IsOverloaded, IsQuietKind, node_count, Nodes, one, Sets, setting, Snapshot, sure, Choice, Element, ReasonKind, Load}
 use Rattle.rule_load.specs.Watched.{is_load, nodes_at, watch_at}
 
 pub one_at : (p : Instance) (n : ℕ) → n < node_count p → nodes_at p n ≡ one n

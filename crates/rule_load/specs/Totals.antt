@@ -1,10 +1,6 @@
 -- What machines use at the most on all nodes together, and what nodes have room for, during a period.
 use Rattle.std.specs.Prelude.{ℕ, ◌+◌, Bool, true, false, ◌&&◌, nat_le, nat_lt, if◌then◌else◌}
-use Rattle.profiles.specs.Prelude.{base, demand_of, Instance, may, node, Sets, surely, usable_at, vm}
-use Rattle.cluster.specs.declared.choices.Choice.{Choice}
-use Rattle.cluster.specs.declared.choices.Choice.TheVariants.{Idle, Act}
-use Rattle.slices.specs.declared.slice.Weight.TheVariants.{Amount}
-use Rattle.profiles.specs.declared.standing.numbers.Standing.{Standing}
+use Rattle.rule_load.specs.Words.{base, demand_of, Instance, may, node, Sets, surely, usable_at, vm, Choice, Idle, Act, Amount, Standing}
 use Rattle.rule_load.specs.declared.period.Period.{Period}
 
 -- whether a choice leaves a machine as it is up to an instant t; of one that acts this is told before the last instant of all

@@ -1,8 +1,6 @@
 -- The watches of the rule of loads: the load of each node, and past them that of all nodes together.
 use Rattle.std.specs.Prelude.{ℕ, Bool, true, false, nat_lt, if◌then◌else◌}
-use Rattle.rule_frame.specs.Prelude.{all_nodes, Instance, load_on, node_count, Nodes, one, Watch}
-use Rattle.reasons.specs.declared.reason.ReasonKind.{ReasonKind}
-use Rattle.reasons.specs.declared.reason.ReasonKind.TheVariants.{Empty, Bound, Load, Pair, Place, Group, SetLoad, Power, Usable, Hall}
+use Rattle.rule_load.specs.Words.{all_nodes, Instance, load_on, node_count, Nodes, one, Watch, ReasonKind, Empty, Bound, Load, Pair, Place, Group, SetLoad, Power, Usable, Hall}
 
 -- the nodes whose load is watch i
 abbrev pub nodes_at : Instance → ℕ → Nodes

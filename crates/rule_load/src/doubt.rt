@@ -1,27 +1,14 @@
-//! Where a node may be overloaded during a period.
+//! Where a node may be overloaded during a period: what may be found there, which has to be confirmed.
 ghost use Rattle.std.specs.Prelude.{◌≡◌, ◌<◌, ◌≤◌, IfNone, length, slice_index_or};
 ghost use Rattle.rule_load.specs.Prelude.{Amount as AmountOf, AreKeptAt, IsElement, IsFreeDuring, IsOverload, IsOverloaded, IsSized, MachinesFit, max_capacity, most_kept, no_standing, node_count, one, sets};
 
-use crate::kept::Kept;
-use crate::period::Period;
 use crate::room::{node_fits, room_of};
 use crate::uses::{machine_fits, most_brought, most_used};
-use catalogue::Problem;
-use cluster::{Choice, Element, Instant, NodeId, Place, VmId};
+use crate::{Kept, Leaving, Period, leaves_of, resource_total};
 use domains::measure::Measure;
-use domains::{Domain, Region, Row};
-use profiles::fixed::resource_total;
-use profiles::standing::leaves::leaves_of;
-use profiles::standing::numbers::Leaving;
-
-/// A case in which nodes may be overloaded, which is to be looked at.
-#[derive(Clone, Copy)]
-pub(crate) enum Doubt {
-    /// The region as it is, at the instant.
-    Whole(Instant),
-    /// With the element set to the choice, at the instant.
-    Set(Element, Choice, Instant),
-}
+use rule_frame::{
+    Choice, Domain, Element, Instant, Look, NodeId, Place, Problem, Region, Row, VmId,
+};
 
 fn first_of(row: Row) -> Choice {
     Choice::Act {
@@ -69,7 +56,7 @@ fn coming(domain: &Domain, n: NodeId) -> Option<Instant> {
 }
 
 // the case of a machine that may use too much: it comes, or it keeps its host
-fn of_machine(p: &Problem, g: &Region, v: VmId, n: NodeId, r: u8, x: Period) -> Doubt
+fn of_machine(p: &Problem, g: &Region, v: VmId, n: NodeId, r: u8, x: Period) -> Look
     requires region { IsSized p.now.given g.now }
     requires machine { IsElement p.now.given (Element.Vm v) }
     requires resource { r < length p.now.given.resources }
@@ -79,10 +66,10 @@ fn of_machine(p: &Problem, g: &Region, v: VmId, n: NodeId, r: u8, x: Period) -> 
     if most_brought(p, g, v, n, r, x.to) > 0 {
         if let Some(start) = coming(domain, n) {
             let place = Place::At(n);
-            return Doubt::Set(e, Choice::Act { place, start }, x.to);
+            return Look::Cut(e, Choice::Act { place, start }, x.to);
         }
     }
-    Doubt::Set(e, staying(p, v, domain, x.from), x.from)
+    Look::Cut(e, staying(p, v, domain, x.from), x.from)
 }
 
 // the case of a machine that may use more of a node than is spare
@@ -94,7 +81,7 @@ fn machine_doubt(
     r: u8,
     x: Period,
     spare: u64,
-) -> Option<Doubt>
+) -> Option<Look>
     requires region { IsSized p.now.given g.now }
     requires kept { AreKeptAt p.now.given (sets g.now) n.0 kept.fixed.now kept.standings.now kept.near.now kept.firsts.now }
     requires resource { r < length p.now.given.resources }
@@ -119,7 +106,7 @@ fn machine_doubt(
 
 // the case of a node that may not be usable: its first choice that is not so for the whole period is tried
 // as it shuts down or boots
-fn of_node(p: &Problem, g: &Region, n: NodeId, x: Period) -> Doubt
+fn of_node(p: &Problem, g: &Region, n: NodeId, x: Period) -> Look
     requires region { IsSized p.now.given g.now }
     requires node { n.0 < node_count p.now.given }
 {
@@ -128,13 +115,13 @@ fn of_node(p: &Problem, g: &Region, n: NodeId, x: Period) -> Doubt
     let online = p.cluster().nodes()[n.0 as usize].online;
     match domain.rows() {
         [row, ..] => if online {
-            Doubt::Set(e, first_of(*row), x.to)
+            Look::Cut(e, first_of(*row), x.to)
         } else if domain.idle() {
-            Doubt::Set(e, Choice::Idle, x.from)
+            Look::Cut(e, Choice::Idle, x.from)
         } else {
-            Doubt::Set(e, last_of(*row), x.from)
+            Look::Cut(e, last_of(*row), x.from)
         },
-        [] => Doubt::Set(e, Choice::Idle, x.from),
+        [] => Look::Cut(e, Choice::Idle, x.from),
     }
 }
 
@@ -146,7 +133,7 @@ fn resource_doubt(
     n: NodeId,
     r: u8,
     x: Period,
-) -> Option<Doubt>
+) -> Option<Look>
     requires region { IsSized p.now.given g.now }
     requires kept { AreKeptAt p.now.given (sets g.now) n.0 kept.fixed.now kept.standings.now kept.near.now kept.firsts.now }
     requires node { n.0 < node_count p.now.given }
@@ -157,7 +144,7 @@ fn resource_doubt(
     let used = most_used(p, g, kept, n, r, x);
     let room = room_of(p, g, n, r, x);
     if used > room {
-        return Some(Doubt::Whole(x.from));
+        return Some(Look::Fail(x.from));
     }
     if let Some(doubt) = machine_doubt(p, g, kept, n, r, x, room - used) {
         return Some(doubt);
@@ -176,7 +163,7 @@ pub(crate) fn load_doubt(
     kept: Kept<'_>,
     n: NodeId,
     x: Period,
-) -> Option<Doubt>
+) -> Option<Look>
     requires region { IsSized p.now.given g.now }
     requires kept { AreKeptAt p.now.given (sets g.now) n.0 kept.fixed.now kept.standings.now kept.near.now kept.firsts.now }
     requires node { n.0 < node_count p.now.given }

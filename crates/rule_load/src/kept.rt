@@ -1,7 +1,6 @@
 //! What is kept beside a region, as far as a node needs it.
-use cluster::Instant;
-use profiles::fixed::Fixed;
-use profiles::standing::numbers::Standing;
+use crate::{Fixed, Standing};
+use rule_frame::Instant;
 
 /// What does not change, where each machine surely stands, the machines near the node, and before when each does not
 /// start there.

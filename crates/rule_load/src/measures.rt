@@ -4,10 +4,9 @@ ghost use Rattle.profiles.specs.Prelude.{AreLeaves, IsElement, node, vm};
 ghost use Rattle.rule_load.specs.Parts.{left_over, usable_count};
 ghost use Rattle.rule_load.specs.Totals.{hurry_count};
 
-use catalogue::Problem;
-use cluster::{Choice, Instant, NodeId};
+use crate::{Leaving, NEVER};
 use domains::measure::Measure;
-use profiles::standing::numbers::{Leaving, NEVER};
+use rule_frame::{Choice, Instant, NodeId, Problem};
 use slices::choice::usable;
 
 /// How long before the end of time a machine gives its host up.

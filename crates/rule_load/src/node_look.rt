@@ -2,19 +2,15 @@
 ghost use Rattle.std.specs.Prelude.{◌<◌, IfNone};
 ghost use Rattle.rule_load.specs.Prelude.{AreKeptAt, IsLook, IsSized, load_watch, node_count, sets};
 
-use crate::doubt::{Doubt, load_doubt};
-use crate::kept::Kept;
-use crate::period::Period;
-use crate::settle::confirmed;
-use crate::turns::next_change;
-use catalogue::Problem;
-use closing::look::Look;
+use crate::change_instants::next_change;
+use crate::confirm::confirmed;
+use crate::doubt::load_doubt;
+use crate::{Kept, Period};
 use closing::watch::look_at_load;
-use cluster::NodeId;
-use domains::Region;
+use rule_frame::{Look, NodeId, Problem, Region};
 
 // the first case in which a node may be overloaded
-fn first_doubt(p: &Problem, g: &Region, kept: Kept<'_>, n: NodeId) -> Option<Doubt>
+fn first_doubt(p: &Problem, g: &Region, kept: Kept<'_>, n: NodeId) -> Option<Look>
     requires region { IsSized p.now.given g.now }
     requires kept { AreKeptAt p.now.given (sets g.now) n.0 kept.fixed.now kept.standings.now kept.near.now kept.firsts.now }
     requires node { n.0 < node_count p.now.given }

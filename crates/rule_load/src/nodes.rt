@@ -2,8 +2,7 @@
 ghost use Rattle.std.specs.Prelude.{◌≡◌, ℕ, ◌+◌, ◌<◌, IfNone, IfSome};
 ghost use Rattle.rule_load.specs.Prelude.{all_nodes, AreListed, has_node, node_count, nodes_at, one};
 
-use catalogue::Problem;
-use cluster::{NodeId, NodeSet};
+use rule_frame::{NodeId, NodeSet, Problem};
 
 /// How many nodes there are.
 pub(crate) fn node_total(p: &Problem) -> usize

@@ -3,21 +3,13 @@ ghost use Rattle.std.specs.Prelude.{◌≡◌, ◌≢◌, ◌+◌, ◌*◌, ◌<
 ghost use Rattle.std.specs.List.{Contains, sum_by};
 ghost use Rattle.rule_load.specs.Prelude.{Amount as AmountOf, AreKeptAt, At, Choice as AnyChoice, choices, has_come, held_at, IsElement, IsFixed, IsOverload, IsSized, kept_use as the_kept_use, least, load as load_of, max_held, max_machines, node_count, NodeId as AnyNode, one, seen, sets, sure};
 
-use crate::kept::Kept;
-use crate::period::Period;
 use crate::uses::most_kept;
-use catalogue::Problem;
-use cluster::{Element, Instant, NodeId, Place, VmId};
+use crate::{Fixed, Kept, Period, Standing, gain, resource_total, standing_of};
 use domains::view::{Sight, shown};
-use domains::{Domain, Row, View};
-use profiles::fixed::{Fixed, resource_total};
 use profiles::near::is_listed;
 use profiles::seen::{is_narrowed, narrowed, room_seen};
-use profiles::standing::numbers::{Standing, standing_of};
-use profiles::standing::uses::gain;
-use relax::Area;
 use relax::sure::least_held;
-use slices::Weight;
+use rule_frame::{Area, Domain, Element, Instant, NodeId, Place, Problem, Row, View, VmId, Weight};
 
 // what a machine with these numbers surely uses of a node
 #[inline(always)]

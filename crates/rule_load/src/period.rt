@@ -1,5 +1,5 @@
 //! Stretches of time.
-use cluster::Instant;
+use rule_frame::Instant;
 
 /// The instants from one to another, both of them among them.
 #[derive(Clone, Copy, Debug, PartialEq, Eq)]

@@ -1,16 +1,12 @@
 //! The reason why nodes are overloaded.
 ghost use Rattle.std.specs.Prelude.{◌+◌, ◌<◌, ◌≤◌, IfNone, IfSome, length};
-ghost use Rattle.rule_load.specs.Prelude.{cache_of, has_node, IsCacheFor, IsOverload, IsOverloaded, IsSized, node_count, nodes_at, seen, sets, sure};
-ghost use Rattle.prop_core.specs.Propagators.{FailHolds};
+ghost use Rattle.rule_load.specs.Prelude.{cache_of, FailHolds, has_node, IsCacheFor, IsOverload, IsOverloaded, IsSized, node_count, nodes_at, seen, sets, sure};
 
+use crate::Standings;
 use crate::nodes::{node_at, watched_nodes};
 use crate::over::overloaded_at;
-use crate::standings::Standings;
-use catalogue::Problem;
-use cluster::{Instant, NodeSet};
-use domains::View;
-use reasons::Reason;
 use relax::amounts::is_overload;
+use rule_frame::{Instant, NodeSet, Problem, Reason, View};
 
 /// The first resource of which the nodes of a set lack capacity.
 pub(crate) fn overloaded(p: &Problem, view: &View, set: &NodeSet, t: Instant) -> Option<u8>

@@ -1,27 +1,26 @@
 //! Whether a reason is seen to refute a region with what is inside a part of an element's choices.
 ghost use Rattle.std.specs.Prelude.{◌≡◌, ◌<◌, ◌≤◌, IfSome, IsTrue, length};
-ghost use Rattle.rule_load.specs.Prelude.{cache_of, has_node, in_part, IsCacheFor, IsElement, IsOverload, IsSized, keeping, node_count, one, sets, sure};
-ghost use Rattle.prop_core.specs.Propagators.{FailHolds, MayAnswer};
+ghost use Rattle.rule_load.specs.Prelude.{cache_of, FailHolds, has_node, in_part, IsCacheFor, IsElement, IsOverload, IsSized, keeping, MayAnswer, node_count, one, sets, sure};
 
-use crate::nodes::{node_set, node_total};
 use crate::over::is_over;
-use crate::standings::Standings;
-use catalogue::Problem;
-use cluster::{Element, Instant, NodeId, NodeSet};
-use domains::{Lens, Part, Region, View};
-use profiles::fixed::resource_total;
-use reasons::Reason;
+use crate::{Standings, resource_total};
+use relax::area::area_of;
 use relax::refutes::refutes_inside;
+use rule_frame::{
+    Area, Element, Instant, Lens, NodeId, NodeSet, Part, Problem, Reason, Region, View, has_element,
+};
 
-// the node of a set that has one alone; None where it has more, or none
+// the node of a set that has one of the problem alone
 fn only_node(p: &Problem, set: &NodeSet) -> Option<NodeId>
     ensures { IfSome result (λ n. (n.0 < node_count p.now.given) × (has_node set.now ≡ one n.0)) }
 {
-    let n = set.first_from(0)?;
-    if (n.0 as usize) < node_total(p) && *set == node_set(p, n) {
-        Some(n)
-    } else {
-        None
+    match area_of(p, set) {
+        Area::One(n) => if has_element(p, Element::Node(n)) {
+            Some(n)
+        } else {
+            None
+        },
+        Area::All | Area::In(_) | Area::OutsideOne(_) | Area::Outside(_) => None,
     }
 }
 

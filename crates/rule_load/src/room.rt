@@ -2,13 +2,11 @@
 ghost use Rattle.std.specs.Prelude.{◌≡◌, ℕ, ◌*◌, ◌<◌, ◌≤◌, length, IsTrue, true, if◌then◌else◌};
 ghost use Rattle.rule_load.specs.Prelude.{capacity_of, HasRoom, is_above_none, is_online as the_is_online, is_steady as the_is_steady, IsSized, max_capacity, max_nodes, node, node_count, NodesFit, one, Period as AnyPeriod, sets, sum_to, sure, surely, usable_at};
 
+use crate::Period;
 use crate::measures::IsUsable;
-use crate::period::Period;
-use catalogue::Problem;
-use cluster::{Element, Instant, NodeId};
 use domains::view::lowest_seen;
-use domains::{Lens, Region, View};
 use relax::sure::may_be_usable;
+use rule_frame::{Element, Instant, Lens, NodeId, Problem, Region, View};
 
 /// The capacity of a node for a resource, 0 where it cannot be usable at the first or the last instant.
 #[tactic(auto, using(crate::proofs::RoomLemmas::room_while_usable, crate::proofs::RoomLemmas::no_room))]

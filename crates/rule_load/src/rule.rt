@@ -1,9 +1,9 @@
 //! The rule itself.
 ghost use Rattle.std.specs.Prelude.{◌≡◌};
 
-use crate::standings::Standings;
+use crate::Standings;
 use crate::watcher::Loads;
-use rule_frame::rule::Rule;
+use rule_frame::Rule;
 use std::alloc::Global;
 
 /// The rule of the loads of nodes, of each one and of all together. It covers the one kind `Load`.

@@ -4,18 +4,12 @@ ghost use Rattle.profiles.specs.Prelude.{AreMovers, AreStanding, IsElement, IsFi
 ghost use Rattle.rule_frame.specs.Caches.{IsCacheFor};
 ghost use Rattle.rule_load.specs.Kept.{AreKeptAt, Grows, IsListedBy, IsListedFor};
 
-use crate::kept::Kept;
-use base::Memory;
-use catalogue::Problem;
-use cluster::{Element, NodeId, VmId};
-use domains::{Before, Change, Domain, Region};
+use crate::{Fixed, Kept, Standing};
 use profiles::firsts::Firsts;
-use profiles::fixed::Fixed;
 use profiles::movers::Movers;
 use profiles::near::Near;
-use profiles::standing::numbers::Standing;
 use profiles::standing::table::Table;
-use rule_frame::keeper::Keeper;
+use rule_frame::{Before, Change, Domain, Element, Keeper, Memory, NodeId, Problem, Region, VmId};
 use std::alloc::Global;
 
 /// Keeps for each machine until when it surely stands on its host, and where it surely comes to; for each node the

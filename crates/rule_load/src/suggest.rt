@@ -2,24 +2,16 @@
 ghost use Rattle.std.specs.Prelude.{◌<◌, IsTrue, length};
 ghost use Rattle.rule_load.specs.Prelude.{AreKeptAt, AreStanding, IsElement, IsSized, machine_count, node_count, sets};
 
-use crate::kept::Kept;
+use crate::change_instants::next_change;
 use crate::nodes::node_set;
-use crate::period::Period;
 use crate::room::room_of;
-use crate::turns::next_change;
 use crate::uses::{may_come, most_used};
-use base::Memory;
-use catalogue::Problem;
-use cluster::{Choice, Element, Instant, NodeId, Place, VmId};
-use domains::{Change, Part, Region, Row, Side};
-use profiles::fixed::resource_total;
-use profiles::host::is_host;
-use profiles::standing::numbers::{NEVER, Standing};
-use profiles::standing::uses::base;
-use reasons::Reason;
+use crate::{Kept, NEVER, Period, Standing, base, is_host, resource_total};
 use relax::measures::end;
-use rule_frame::suggestion::Suggestion;
-use slices::Weight;
+use rule_frame::{
+    Change, Choice, Element, Instant, Memory, NodeId, Part, Place, Problem, Reason, Region, Row,
+    Side, Suggestion, VmId, Weight,
+};
 use std::alloc::Global;
 
 /// An overload of a node that a machine makes.
@@ -101,7 +93,7 @@ fn last_without(spares: &[Spare], amount: u64, there: u64) -> Option<Instant> {
 }
 
 // from when on what is surely used of a node has what a machine brings
-fn surely_there(k: Standing, node: NodeId) -> u64 {
+fn surely_there_from(k: Standing, node: NodeId) -> u64 {
     match k.come {
         Some(a) if a.node.0 == node.0 => u64::from(a.last),
         _ => NEVER,
@@ -125,7 +117,7 @@ fn comes_without(
     if !may_come(p, kept, g, machine, node, p.horizon()) {
         return None;
     }
-    let there = surely_there(kept.standings[machine.0 as usize], node);
+    let there = surely_there_from(kept.standings[machine.0 as usize], node);
     let at = last_without(spares, p.demand(machine, r), there)?;
     if kept.firsts[machine.0 as usize] <= at {
         Some(at)

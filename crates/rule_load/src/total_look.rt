@@ -2,16 +2,12 @@
 ghost use Rattle.std.specs.Prelude.{◌+◌, ◌<◌, ◌≤◌, length, IfSome, IsTrue};
 ghost use Rattle.rule_load.specs.Prelude.{all_nodes, AreMovers, AreStanding, IsFixed, IsFreeDuring, IsFreePast, IsLook, IsOverload, IsOverloaded, IsSized, sets, total_load_watch};
 
-use crate::period::Period;
+use crate::change_instants::next_change_anywhere;
 use crate::room::steady_room;
 use crate::total_uses::{machines_fit, most_total};
-use crate::turns::next_change_anywhere;
-use catalogue::Problem;
-use closing::look::Look;
+use crate::{Fixed, Period, Standing, resource_total};
 use closing::watch::look_at_total_load;
-use domains::Region;
-use profiles::fixed::{Fixed, resource_total};
-use profiles::standing::numbers::Standing;
+use rule_frame::{Look, Problem, Region};
 
 // whether it is seen that of a resource enough is there during a period
 fn has_enough(

@@ -4,17 +4,11 @@ ghost use Rattle.std.specs.List.{sum_by};
 ghost use Rattle.rule_load.specs.Prelude.{all_nodes, Amount as AmountOf, AreMachines, AreMovers, AreStanding, base as the_base, is_nought, IsElement, IsFixed, IsMost, IsSized, machine_count, MachinesFit, max_amount, max_capacity, max_machines, max_nodes, may_wait as the_may_wait, most_anywhere as the_most_anywhere, no_standing, sets, StartsAfter, sum_to, vm};
 
 use crate::measures::Hurries;
-use crate::period::Period;
 use crate::uses::has_left;
-use catalogue::Problem;
-use cluster::{Element, Instant, VmId};
+use crate::{Fixed, Period, Standing, base};
 use domains::view::lowest_seen;
-use domains::{Lens, Region, View};
 use profiles::firsts::Start;
-use profiles::fixed::Fixed;
-use profiles::standing::numbers::Standing;
-use profiles::standing::uses::base;
-use slices::Weight;
+use rule_frame::{Element, Instant, Lens, Problem, Region, View, VmId, Weight};
 
 // whether a value, if there is one, is 0
 fn is_zero(lowest: Option<u64>) -> bool

@@ -2,18 +2,14 @@
 ghost use Rattle.std.specs.Prelude.{◌≡◌, ◌≢◌, ℕ, None, false, IfSome, ◌+◌, ◌*◌, ◌<◌, ◌≤◌, length, slice_index_or, IsTrue, if◌then◌else◌};
 ghost use Rattle.rule_load.specs.Prelude.{Amount as AmountOf, AreKeptAt, base as the_base, gain as the_gain, HasLeft, hosted_in, IsElement, IsFixed, IsMost, IsMostBrought, IsMostLeft, IsSized, machine_count, max_amount, max_capacity, max_machines, most_kept as the_most_kept, no_standing, one, sets, StartsPast, state_of, sum_to, vm};
 
-use crate::kept::Kept;
 use crate::measures::LeftOver;
-use crate::period::Period;
-use catalogue::Problem;
-use cluster::{Element, Instant, NodeId, Place, VmId};
+use crate::{
+    Arrival, Fixed, Kept, Leaving, NEVER, Period, Standing, base, comes_by, gain, leaves_of,
+};
 use domains::view::lowest_seen;
-use domains::{Change, Lens, Part, Region, Side, View};
-use profiles::fixed::Fixed;
-use profiles::standing::leaves::leaves_of;
-use profiles::standing::numbers::{Arrival, Leaving, NEVER, Standing};
-use profiles::standing::uses::{base, comes_by, gain};
-use slices::Weight;
+use rule_frame::{
+    Change, Element, Instant, Lens, NodeId, Part, Place, Problem, Region, Side, View, VmId, Weight,
+};
 
 // what a machine uses of a node on which it still is, or to which it has come, or both
 #[inline(never)]

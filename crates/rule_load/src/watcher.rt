@@ -5,23 +5,18 @@ ghost use Rattle.closing.proofs.Public.{load_is_local};
 ghost use Rattle.rule_load.specs.Quiet.{load_is_quiet};
 ghost use Rattle.rule_load.specs.Watched.{is_load, nodes_at, watch_at};
 
-use crate::marking::mark_disturbed;
+use crate::Standings;
+use crate::dirty::set_disturbed_dirty;
 use crate::node_look::node_look;
 use crate::nodes::{node_at, node_total};
 use crate::reason::load_reason;
 use crate::refuting::refutes_part;
-use crate::standings::Standings;
 use crate::suggest::suggest_on;
 use crate::total_look::total_look;
-use base::Memory;
-use catalogue::Problem;
-use closing::look::Look;
-use cluster::{Element, Instant};
-use domains::{Before, Change, Domain, Part, Region, View};
-use reasons::{Reason, ReasonKind};
-use rule_frame::marks::Marks;
-use rule_frame::suggestion::Suggestion;
-use rule_frame::watcher::Watcher;
+use rule_frame::{
+    Before, Change, DirtySet, Domain, Element, Instant, Look, Memory, Part, Problem, Reason,
+    ReasonKind, Region, Suggestion, View, Watcher,
+};
 
 /// Watch i is the load of node i, and the last one that of all nodes together.
 #[derive(Clone, Copy, Default)]
@@ -50,13 +45,9 @@ impl Watcher<Standings> for Loads {
         change: Change,
         before: Before,
         kept: &Domain,
-        marks: &mut Marks,
+        dirty: &mut DirtySet,
     ) {
-        mark_disturbed(k, p, g, change.element, before, kept, marks);
-    }
-
-    fn refuted(&self, _k: &Standings, _p: &Problem, _g: &Region, _i: usize) -> Option<Reason> {
-        None
+        set_disturbed_dirty(k, p, g, change.element, before, kept, dirty);
     }
 
     fn names_all(&self, p: &Problem, i: usize) -> bool {

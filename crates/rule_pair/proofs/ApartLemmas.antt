@@ -1,13 +1,7 @@
 -- Machines that are told to keep apart at all instants.
-use Rattle.std.proofs.Common.{if◌then◌else◌, IsTrue, slice_index_or}
-use Rattle.base.proofs.Public.{◌≡◌, ◌≢◌, ◌⊎◌, inl, inr, ℕ, zero, suc, ◌+◌, ◌<◌, ◌≤◌, Bool, true, false, ◌&&◌, nat_lt, List, [], ◌∷◌, length, get_or, Some, refl, sym, ◌∙◌, arith, and_parts, both_ways, cases_eq, cases_lt, eqb-true, false≢true, nat_tests, get_or_default, get_or_past}
+use Rattle.rule_pair.proofs.Prelude.{if◌then◌else◌, IsTrue, slice_index_or, ◌≡◌, ◌≢◌, ◌⊎◌, inl, inr, ℕ, zero, suc, ◌+◌, ◌<◌, ◌≤◌, Bool, true, false, ◌&&◌, nat_lt, List, [], ◌∷◌, length, get_or, Some, refl, sym, ◌∙◌, arith, and_parts, both_ways, cases_eq, cases_lt, eqb-true, false≢true, nat_tests, get_or_default, get_or_past, part_listed, sound_form, surely_each, end_is_choice, ends_of_rows, some_end, present_law, and-true, arrival, arrived, numbers, of_one, other-vm, own_present, same_present, vm_or}
 use Rattle.rule_pair.specs.Prelude.{Act, Apart, are_below, AreClear, AreLonger, AreOrdered, At, base, Between, Choice, choices, Clear, Climbs, comes_by, Constraint, DomainView, Doubtful, Each, Element, form_of, gain, has_come, HasPosts, hosted_in, Idle, Instance, inventory_of, is_member, is_rule, IsAt, IsClean, IsEnd, IsInPart, IsLate, IsMember, IsStanding, IsTold, KeepsClear, KeepsOff, kept_use, least, leave_of, Longest, machine_count, never, no_row, Nowhere, of_kind, OnClear, one, Pair, place_index, Posts, Presence, present_at, reason_kind, Row, row_at, rule_watch, Seen, separated, Separation, Sets, setting, Standing, StandsWithin, state_of, sure, told_until, Unknown, vm, VmId}
 use Rattle.cluster.specs.declared.choices.Place.{Place}
-use Rattle.slices.proofs.Public.{sound_form}
-use Rattle.domains.proofs.Public.{surely_each}
-use Rattle.reasons.proofs.Public.{end_is_choice, ends_of_rows, some_end}
-use Rattle.profiles.proofs.Public.{present_law}
-use Rattle.rule_constraint.proofs.Public.{and-true, arrival, arrived, numbers, of_one, other-vm, own_present, same_present, vm_or}
 
 -- ---- one choice
 
@@ -45,16 +39,6 @@ has_posts p s v k x short some is host come =
             | inr b ↦ inr (come n t l b)
           ];
     }
-
--- ---- loops
-
--- a part with a member is listed
-part-listed : (parts : List (List VmId)) (i v : ℕ) → IsInPart parts i v → i < length parts
-part-listed parts i v h =
-    elim (cases_lt i (length parts)) [
-      | inl low ↦ low
-      | inr past ↦ absurd (both_ways (is_member (slice_index_or parts i []) v) (rw (get_or_past parts i [] past) refl) h)
-    ]
 
 -- ---- who keeps off
 
@@ -136,7 +120,7 @@ next_part P parts vs given i low same is before here k v h there =
 
 -- and so of those of all
 pub each_part : (P : ℕ → ℕ → Type 0) (parts : List (List VmId)) (count : ℕ) → length parts ≤ count → ((k v : ℕ) → k < count → IsInPart parts k v → P k v) → (k v : ℕ) → IsInPart parts k v → P k v
-each_part P parts count l each k v there = each k v (omega (arith, part-listed parts k v there, l)) there
+each_part P parts count l each k v there = each k v (omega (arith, part_listed parts k v there, l)) there
 
 module _ (p : Instance) (s : Sets) where
   -- ---- two machines

@@ -1,7 +1,5 @@
 -- Why a constraint is broken that the rule watches.
-use Rattle.base.proofs.Public.{◌≡◌, ℕ, true, slice_get}
-use Rattle.rule_pair.specs.Prelude.{Applies, Bound, broken_at, Constraint, Empty, Group, Hall, HasPair, Instance, IsBrokenBy, Load, Pair, pair_kinds, Place, Power, ReasonKind, SetLoad, Snapshot, Usable, watch_at}
-use Rattle.rule_constraint.proofs.Public.{kept_applies}
+use Rattle.rule_pair.proofs.Prelude.{◌≡◌, ℕ, true, slice_get, Applies, Bound, broken_at, Constraint, Empty, Group, Hall, HasPair, Instance, IsBrokenBy, Load, Pair, pair_kinds, Place, Power, ReasonKind, SetLoad, Snapshot, Usable, watch_at, kept_applies}
 
 by : (p : Instance) (b : Snapshot) (k : Constraint) (kind : ReasonKind) → pair_kinds kind ≡ true → IsBrokenBy p b k kind → HasPair p b k
 by p b k Empty on x = cc

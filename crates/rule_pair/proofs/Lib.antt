@@ -1,3 +1,4 @@
+mod Prelude
 mod ApartLemmas
 mod BrokenLemmas
 mod LongestLemmas

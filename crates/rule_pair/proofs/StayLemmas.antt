@@ -1,7 +1,5 @@
 -- How long a machine stays that runs.
-use Rattle.base.proofs.Public.{◌≡◌, ℕ, ◌≤◌, true, max, unwrap_or, Option, None, List, [], ◌∷◌, refl, arith, filter}
-use Rattle.rule_pair.specs.Prelude.{Choice, choices, DomainView, Instance, IsStanding, least, leave_of, lowest, Standing, StandsWithin, stays}
-use Rattle.profiles.proofs.Public.{all_stay}
+use Rattle.rule_pair.proofs.Prelude.{◌≡◌, ℕ, ◌≤◌, true, max, unwrap_or, Option, None, List, [], ◌∷◌, refl, arith, filter, Choice, choices, DomainView, Instance, IsStanding, least, leave_of, lowest, Standing, StandsWithin, stays, all_stay}
 
 -- one that may stay has not come elsewhere, and is not told too short how long it stays
 pub idle_stands : (p : Instance) (v : ℕ) (d : DomainView) (k : Standing) → d.idle ≡ true → least (leave_of p v) (choices d) ≤ k.leave → k.come ≡ None → StandsWithin p v (choices d) k

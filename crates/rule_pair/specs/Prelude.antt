@@ -3,7 +3,7 @@ pub use Rattle.relax.specs.Prelude.{Applies, ForbidsPair}
 pub use Rattle.closing.specs.Prelude.{are_below, inventory_of, is_rule, IsMetWith, separated, separation_seen}
 pub use Rattle.profiles.specs.Prelude.{gain, IsPair, kept_use, lowest, never, stays}
 pub use Rattle.rule_frame.specs.Prelude.{HasPair, keeping, max_nodes, place_index, Refutes, seen}
-pub use Rattle.rule_constraint.specs.Prelude.{Apart, base, Between, broken_at, choices, Climbs, comes_by, constraint_watch, DomainView, Each, form_of, has_come, hosted_in, in_part, Instance, is_member, IsBrokenBy, IsClean, IsEnd, IsInPart, IsLook, IsMember, IsSized, IsStanding, least, leave_of, machine_count, no_row, node_count, one, present_at, reason_kind, row_at, rule_watch, Separates, Separation, Sets, sets, setting, Snapshot, state_of, vm, watch_at}
+pub use Rattle.rule_constraint.specs.Prelude.{Apart, base, Between, broken_at, choices, Climbs, comes_by, constraint_watch, DomainView, Each, FailHolds, form_of, has_come, hosted_in, in_part, Instance, is_member, IsBrokenBy, IsClean, IsEnd, IsInPart, IsLook, IsMember, IsSized, IsStanding, least, leave_of, machine_count, MayAnswer, no_row, node_count, one, present_at, reason_kind, row_at, rule_watch, Separates, Separation, Sets, sets, setting, Snapshot, state_of, vm, watch_at}
 unfoldable pub use Rattle.rule_constraint.specs.Prelude.{sure}
 pub use Rattle.cluster.specs.declared.choices.Choice.{Choice}
 pub use Rattle.cluster.specs.declared.choices.Choice.TheVariants.{Act, Idle}

@@ -6,12 +6,9 @@ ghost use Rattle.rule_pair.specs.Prelude.{are_below, AreClear, AreLonger, AreOrd
 use crate::longest::{NOBODY, Stay, Table, stay_after, tell};
 use crate::pairs::separation_of;
 use crate::posts::{Post, last_before, posts_of};
-use catalogue::{Constraint, Problem, Vms};
 use cluster::limits::MAX_NODES;
-use cluster::{Element, NodeId, Place, VmId};
-use domains::{Region, Row};
-use rule_constraint::machines::host;
-use slices::form::Separation;
+use rule_constraint::host;
+use rule_frame::{Constraint, Element, NodeId, Place, Problem, Region, Row, Separation, VmId, Vms};
 
 /// Two machines, of which the second one may be at a post of the first one.
 #[derive(Clone, Copy)]

@@ -1,17 +1,14 @@
 //! Machines that are to be on different nodes, and are more than the nodes that are left to them.
 ghost use Rattle.std.specs.Prelude.{◌≡◌, ◌<◌, IfSome, length, nat_lt, true};
 ghost use Rattle.std.specs.List.{list_all};
-ghost use Rattle.rule_pair.specs.Prelude.{are_below, IsSized, machine_count, separated, separation_seen, sets};
-ghost use Rattle.prop_core.specs.Propagators.{FailHolds};
+ghost use Rattle.rule_pair.specs.Prelude.{are_below, FailHolds, IsSized, machine_count, separated, separation_seen, sets};
 
 use crate::pairs::separation_of;
-use catalogue::Problem;
-use cluster::{Element, NodeId, NodeSet, Place, VmId};
-use domains::{Domain, Region};
 use profiles::standing::leaves::runs_on;
-use reasons::Reason;
 use relax::refutes::refutes;
-use slices::form::Separation;
+use rule_frame::{
+    Domain, Element, NodeId, NodeSet, Place, Problem, Reason, Region, Separation, VmId,
+};
 
 // nodes, and how many more there must be for each of some machines to have one of its own
 #[derive(Clone, Copy)]

@@ -4,7 +4,7 @@ ghost use Rattle.rule_pair.specs.Prelude.{AreLonger, AreOrdered, IsAt, IsOrdered
 
 use crate::posts::Post;
 use cluster::limits::MAX_NODES;
-use cluster::{Instant, NodeId, VmId};
+use rule_frame::{Instant, NodeId, VmId};
 
 /// Before when a machine of a part may surely be at a node. Up to 0 that is never.
 #[derive(Clone, Copy)]

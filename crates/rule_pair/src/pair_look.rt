@@ -3,13 +3,10 @@ ghost use Rattle.std.specs.Prelude.{◌≡◌, ◌<◌, ◌≤◌, IfSome, IsTru
 ghost use Rattle.rule_pair.specs.Prelude.{broken_at, choices, constraint_watch, IsEnd, IsLook, IsMetWith, IsSized, machine_count, node_count, sets, setting, sure, vm};
 
 use crate::clear::{Doubt, Seen, look_over};
-use catalogue::Problem;
-use closing::look::Look;
 use closing::watch::look_at_constraint;
-use cluster::{Choice, Element, NodeId, Place};
-use domains::{Domain, Lens, Region, View};
 use profiles::host::is_host;
 use profiles::standing::pairs::is_pair;
+use rule_frame::{Choice, Domain, Element, Lens, Look, NodeId, Place, Problem, Region, View};
 
 // whether a place is a node
 fn is_at(place: Place, n: NodeId) -> bool {

@@ -1,17 +1,14 @@
 //! Two machines on one node that a constraint keeps apart, looked for.
 ghost use Rattle.std.specs.Prelude.{◌≡◌, ℕ, ◌<◌, ◌≤◌, false, length, IfNone, IfSome, IsTrue};
-ghost use Rattle.rule_pair.specs.Prelude.{Apart, Applies, ForbidsPair, form_of as the_form_of, HasPair, IsInPart, IsPair, IsSized, machine_count, node_count, seen, Separates, separation_seen, sure};
-ghost use Rattle.prop_core.specs.Propagators.{FailHolds};
+ghost use Rattle.rule_pair.specs.Prelude.{Apart, Applies, FailHolds, ForbidsPair, form_of as the_form_of, HasPair, IsInPart, IsPair, IsSized, machine_count, node_count, seen, Separates, separation_seen, sure};
 
-use catalogue::{Constraint, Problem, Vms};
-use cluster::{Choice, Element, Instant, NodeId, VmId};
-use domains::{Lens, View};
 use profiles::standing::pairs::is_pair;
 use profiles::standing::stays::surely_at;
-use reasons::Reason;
 use rule_constraint::machines::likely_node;
-use slices::Form;
-use slices::form::{Separation, form_of};
+use rule_frame::{
+    Choice, Constraint, Element, Form, Instant, Lens, NodeId, Problem, Reason, Separation, View,
+    VmId, Vms, form_of,
+};
 
 /// How a constraint keeps machines apart, if it does.
 pub fn separation_of(constraint: &Constraint) -> Option<Separation<'_>>

@@ -3,11 +3,9 @@ ghost use Rattle.std.specs.Prelude.{◌≡◌, ◌≢◌, ℕ, ◌<◌, ◌≤�
 ghost use Rattle.rule_pair.specs.Prelude.{choices, comes_by, HasPosts, hosted_in, IsAt, IsSized, machine_count, one, sets, StandsWithin, state_of};
 
 use crate::stays::leave_or_later;
-use catalogue::Problem;
-use cluster::{Element, Instant, NodeId, VmId};
-use domains::{Domain, Region};
 use profiles::standing::numbers::{Arrival, Standing, standing_of};
-use rule_constraint::machines::host;
+use rule_constraint::host;
+use rule_frame::{Domain, Element, Instant, NodeId, Problem, Region, VmId};
 
 /// A node, and the last instant at which a machine may surely be there.
 #[derive(Clone, Copy)]

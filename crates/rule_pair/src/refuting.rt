@@ -2,12 +2,9 @@
 ghost use Rattle.std.specs.Prelude.{IsTrue};
 ghost use Rattle.rule_pair.specs.Prelude.{in_part, IsSized, keeping, Refutes, sets};
 
-use catalogue::Problem;
-use cluster::Element;
-use domains::{Lens, Part, Region, View};
 use profiles::standing::pairs::pair_refutes;
-use reasons::Reason;
 use relax::refutes::refutes_inside;
+use rule_frame::{Element, Lens, Part, Problem, Reason, Region, View};
 
 /// Whether it is seen that a reason does.
 pub(crate) fn refutes_part(p: &Problem, g: &Region, e: Element, part: Part, reason: &Reason) -> bool

@@ -7,16 +7,11 @@ use crate::pair_look::look_quickly;
 use crate::pairs::pair_reason;
 use crate::refuting::refutes_part;
 use crate::suggest::suggest_pairs;
-use base::Memory;
-use catalogue::Problem;
-use closing::look::Look;
-use cluster::{Element, Instant};
-use domains::{Part, Region, View};
-use reasons::{Reason, ReasonKind};
-use rule_constraint::index::ConstraintIndex;
-use rule_constraint::watcher::{ConstraintWatcher, Kinds};
-use rule_frame::rule::Rule;
-use rule_frame::suggestion::Suggestion;
+use rule_constraint::{ConstraintIndex, ConstraintWatcher, Kinds};
+use rule_frame::{
+    Element, Instant, Look, Memory, Part, Problem, Reason, ReasonKind, Region, Rule, Suggestion,
+    View,
+};
 
 /// Two machines on one node: `spread`, `split`, `lonely`.
 #[derive(Clone, Copy, Default)]

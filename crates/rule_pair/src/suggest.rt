@@ -4,13 +4,10 @@ ghost use Rattle.std.specs.List.{list_all};
 ghost use Rattle.rule_pair.specs.Prelude.{are_below, IsSized, machine_count, separated, separation_seen};
 
 use crate::pairs::separation_of;
-use base::Memory;
-use catalogue::{Problem, Vms};
-use cluster::{Element, Instant, NodeId, Place, VmId};
-use domains::{Change, Part, Region, Side};
-use reasons::Reason;
-use rule_frame::suggestion::Suggestion;
-use slices::form::Separation;
+use rule_frame::{
+    Change, Element, Instant, Memory, NodeId, Part, Place, Problem, Reason, Region, Separation,
+    Side, Suggestion, VmId, Vms,
+};
 
 // a machine that is on a node at an instant, and the number of a constraint that keeps others off it
 #[derive(Clone, Copy)]

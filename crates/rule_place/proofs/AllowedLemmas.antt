@@ -1,13 +1,6 @@
 -- Machines that are nowhere that a constraint forbids to them.
-use Rattle.std.proofs.Common.{IsTrue, slice_index_or}
-use Rattle.base.proofs.Public.{◌≡◌, ◌≢◌, ◌⊎◌, inl, inr, ℕ, ◌<◌, ◌≤◌, Bool, true, false, ◌&&◌, ◌||◌, ◌==◌, nat_lt, List, [], length, Some, refl, sym, ◌∙◌, arith, and_parts, eqb-true, false≢true, nat_tests}
+use Rattle.rule_place.proofs.Prelude.{IsTrue, slice_index_or, ◌≡◌, ◌≢◌, ◌⊎◌, inl, inr, ℕ, ◌<◌, ◌≤◌, Bool, true, false, ◌&&◌, ◌||◌, ◌==◌, nat_lt, List, [], length, Some, refl, sym, ◌∙◌, arith, and_parts, eqb-true, false≢true, nat_tests, Idle, Place, sound_form, surely_each, end_is_choice, ends_of_rows, some_end, own_present, same_present, vm_or}
 use Rattle.rule_place.specs.Prelude.{Act, Allowed, are_below, At, Choice, choices, Climbs, Constraint, DomainView, Element, ForbidsPlace, form_of, has_come, hosted_in, Instance, inventory_of, is_continuous, is_rule, IsAllowed, IsClean, IsDue, IsEnd, IsMember, IsOffHost, leave_of, machine_count, MayGo, never, no_row, Nodes, Nowhere, of_kind, one, Place as PlaceKind, Places, Presence, present_at, reason_kind, Row, rule_watch, Sets, setting, state_of, sure, vm, VmId}
-use Rattle.cluster.specs.declared.choices.Choice.TheVariants.{Idle}
-use Rattle.cluster.specs.declared.choices.Place.{Place}
-use Rattle.slices.proofs.Public.{sound_form}
-use Rattle.domains.proofs.Public.{surely_each}
-use Rattle.reasons.proofs.Public.{end_is_choice, ends_of_rows, some_end}
-use Rattle.rule_constraint.proofs.Public.{own_present, same_present, vm_or}
 use Rattle.rule_place.proofs.ShutdownLemmas.{holds_none}
 
 -- ---- the host

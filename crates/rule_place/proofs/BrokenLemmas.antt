@@ -1,7 +1,6 @@
 -- Why a constraint is broken that the rule watches.
-use Rattle.base.proofs.Public.{◌≡◌, ℕ, true, slice_get}
+use Rattle.rule_place.proofs.Prelude.{◌≡◌, ℕ, true, slice_get, kept_applies}
 use Rattle.rule_place.specs.Prelude.{Applies, Bound, broken_at, Constraint, Empty, forbidden_kinds, Group, Hall, HasPlace, Instance, IsBrokenBy, Load, Pair, Place, Power, ReasonKind, SetLoad, Snapshot, Usable, watch_at}
-use Rattle.rule_constraint.proofs.Public.{kept_applies}
 
 by : (p : Instance) (b : Snapshot) (k : Constraint) (kind : ReasonKind) → forbidden_kinds kind ≡ true → IsBrokenBy p b k kind → HasPlace p b k
 by p b k Empty on x = cc

@@ -1,6 +1,7 @@
+mod Prelude
 mod AllowedLemmas
 mod BrokenLemmas
-mod MarkLemmas
+mod DirtyLemmas
 mod NodeLemmas
 mod ShutdownLemmas
 mod WatchLemmas

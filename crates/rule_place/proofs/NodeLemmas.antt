@@ -1,21 +1,15 @@
 -- The watches of nodes on which a change of a machine does not weigh.
-use Rattle.std.proofs.Common.{IsTrue}
-use Rattle.base.proofs.Public.{◌≡◌, ◌≢◌, ◌⊎◌, inl, inr, ℕ, ◌+◌, ◌-◌, ◌<◌, ◌≤◌, Bool, true, false, List, [], ◌∷◌, length, set, refl, sym, ◌∙◌, arith, Contains, filter, and_parts, eqb-true, false≢true, nat_tests, length-set}
-use Rattle.rule_place.specs.Prelude.{Act, AreMarkedFrom, AreNodesMarked, AreSpared, At, Choice, From, goes_in, hosted_in, Idle, in_part, Inside, Instance, IsEnd, IsLess, IsStill, IsUntouched, Levels, node_count, NodeId, Nowhere, on_side, one, Outside, Part, Presence, present_at, same_place, Side, state_of, Upto, usable_watch, Vm, VmId}
-use Rattle.cluster.specs.declared.choices.Choice.TheVariants.{Idle as Stay}
-use Rattle.cluster.specs.declared.choices.Place.{Place}
-use Rattle.rule_frame.specs.Changes.{IsMachineLess}
-use Rattle.domains.proofs.Public.{contains_filter, filter_contains, surely_each}
-use Rattle.relax.proofs.Public.{away, away_least}
-use Rattle.rule_place.proofs.MarkLemmas.{other}
+use Rattle.rule_place.proofs.Prelude.{IsTrue, ◌≡◌, ◌≢◌, ◌⊎◌, inl, inr, ℕ, ◌+◌, ◌-◌, ◌<◌, ◌≤◌, Bool, true, false, List, [], ◌∷◌, length, set, refl, sym, ◌∙◌, arith, Contains, filter, and_parts, eqb-true, false≢true, nat_tests, length-set, Stay, Place, IsMachineLess, contains_filter, filter_contains, surely_each, away, away_least}
+use Rattle.rule_place.specs.Prelude.{Act, AreDirtyFrom, AreNodesDirty, AreSpared, At, Choice, From, goes_in, hosted_in, Idle, in_part, Inside, Instance, IsEnd, IsLess, IsStill, IsUntouched, Levels, node_count, NodeId, Nowhere, on_side, one, Outside, Part, Presence, present_at, same_place, Side, state_of, Upto, usable_watch, Vm, VmId}
+use Rattle.rule_place.proofs.DirtyLemmas.{other}
 
--- ---- marks
+-- ---- dirty watches
 
 pub none_spared : (p : Instance) (spared : ℕ → Type 0) (m : Levels) → ((k : ℕ) → spared k) → AreSpared p spared m m
 none_spared p spared m all = record { older = refl; count = refl; kept = λ i e. e; spared = λ i above h e. all (i - length p.constraints) }
 
-pub one_marked : (p : Instance) (n : ℕ) (m : Levels) → length p.constraints + n < length m.top → AreSpared p (λ k. k ≢ n) m (record m { top = set m.top (length p.constraints + n) true })
-one_marked p n m low = record {
+pub one_dirty : (p : Instance) (n : ℕ) (m : Levels) → length p.constraints + n < length m.top → AreSpared p (λ k. k ≢ n) m (record m { top = set m.top (length p.constraints + n) true })
+one_dirty p n m low = record {
   older = refl;
   count = length-set m.top (length p.constraints + n) true;
   kept = λ i e. (other m.top (length p.constraints + n) i low e).1;
@@ -23,15 +17,15 @@ one_marked p n m low = record {
 }
 
 -- there is no such node
-pub past_marked : (p : Instance) (n : ℕ) (m : Levels) → length m.top ≡ length p.constraints + node_count p → node_count p ≤ n → AreSpared p (λ k. k ≢ n) m m
-past_marked p n m many past = record { older = refl; count = refl; kept = λ i e. e; spared = λ i above h e same. absurd (omega (arith, same, above, h, many, past)) }
+pub past_dirty : (p : Instance) (n : ℕ) (m : Levels) → length m.top ≡ length p.constraints + node_count p → node_count p ≤ n → AreSpared p (λ k. k ≢ n) m m
+past_dirty p n m many past = record { older = refl; count = refl; kept = λ i e. e; spared = λ i above h e same. absurd (omega (arith, same, above, h, many, past)) }
 
-pub all_marked : (p : Instance) (spared : ℕ → Type 0) (m n : Levels) → AreMarkedFrom (length p.constraints) (length m.top) m n → AreSpared p spared m n
-all_marked p spared m n marked = record {
-  older = marked.older;
-  count = marked.count;
-  kept = marked.kept;
-  spared = λ i above h e. absurd (false≢true (sym e ∙ marked.marked i above (omega (arith, h, marked.count)) h));
+pub all_dirty : (p : Instance) (spared : ℕ → Type 0) (m n : Levels) → AreDirtyFrom (length p.constraints) (length m.top) m n → AreSpared p spared m n
+all_dirty p spared m n dirty = record {
+  older = dirty.older;
+  count = dirty.count;
+  kept = dirty.kept;
+  spared = λ i above h e. absurd (false≢true (sym e ∙ dirty.dirty i above (omega (arith, h, dirty.count)) h));
 }
 
 pub spared_weaker : (p : Instance) (P Q : ℕ → Type 0) (m n : Levels) → ((k : ℕ) → P k → Q k) → AreSpared p P m n → AreSpared p Q m n
@@ -139,7 +133,7 @@ module _ (p : Instance) (v : VmId) (side : Side) (part : Part) (old now : List C
       by c end t false g = inl (less (c ∷ []) old t c (0, omega arith, refl) g)
       by c end t true g = inr (c, end-before c end g, record { held = λ w set i. omega arith; present = λ set i x. x; action = λ far i x. x })
 
-pub nodes_spared : (p : Instance) (v : VmId) (side : Side) (part : Part) (old now : List Choice) (m n : Levels) → now ≡ filter (on_side side part) old → AreSpared p (IsUntouched p v.0 part now) m n → AreNodesMarked p (Vm v) old now m n
+pub nodes_spared : (p : Instance) (v : VmId) (side : Side) (part : Part) (old now : List Choice) (m n : Levels) → now ≡ filter (on_side side part) old → AreSpared p (IsUntouched p v.0 part now) m n → AreNodesDirty p (Vm v) old now m n
 nodes_spared p v side part old now m n left s = record {
   older = s.older;
   count = s.count;

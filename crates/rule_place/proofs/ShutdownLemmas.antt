@@ -1,13 +1,6 @@
 -- Nodes that shut down after what is there has left.
-use Rattle.std.proofs.Common.{IsTrue, slice_index_or}
-use Rattle.base.proofs.Public.{◌≡◌, ◌≢◌, ◌⊎◌, inl, inr, ℕ, ◌<◌, ◌≤◌, Bool, true, false, ◌&&◌, ◌||◌, nat_le, nat_lt, List, [], ◌∷◌, length, refl, sym, ap, ◌∙◌, arith, Contains, cases_eq, cases_lt, false≢true, nat_tests}
+use Rattle.rule_place.proofs.Prelude.{IsTrue, slice_index_or, ◌≡◌, ◌≢◌, ◌⊎◌, inl, inr, ℕ, ◌<◌, ◌≤◌, Bool, true, false, ◌&&◌, ◌||◌, nat_le, nat_lt, List, [], ◌∷◌, length, refl, sym, ap, ◌∙◌, arith, Contains, cases_eq, cases_lt, false≢true, nat_tests, Idle, Place, least_of_each, may_each, surely_each, end_is_choice, ends_of_rows, setting_sets, some_end, kept_law, arrival, arrived, numbers, of_one, other-vm}
 use Rattle.rule_place.specs.Prelude.{Act, Choice, choices, Climbs, comes_by, DomainView, Element, has_come, held_at, hosted_in, Image, Instance, IsClean, IsElement, IsEnd, IsMachineUnder, IsNeeded, IsSameMachine, IsShutdown, kept_use, leave_of, LetsGo, machine_count, never, no_row, node, Node as TheNode, NodeId, one, Presence, present_at, Row, row_at, Sets, setting, Shutdown, Snapshot, stage_at, stands_on, StandsUnder, state_of, sure, usable_at, usable_watch, Vm, vm, Weight}
-use Rattle.cluster.specs.declared.choices.Choice.TheVariants.{Idle}
-use Rattle.cluster.specs.declared.choices.Place.{Place}
-use Rattle.domains.proofs.Public.{least_of_each, may_each, surely_each}
-use Rattle.reasons.proofs.Public.{end_is_choice, ends_of_rows, setting_sets, some_end}
-use Rattle.profiles.proofs.Public.{kept_law}
-use Rattle.rule_constraint.proofs.Public.{arrival, arrived, numbers, of_one, other-vm}
 
 -- ---- the node
 

@@ -1,6 +1,5 @@
 -- The watches of forbidden places and of nodes, by their numbers.
-use Rattle.base.proofs.Public.{◌≡◌, ℕ, ◌-◌, ◌<◌, ◌≤◌, true, false, length, nat_lt, arith, nat_tests}
-use Rattle.rule_place.specs.Prelude.{broken_at, forbidden_kinds, Instance, IsLook, Look, place_watch, Sets, Snapshot, usable_watch, watch_at}
+use Rattle.rule_place.proofs.Prelude.{◌≡◌, ℕ, ◌-◌, ◌<◌, ◌≤◌, true, false, length, nat_lt, arith, nat_tests, broken_at, forbidden_kinds, Instance, IsLook, Look, place_watch, Sets, Snapshot, usable_watch, watch_at}
 
 module _ (p : Instance) (i : ℕ) where
   pub early_look : (s : Sets) (look : Look) → i < length p.constraints → IsLook (watch_at forbidden_kinds p i) p s look → IsLook (place_watch p i) p s look

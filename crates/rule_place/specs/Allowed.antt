@@ -1,10 +1,7 @@
 -- Helping only: which machines are nowhere that a constraint forbids to them, up to the horizon.
 use Rattle.std.specs.Prelude.{◌≡◌, ◌≢◌, ℕ, ◌≤◌, ◌&&◌, ◌||◌, ◌==◌, false, nat_lt, List, [], IsTrue}
-use Rattle.rule_constraint.specs.Prelude.{ForbidsPlace, hosted_in, Instance, is_continuous, IsEnd, leave_of, one, present_at, Sets, state_of, vm}
-use Rattle.cluster.specs.declared.choices.Choice.{Choice}
+use Rattle.rule_place.specs.Words.{ForbidsPlace, hosted_in, Instance, is_continuous, IsEnd, leave_of, one, present_at, Sets, state_of, vm, Choice, Nowhere, At, Constraint}
 use Rattle.cluster.specs.declared.choices.Place.{Place}
-use Rattle.cluster.specs.declared.choices.Place.TheVariants.{Nowhere, At}
-use Rattle.catalogue.specs.declared.constraint.Constraint.{Constraint}
 
 -- an action there goes to no node that the constraint forbids to machine v
 abbrev pub MayGo : Instance → Constraint → ℕ → Place → Type 0

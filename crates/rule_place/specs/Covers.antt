@@ -1,7 +1,6 @@
 -- Which kinds of reasons each rule covers.
 use Rattle.std.specs.Prelude.{Bool, true, false}
-use Rattle.reasons.specs.declared.reason.ReasonKind.{ReasonKind}
-use Rattle.reasons.specs.declared.reason.ReasonKind.TheVariants.{Empty, Bound, Load, Pair, Place, Group, SetLoad, Power, Usable, Hall}
+use Rattle.rule_place.specs.Words.{ReasonKind, Empty, Bound, Load, Pair, Place, Group, SetLoad, Power, Usable, Hall}
 
 -- machines where a constraint lets them not be, or where the node is not usable
 abbrev pub place_kinds : ReasonKind → Bool

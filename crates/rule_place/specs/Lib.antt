@@ -2,9 +2,10 @@
 pub mod Covers
 pub mod Nodes
 -- what the code says beside it
-pub mod Marking
+pub mod Dirty
 pub mod Allowed
 pub mod Shutdowns
 -- what the trait of watchers asks a proof of
 pub mod Quiet
+pub mod Words
 pub mod Prelude

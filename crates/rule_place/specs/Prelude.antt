@@ -1,34 +1,9 @@
 -- What is cited together of this crate and of those below it, passed on from one place. Declares nothing.
-pub use Rattle.closing.specs.Prelude.{are_below, inventory_of, is_rule, IsMachineUnder, IsNeeded, IsSameMachine, Places, places_seen, same_place}
-pub use Rattle.profiles.specs.Prelude.{kept_use, never}
-unfoldable pub use Rattle.profiles.specs.Prelude.{stage_at}
-pub use Rattle.rule_frame.specs.Prelude.{HasPlace, IsLess, IsRegionOf, seen}
-pub use Rattle.rule_constraint.specs.Prelude.{Allowed, AreLeaves, AreLooking, broken_at, choices, Climbs, comes_by, DomainView, ForbidsPlace, form_of, goes_in, has_come, hosted_in, in_part, Instance, is_continuous, IsBrokenBy, IsClean, IsDisturbed, IsElement, IsEnd, IsLook, IsMember, IsSized, IsStill, leave_of, Levels, machine_count, no_row, node, node_count, Nodes, one, present_at, reason_kind, row_at, rule_watch, Sets, sets, setting, Snapshot, stands_on, StandsUnder, state_of, usable_watch, vm, watch_at}
-unfoldable pub use Rattle.rule_constraint.specs.Prelude.{held_at, sure, usable_at}
-pub use Rattle.cluster.specs.declared.choices.Choice.{Choice}
-pub use Rattle.cluster.specs.declared.choices.Choice.TheVariants.{Act}
-pub use Rattle.cluster.specs.declared.choices.Place.TheVariants.{At, Nowhere}
-pub use Rattle.cluster.specs.declared.ids.Element.{Element}
-pub use Rattle.cluster.specs.declared.ids.Element.TheVariants.{Node, Vm}
-pub use Rattle.cluster.specs.declared.ids.NodeId.{NodeId}
-pub use Rattle.cluster.specs.declared.ids.VmId.{VmId}
-pub use Rattle.catalogue.specs.declared.constraint.Constraint.{Constraint}
-pub use Rattle.domains.specs.Parts.{on_side}
-pub use Rattle.domains.specs.declared.parts.Part.{Part}
-pub use Rattle.domains.specs.declared.parts.Part.TheVariants.{From, Idle, Upto}
-pub use Rattle.domains.specs.declared.parts.Row.{Row}
-pub use Rattle.domains.specs.declared.parts.Side.{Side}
-pub use Rattle.domains.specs.declared.parts.Side.TheVariants.{Inside, Outside}
-pub use Rattle.slices.specs.declared.slice.Weight.{Weight}
-pub use Rattle.slices.specs.declared.slice.Weight.TheVariants.{Image, Presence}
-pub use Rattle.reasons.specs.Reasons.{Applies, IsPlace, IsUnusable}
-pub use Rattle.reasons.specs.declared.reason.ReasonKind.{ReasonKind}
-pub use Rattle.reasons.specs.declared.reason.ReasonKind.TheVariants.{Bound, Empty, Group, Hall, Load, Pair, Place, Power, SetLoad, Usable}
-pub use Rattle.closing.specs.declared.look.Look.{Look}
-pub use Rattle.rule_constraint.specs.Broken.{of_kind}
+pub use Rattle.rule_place.specs.Words.{Act, Allowed, Applies, are_below, AreLeaves, AreLooking, At, Bound, broken_at, Choice, choices, Climbs, comes_by, Constraint, DomainView, Element, Empty, FailHolds, ForbidsPlace, form_of, From, goes_in, Group, Hall, has_come, HasPlace, hosted_in, Idle, Image, in_part, Inside, Instance, inventory_of, is_continuous, is_rule, IsBrokenBy, IsClean, IsDisturbed, IsElement, IsEnd, IsLess, IsLook, IsMachineUnder, IsMember, IsNeeded, IsPlace, IsRegionOf, IsSameMachine, IsSized, IsStill, IsUnusable, kept_use, leave_of, Levels, Load, Look, machine_count, MayAnswer, never, no_row, node, Node, node_count, NodeId, Nodes, Nowhere, of_kind, on_side, one, Outside, Pair, Part, Place, Places, places_seen, Power, Presence, present_at, reason_kind, ReasonKind, Row, row_at, rule_watch, same_place, seen, SetLoad, Sets, sets, setting, Side, Snapshot, stands_on, StandsUnder, state_of, Upto, Usable, usable_watch, vm, Vm, VmId, watch_at, Weight}
+unfoldable pub use Rattle.rule_place.specs.Words.{held_at, stage_at, sure, usable_at}
 pub use Rattle.rule_place.specs.Allowed.{IsAllowed, IsDue, IsOffHost, MayGo}
 pub use Rattle.rule_place.specs.Covers.{forbidden_kinds}
-pub use Rattle.rule_place.specs.Marking.{AreMarkedFrom, AreNodesMarked, AreSpared, IsUntouched}
+pub use Rattle.rule_place.specs.Dirty.{AreDirtyFrom, AreNodesDirty, AreSpared, IsUntouched}
 pub use Rattle.rule_place.specs.Nodes.{place_watch}
 pub use Rattle.rule_place.specs.Shutdowns.{IsShutdown, LetsGo}
 pub use Rattle.rule_place.specs.declared.shutdowns.Shutdown.{Shutdown}

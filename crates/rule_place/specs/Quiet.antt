@@ -1,10 +1,7 @@
 -- Helping only: the watches of places and nodes look at nothing past their scopes, and where all are clean both kinds are quiet.
 use Rattle.std.proofs.Common.{◌≡◌, ℕ, ◌+◌, ◌-◌, Bool, true, false, nat_lt, length, refl, arith}
 use Rattle.std.proofs.lemmas.Bool.Decides.{nat_tests}
-use Rattle.rule_constraint.specs.Prelude.{AllClean, choose, Instance, IsLocal, IsQuietKind, kinds_are_quiet, Sets, Watch, watch_at, watch_count, watches_are_local}
-use Rattle.reasons.specs.declared.reason.ReasonKind.{ReasonKind}
-use Rattle.reasons.specs.declared.reason.ReasonKind.TheVariants.{Empty, Bound, Load, Pair, Place, Group, SetLoad, Power, Usable, Hall}
-use Rattle.closing.proofs.Public.{usable_is_local}
+use Rattle.rule_place.specs.Words.{AllClean, choose, Instance, IsLocal, IsQuietKind, kinds_are_quiet, Sets, Watch, watch_at, watch_count, watches_are_local, ReasonKind, Empty, Bound, Load, Pair, Place, Group, SetLoad, Power, Usable, Hall, usable_is_local}
 use Rattle.rule_place.specs.Covers.{forbidden_kinds, place_kinds}
 use Rattle.rule_place.specs.Nodes.{place_count, place_watch}
 

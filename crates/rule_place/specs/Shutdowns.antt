@@ -1,7 +1,6 @@
 -- Helping only: nodes that shut down after what is there has left.
 use Rattle.std.specs.Prelude.{◌≡◌, ℕ, ◌<◌, ◌≤◌, true, false}
-use Rattle.rule_constraint.specs.Prelude.{Instance, IsEnd, node, Sets, stands_on, StandsUnder, sure, usable_at, vm}
-use Rattle.cluster.specs.declared.choices.Choice.{Choice}
+use Rattle.rule_place.specs.Words.{Instance, IsEnd, node, Sets, stands_on, StandsUnder, sure, usable_at, vm, Choice}
 use Rattle.rule_place.specs.declared.shutdowns.Shutdown.{Shutdown}
 
 -- node n is usable under each end of its choices before the first start, and may be usable before the last

@@ -5,10 +5,8 @@ ghost use Rattle.rule_place.specs.Prelude.{Choice as AnyChoice, choices, Forbids
 
 use crate::leaving::leaves_by;
 use crate::places::limits_of;
-use catalogue::{Constraint, Problem};
-use cluster::{Element, NodeId, Place, VmId};
-use domains::{Domain, Region, Row};
-use rule_constraint::machines::host;
+use rule_constraint::host;
+use rule_frame::{Constraint, Domain, Element, NodeId, Place, Problem, Region, Row, VmId};
 use slices::form::is_off_limits;
 
 // whether a constraint lets its member not be on a node

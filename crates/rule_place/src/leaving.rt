@@ -2,12 +2,10 @@
 ghost use Rattle.std.specs.Prelude.{◌≤◌, IfSome, IsTrue};
 ghost use Rattle.rule_place.specs.Prelude.{AreLeaves, Choice as AnyChoice, choices, IsElement, IsEnd, leave_of};
 
-use catalogue::Problem;
-use cluster::{Choice, Element, Instant, VmId};
 use domains::measure::Measure;
-use domains::{Domain, Row};
 use profiles::standing::leaves::{Leaves, leaves_of};
 use profiles::standing::numbers::Leaving;
+use rule_frame::{Choice, Domain, Element, Instant, Problem, Row, VmId};
 
 // whether a machine leaves its host by an instant under both ends of a row
 fn row_leaves_by(p: &Problem, v: VmId, leaves: Option<Leaves>, row: Row, end: Instant) -> bool

@@ -1,55 +1,54 @@
-//! Marks on the watches of nodes, which stand after those of the constraints.
+//! Which watches of nodes are dirty; they stand after those of the constraints.
 ghost use Rattle.std.specs.Prelude.{◌≡◌, ◌≢◌, ◌+◌, ◌-◌, ◌<◌, ◌≤◌, ℕ, false, filter, IfNone, IfSome, IsTrue, List, [], length};
 ghost use Rattle.std.specs.List.{Contains};
-ghost use Rattle.rule_place.specs.Prelude.{AreMarkedFrom, AreNodesMarked, AreSpared, Choice as AnyChoice, choices, goes_in, hosted_in, in_part, IsElement, IsRegionOf, machine_count, node_count, on_side, one, sets, state_of};
+ghost use Rattle.rule_place.specs.Prelude.{AreDirtyFrom, AreNodesDirty, AreSpared, Choice as AnyChoice, choices, goes_in, hosted_in, in_part, IsElement, IsRegionOf, machine_count, node_count, on_side, one, sets, state_of};
 
-use catalogue::Problem;
-use cluster::{Choice, Element, NodeId, Place, VmId};
-use domains::{Change, Domain, Part, Region};
-use rule_constraint::machines::host;
-use rule_frame::marks::Marks;
+use rule_constraint::host;
+use rule_frame::{
+    Change, Choice, DirtySet, Domain, Element, NodeId, Part, Place, Problem, Region, VmId,
+};
 
-// marks each watch from one on
-fn mark_from(marks: &mut Marks, first: usize)
-    requires { first ≤ length marks.old.top }
-    ensures { AreMarkedFrom first (length marks.old.top) marks.old marks.new }
+// sets dirty each watch from one on
+fn set_from_dirty(dirty: &mut DirtySet, first: usize)
+    requires { first ≤ length dirty.old.top }
+    ensures { AreDirtyFrom first (length dirty.old.top) dirty.old dirty.new }
 {
-    for i in first..marks.count() {
-        marks.put(i, true);
+    for i in first..dirty.count() {
+        dirty.set_dirty(i, true);
     }
 }
 
-// marks the watch of a node, if there is one
-#[tactic(auto, using(crate::proofs::NodeLemmas::one_marked, crate::proofs::NodeLemmas::past_marked))]
-fn mark_node(p: &Problem, n: NodeId, marks: &mut Marks)
-    requires count { length marks.old.top ≡ length p.now.given.constraints + node_count p.now.given }
-    ensures { AreSpared p.now.given (λ k. k ≢ n.0) marks.old marks.new }
+// sets dirty the watch of a node, if there is one
+#[tactic(auto, using(crate::proofs::NodeLemmas::one_dirty, crate::proofs::NodeLemmas::past_dirty))]
+fn set_node_dirty(p: &Problem, n: NodeId, dirty: &mut DirtySet)
+    requires count { length dirty.old.top ≡ length p.now.given.constraints + node_count p.now.given }
+    ensures { AreSpared p.now.given (λ k. k ≢ n.0) dirty.old dirty.new }
 {
     if (n.0 as usize) < p.cluster().nodes().len() {
-        marks.put(p.constraints().len() + n.0 as usize, true);
+        dirty.set_dirty(p.constraints().len() + n.0 as usize, true);
     }
 }
 
-// marks that of the node at a place
-fn mark_place(p: &Problem, place: Place, marks: &mut Marks)
-    requires count { length marks.old.top ≡ length p.now.given.constraints + node_count p.now.given }
-    ensures { AreSpared p.now.given (λ k. goes_in (AnyChoice.Act place 0) (one k) ≡ false) marks.old marks.new }
+// sets dirty that of the node at a place
+fn set_place_dirty(p: &Problem, place: Place, dirty: &mut DirtySet)
+    requires count { length dirty.old.top ≡ length p.now.given.constraints + node_count p.now.given }
+    ensures { AreSpared p.now.given (λ k. goes_in (AnyChoice.Act place 0) (one k) ≡ false) dirty.old dirty.new }
 {
     match place {
         Place::Nowhere => {}
-        Place::At(n) => mark_node(p, n, marks),
+        Place::At(n) => set_node_dirty(p, n, dirty),
     }
 }
 
-// marks that of a machine's host
-fn mark_host(p: &Problem, v: VmId, marks: &mut Marks)
+// sets dirty that of a machine's host
+fn set_host_dirty(p: &Problem, v: VmId, dirty: &mut DirtySet)
     requires machine { v.0 < machine_count p.now.given }
-    requires count { length marks.old.top ≡ length p.now.given.constraints + node_count p.now.given }
-    ensures { AreSpared p.now.given (λ k. hosted_in (state_of p.now.given v.0) (one k) ≡ false) marks.old marks.new }
+    requires count { length dirty.old.top ≡ length p.now.given.constraints + node_count p.now.given }
+    ensures { AreSpared p.now.given (λ k. hosted_in (state_of p.now.given v.0) (one k) ≡ false) dirty.old dirty.new }
 {
     match host(p, v) {
         None => {}
-        Some(h) => mark_node(p, h, marks),
+        Some(h) => set_node_dirty(p, h, dirty),
     }
 }
 
@@ -66,25 +65,25 @@ fn place_of(part: Part) -> Option<Place>
     }
 }
 
-// marks that of the node to which the choices of a part go
-fn mark_part(p: &Problem, part: Part, marks: &mut Marks)
-    requires count { length marks.old.top ≡ length p.now.given.constraints + node_count p.now.given }
-    ensures { AreSpared p.now.given (λ k. (c : AnyChoice) → IsTrue (in_part part c) → goes_in c (one k) ≡ false) marks.old marks.new }
+// sets dirty that of the node to which the choices of a part go
+fn set_part_dirty(p: &Problem, part: Part, dirty: &mut DirtySet)
+    requires count { length dirty.old.top ≡ length p.now.given.constraints + node_count p.now.given }
+    ensures { AreSpared p.now.given (λ k. (c : AnyChoice) → IsTrue (in_part part c) → goes_in c (one k) ≡ false) dirty.old dirty.new }
 {
     match place_of(part) {
         None => {}
-        Some(place) => mark_place(p, place, marks),
+        Some(place) => set_place_dirty(p, place, dirty),
     }
 }
 
-// marks that of the node to which a choice goes
-fn mark_choice(p: &Problem, c: Choice, marks: &mut Marks)
-    requires count { length marks.old.top ≡ length p.now.given.constraints + node_count p.now.given }
-    ensures { AreSpared p.now.given (λ k. goes_in c (one k) ≡ false) marks.old marks.new }
+// sets dirty that of the node to which a choice goes
+fn set_choice_dirty(p: &Problem, c: Choice, dirty: &mut DirtySet)
+    requires count { length dirty.old.top ≡ length p.now.given.constraints + node_count p.now.given }
+    ensures { AreSpared p.now.given (λ k. goes_in c (one k) ≡ false) dirty.old dirty.new }
 {
     match c {
         Choice::Idle => {}
-        Choice::Act { place, start: _ } => mark_place(p, place, marks),
+        Choice::Act { place, start: _ } => set_place_dirty(p, place, dirty),
     }
 }
 
@@ -105,31 +104,31 @@ fn some_choice(domain: &Domain) -> Option<Choice>
     }
 }
 
-// marks those of the nodes to which all choices of a domain go
-fn mark_only(p: &Problem, domain: &Domain, marks: &mut Marks)
-    requires count { length marks.old.top ≡ length p.now.given.constraints + node_count p.now.given }
-    ensures { AreSpared p.now.given (λ k. (c : AnyChoice) × Contains (choices domain.now) c × (goes_in c (one k) ≡ false)) marks.old marks.new }
+// sets dirty those of the nodes to which all choices of a domain go
+fn set_only_dirty(p: &Problem, domain: &Domain, dirty: &mut DirtySet)
+    requires count { length dirty.old.top ≡ length p.now.given.constraints + node_count p.now.given }
+    ensures { AreSpared p.now.given (λ k. (c : AnyChoice) × Contains (choices domain.now) c × (goes_in c (one k) ≡ false)) dirty.old dirty.new }
 {
     match some_choice(domain) {
-        None => mark_from(marks, p.constraints().len()),
-        Some(c) => mark_choice(p, c, marks),
+        None => set_from_dirty(dirty, p.constraints().len()),
+        Some(c) => set_choice_dirty(p, c, dirty),
     }
 }
 
-/// Marks the watches of nodes on which a change of an element may weigh: of a machine its host, the node of the
+/// Sets dirty the watches of nodes on which a change of an element may weigh: of a machine its host, the node of the
 /// part that has changed, and the node to which all choices go that are left; of a node its own.
-pub fn mark_nodes(p: &Problem, g: &Region, change: Change, marks: &mut Marks)
+pub fn set_nodes_dirty(p: &Problem, g: &Region, change: Change, dirty: &mut DirtySet)
     requires region { IsRegionOf p.now.given g.now }
     requires element { IsElement p.now.given change.element }
-    requires count { length marks.old.top ≡ length p.now.given.constraints + node_count p.now.given }
-    ensures { (old : List AnyChoice) → sets g.now change.element ≡ filter (on_side change.side change.part) old → AreNodesMarked p.now.given change.element old (sets g.now change.element) marks.old marks.new }
+    requires count { length dirty.old.top ≡ length p.now.given.constraints + node_count p.now.given }
+    ensures { (old : List AnyChoice) → sets g.now change.element ≡ filter (on_side change.side change.part) old → AreNodesDirty p.now.given change.element old (sets g.now change.element) dirty.old dirty.new }
 {
     match change.element {
         Element::Vm(v) => {
-            mark_host(p, v, marks);
-            mark_part(p, change.part, marks);
-            mark_only(p, g.domain(Element::Vm(v)), marks);
+            set_host_dirty(p, v, dirty);
+            set_part_dirty(p, change.part, dirty);
+            set_only_dirty(p, g.domain(Element::Vm(v)), dirty);
         }
-        Element::Node(n) => marks.put(p.constraints().len() + n.0 as usize, true),
+        Element::Node(n) => dirty.set_dirty(p.constraints().len() + n.0 as usize, true),
     }
 }

@@ -1,16 +1,14 @@
 //! A machine where a constraint lets it not be, and one that needs a node that is not usable, looked for.
 ghost use Rattle.std.specs.Prelude.{◌≡◌, ℕ, ◌<◌, ◌≤◌, false, length, IfNone, IfSome, IsTrue};
-ghost use Rattle.rule_place.specs.Prelude.{Allowed, Applies, broken_at, ForbidsPlace, form_of as the_form_of, HasPlace, Instance, IsNeeded, IsPlace, IsSized, IsUnusable, machine_count, node_count, places_seen, seen, sure, usable_watch};
-ghost use Rattle.prop_core.specs.Propagators.{FailHolds};
+ghost use Rattle.rule_place.specs.Prelude.{Allowed, Applies, broken_at, FailHolds, ForbidsPlace, form_of as the_form_of, HasPlace, Instance, IsNeeded, IsPlace, IsSized, IsUnusable, machine_count, node_count, places_seen, seen, sure, usable_watch};
 
-use catalogue::{Constraint, Problem, Vms};
-use cluster::{Choice, Element, Instant, NodeId, VmId};
-use domains::{Lens, View};
-use reasons::Reason;
 use relax::elements::{is_place, is_unusable};
 use rule_constraint::machines::likely_node;
-use slices::Form;
-use slices::form::{Places, form_of};
+use rule_frame::{
+    Choice, Constraint, Element, Form, Instant, Lens, NodeId, Problem, Reason, View, VmId, Vms,
+    form_of,
+};
+use slices::form::Places;
 
 /// The members of a constraint that lets them be on some nodes alone, and where they may be.
 pub fn limits_of(constraint: &Constraint) -> Option<(&Vms, Places<'_>)>

@@ -5,15 +5,9 @@ ghost use Rattle.rule_place.specs.Covers.{forbidden_kinds};
 use crate::allowed::is_kept;
 use crate::places::place_reason;
 use crate::watcher::PlaceWatcher;
-use catalogue::Problem;
-use closing::look::Look;
 use closing::watch::look_at_constraint;
-use cluster::Instant;
-use domains::{Region, View};
-use reasons::{Reason, ReasonKind};
-use rule_constraint::index::ConstraintIndex;
-use rule_constraint::watcher::{ConstraintWatcher, Kinds};
-use rule_frame::rule::Rule;
+use rule_constraint::{ConstraintIndex, ConstraintWatcher, Kinds};
+use rule_frame::{Instant, Look, Problem, Reason, ReasonKind, Region, Rule, View};
 
 /// Machines on nodes where they may not be: `ban`, `fence`, `root`.
 #[derive(Clone, Copy, Default)]

@@ -4,13 +4,13 @@ ghost use Rattle.std.specs.List.{Contains};
 ghost use Rattle.rule_place.specs.Prelude.{Choice as AnyChoice, choices, has_come, IsClean, IsShutdown, IsSized, leave_of, LetsGo, machine_count, node_count, sets, usable_watch};
 
 use crate::leaving::leaves_by;
-use catalogue::Problem;
-use cluster::{Choice, Element, Instant, NodeId, Place, VmId};
 use domains::measure::Measure;
-use domains::{Change, Domain, Part, Region, Row, Side};
 use profiles::host::is_host;
 use profiles::standing::leaves::leaves_of;
 use profiles::standing::numbers::Leaving;
+use rule_frame::{
+    Change, Choice, Domain, Element, Instant, NodeId, Part, Place, Problem, Region, Row, Side, VmId,
+};
 use slices::choice::usable;
 
 /// The first and the last start of a node that shuts down.

@@ -5,22 +5,17 @@ ghost use Rattle.rule_place.specs.Covers.{place_kinds};
 ghost use Rattle.rule_place.specs.Nodes.{place_count, place_watch};
 ghost use Rattle.rule_place.specs.Quiet.{places_are_local, places_are_quiet};
 
-use crate::nodes::mark_nodes;
+use crate::nodes::set_nodes_dirty;
 use crate::places::usable_reason;
 use crate::rule::ForbiddenPlaces;
 use crate::shutdowns::is_let_go;
-use base::Memory;
-use catalogue::Problem;
-use closing::look::Look;
 use closing::watch::look_at_usable;
-use cluster::{Element, Instant, NodeId};
-use domains::{Before, Change, Domain, Part, Region, View};
-use reasons::{Reason, ReasonKind};
-use rule_constraint::index::{ConstraintIndex, mark_looking};
-use rule_constraint::watcher::ConstraintWatcher;
-use rule_frame::marks::Marks;
-use rule_frame::suggestion::Suggestion;
-use rule_frame::watcher::Watcher;
+use rule_constraint::index::set_looking_dirty;
+use rule_constraint::{ConstraintIndex, ConstraintWatcher};
+use rule_frame::{
+    Before, Change, DirtySet, Domain, Element, Instant, Look, NodeId, Part, Problem, Reason,
+    ReasonKind, Region, View, Watcher,
+};
 
 // a look at whether a node is usable where it is needed
 fn look_at_node(p: &Problem, g: &Region, n: NodeId) -> Look
@@ -78,24 +73,10 @@ impl Watcher<ConstraintIndex> for PlaceWatcher {
         change: Change,
         _before: Before,
         _kept: &Domain,
-        marks: &mut Marks,
+        dirty: &mut DirtySet,
     ) {
-        mark_looking(k, p, change.element, marks);
-        mark_nodes(p, g, change, marks);
-    }
-
-    fn refuted(
-        &self,
-        _k: &ConstraintIndex,
-        _p: &Problem,
-        _g: &Region,
-        _i: usize,
-    ) -> Option<Reason> {
-        None
-    }
-
-    fn names_all(&self, _p: &Problem, _i: usize) -> bool {
-        false
+        set_looking_dirty(k, p, change.element, dirty);
+        set_nodes_dirty(p, g, change, dirty);
     }
 
     fn look(&self, k: &ConstraintIndex, p: &Problem, g: &Region, i: usize) -> Look {
@@ -129,18 +110,6 @@ impl Watcher<ConstraintIndex> for PlaceWatcher {
         reason: &Reason,
     ) -> bool {
         self.places.refutes(k, p, g, e, part, reason)
-    }
-
-    fn suggest(
-        &self,
-        _k: &ConstraintIndex,
-        _p: &Problem,
-        _g: &Region,
-        _i: usize,
-        _found: &Suggestion,
-        _them: &mut Vec<Suggestion>,
-    ) -> Result<(), Memory> {
-        Ok(())
     }
 
     ghost local = { λ w. places_are_local };

@@ -1,15 +1,6 @@
 -- What all machines have at present, what those hold more that may not stay, and that both stay within an amount.
-use Rattle.base.proofs.Public.{◌≡◌, inl, inr, ℕ, zero, suc, ◌+◌, ◌-◌, ◌<◌, ◌≤◌, max, Bool, true, false, ◌&&◌, ◌==◌, nat_le, nat_lt, cond, Option, Some, None, List, [], ◌∷◌, ◌++◌, length, get_or, take, refl, ap, subst, ◌∙◌, arith, slice_index_or, Contains, flat_map, sum_by, cases_eq, cases_lt, ne_eqb, take_all, take-suc, sum_by_push, sum_to-add, sum_to-le, sum_to-none, sum_to-one, sum_to-term}
+use Rattle.rule_setload.proofs.Prelude.{◌≡◌, inl, inr, ℕ, zero, suc, ◌+◌, ◌-◌, ◌<◌, ◌≤◌, max, Bool, true, false, ◌&&◌, ◌==◌, nat_le, nat_lt, cond, Option, Some, None, List, [], ◌∷◌, ◌++◌, length, get_or, take, refl, ap, subst, ◌∙◌, arith, slice_index_or, Contains, flat_map, sum_by, cases_eq, cases_lt, ne_eqb, take_all, take-suc, sum_by_push, sum_to-add, sum_to-le, sum_to-none, sum_to-one, sum_to-term, Place, OfImage, use_of_le, held_by_node, contains_here, least_of_each, end_is_choice, all_over, kept_law, arrival, numbers, of_one, row_end}
 use Rattle.rule_setload.specs.Prelude.{Act, Amount, AreExtra, AreMovers, AreStayersTo, At, base, brought, Choice, choices, Climbs, comes_by, Demand, DomainView, gain, goes_in, Gone, held_at, hosted_in, Idle, if_so, Image, Init, Instance, IsExtra, IsInstance, kept_use, kind_of, leave_of, machine_count, max_amount, never, no_row, node_count, Nodes, Nowhere, one, Presence, Raise, Ready, Row, row_choices, Running, Sets, Sleeping, State, state_of, stay_of, Stayers, StaysIn, sum_to, sure, unit_of, Use, vm, Weight, weight_if, What}
-use Rattle.cluster.specs.declared.choices.Place.{Place}
-use Rattle.slices.specs.declared.slice.What.TheVariants.{Image as OfImage}
-use Rattle.catalogue.proofs.Public.{use_of_le}
-use Rattle.slices.proofs.Public.{held_by_node}
-use Rattle.domains.proofs.Public.{contains_here, least_of_each}
-use Rattle.reasons.proofs.Public.{end_is_choice}
-use Rattle.profiles.proofs.Public.{all_over}
-use Rattle.profiles.proofs.Public.{kept_law}
-use Rattle.rule_constraint.proofs.Public.{arrival, numbers, of_one, row_end}
 
 -- ---- one machine on one node
 

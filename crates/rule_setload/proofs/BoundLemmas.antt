@@ -1,11 +1,5 @@
 -- A constraint whose bound is kept at every instant is broken at none; and what is kept beside its rule stays right.
-use Rattle.base.proofs.Public.{◌≡◌, inl, inr, ℕ, ◌+◌, ◌<◌, ◌≤◌, Bool, true, false, List, [], ◌∷◌, ◌++◌, Some, refl, sym, ap, ◌∙◌, arith, slice_get, length-append}
-use Rattle.rule_setload.specs.Prelude.{Allowed, Apart, AreAllStayers, AreAmountsKept, AreStayersOf, Before, Bound, bound_in, bound_of, Bounded, cache_of, Choice, choices, choose, Constraint, domain_at, domain_before, DomainView, Element, Form, form_of, has_node, Instance, InTurn, IsBroken, IsClean, IsElement, IsEnd, IsFreeOf, IsGrown, IsToldOf, Lists, machine_count, no_stayers, no_watch, node, Node as TheNode, Nodes, NodeSet, of_kind, Ordered, passes, Powered, reason_kind, RegionView, rule_watch, set_kinds, SetLoad, Sets, sets, setting, Settled, Snapshot, Stayers, StaysIn, sure, Together, total, Vm, Watch, watch_at, Weight}
-use Rattle.domains.specs.SetsBefore.{sets_before}
-use Rattle.rule_frame.specs.Caches.{IsCacheTold}
-use Rattle.reasons.proofs.Public.{node_change, setting_agrees, setting_total}
-use Rattle.profiles.proofs.Public.{movers_grown, movers_told}
-use Rattle.profiles.proofs.Public.{each_push}
+use Rattle.rule_setload.proofs.Prelude.{◌≡◌, inl, inr, ℕ, ◌+◌, ◌<◌, ◌≤◌, Bool, true, false, List, [], ◌∷◌, ◌++◌, Some, refl, sym, ap, ◌∙◌, arith, slice_get, length-append, Allowed, Apart, AreAllStayers, AreAmountsKept, AreStayersOf, Before, Bound, bound_in, bound_of, Bounded, cache_of, Choice, choices, choose, Constraint, domain_at, domain_before, DomainView, Element, Form, form_of, has_node, Instance, InTurn, IsBroken, IsClean, IsElement, IsEnd, IsFreeOf, IsGrown, IsToldOf, Lists, machine_count, no_stayers, no_watch, node, TheNode, Nodes, NodeSet, of_kind, Ordered, passes, Powered, reason_kind, RegionView, rule_watch, set_kinds, SetLoad, Sets, sets, setting, Settled, Snapshot, Stayers, StaysIn, sure, Together, total, Vm, Watch, watch_at, Weight, sets_before, IsCacheTold, node_change, setting_agrees, setting_total, movers_grown, movers_told, each_push}
 
 -- ---- the bound of a constraint
 

@@ -1,3 +1,4 @@
+mod Prelude
 mod AmountLemmas
 mod BoundLemmas
 mod BrokenLemmas

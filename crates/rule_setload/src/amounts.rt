@@ -7,19 +7,12 @@ use crate::bounds::bound_of;
 use crate::movers_hold::stays_within;
 use crate::rule::Sets;
 use crate::stayers::{Stayers, all_stayers};
-use base::Memory;
-use catalogue::Problem;
-use closing::look::Look;
-use cluster::{Element, Instant};
-use domains::{Before, Change, Domain, Part, Region, View};
 use profiles::movers::Movers;
-use reasons::{Reason, ReasonKind};
-use rule_constraint::index::ConstraintIndex;
-use rule_constraint::watcher::ConstraintWatcher;
-use rule_frame::keeper::Keeper;
-use rule_frame::marks::Marks;
-use rule_frame::suggestion::Suggestion;
-use rule_frame::watcher::Watcher;
+use rule_constraint::{ConstraintIndex, ConstraintWatcher};
+use rule_frame::{
+    Before, Change, DirtySet, Domain, Element, Instant, Keeper, Look, Memory, Part, Problem,
+    Reason, ReasonKind, Region, View, Watcher,
+};
 use std::alloc::Global;
 use std::default::MadeWith;
 
@@ -139,18 +132,10 @@ impl Watcher<AmountKeeper> for AmountWatcher {
         change: Change,
         before: Before,
         kept: &Domain,
-        marks: &mut Marks,
+        dirty: &mut DirtySet,
     ) {
         self.watches
-            .disturb(&k.index, p, g, change, before, kept, marks);
-    }
-
-    fn refuted(&self, k: &AmountKeeper, p: &Problem, g: &Region, i: usize) -> Option<Reason> {
-        self.watches.refuted(&k.index, p, g, i)
-    }
-
-    fn names_all(&self, _p: &Problem, _i: usize) -> bool {
-        false
+            .disturb(&k.index, p, g, change, before, kept, dirty);
     }
 
     fn look(&self, k: &AmountKeeper, p: &Problem, g: &Region, i: usize) -> Look {
@@ -174,18 +159,6 @@ impl Watcher<AmountKeeper> for AmountWatcher {
         reason: &Reason,
     ) -> bool {
         self.watches.refutes(&k.index, p, g, e, part, reason)
-    }
-
-    fn suggest(
-        &self,
-        k: &AmountKeeper,
-        p: &Problem,
-        g: &Region,
-        i: usize,
-        found: &Suggestion,
-        them: &mut Vec<Suggestion>,
-    ) -> Result<(), Memory> {
-        self.watches.suggest(&k.index, p, g, i, found, them)
     }
 
     ghost local = { λ w. watches_are_local set_kinds };

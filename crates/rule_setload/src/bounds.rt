@@ -3,10 +3,7 @@ ghost use Rattle.std.specs.Prelude.{◌≡◌, IfSome, true};
 ghost use Rattle.rule_setload.specs.Prelude.{bound_of as the_bound_of, form_of as the_form_of, inventory_of, is_rule};
 ghost use Rattle.slices.specs.Snapshots.{IsWeight};
 
-use catalogue::{Constraint, Problem};
-use cluster::NodeSet;
-use slices::form::form_of;
-use slices::{Form, Weight};
+use rule_frame::{Constraint, Form, NodeSet, Problem, Weight, form_of};
 
 /// An amount, and what is no more than it: what all machines hold on the nodes of a set.
 #[derive(Clone, Copy)]

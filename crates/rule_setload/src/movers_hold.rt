@@ -4,9 +4,7 @@ ghost use Rattle.rule_setload.specs.Prelude.{AreExtra, AreMachines, AreMovers, A
 
 use crate::bounds::Bound;
 use crate::stayers::{Stayers, unit};
-use catalogue::Problem;
-use cluster::{Element, NodeSet, Place, VmId};
-use domains::{Region, Row};
+use rule_frame::{Element, NodeSet, Place, Problem, Region, Row, VmId};
 
 // whether a place is none of the nodes of a set
 fn is_outside(place: Place, nodes: &NodeSet) -> bool

@@ -3,14 +3,8 @@ ghost use Rattle.std.specs.Prelude.{refl};
 ghost use Rattle.rule_setload.specs.Covers.{set_kinds};
 
 use crate::amounts::{AmountKeeper, AmountWatcher};
-use catalogue::Problem;
-use cluster::Instant;
-use domains::View;
-use reasons::{Reason, ReasonKind};
-use rule_constraint::watcher::Kinds;
-use rule_frame::rule::Rule;
-use slices::Form;
-use slices::form::form_of;
+use rule_constraint::Kinds;
+use rule_frame::{Form, Instant, Problem, Reason, ReasonKind, Rule, View, form_of};
 
 /// Amounts on the nodes of a set: `resourceCapacity`, `runningCapacity`, `maxOnline`.
 #[derive(Clone, Copy, Default)]

@@ -1,5 +1,4 @@
-use Rattle.std.proofs.Common.{◌≡◌, ℕ, ◌<◌, slice_index_or}
-use Rattle.rule_constraint.specs.Prelude.{IsPut, VmId}
+use Rattle.rule_constraint.proofs.Prelude.{◌≡◌, ℕ, ◌<◌, slice_index_or, IsPut, VmId}
 use Rattle.rule_constraint.proofs.index.put_machines.Given as goal
 
 abbrev pub invariant-loop-v : goal.invariant-loop-v

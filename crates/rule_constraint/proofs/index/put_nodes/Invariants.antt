@@ -1,5 +1,4 @@
-use Rattle.std.proofs.Common.{◌<◌, IsTrue}
-use Rattle.rule_constraint.specs.Prelude.{has_node, IsPut}
+use Rattle.rule_constraint.proofs.Prelude.{◌<◌, IsTrue, has_node, IsPut}
 use Rattle.rule_constraint.proofs.index.put_nodes.Given as goal
 
 abbrev pub invariant-loop-n : goal.invariant-loop-n

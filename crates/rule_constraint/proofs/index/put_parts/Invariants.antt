@@ -1,5 +1,4 @@
-use Rattle.std.proofs.Common.{ℕ, ◌<◌}
-use Rattle.rule_constraint.specs.Prelude.{IsInPart, IsPut}
+use Rattle.rule_constraint.proofs.Prelude.{ℕ, ◌<◌, IsInPart, IsPut}
 use Rattle.rule_constraint.proofs.index.put_parts.Given as goal
 
 abbrev pub invariant-loop-i : goal.invariant-loop-i

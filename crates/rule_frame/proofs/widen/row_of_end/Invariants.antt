@@ -1,5 +1,4 @@
-use Rattle.std.proofs.Common.{◌≢◌, ℕ, ◌<◌, slice_index_or}
-use Rattle.domains.specs.Choices.{no_row}
+use Rattle.rule_frame.proofs.Prelude.{◌≢◌, ℕ, ◌<◌, slice_index_or, no_row}
 use Rattle.rule_frame.proofs.widen.row_of_end.Given as goal
 
 abbrev pub invariant-loop-i : goal.invariant-loop-i

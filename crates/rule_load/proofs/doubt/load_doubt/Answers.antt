@@ -1,5 +1,4 @@
-use Rattle.std.proofs.Common.{arith}
-use Rattle.rule_load.specs.Prelude.{one, sets}
+use Rattle.rule_load.proofs.Prelude.{arith, one, sets}
 use Rattle.rule_load.proofs.FreeLemmas.{all_free, free_more}
 use Rattle.rule_load.proofs.doubt.load_doubt.Goals as goal
 

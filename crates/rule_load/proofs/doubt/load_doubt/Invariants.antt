@@ -1,5 +1,4 @@
-use Rattle.std.proofs.Common.{ℕ, ◌<◌}
-use Rattle.rule_load.specs.Prelude.{IsFreeDuring, IsOverload, one, sets}
+use Rattle.rule_load.proofs.Prelude.{ℕ, ◌<◌, IsFreeDuring, IsOverload, one, sets}
 use Rattle.rule_load.proofs.doubt.load_doubt.Given as goal
 
 abbrev pub invariant-loop-r : goal.invariant-loop-r

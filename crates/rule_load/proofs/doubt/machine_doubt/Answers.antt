@@ -1,6 +1,4 @@
-use Rattle.std.proofs.Common.{leb-true}
-use Rattle.base.proofs.Public.{◌-◌, leb, rules, arith, IsPartitionPoint-from_clause, IsPartitionedBy-leb}
-use Rattle.rule_load.specs.Prelude.{MostUse, sets}
+use Rattle.rule_load.proofs.Prelude.{leb-true, ◌-◌, leb, rules, arith, IsPartitionPoint-from_clause, IsPartitionedBy-leb, MostUse, sets}
 use Rattle.rule_load.proofs.DoubtLemmas.{fits_more, fits_order}
 use Rattle.rule_load.proofs.doubt.machine_doubt.Goals as goal
 

@@ -1,5 +1,4 @@
-use Rattle.std.proofs.Common.{ℕ, ◌<◌, ◌≤◌, length, slice_index_or}
-use Rattle.rule_load.specs.Prelude.{MostUse, sets}
+use Rattle.rule_load.proofs.Prelude.{ℕ, ◌<◌, ◌≤◌, length, slice_index_or, MostUse, sets}
 use Rattle.rule_load.proofs.DoubtLemmas.{Fits}
 use Rattle.rule_load.proofs.doubt.machine_doubt.Given as goal
 

@@ -1,5 +1,4 @@
-use Rattle.std.proofs.Common.{arith}
-use Rattle.domains.specs.Sets.{sets}
+use Rattle.rule_load.proofs.Prelude.{arith, sets}
 use Rattle.rule_load.proofs.FreeLemmas.{load_free}
 use Rattle.rule_load.proofs.doubt.resource_doubt.Goals as goal
 

@@ -1,5 +1,4 @@
-use Rattle.std.proofs.Common.{◌-◌, arith}
-use Rattle.rule_load.specs.Prelude.{one, Period, sets}
+use Rattle.rule_load.proofs.Prelude.{◌-◌, arith, one, Period, sets}
 use Rattle.rule_load.proofs.FreeLemmas.{free_past}
 use Rattle.rule_load.proofs.node_look.first_doubt.Goals as goal
 

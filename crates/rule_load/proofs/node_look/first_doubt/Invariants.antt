@@ -1,5 +1,4 @@
-use Rattle.std.proofs.Common.{ℕ, ◌+◌, ◌-◌, ◌<◌, ◌≤◌}
-use Rattle.rule_load.specs.Prelude.{IsFreeOf, IsOverloaded, one, sets}
+use Rattle.rule_load.proofs.Prelude.{ℕ, ◌+◌, ◌-◌, ◌<◌, ◌≤◌, IsFreeOf, IsOverloaded, one, sets}
 use Rattle.rule_load.proofs.node_look.first_doubt.Given as goal
 
 abbrev pub invariant-periods : goal.invariant-periods

@@ -1,5 +1,4 @@
-use Rattle.std.proofs.Common.{◌≡◌, ℕ, nat_lt}
-use Rattle.cluster.specs.Sets.{has_node}
+use Rattle.rule_load.proofs.Prelude.{◌≡◌, ℕ, nat_lt, has_node}
 use Rattle.rule_load.proofs.nodes.all_of.Given as goal
 
 abbrev pub invariant-loop-n : goal.invariant-loop-n

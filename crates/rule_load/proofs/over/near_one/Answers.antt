@@ -1,5 +1,4 @@
-use Rattle.std.proofs.Common.{◌∙◌, arith}
-use Rattle.rule_load.specs.Prelude.{seen, sets}
+use Rattle.rule_load.proofs.Prelude.{◌∙◌, arith, seen, sets}
 use Rattle.rule_load.proofs.OverLemmas.{kept_is_held}
 use Rattle.rule_load.proofs.over.near_one.Goals as goal
 

@@ -1,6 +1,4 @@
-use Rattle.base.proofs.Public.{get_or, refl, arith, Contains-get_or}
-use Rattle.rule_load.specs.Prelude.{Amount, machine_count, one, seen, sure}
-use Rattle.profiles.proofs.Public.{few_once, sum_whole}
+use Rattle.rule_load.proofs.Prelude.{get_or, refl, arith, Contains-get_or, Amount, machine_count, one, seen, sure, few_once, sum_whole}
 use Rattle.rule_load.proofs.OverLemmas.{sum_front}
 use Rattle.rule_load.proofs.over.near_use.Goals as goal
 

@@ -1,5 +1,4 @@
-use Rattle.base.proofs.Public.{◌*◌, ◌≤◌, take, sum_by}
-use Rattle.rule_load.specs.Prelude.{Amount, max_held, one, seen, sure}
+use Rattle.rule_load.proofs.Prelude.{◌*◌, ◌≤◌, take, sum_by, Amount, max_held, one, seen, sure}
 use Rattle.rule_load.proofs.over.near_use.Given as goal
 
 abbrev pub invariant-loop-i : goal.invariant-loop-i

@@ -1,5 +1,4 @@
-use Rattle.std.proofs.Common.{rules}
-use Rattle.rule_load.specs.Prelude.{seen, sure}
+use Rattle.rule_load.proofs.Prelude.{rules, seen, sure}
 use Rattle.rule_load.proofs.OverLemmas.{near_alone, near_with}
 use Rattle.rule_load.proofs.over.use_beside.Goals as goal
 

@@ -1,5 +1,4 @@
-use Rattle.std.proofs.Common.{ℕ, ◌<◌}
-use Rattle.rule_load.specs.Prelude.{has_node, IsOverload, seen, sure}
+use Rattle.rule_load.proofs.Prelude.{ℕ, ◌<◌, has_node, IsOverload, seen, sure}
 use Rattle.rule_load.proofs.reason.overloaded.Given as goal
 
 abbrev pub invariant-loop-r : goal.invariant-loop-r

@@ -1,6 +1,4 @@
-use Rattle.std.proofs.Common.{sym, ap, ◌∙◌}
-use Rattle.rule_load.specs.Prelude.{is_above_none, node, sets, usable_at}
-use Rattle.domains.proofs.Public.{surely_by_least}
+use Rattle.rule_load.proofs.Prelude.{sym, ap, ◌∙◌, is_above_none, node, sets, usable_at, surely_by_least}
 use Rattle.rule_load.proofs.room.is_surely_usable.Goals as goal
 
 pub returns : goal.returns

@@ -1,5 +1,4 @@
-use Rattle.std.proofs.Common.{refl, sym, ◌∙◌, arith}
-use Rattle.domains.specs.Sets.{sets}
+use Rattle.rule_load.proofs.Prelude.{refl, sym, ◌∙◌, arith, sets}
 use Rattle.rule_load.proofs.RoomLemmas.{stays_steady}
 use Rattle.rule_load.proofs.room.stays_online.Goals as goal
 

@@ -1,5 +1,4 @@
-use Rattle.std.proofs.Common.{◌≡◌, ◌*◌, ◌≤◌, cond}
-use Rattle.rule_load.specs.Prelude.{capacity_of, is_steady, max_capacity, sets, sum_to}
+use Rattle.rule_load.proofs.Prelude.{◌≡◌, ◌*◌, ◌≤◌, cond, capacity_of, is_steady, max_capacity, sets, sum_to}
 use Rattle.rule_load.proofs.room.steady_room.Given as goal
 
 abbrev pub invariant-loop-i : goal.invariant-loop-i

@@ -1,5 +1,4 @@
-use Rattle.std.proofs.Common.{◌≡◌, true, rules, arith}
-use Rattle.rule_load.specs.Prelude.{all_nodes, sets}
+use Rattle.rule_load.proofs.Prelude.{◌≡◌, true, rules, arith, all_nodes, sets}
 use Rattle.rule_load.proofs.FreeLemmas.{all_free, free_more}
 use Rattle.rule_load.proofs.total_look.is_free.Goals as goal
 

@@ -1,5 +1,4 @@
-use Rattle.std.proofs.Common.{ℕ, ◌<◌}
-use Rattle.rule_load.specs.Prelude.{all_nodes, IsFreeDuring, IsOverload, sets}
+use Rattle.rule_load.proofs.Prelude.{ℕ, ◌<◌, all_nodes, IsFreeDuring, IsOverload, sets}
 use Rattle.rule_load.proofs.total_look.is_free.Given as goal
 
 abbrev pub invariant-loop-r : goal.invariant-loop-r

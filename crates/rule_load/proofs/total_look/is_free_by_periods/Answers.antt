@@ -1,5 +1,4 @@
-use Rattle.std.proofs.Common.{arith}
-use Rattle.rule_load.specs.Prelude.{all_nodes, sets}
+use Rattle.rule_load.proofs.Prelude.{arith, all_nodes, sets}
 use Rattle.rule_load.proofs.FreeLemmas.{free_on}
 use Rattle.rule_load.proofs.total_look.is_free_by_periods.Goals as goal
 

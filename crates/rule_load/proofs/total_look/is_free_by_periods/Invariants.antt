@@ -1,5 +1,4 @@
-use Rattle.std.proofs.Common.{ℕ, ◌+◌, ◌-◌, ◌<◌, ◌≤◌}
-use Rattle.rule_load.specs.Prelude.{all_nodes, IsFreeOf, IsOverloaded, sets}
+use Rattle.rule_load.proofs.Prelude.{ℕ, ◌+◌, ◌-◌, ◌<◌, ◌≤◌, all_nodes, IsFreeOf, IsOverloaded, sets}
 use Rattle.rule_load.proofs.total_look.is_free_by_periods.Given as goal
 
 abbrev pub invariant-periods : goal.invariant-periods

@@ -1,6 +1,4 @@
-use Rattle.base.proofs.Public.{get_or, arith, Contains-get_or}
-use Rattle.slices.specs.Elements.{machine_count}
-use Rattle.profiles.proofs.Public.{few_once, sum_whole}
+use Rattle.rule_load.proofs.Prelude.{get_or, arith, Contains-get_or, machine_count, few_once, sum_whole}
 use Rattle.rule_load.proofs.total_uses.beside_bases.Goals as goal
 
 pub beside_base-one-requires-clause-machine : goal.beside_base-one-requires-clause-machine

@@ -1,6 +1,4 @@
-use Rattle.std.proofs.Common.{slice_index_or}
-use Rattle.base.proofs.Public.{◌≡◌, ◌-◌, ◌*◌, ◌≤◌, take, sum_by}
-use Rattle.rule_load.specs.Prelude.{Amount, base, max_amount, may_wait, most_anywhere, no_standing, sets}
+use Rattle.rule_load.proofs.Prelude.{slice_index_or, ◌≡◌, ◌-◌, ◌*◌, ◌≤◌, take, sum_by, Amount, base, max_amount, may_wait, most_anywhere, no_standing, sets}
 use Rattle.rule_load.proofs.total_uses.beside_bases.Given as goal
 
 abbrev pub invariant-loop-i : goal.invariant-loop-i

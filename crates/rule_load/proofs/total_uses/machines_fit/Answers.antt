@@ -1,5 +1,4 @@
-use Rattle.std.proofs.Common.{◌+◌, refl, slice_index_or, arith}
-use Rattle.rule_load.specs.Prelude.{all_nodes, Amount, base, demand_of, may_wait, most_anywhere, no_standing, sets, vm}
+use Rattle.rule_load.proofs.Prelude.{◌+◌, refl, slice_index_or, arith, all_nodes, Amount, base, demand_of, may_wait, most_anywhere, no_standing, sets, vm}
 use Rattle.rule_load.proofs.TotalLemmas.{ever_most}
 use Rattle.rule_load.proofs.total_uses.machines_fit.Goals as goal
 

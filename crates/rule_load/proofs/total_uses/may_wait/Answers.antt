@@ -1,6 +1,4 @@
-use Rattle.std.proofs.Common.{sym, ap, ◌∙◌, ◌≤◌, arith}
-use Rattle.rule_load.specs.Prelude.{domain_at, DomainView, is_nought, may, sets, vm, waits}
-use Rattle.domains.proofs.Public.{may_by_least}
+use Rattle.rule_load.proofs.Prelude.{sym, ap, ◌∙◌, ◌≤◌, arith, domain_at, DomainView, is_nought, may, sets, vm, waits, may_by_least}
 use Rattle.rule_load.proofs.WaitLemmas.{waits_idle}
 use Rattle.rule_load.proofs.total_uses.may_wait.Goals as goal
 

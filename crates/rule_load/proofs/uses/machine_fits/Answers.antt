@@ -1,6 +1,4 @@
-use Rattle.std.proofs.Common.{slice_index_or}
-use Rattle.base.proofs.Public.{◌+◌, ◌≤◌, arith, nat_tests}
-use Rattle.rule_load.specs.Prelude.{Amount, most_kept, no_standing, sets, vm}
+use Rattle.rule_load.proofs.Prelude.{slice_index_or, ◌+◌, ◌≤◌, arith, nat_tests, Amount, most_kept, no_standing, sets, vm}
 use Rattle.rule_load.proofs.UseLemmas.{fits_now}
 use Rattle.rule_load.proofs.uses.machine_fits.Goals as goal
 

@@ -1,6 +1,4 @@
-use Rattle.std.proofs.Common.{◌≡◌, ◌<◌, Bool, true, false, not, refl, slice_index_or, arith}
-use Rattle.std.proofs.lemmas.Bool.Decides.{nat_tests}
-use Rattle.domains.specs.Sets.{sets}
+use Rattle.rule_load.proofs.Prelude.{◌≡◌, ◌<◌, Bool, true, false, not, refl, slice_index_or, arith, nat_tests, sets}
 use Rattle.rule_load.proofs.UseLemmas.{elsewhere_is_past, late_is_past}
 use Rattle.rule_load.proofs.uses.may_come.Goals as goal
 

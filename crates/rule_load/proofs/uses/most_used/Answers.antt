@@ -1,7 +1,4 @@
-use Rattle.std.proofs.Common.{slice_index_or}
-use Rattle.base.proofs.Public.{get_or, arith, Contains-get_or}
-use Rattle.rule_load.specs.Prelude.{Amount, machine_count, most_kept, no_standing, sets}
-use Rattle.profiles.proofs.Public.{few_once, sum_whole}
+use Rattle.rule_load.proofs.Prelude.{slice_index_or, get_or, arith, Contains-get_or, Amount, machine_count, most_kept, no_standing, sets, few_once, sum_whole}
 use Rattle.rule_load.proofs.DoubtLemmas.{near_sum}
 use Rattle.rule_load.proofs.uses.most_used.Goals as goal
 

@@ -1,6 +1,4 @@
-use Rattle.std.proofs.Common.{slice_index_or}
-use Rattle.base.proofs.Public.{◌≡◌, ◌*◌, ◌≤◌, take, sum_by}
-use Rattle.rule_load.specs.Prelude.{Amount, max_amount, most_kept, no_standing}
+use Rattle.rule_load.proofs.Prelude.{slice_index_or, ◌≡◌, ◌*◌, ◌≤◌, take, sum_by, Amount, max_amount, most_kept, no_standing}
 use Rattle.rule_load.proofs.uses.most_used.Given as goal
 
 abbrev pub invariant-loop-i : goal.invariant-loop-i

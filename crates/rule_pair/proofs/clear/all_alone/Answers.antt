@@ -1,6 +1,4 @@
-use Rattle.std.proofs.Common.{◌∙◌}
-use Rattle.rule_pair.specs.Prelude.{machine_count, sets}
-use Rattle.catalogue.proofs.Public.{below_parts}
+use Rattle.rule_pair.proofs.Prelude.{◌∙◌, machine_count, sets, below_parts}
 use Rattle.rule_pair.proofs.ApartLemmas.{between_clear, each_clear, on_clear}
 use Rattle.rule_pair.proofs.clear.all_alone.Goals as goal
 

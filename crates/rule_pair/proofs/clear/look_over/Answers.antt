@@ -1,5 +1,4 @@
-use Rattle.std.proofs.Common.{rules}
-use Rattle.rule_pair.specs.Prelude.{separation_seen, sets}
+use Rattle.rule_pair.proofs.Prelude.{rules, separation_seen, sets}
 use Rattle.rule_pair.proofs.ApartLemmas.{apart_clean, apart_listed, on_clear}
 use Rattle.rule_pair.proofs.clear.look_over.Goals as goal
 

@@ -1,5 +1,4 @@
-use Rattle.base.proofs.Public.{ap, arith, sym, ◌∙◌, false≢true}
-use Rattle.rule_pair.specs.Prelude.{choices, sets}
+use Rattle.rule_pair.proofs.Prelude.{ap, arith, sym, ◌∙◌, false≢true, choices, sets}
 use Rattle.rule_pair.proofs.ApartLemmas.{keeps_off}
 use Rattle.rule_pair.proofs.clear.machine_keeps_off.Goals as goal
 

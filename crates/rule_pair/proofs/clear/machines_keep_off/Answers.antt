@@ -1,6 +1,4 @@
-use Rattle.std.proofs.Common.{arith}
-use Rattle.rule_pair.specs.Prelude.{KeepsOff, part_of, sets}
-use Rattle.rule_constraint.proofs.Public.{each_member}
+use Rattle.rule_pair.proofs.Prelude.{arith, KeepsOff, part_of, sets, each_member}
 use Rattle.rule_pair.proofs.clear.machines_keep_off.Goals as goal
 
 pub returns : goal.returns

@@ -1,5 +1,4 @@
-use Rattle.std.proofs.Common.{ℕ, ◌<◌, get_or}
-use Rattle.rule_pair.specs.Prelude.{KeepsOff, part_of, sets, VmId}
+use Rattle.rule_pair.proofs.Prelude.{ℕ, ◌<◌, get_or, KeepsOff, part_of, sets, VmId}
 use Rattle.rule_pair.proofs.clear.machines_keep_off.Given as goal
 
 abbrev pub invariant-loop-i : goal.invariant-loop-i

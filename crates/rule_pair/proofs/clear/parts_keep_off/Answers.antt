@@ -1,5 +1,4 @@
-use Rattle.std.proofs.Common.{arith}
-use Rattle.rule_pair.specs.Prelude.{KeepsOff, sets}
+use Rattle.rule_pair.proofs.Prelude.{arith, KeepsOff, sets}
 use Rattle.rule_pair.proofs.ApartLemmas.{each_part, next_part}
 use Rattle.rule_pair.proofs.clear.parts_keep_off.Goals as goal
 

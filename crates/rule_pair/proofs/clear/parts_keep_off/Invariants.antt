@@ -1,5 +1,4 @@
-use Rattle.std.proofs.Common.{ℕ, ◌<◌}
-use Rattle.rule_pair.specs.Prelude.{IsInPart, KeepsOff, sets}
+use Rattle.rule_pair.proofs.Prelude.{ℕ, ◌<◌, IsInPart, KeepsOff, sets}
 use Rattle.rule_pair.proofs.clear.parts_keep_off.Given as goal
 
 abbrev pub invariant-loop-j : goal.invariant-loop-j

@@ -1,5 +1,4 @@
-use Rattle.std.proofs.Common.{ℕ, ◌<◌, slice_index_or}
-use Rattle.rule_pair.specs.Prelude.{IsLate, no_row}
+use Rattle.rule_pair.proofs.Prelude.{ℕ, ◌<◌, slice_index_or, IsLate, no_row}
 use Rattle.rule_pair.proofs.clear.rows_met.Given as goal
 
 abbrev pub invariant-loop-i : goal.invariant-loop-i

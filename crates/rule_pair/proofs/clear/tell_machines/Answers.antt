@@ -1,6 +1,4 @@
-use Rattle.std.proofs.Common.{arith}
-use Rattle.rule_pair.specs.Prelude.{IsTold, part_of, sets, VmId}
-use Rattle.rule_constraint.proofs.Public.{each_member, next_member}
+use Rattle.rule_pair.proofs.Prelude.{arith, IsTold, part_of, sets, VmId, each_member, each_more}
 use Rattle.rule_pair.proofs.ApartLemmas.{longer_both, told_longer}
 use Rattle.rule_pair.proofs.clear.tell_machines.Goals as goal
 
@@ -11,7 +9,7 @@ loop-i-preserved c =
     record {
       ordered = c.tell_machine.ensures.ordered;
       longer = longer_both _ _ _ c.loop-i.invariant.longer longer;
-      told = next_member (λ v. IsTold c.args.p.now.given (sets c.args.g.now) c.tell_machine.new.table (part_of c.args.part v) v) c.args.machines.now c.loop-i.i none c.loop-i-test.true
+      told = each_more (λ v. IsTold c.args.p.now.given (sets c.args.g.now) c.tell_machine.new.table (part_of c.args.part v) v) c.args.machines.now c.loop-i.i none c.loop-i-test.true
           (λ k d h. told_longer _ _ _ _ _ _ longer (c.loop-i.invariant.told k d h))
           (rw c.part_of.ensures at (c.tell_machine.ensures.told c.if-not-tell_machine.false));
     }

@@ -1,5 +1,4 @@
-use Rattle.std.proofs.Common.{ℕ, ◌<◌, get_or}
-use Rattle.rule_pair.specs.Prelude.{IsTold, part_of, sets, VmId}
+use Rattle.rule_pair.proofs.Prelude.{ℕ, ◌<◌, get_or, IsTold, part_of, sets, VmId}
 use Rattle.rule_pair.proofs.ApartLemmas.{AreTold}
 use Rattle.rule_pair.proofs.clear.tell_machines.Given as goal
 

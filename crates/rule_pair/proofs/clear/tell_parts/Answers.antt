@@ -1,5 +1,4 @@
-use Rattle.std.proofs.Common.{arith}
-use Rattle.rule_pair.specs.Prelude.{IsTold, sets}
+use Rattle.rule_pair.proofs.Prelude.{arith, IsTold, sets}
 use Rattle.rule_pair.proofs.ApartLemmas.{each_part, longer_both, next_part, told_longer}
 use Rattle.rule_pair.proofs.clear.tell_parts.Goals as goal
 

@@ -1,5 +1,4 @@
-use Rattle.std.proofs.Common.{ℕ, ◌<◌}
-use Rattle.rule_pair.specs.Prelude.{IsInPart, IsTold, sets}
+use Rattle.rule_pair.proofs.Prelude.{ℕ, ◌<◌, IsInPart, IsTold, sets}
 use Rattle.rule_pair.proofs.ApartLemmas.{AreTold}
 use Rattle.rule_pair.proofs.clear.tell_parts.Given as goal
 

@@ -1,5 +1,4 @@
-use Rattle.std.proofs.Common.{rules}
-use Rattle.slices.specs.Forms.{separation_seen}
+use Rattle.rule_pair.proofs.Prelude.{rules, separation_seen}
 use Rattle.rule_pair.proofs.ApartLemmas.{apart_listed}
 use Rattle.rule_pair.proofs.hall.hall_reason.Goals as goal
 

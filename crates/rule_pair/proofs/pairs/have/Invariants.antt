@@ -1,5 +1,4 @@
-use Rattle.std.proofs.Common.{ℕ, ◌<◌}
-use Rattle.slices.specs.Holds.{IsInPart}
+use Rattle.rule_pair.proofs.Prelude.{ℕ, ◌<◌, IsInPart}
 use Rattle.rule_pair.proofs.pairs.have.Given as goal
 
 abbrev pub invariant-loop-i : goal.invariant-loop-i

@@ -1,5 +1,4 @@
-use Rattle.std.proofs.Common.{ℕ, ◌<◌}
-use Rattle.rule_pair.specs.Prelude.{IsPair, seen, sure}
+use Rattle.rule_pair.proofs.Prelude.{ℕ, ◌<◌, IsPair, seen, sure}
 use Rattle.rule_pair.proofs.pairs.other_on.Given as goal
 
 abbrev pub invariant-loop-i : goal.invariant-loop-i

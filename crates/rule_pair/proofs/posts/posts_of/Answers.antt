@@ -1,5 +1,4 @@
-use Rattle.std.proofs.Common.{arith}
-use Rattle.domains.specs.Sets.{sets}
+use Rattle.rule_pair.proofs.Prelude.{arith, sets}
 use Rattle.rule_pair.proofs.ApartLemmas.{has_posts}
 use Rattle.rule_pair.proofs.posts.posts_of.Goals as goal
 

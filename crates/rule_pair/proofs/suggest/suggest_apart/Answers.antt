@@ -1,6 +1,4 @@
-use Rattle.std.proofs.Common.{◌∙◌}
-use Rattle.catalogue.proofs.Public.{below_parts}
-use Rattle.slices.specs.Elements.{machine_count}
+use Rattle.rule_pair.proofs.Prelude.{◌∙◌, below_parts, machine_count}
 use Rattle.rule_pair.proofs.suggest.suggest_apart.Goals as goal
 
 pub suggest_parts-requires-clause-machines : goal.suggest_parts-requires-clause-machines

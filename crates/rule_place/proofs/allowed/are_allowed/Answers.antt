@@ -1,6 +1,4 @@
-use Rattle.std.proofs.Common.{arith}
-use Rattle.rule_place.specs.Prelude.{IsAllowed, sets}
-use Rattle.rule_constraint.proofs.Public.{each_member}
+use Rattle.rule_place.proofs.Prelude.{arith, IsAllowed, sets, each_member}
 use Rattle.rule_place.proofs.allowed.are_allowed.Goals as goal
 
 pub returns : goal.returns

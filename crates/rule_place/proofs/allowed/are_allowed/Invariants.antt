@@ -1,5 +1,4 @@
-use Rattle.std.proofs.Common.{ℕ, ◌<◌, get_or}
-use Rattle.rule_place.specs.Prelude.{IsAllowed, sets, VmId}
+use Rattle.rule_place.proofs.Prelude.{ℕ, ◌<◌, get_or, IsAllowed, sets, VmId}
 use Rattle.rule_place.proofs.allowed.are_allowed.Given as goal
 
 abbrev pub invariant-loop-i : goal.invariant-loop-i

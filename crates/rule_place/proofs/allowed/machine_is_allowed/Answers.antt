@@ -1,5 +1,4 @@
-use Rattle.base.proofs.Public.{ap, arith, sym, ◌∙◌, false≢true}
-use Rattle.rule_place.specs.Prelude.{choices, sets}
+use Rattle.rule_place.proofs.Prelude.{ap, arith, sym, ◌∙◌, false≢true, choices, sets}
 use Rattle.rule_place.proofs.AllowedLemmas.{is_allowed}
 use Rattle.rule_place.proofs.allowed.machine_is_allowed.Goals as goal
 

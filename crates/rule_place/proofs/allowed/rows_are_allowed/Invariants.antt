@@ -1,5 +1,4 @@
-use Rattle.std.proofs.Common.{ℕ, ◌<◌, slice_index_or}
-use Rattle.rule_place.specs.Prelude.{MayGo, no_row}
+use Rattle.rule_place.proofs.Prelude.{ℕ, ◌<◌, slice_index_or, MayGo, no_row}
 use Rattle.rule_place.proofs.allowed.rows_are_allowed.Given as goal
 
 abbrev pub invariant-loop-i : goal.invariant-loop-i

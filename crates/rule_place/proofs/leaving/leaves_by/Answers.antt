@@ -1,5 +1,4 @@
-use Rattle.std.proofs.Common.{◌≤◌, sym, ◌∙◌, arith}
-use Rattle.profiles.specs.Standing.Standings.{leave_of}
+use Rattle.rule_place.proofs.Prelude.{◌≤◌, sym, ◌∙◌, arith, leave_of}
 use Rattle.rule_place.proofs.ShutdownLemmas.{ends_by_rows}
 use Rattle.rule_place.proofs.leaving.leaves_by.Goals as goal
 

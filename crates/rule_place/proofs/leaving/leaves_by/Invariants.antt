@@ -1,5 +1,4 @@
-use Rattle.std.proofs.Common.{ℕ, ◌<◌, ◌≤◌, slice_index_or}
-use Rattle.rule_place.specs.Prelude.{Act, leave_of, no_row}
+use Rattle.rule_place.proofs.Prelude.{ℕ, ◌<◌, ◌≤◌, slice_index_or, Act, leave_of, no_row}
 use Rattle.rule_place.proofs.leaving.leaves_by.Given as goal
 
 abbrev pub invariant-loop-i : goal.invariant-loop-i

@@ -1,5 +1,4 @@
-use Rattle.std.proofs.Common.{ℕ, ◌<◌}
-use Rattle.rule_place.specs.Prelude.{IsUnusable, seen, sure}
+use Rattle.rule_place.proofs.Prelude.{ℕ, ◌<◌, IsUnusable, seen, sure}
 use Rattle.rule_place.proofs.places.machine_in_need.Given as goal
 
 abbrev pub invariant-loop-i : goal.invariant-loop-i

@@ -1,5 +1,4 @@
-use Rattle.std.proofs.Common.{ℕ, ◌<◌}
-use Rattle.rule_place.specs.Prelude.{IsPlace, seen, sure}
+use Rattle.rule_place.proofs.Prelude.{ℕ, ◌<◌, IsPlace, seen, sure}
 use Rattle.rule_place.proofs.places.place_of.Given as goal
 
 abbrev pub invariant-loop-i : goal.invariant-loop-i

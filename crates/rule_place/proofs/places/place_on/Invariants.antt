@@ -1,5 +1,4 @@
-use Rattle.std.proofs.Common.{ℕ, ◌<◌}
-use Rattle.rule_place.specs.Prelude.{IsPlace, node_count, seen, sure}
+use Rattle.rule_place.proofs.Prelude.{ℕ, ◌<◌, IsPlace, node_count, seen, sure}
 use Rattle.rule_place.proofs.places.place_on.Given as goal
 
 abbrev pub invariant-loop-i : goal.invariant-loop-i

@@ -1,5 +1,4 @@
-use Rattle.std.proofs.Common.{ℕ, ◌<◌}
-use Rattle.rule_place.specs.Prelude.{LetsGo, sets}
+use Rattle.rule_place.proofs.Prelude.{ℕ, ◌<◌, LetsGo, sets}
 use Rattle.rule_place.proofs.shutdowns.all_let_go.Given as goal
 
 abbrev pub invariant-loop-i : goal.invariant-loop-i

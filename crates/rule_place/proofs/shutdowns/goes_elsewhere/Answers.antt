@@ -1,5 +1,4 @@
-use Rattle.rule_place.specs.Prelude.{sets, Vm}
-use Rattle.rule_constraint.proofs.Public.{not_come}
+use Rattle.rule_place.proofs.Prelude.{sets, Vm, not_come}
 use Rattle.rule_place.proofs.shutdowns.goes_elsewhere.Goals as goal
 
 pub returns : goal.returns

@@ -1,5 +1,4 @@
-use Rattle.base.proofs.Public.{◌≢◌, [], sym, ◌∙◌, arith, false≢true}
-use Rattle.rule_place.specs.Prelude.{sets, Vm}
+use Rattle.rule_place.proofs.Prelude.{◌≢◌, [], sym, ◌∙◌, arith, false≢true, sets, Vm}
 use Rattle.rule_place.proofs.ShutdownLemmas.{host_goes, other_goes}
 use Rattle.rule_place.proofs.shutdowns.lets_go.Goals as goal
 

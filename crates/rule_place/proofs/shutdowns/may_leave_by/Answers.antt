@@ -1,7 +1,4 @@
-use Rattle.std.proofs.Common.{slice_index_or, arith}
-use Rattle.rule_place.specs.Prelude.{Act, choices, no_row}
-use Rattle.reasons.proofs.Public.{end_is_choice}
-use Rattle.rule_constraint.proofs.Public.{row_end}
+use Rattle.rule_place.proofs.Prelude.{slice_index_or, arith, Act, choices, no_row, end_is_choice, row_end}
 use Rattle.rule_place.proofs.shutdowns.may_leave_by.Goals as goal
 
 pub returns-then-leave_at-from : goal.returns-then-leave_at-from

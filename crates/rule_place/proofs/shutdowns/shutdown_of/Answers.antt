@@ -1,5 +1,4 @@
-use Rattle.std.proofs.Common.{sym, ap, ◌∙◌}
-use Rattle.rule_place.specs.Prelude.{choices, sets}
+use Rattle.rule_place.proofs.Prelude.{sym, ap, ◌∙◌, choices, sets}
 use Rattle.rule_place.proofs.ShutdownLemmas.{shutdown_is}
 use Rattle.rule_place.proofs.shutdowns.shutdown_of.Goals as goal
 

@@ -1,5 +1,4 @@
-use Rattle.std.proofs.Common.{rules}
-use Rattle.rule_setload.specs.Prelude.{has_node, sets}
+use Rattle.rule_setload.proofs.Prelude.{rules, has_node, sets}
 use Rattle.rule_setload.proofs.AmountLemmas.{idle_extra, row_extra}
 use Rattle.rule_setload.proofs.movers_hold.extra.Goals as goal
 

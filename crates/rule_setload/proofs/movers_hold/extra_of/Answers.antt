@@ -1,6 +1,4 @@
-use Rattle.base.proofs.Public.{get_or, arith, Contains-get_or}
-use Rattle.rule_setload.specs.Prelude.{has_node, machine_count, sets}
-use Rattle.profiles.proofs.Public.{few_once}
+use Rattle.rule_setload.proofs.Prelude.{get_or, arith, Contains-get_or, has_node, machine_count, sets, few_once}
 use Rattle.rule_setload.proofs.AmountLemmas.{all_extra, take_extra}
 use Rattle.rule_setload.proofs.movers_hold.extra_of.Goals as goal
 

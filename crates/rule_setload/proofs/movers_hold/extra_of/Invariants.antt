@@ -1,5 +1,4 @@
-use Rattle.std.proofs.Common.{◌*◌, ◌≤◌, take}
-use Rattle.rule_setload.specs.Prelude.{AreExtra, has_node, max_amount, sets}
+use Rattle.rule_setload.proofs.Prelude.{◌*◌, ◌≤◌, take, AreExtra, has_node, max_amount, sets}
 use Rattle.rule_setload.proofs.movers_hold.extra_of.Given as goal
 
 abbrev pub invariant-loop-i : goal.invariant-loop-i

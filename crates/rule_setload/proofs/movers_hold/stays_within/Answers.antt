@@ -1,5 +1,4 @@
-use Rattle.base.proofs.Public.{arith, nat_tests}
-use Rattle.rule_setload.specs.Prelude.{has_node, sets}
+use Rattle.rule_setload.proofs.Prelude.{arith, nat_tests, has_node, sets}
 use Rattle.rule_setload.proofs.AmountLemmas.{stays_in}
 use Rattle.rule_setload.proofs.movers_hold.stays_within.Goals as goal
 

@@ -1,5 +1,4 @@
-use Rattle.base.proofs.Public.{refl, rules, length, ◌≡◌, Some, slice_get, slice_get_read}
-use Rattle.rule_setload.specs.Amounts.{AreStayersOf, bound_in}
+use Rattle.rule_setload.proofs.Prelude.{refl, rules, length, ◌≡◌, Some, slice_get, slice_get_read, AreStayersOf, bound_in}
 use Rattle.rule_setload.proofs.BoundLemmas.{next_stayers}
 use Rattle.rule_setload.proofs.stayers.all_stayers.Goals as goal
 

@@ -1,5 +1,4 @@
-use Rattle.std.proofs.Common.{◌≡◌, ℕ, ◌<◌, slice_index_or}
-use Rattle.rule_load.specs.Prelude.{IsListedBy, IsNear, no_standing}
+use Rattle.rule_load.proofs.Prelude.{◌≡◌, ℕ, ◌<◌, slice_index_or, IsListedBy, IsNear, no_standing}
 use Rattle.rule_load.proofs.standings.Standings.put_all.Given as goal
 
 abbrev pub invariant-loop-i : goal.invariant-loop-i

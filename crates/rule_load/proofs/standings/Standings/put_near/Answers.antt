@@ -1,5 +1,4 @@
-use Rattle.slices.specs.Elements.{machine_count}
-use Rattle.profiles.proofs.Public.{near_put}
+use Rattle.rule_load.proofs.Prelude.{machine_count, near_put}
 use Rattle.rule_load.proofs.KeptLemmas.{grows_put}
 use Rattle.rule_load.proofs.standings.Standings.put_near.Goals as goal
 

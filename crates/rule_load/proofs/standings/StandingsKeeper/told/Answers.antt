@@ -1,8 +1,4 @@
-use Rattle.base.proofs.Public.{subst, refl, Contains}
-use Rattle.rule_load.specs.Prelude.{choices, domain_at, domain_before, machine_count, on_side, sets}
-use Rattle.domains.specs.SetsBefore.{sets_before}
-use Rattle.domains.proofs.Public.{filter_is_fewer}
-use Rattle.profiles.proofs.Public.{movers_told}
+use Rattle.rule_load.proofs.Prelude.{subst, refl, Contains, choices, domain_at, domain_before, machine_count, on_side, sets, sets_before, filter_is_fewer, movers_told}
 use Rattle.rule_load.proofs.KeptLemmas.{cache_told, come_told, kept_fewer}
 use Rattle.rule_load.proofs.standings.StandingsKeeper.told.Goals as goal
 

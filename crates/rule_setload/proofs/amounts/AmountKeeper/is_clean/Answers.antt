@@ -1,5 +1,4 @@
-use Rattle.base.proofs.Public.{refl, length, ◌≡◌, Some, sym, ◌∙◌, slice_get, slice_get_read}
-use Rattle.domains.specs.Sets.{sets}
+use Rattle.rule_setload.proofs.Prelude.{refl, length, ◌≡◌, Some, sym, ◌∙◌, slice_get, slice_get_read, sets}
 use Rattle.rule_setload.proofs.BoundLemmas.{bound_clean}
 use Rattle.rule_setload.proofs.amounts.AmountKeeper.is_clean.Goals as goal
 

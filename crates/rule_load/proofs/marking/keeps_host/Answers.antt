@@ -1,4 +1,0 @@
-use Rattle.rule_load.proofs.marking.keeps_host.Goals as goal
-
-pub kept_as_long-requires-clause-fewer : goal.kept_as_long-requires-clause-fewer
-kept_as_long-requires-clause-fewer c = rw c.domain-domain.ensures.domain c.requires.fewer
