@@ -1,4 +1,5 @@
 -- Parts that a reason takes away.
+use Rattle.std.proofs.Math.Nat.{sub-zero}
 use Rattle.rule_frame.proofs.Prelude.{IsTrue, ◌≡◌, ◌⊎◌, inl, inr, ℕ, ◌≤◌, ◌==◌, Bool, true, false, [], ◌∷◌, cond, List, None, refl, sym, subst, arith, add-zero, both_ways, eq-eqb, eqb-true, nat_tests, Contains, filter, Act, Choice, CutHolds, domain_at, Element, From, Idle, in_part, Instance, IsElement, IsEnd, keeping, Part, part_past, Reason, Refutes, RegionView, Row, Sets, sets, setting, Upto, Stay, Place, FailHolds, contains_here, filter_contains, end_is_choice}
 use Rattle.rule_frame.proofs.EndLemmas.{idle_is_part, keeping_one}
 
@@ -45,7 +46,7 @@ further row false near far (Act q s) l h = grind (arith, nat_tests, l, h)
 pub further_holds : (p : Instance) (s : Sets) (x : Element) (row : Row) (b : Bool) (near far : ℕ) (r q : Reason) → near ≤ far → CutHolds p s x (part_past row b near) r → FailHolds p (keeping x (in_part (part_past row b far)) s) q → CutHolds p s x (part_past row b far) q
 further_holds p s x row b near far r q l cut fails = record {
   exists = cut.exists;
-  held = (cut.held.0, cut.held.1.0, further row b near far cut.held.0 l cut.held.1.1);
+  held = (cut.held.0, cut.held.1, further row b near far cut.held.0 l cut.held.2);
   may = fails.may;
   refuted = fails.refuted;
 }
@@ -58,5 +59,5 @@ end_of_row_holds p g x q s row true r is at end element one first last fails =
 end_of_row_holds p g x q s row false r is at end element one first last fails =
     elim end [
       | inl low ↦ absurd (both_ways (row.lo == s) (sym is) (eq-eqb row.lo s low))
-      | inr high ↦ rw (at, high) (end_holds p (sets g) x (Act q s) (From q s) r element one (last high) fails)
+      | inr high ↦ rw (sub-zero row.hi, at, high) (end_holds p (sets g) x (Act q s) (From q s) r element one (last high) fails)
     ]
