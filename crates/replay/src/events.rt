@@ -55,7 +55,7 @@ fn marks(alloc: Global, p: &Problem, plan: &Plan) -> Result<Vec<bool>, Memory>
 
 /// The event instants, ascending and without repeats.
 #[tactic(auto, using(base::proofs::Ranges::passes_more, base::proofs::Ranges::fails_more), unfolding(crate::specs::Events::events))]
-pub(crate) fn events(alloc: Global, p: &Problem, plan: &Plan) -> Result<Vec<Instant>, Memory>
+pub fn events(alloc: Global, p: &Problem, plan: &Plan) -> Result<Vec<Instant>, Memory>
     requires { IsPlanOf p.now.given plan.now }
     ensures events { IfOk result (λ instants. instants.items ≡ events p.now.given (choices_of plan.now)) }
 {

@@ -2,7 +2,7 @@
 //! verdict.
 #![tactic(auto)]
 
-mod events;
+pub mod events;
 mod lines;
 mod writing;
 

@@ -1,0 +1,3 @@
+mod Listings
+mod NameLemmas
+mod Texts

@@ -1,0 +1,4 @@
+pub mod Listing
+pub mod Lines
+pub mod Shown
+pub mod Prelude
