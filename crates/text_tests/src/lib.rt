@@ -8,6 +8,8 @@ mod instances;
 #[cfg(test)]
 mod lines;
 #[cfg(test)]
+mod listings;
+#[cfg(test)]
 mod making;
 #[cfg(test)]
 mod plan_texts;
