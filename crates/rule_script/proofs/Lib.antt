@@ -1,0 +1,7 @@
+mod NumberLemmas
+mod PieceLemmas
+mod RangeLemmas
+mod SetLemmas
+mod ReadingLemmas
+mod CursorLemmas
+mod LawLemmas

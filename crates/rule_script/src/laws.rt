@@ -1,0 +1,7 @@
+//! Laws, each proved for all values; the functions do nothing.
+ghost use Rattle.rule_script.specs.Laws.{SetsAreExact};
+
+/// Each set that is written is read, whatever follows, and what is read is a set that is written so.
+pub fn sets_are_exact()
+    ensures { SetsAreExact }
+{}
