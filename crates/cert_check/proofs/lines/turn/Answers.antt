@@ -7,14 +7,14 @@ pub returns-in_err-end-in-End-clause-turn : goal.returns-in_err-end-in-End-claus
 returns-in_err-end-in-End-clause-turn g c = λ bound strict file same underway.
     let tells = IsTrue g.D.Desk.tells in
     let read = c.in_ok-text.ensures in
-    let said = c.in_err-end-in-End.ensures.verdict c.args.p.now.given bound strict file c.args.reader.now.at (file_kept tells file _ _ _ _ same read.files read.name) (line_as tells file _ c.args.reader.now.at c.in_ok-text.field-0 (End c.in-End.goal) _ same read.line c.in-End.is) underway in
+    let said = c.in_err-end-in-End.ensures.verdict c.args.p.now.given bound strict file c.args.reader.now.at (file_kept tells file _ _ _ _ same read.desk.files_stay read.name) (line_as tells file _ c.args.reader.now.at c.in_ok-text.field-0 (End c.in-End.goal) _ same read.line c.in-End.is) underway in
     subst (TurnGives c.args.p.now.given bound strict tells file c.end.new.reader.at c.args.walk.now) (sym (error_is c.from_residual-in_err-end-in-End.result c.in_err-end-in-End.field-0.0 c.from_residual-in_err-end-in-End.ensures.1)) said
 
 pub returns-in_ok-end-in-End-clause-turn : goal.returns-in_ok-end-in-End-clause-turn
 returns-in_ok-end-in-End-clause-turn g c = λ bound strict file same underway.
     let tells = IsTrue g.D.Desk.tells in
     let read = c.in_ok-text.ensures in
-    c.in_ok-end-in-End.ensures.verdict c.args.p.now.given bound strict file c.args.reader.now.at (file_kept tells file _ _ _ _ same read.files read.name) (line_as tells file _ c.args.reader.now.at c.in_ok-text.field-0 (End c.in-End.goal) _ same read.line c.in-End.is) underway
+    c.in_ok-end-in-End.ensures.verdict c.args.p.now.given bound strict file c.args.reader.now.at (file_kept tells file _ _ _ _ same read.desk.files_stay read.name) (line_as tells file _ c.args.reader.now.at c.in_ok-text.field-0 (End c.in-End.goal) _ same read.line c.in-End.is) underway
 
 pub returns-in-None-clause-turn : goal.returns-in-None-clause-turn
 returns-in-None-clause-turn g c = λ bound strict file same underway.
