@@ -1,0 +1,4 @@
+mod AxisLemmas
+mod Lists
+mod Placed
+mod Whole

@@ -1,0 +1,5 @@
+pub mod Axis
+pub mod Bars
+pub mod Curves
+pub mod Picture
+pub mod Prelude
