@@ -1,6 +1,5 @@
 -- Lists that grow by one item: what is kept of them, and what each item gives.
-use Rattle.base.proofs.Ranges.{range_more}
-use Rattle.base.proofs.Public.{◌≡◌, ℕ, ◌+◌, ◌<◌, Bool, false, true, List, [], ◌∷◌, ◌++◌, length, refl, sym, ap, ◌∙◌, filter, filter-append, get_or, map, map-append, range_with_len, take, take_more}
+use Rattle.base.proofs.Public.{◌≡◌, ℕ, ◌+◌, ◌<◌, Bool, false, true, List, [], ◌∷◌, ◌++◌, length, refl, sym, ap, ◌∙◌, filter, filter-append, get_or, map, map-append, range_with_len, take, take_more, range_more}
 
 -- one item more of a list that is gone over: what passes a test
 pub filter_more : {A : Type 0} (test : A → Bool) (xs : List A) (i : ℕ) (d : A) (kept new : List A) → kept ≡ filter test (take i xs) → i < length xs → new ≡ kept ++ filter test (get_or xs i d ∷ []) → new ≡ filter test (take (i + 1) xs)

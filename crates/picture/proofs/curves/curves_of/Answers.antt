@@ -1,4 +1,4 @@
-use Rattle.base.proofs.Ranges.{range_more}
+use Rattle.base.proofs.Public.{range_more}
 use Rattle.base.proofs.Public.{◌++◌, ◌∷◌, [], ◌∙◌, All-push, sym}
 use Rattle.picture.specs.Prelude.{choices_of, IsCurve, resource_of_curve}
 use Rattle.picture.proofs.Lists.{map_push}
