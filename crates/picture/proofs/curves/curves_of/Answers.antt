@@ -1,5 +1,4 @@
-use Rattle.base.proofs.Public.{range_more}
-use Rattle.base.proofs.Public.{◌++◌, ◌∷◌, [], ◌∙◌, All-push, sym}
+use Rattle.base.proofs.Public.{◌++◌, ◌∷◌, [], ◌∙◌, All-push, range_more, sym}
 use Rattle.picture.specs.Prelude.{choices_of, IsCurve, resource_of_curve}
 use Rattle.picture.proofs.Lists.{map_push}
 use Rattle.picture.proofs.curves.curves_of.Goals as goal
