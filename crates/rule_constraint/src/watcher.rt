@@ -55,6 +55,20 @@ pub trait Kinds: Drop {
         None
     }
 
+    /// Puts cuts into a list that are worth a try before a look at a constraint. Nothing is promised of them.
+    fn propose(
+        &self,
+        p: &Problem,
+        g: &Region,
+        c: u32,
+        _them: &mut Vec<Suggestion>,
+    ) -> Result<(), Memory>
+        requires region { IsSized p.now.given g.now }
+        requires constraint { c < length p.now.given.constraints }
+    {
+        Ok(())
+    }
+
     /// Whether it is seen that a reason refutes the region with what is inside a part of an element's choices.
     fn refutes(&self, p: &Problem, g: &Region, e: Element, part: Part, reason: &Reason) -> bool
         requires region { IsSized p.now.given g.now }
@@ -141,6 +155,17 @@ impl<S: Kinds> Watcher<ConstraintIndex> for ConstraintWatcher<S> {
 
     fn refuted(&self, _k: &ConstraintIndex, p: &Problem, g: &Region, i: usize) -> Option<Reason> {
         self.kinds.refuted(p, g, i as u32)
+    }
+
+    fn propose(
+        &self,
+        _k: &ConstraintIndex,
+        p: &Problem,
+        g: &Region,
+        i: usize,
+        them: &mut Vec<Suggestion>,
+    ) -> Result<(), Memory> {
+        self.kinds.propose(p, g, i as u32, them)
     }
 
     fn look(&self, _k: &ConstraintIndex, p: &Problem, g: &Region, i: usize) -> Look {

@@ -25,6 +25,7 @@ fn answer<K: Keeper, W: Watcher<K>>(w: &W, k: &K, p: &Problem, g: &Region, asked
     match asked {
         Asked::Quiet => Answer::Quiet,
         Asked::Refuted(reason) => Answer::Fail(reason),
+        Asked::Proposed(it) => Answer::Cut(it.element, it.part, it.reason),
         Asked::Failed(i, t) => {
             let view = View {
                 region: g,
@@ -224,7 +225,19 @@ impl<K: Keeper, W: Watcher<K> + Drop> Propagator for Rule<W, K> {
             self.given = count(self.given, found);
             return Ok(found);
         }
-        let asked = ask(&self.watcher, &self.keeper, p, g, &mut self.dirty);
+        let asked = ask(
+            &self.watcher,
+            &self.keeper,
+            p,
+            g,
+            &mut self.dirty,
+            &mut self.suggestions,
+        )?;
+        if let Asked::Proposed(it) = asked {
+            let found = Answer::Cut(it.element, it.part, it.reason);
+            self.given = count(self.given, found);
+            return Ok(found);
+        }
         suggest_first(
             &self.watcher,
             &self.keeper,

@@ -1,12 +1,13 @@
 //! Watches of a rule, which are looked at again where a change weighs on them.
-ghost use Rattle.std.specs.Prelude.{◌≡◌, ◌<◌, ◌≤◌, IfSome, IsTrue, None, length};
-ghost use Rattle.closing.specs.Prelude.{broken_at, choices, domain_at, domain_before, in_part, IsElement, IsLook, keeping, seen, sets, sure};
+ghost use Rattle.std.specs.Prelude.{◌≡◌, ◌<◌, ◌≤◌, IfNone, IfOk, IfSome, IsTrue, None, length};
+ghost use Rattle.closing.specs.Prelude.{broken_at, choices, domain_at, domain_before, in_part, IsClean, IsElement, IsLook, keeping, seen, sets, sure};
 ghost use Rattle.domains.specs.SetsBefore.{sets_before};
 ghost use Rattle.prop_core.specs.Propagators.{FailHolds, MayAnswer, IsNarrowed, IsRegionOf};
 ghost use Rattle.rule_frame.specs.Asked.{IsAskedOf};
 ghost use Rattle.rule_frame.specs.Caches.{IsCacheFor};
 ghost use Rattle.rule_frame.specs.Changes.{AreClean, IsDisturbed, IsKept};
 
+use crate::suggestion::take_one;
 use crate::{
     Before, Change, Choice, DirtySet, Domain, Element, Instant, Keeper, Look, Memory, Part,
     Problem, Reason, ReasonKind, Region, Suggestion, View,
@@ -23,6 +24,8 @@ pub enum Asked {
     Cuts(usize, Element, Choice, Instant),
     /// The reason refutes the region.
     Refuted(Reason),
+    /// The cut that was proposed before a look holds.
+    Proposed(Suggestion),
 }
 
 /// The watches of a rule, by their numbers, looked at with the help of what is kept beside them.
@@ -72,6 +75,23 @@ pub trait Watcher<K: Keeper> {
         ensures { IfSome result (FailHolds p.now.given (sets g.now)) }
     {
         None
+    }
+
+    /// Puts cuts into a list that are worth a try before a look at a watch, which may take far longer: as those that are
+    /// suggested they are looked at exactly, and the watch is looked at where none of them holds. None need be put.
+    fn propose(
+        &self,
+        k: &K,
+        p: &Problem,
+        g: &Region,
+        i: usize,
+        _them: &mut Vec<Suggestion>,
+    ) -> Result<(), Memory>
+        requires region { IsRegionOf p.now.given g.now }
+        requires right { IsCacheFor (K.cache k.now) p.now.given (sets g.now) }
+        requires watch { i < count_of self.now p.now.given }
+    {
+        Ok(())
     }
 
     /// Whether what is suggested after a find at a watch names that find too, as wide as may be. Then the find
@@ -156,34 +176,61 @@ pub fn tell<K: Keeper, W: Watcher<K>>(
     w.disturb(k, p, g, change, before, kept, dirty);
 }
 
-/// Looks at each dirty watch, until something is found. What is clean is not dirty afterwards.
+// what asking one watch finds, if anything: first what is seen at once, then by a look
+fn ask_one<K: Keeper, W: Watcher<K>>(
+    w: &W,
+    k: &K,
+    p: &Problem,
+    g: &Region,
+    i: usize,
+    proposed: &mut Vec<Suggestion>,
+) -> Result<Option<Asked>, Memory>
+    requires region { IsRegionOf p.now.given g.now }
+    requires right { IsCacheFor (K.cache k.now) p.now.given (sets g.now) }
+    requires watch { i < W.count_of w.now p.now.given }
+    ensures clean { IfOk result (λ r. IfNone r (IsClean (W.watch w.now p.now.given i) p.now.given (sets g.now))) }
+    ensures answer { IfOk result (λ r. IfSome r (IsAskedOf (W.watch w.now p.now.given) p.now.given (sets g.now) (W.count_of w.now p.now.given))) }
+{
+    if let Some(reason) = w.refuted(k, p, g, i) {
+        return Ok(Some(Asked::Refuted(reason)));
+    }
+    w.propose(k, p, g, i, proposed)?;
+    if let Some(it) = take_one(proposed, w, k, p, g) {
+        return Ok(Some(Asked::Proposed(it)));
+    }
+    Ok(match w.look(k, p, g, i) {
+        Look::Clean => None,
+        Look::Fail(t) => Some(Asked::Failed(i, t)),
+        Look::Cut(e, c, t) => Some(Asked::Cuts(i, e, c, t)),
+    })
+}
+
+/// Asks each dirty watch, until something is found. What is clean is not dirty afterwards. What was proposed and not
+/// tried is left in the list.
 pub fn ask<K: Keeper, W: Watcher<K>>(
     w: &W,
     k: &K,
     p: &Problem,
     g: &Region,
     dirty: &mut DirtySet,
-) -> Asked
+    proposed: &mut Vec<Suggestion>,
+) -> Result<Asked, Memory>
     requires region { IsRegionOf p.now.given g.now }
     requires right { IsCacheFor (K.cache k.now) p.now.given (sets g.now) }
     requires count { length dirty.old.top ≡ W.count_of w.now p.now.given }
     requires agreed { AreClean (W.watch w.now p.now.given) p.now.given (sets g.now) dirty.old.top }
     ensures kept { IsKept (W.watch w.now p.now.given) p.now.given (sets g.now) dirty.old dirty.new }
-    ensures answer { IsAskedOf (W.watch w.now p.now.given) p.now.given (sets g.now) (W.count_of w.now p.now.given) result }
+    ensures answer { IfOk result (IsAskedOf (W.watch w.now p.now.given) p.now.given (sets g.now) (W.count_of w.now p.now.given)) }
 {
     for i in dirty.first()..dirty.count() {
         if dirty.is_dirty(i) {
             dirty.pass(i);
-            if let Some(reason) = w.refuted(k, p, g, i) {
-                return Asked::Refuted(reason);
-            }
-            match w.look(k, p, g, i) {
-                Look::Clean => dirty.set_dirty(i, false),
-                Look::Fail(t) => return Asked::Failed(i, t),
-                Look::Cut(e, c, t) => return Asked::Cuts(i, e, c, t),
+            match ask_one(w, k, p, g, i, proposed)? {
+                Some(found) => return Ok(found),
+                None => dirty.set_dirty(i, false),
             }
         }
     }
     dirty.pass(dirty.count());
-    Asked::Quiet
+    Ok(Asked::Quiet)
 }
