@@ -1,5 +1,6 @@
 -- A constraint in the lists of all that it looks at.
 use Rattle.rule_constraint.proofs.Prelude.{IsTrue, ◌≡◌, ◌⊎◌, inl, inr, ℕ, zero, suc, ◌+◌, ◌<◌, ◌≤◌, false, List, [], ◌∷◌, length, Some, None, refl, sym, subst, ◌∙◌, arith, slice_get, slice_index_or, Contains, cases_eq, cases_lt, actions_of, AreLooking, AreDirty, Constraint, constraint_watch, Element, has_node, HasList, Instance, IsAdded, IsElement, IsIndexOf, IsListed, IsPut, IsUnseen, Levels, Lists, TheNode, NodeId, NodeSet, nothing, presences_of, Scope, scope_of, Vm, VmId, watch_of, powered_in_set, IsMachineUnseen, IsNodeUnseen}
+use Rattle.rule_constraint.proofs.IndexLemmas.{is_in_or_not}
 
 -- ---- by where a constraint looks
 
@@ -100,22 +101,25 @@ module _ (p : Instance) (l : Lists) (index : IsIndexOf p (length p.constraints) 
   unseen-where e c element (inl low) out = index.unseen e c element low out
   unseen-where e c element (inr high) out = rw (none-past p.constraints c high) (nothing-seen e)
 
-  pub looking_machine : (v : VmId) (named : List ℕ) (n o : Levels) → IsElement p (Vm v) → named ≡ slice_index_or l.machines v.0 [] → AreDirty (length named) named m n → AreDirty (length l.everywhere) l.everywhere n o → AreLooking p (Vm v) m o
-  looking_machine v named n o element is first second = record {
+  pub looking_machine : (spared : ℕ → Type 0) (v : VmId) (named : List ℕ) (n o : Levels) → IsElement p (Vm v) → named ≡ slice_index_or l.machines v.0 [] →
+      AreDirty spared (length named) named m n → AreDirty spared (length l.everywhere) l.everywhere n o → AreLooking spared p (Vm v) m o
+  looking_machine spared v named n o element is first second = record {
     older = second.older ∙ first.older;
     count = second.count ∙ first.count;
     kept = λ c h e. first.kept c (omega (arith, h, second.count)) (second.kept c h e);
-    unseen = λ c h e. unseen-where (Vm v) c element (cases_lt c (length p.constraints)) (out c h e);
+    unseen = λ c h e. at c h e (is_in_or_not named c) (is_in_or_not l.everywhere c);
   }
     where
-      out : (c : ℕ) → c < length o.top → slice_index_or o.top c false ≡ false → ¬ IsListed l (Vm v) c
-      out c h e (inl x) = let y = subst (λ xs. Contains xs c) (sym is) x in first.others c y.0 (omega (arith, h, second.count)) (second.kept c h e) y.1 y.2
-      out c h e (inr x) = second.others c x.0 h e x.1 x.2
+      at : (c : ℕ) → c < length o.top → slice_index_or o.top c false ≡ false → Contains named c ⊎ ¬ Contains named c → Contains l.everywhere c ⊎ ¬ Contains l.everywhere c → IsUnseen (constraint_watch p c).scope (Vm v) ⊎ spared c
+      at c h e (inl x) either = inr (first.others c x.0 (omega (arith, h, second.count)) (second.kept c h e) x.1 x.2)
+      at c h e (inr not_named) (inl x) = inr (second.others c x.0 h e x.1 x.2)
+      at c h e (inr not_named) (inr nowhere) =
+          inl (unseen-where (Vm v) c element (cases_lt c (length p.constraints)) (λ x. elim x [ inl y ↦ not_named (subst (λ xs. Contains xs c) (sym is) y) | inr y ↦ nowhere y ]))
 
-  pub looking_node : (k : NodeId) (named : List ℕ) (n : Levels) → IsElement p (TheNode k) → named ≡ slice_index_or l.nodes k.0 [] → AreDirty (length named) named m n → AreLooking p (TheNode k) m n
-  looking_node k named n element is first = record {
+  pub looking_node : (spared : ℕ → Type 0) (k : NodeId) (named : List ℕ) (n : Levels) → IsElement p (TheNode k) → named ≡ slice_index_or l.nodes k.0 [] → AreDirty (λ c. ⊥) (length named) named m n → AreLooking spared p (TheNode k) m n
+  looking_node spared k named n element is first = record {
     older = first.older;
     count = first.count;
     kept = first.kept;
-    unseen = λ c h e. unseen-where (TheNode k) c element (cases_lt c (length p.constraints)) (λ x. let y = subst (λ xs. Contains xs c) (sym is) x in first.others c y.0 h e y.1 y.2);
+    unseen = λ c h e. inl (unseen-where (TheNode k) c element (cases_lt c (length p.constraints)) (λ x. let y = subst (λ xs. Contains xs c) (sym is) x in first.others c y.0 h e y.1 y.2));
   }

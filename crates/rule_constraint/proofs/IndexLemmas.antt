@@ -1,5 +1,5 @@
 -- Lists of constraints, filled one constraint after the other.
-use Rattle.rule_constraint.proofs.Prelude.{IsTrue, ◌≡◌, ◌≢◌, ◌⊎◌, inl, inr, ℕ, suc, ◌+◌, ◌<◌, ◌≤◌, ◌==◌, true, false, List, [], ◌∷◌, ◌++◌, length, get_or, set, refl, sym, subst, ◌∙◌, arith, Contains, both_ways, cases_eq, cases_lt, eqb-true, false≢true, or_cases, get_or-set_other, get_or_default, get_or_past, length-set, get_or-set_at, Contains-append_cases, Contains-append_left, Contains-append_right, AreDirty, has_node, is_member, IsInPart, IsMember, IsPut, Levels, NodeSet, VmId}
+use Rattle.rule_constraint.proofs.Prelude.{IsTrue, ◌≡◌, ◌≢◌, ◌⊎◌, inl, inr, ℕ, suc, zero, ◌+◌, ◌<◌, ◌≤◌, ◌==◌, true, false, List, [], ◌∷◌, ◌++◌, length, get_or, set, refl, sym, subst, ◌∙◌, arith, Contains, both_ways, cases_eq, cases_lt, eqb-true, false≢true, or_cases, get_or-set_other, get_or_default, get_or_past, length-set, get_or-set_at, Contains-append_cases, Contains-append_left, Contains-append_right, AreDirty, has_node, is_member, IsInPart, IsMember, IsPut, Levels, NodeSet, VmId}
 
 contains-one : (c d : ℕ) → Contains (c ∷ []) d → d ≡ c
 contains-one c d (k, h, e) = at k h e
@@ -56,13 +56,14 @@ put_fewer P R c a b of put = record { count = put.count; added = λ k h r. put.a
 -- ---- dirty by numbers
 
 -- one number more is dirty
-pub dirty_more : (numbers : List ℕ) (k : ℕ) (m n : Levels) → k < length numbers → get_or numbers k 0 < length n.top → AreDirty k numbers m n → AreDirty (k + 1) numbers m (record n { top = set n.top (get_or numbers k 0) true })
-dirty_more numbers k m n within low dirty = record {
+pub dirty_more : (spared : ℕ → Type 0) (numbers : List ℕ) (k : ℕ) (m n : Levels) → k < length numbers → get_or numbers k 0 < length n.top → AreDirty spared k numbers m n →
+    AreDirty spared (k + 1) numbers m (record n { top = set n.top (get_or numbers k 0) true })
+dirty_more spared numbers k m n within low dirty = record {
   older = dirty.older;
   count = length-set n.top (get_or numbers k 0) true ∙ dirty.count;
   kept = λ i h e. dirty.kept i (below i h) (was i e (cases_eq i (get_or numbers k 0)) (below i h));
   others = λ i j h e l same. elim (cases_eq j k) [
-    | inl at ↦ differs i e (below i h) (sym (subst (λ y. get_or numbers y i ≡ i) at same) ∙ get_or_default numbers k i 0 within)
+    | inl at ↦ absurd (differs i e (below i h) (sym (subst (λ y. get_or numbers y i ≡ i) at same) ∙ get_or_default numbers k i 0 within))
     | inr ne ↦ dirty.others i j (below i h) (was i e (cases_eq i (get_or numbers k 0)) (below i h)) (omega (arith, l, ne)) same
   ];
 }
@@ -76,6 +77,34 @@ dirty_more numbers k m n within low dirty = record {
     was : (i : ℕ) → get_or (set n.top (get_or numbers k 0) true) i false ≡ false → (i ≡ get_or numbers k 0) ⊎ (i ≢ get_or numbers k 0) → i < length n.top → get_or n.top i false ≡ false
     was i e (inl same) h = absurd (differs i e h same)
     was i e (inr ne) h = sym (get_or-set_other n.top (get_or numbers k 0) i true false ne) ∙ e
+
+-- one more is spared
+pub spared_more : (spared : ℕ → Type 0) (numbers : List ℕ) (k : ℕ) (m n : Levels) → k < length numbers → spared (get_or numbers k 0) → AreDirty spared k numbers m n → AreDirty spared (k + 1) numbers m n
+spared_more spared numbers k m n within it dirty = record {
+  older = dirty.older;
+  count = dirty.count;
+  kept = dirty.kept;
+  others = λ i j h e l same. elim (cases_eq j k) [
+    | inl at ↦ subst spared (sym (get_or_default numbers k i 0 within) ∙ subst (λ y. get_or numbers y i ≡ i) at same) it
+    | inr ne ↦ dirty.others i j h e (omega (arith, l, ne)) same
+  ];
+}
+
+-- a number is in a list, or it is not
+later : (n : ℕ) (ns : List ℕ) (c : ℕ) → n ≢ c → ¬ Contains ns c → ¬ Contains (n ∷ ns) c
+later n ns c ne none (k, h, e) = at k h e
+  where
+    at : (k : ℕ) → k < suc (length ns) → get_or (n ∷ ns) k c ≡ c → ⊥
+    at zero h e = ne e
+    at (suc k) h e = none (k, omega (arith, h), e)
+
+pub is_in_or_not : (ns : List ℕ) (c : ℕ) → Contains ns c ⊎ ¬ Contains ns c
+is_in_or_not [] c = inr (λ x. absurd (omega (arith, x.1)))
+is_in_or_not (n ∷ ns) c =
+    elim (cases_eq n c) [
+      | inl here ↦ inl (0, omega arith, here)
+      | inr ne ↦ elim (is_in_or_not ns c) [ inl x ↦ inl (suc x.0, omega (arith, x.1), x.2) | inr none ↦ inr (later n ns c ne none) ]
+    ]
 
 pub number_at : (numbers : List ℕ) (k : ℕ) → k < length numbers → Contains numbers (get_or numbers k 0)
 number_at numbers k h = (k, h, get_or_default numbers k (get_or numbers k 0) 0 h)

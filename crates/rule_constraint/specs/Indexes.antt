@@ -1,5 +1,5 @@
 -- Which constraints look at each machine and at each node.
-use Rattle.std.specs.Prelude.{◌≡◌, ◌≢◌, ◌⊎◌, ℕ, ◌<◌, false, List, [], length, slice_index_or}
+use Rattle.std.specs.Prelude.{◌≡◌, ◌⊎◌, ℕ, ◌<◌, false, List, [], length, slice_index_or}
 use Rattle.std.specs.List.{Contains}
 use Rattle.rule_constraint.specs.Words.{constraint_watch, Instance, IsElement, IsUnseen, Levels, machine_count, node_count, scope_of, Element, Vm, TheNode, Constraint}
 
@@ -46,16 +46,16 @@ pub record IsAdded (k : Constraint) (c : ℕ) (old new : Lists) : Type 0 where
 
 -- ---- dirty by the lists
 
--- the first of these numbers are dirty, and what was dirty still is
-pub record AreDirty (first : ℕ) (numbers : List ℕ) (m n : Levels) : Type 0 where
+-- the first of these numbers that are not spared are dirty, and what was dirty still is
+pub record AreDirty (spared : ℕ → Type 0) (first : ℕ) (numbers : List ℕ) (m n : Levels) : Type 0 where
   pub older : n.older ≡ m.older
   pub count : length n.top ≡ length m.top
   pub kept : (i : ℕ) → i < length n.top → slice_index_or n.top i false ≡ false → slice_index_or m.top i false ≡ false
-  pub others : (i k : ℕ) → i < length n.top → slice_index_or n.top i false ≡ false → k < first → slice_index_or numbers k i ≢ i
+  pub others : (i k : ℕ) → i < length n.top → slice_index_or n.top i false ≡ false → k < first → slice_index_or numbers k i ≡ i → spared i
 
--- each constraint that looks at the element is dirty, and what was dirty still is
-pub record AreLooking (p : Instance) (x : Element) (m n : Levels) : Type 0 where
+-- each constraint that looks at the element and is not spared is dirty, and what was dirty still is
+pub record AreLooking (spared : ℕ → Type 0) (p : Instance) (x : Element) (m n : Levels) : Type 0 where
   pub older : n.older ≡ m.older
   pub count : length n.top ≡ length m.top
   pub kept : (c : ℕ) → c < length n.top → slice_index_or n.top c false ≡ false → slice_index_or m.top c false ≡ false
-  pub unseen : (c : ℕ) → c < length n.top → slice_index_or n.top c false ≡ false → IsUnseen (constraint_watch p c).scope x
+  pub unseen : (c : ℕ) → c < length n.top → slice_index_or n.top c false ≡ false → IsUnseen (constraint_watch p c).scope x ⊎ spared c

@@ -1,6 +1,6 @@
 -- The watches of rules over constraints.
-use Rattle.std.specs.Prelude.{ℕ, Bool, true, false, length, slice_get, Option, Some, None}
-use Rattle.rule_constraint.specs.Words.{Instance, nothing, rule_watch, Watch, Constraint, ReasonKind}
+use Rattle.std.specs.Prelude.{ℕ, Bool, true, false, List, length, slice_get, Option, Some, None}
+use Rattle.rule_constraint.specs.Words.{Choice, Element, Instance, nothing, rule_watch, StaysClean, Watch, Constraint, ReasonKind}
 use Rattle.rule_constraint.specs.Given.{reason_kind}
 
 -- nothing breaks it
@@ -24,6 +24,10 @@ kept_watch kinds p (Some k) = choose (passes kinds (reason_kind k)) (rule_watch 
 -- a watch for each constraint, by its number
 abbrev pub watch_at : (ReasonKind → Bool) → Instance → ℕ → Watch
 watch_at kinds p i = kept_watch kinds p (slice_get p.constraints i)
+
+-- the constraint of a number is clean with the choices of x now, wherever it was clean with other ones
+abbrev pub IsSpared : (ReasonKind → Bool) → Instance → Element → List Choice → ℕ → Type 0
+IsSpared kinds p x now c = (old : List Choice) → StaysClean (watch_at kinds p c) p x old now
 
 abbrev pub watch_count : Instance → ℕ
 watch_count p = length p.constraints

@@ -2,7 +2,7 @@
 pub use Rattle.closing.specs.Prelude.{actions_of, Between, Each, form_seen, if_so, is_continuous, is_member, presences_of, present_at, row_at, Separates, Separation, stands_on, StandsUnder, unit_of, usable_watch}
 pub use Rattle.profiles.specs.Prelude.{AreLeaves, AreMovers, base, comes_by, goes_in, has_come, have_come, hosted_in, IsStanding, least, leave_of, max_amount, state_of, sum_to}
 unfoldable pub use Rattle.profiles.specs.Prelude.{held_at, usable_at}
-pub use Rattle.rule_frame.specs.Prelude.{AllClean, Allowed, Apart, Bounded, BreaksGroup, broken_at, choices, Climbs, constraint_watch, DomainView, ExceedsAmount, ExceedsPower, FailHolds, Form, form_of, FormForbidsPair, FormForbidsPlace, HasPair, HasPlace, in_part, Instance, InTurn, IsBroken, IsCacheFor, IsClean, IsDisturbed, IsElement, IsEnd, IsFree, IsGroup, IsInPart, IsLocal, IsLook, IsMember, IsPower, IsQuietKind, IsSetLoad, IsSized, IsStill, IsUnseen, Levels, machine_count, MayAnswer, no_row, node, node_count, Nodes, NoneBroken, nothing, one, Ordered, Powered, rule_watch, Scope, scope_of, Sets, sets, setting, Settled, Snapshot, Together, vm, Watch, watch_of}
+pub use Rattle.rule_frame.specs.Prelude.{AllClean, Allowed, Apart, Bounded, BreaksGroup, broken_at, choices, Climbs, constraint_watch, DomainView, ExceedsAmount, ExceedsPower, FailHolds, Form, form_of, FormForbidsPair, FormForbidsPlace, HasPair, HasPlace, in_part, Instance, InTurn, IsBroken, IsCacheFor, IsClean, IsDisturbed, IsElement, IsEnd, IsFree, IsGroup, IsInPart, IsLocal, IsLook, IsMember, IsPower, IsQuietKind, IsSetLoad, IsSized, IsStill, IsUnseen, Levels, machine_count, MayAnswer, no_row, node, node_count, Nodes, NoneBroken, nothing, one, Ordered, Powered, rule_watch, Scope, scope_of, Sets, sets, setting, Settled, Snapshot, StaysClean, Together, vm, Watch, watch_of}
 unfoldable pub use Rattle.rule_frame.specs.Prelude.{has_node, sure}
 pub use Rattle.slices.specs.Holds.{ForbidsPlace}
 pub use Rattle.closing.proofs.Public.{constraint_is_local}

@@ -1,14 +1,12 @@
 //! An index of constraints by what they look at, kept beside rules of constraints.
-ghost use Rattle.std.specs.Prelude.{◌≡◌, ◌<◌, ◌≤◌, ℕ, IfOk, IsTrue, OnOk, List, [], length, slice_index_or};
-ghost use Rattle.std.specs.List.{Contains};
-ghost use Rattle.rule_frame.specs.Prelude.{constraint_watch, has_node, IsDisturbed, IsElement, IsInPart, IsMember, max_nodes};
-ghost use Rattle.cluster.specs.declared.choices.Choice.{Choice as AnyChoice};
-ghost use Rattle.rule_constraint.specs.Indexes.{AreLooking, AreDirty, IsAdded, IsIndexOf, IsPut};
+ghost use Rattle.std.specs.Prelude.{◌≡◌, ◌<◌, ◌≤◌, ℕ, IfOk, IsTrue, OnOk, [], length, slice_index_or};
+ghost use Rattle.rule_frame.specs.Prelude.{has_node, IsInPart, IsMember, max_nodes};
+ghost use Rattle.rule_constraint.specs.Indexes.{IsAdded, IsIndexOf, IsPut};
 
 use profiles::number_lists::NumberLists;
 use rule_frame::{
-    Before, Change, Constraint, DirtySet, Domain, Element, Form, Keeper, Memory, NodeId, NodeSet,
-    Problem, Region, Separation, VmId, Vms, form_of,
+    Before, Change, Constraint, Domain, Form, Keeper, Memory, NodeId, NodeSet, Problem, Region,
+    Separation, VmId, Vms, form_of,
 };
 use std::alloc::Global;
 use std::default::MadeWith;
@@ -76,7 +74,7 @@ fn put_nodes(lists: &mut NumberLists, nodes: &NodeSet, c: u32) -> Result<(), Mem
 
 impl Lists {
     /// The constraints that name a machine.
-    fn of_machine(&self, v: VmId) -> &[u32]
+    pub(crate) fn of_machine(&self, v: VmId) -> &[u32]
         requires { v.0 < length self.now.machines }
         ensures { result.now ≡ slice_index_or self.now.machines v.0 [] }
     {
@@ -84,7 +82,7 @@ impl Lists {
     }
 
     /// Those that name a node.
-    fn of_node(&self, n: NodeId) -> &[u32]
+    pub(crate) fn of_node(&self, n: NodeId) -> &[u32]
         requires { n.0 < length self.now.nodes }
         ensures { result.now ≡ slice_index_or self.now.nodes n.0 [] }
     {
@@ -92,7 +90,7 @@ impl Lists {
     }
 
     /// Those that look at every machine.
-    fn everywhere(&self) -> &[u32]
+    pub(crate) fn everywhere(&self) -> &[u32]
         ensures { result.now ≡ self.now.everywhere }
     {
         &self.everywhere
@@ -147,7 +145,7 @@ fn lists_of(alloc: Global, p: &Problem) -> Result<Lists, Memory>
 /// constraints have members.
 #[derive(Drop)]
 pub struct ConstraintIndex {
-    lists: Lists,
+    pub(crate) lists: Lists,
     level: u64,
 }
 
@@ -204,33 +202,5 @@ impl Keeper for ConstraintIndex {
 
     fn back(&mut self) {
         self.level = self.level.saturating_sub(1);
-    }
-}
-
-// sets dirty each of the watches of these numbers
-fn set_each_dirty(numbers: &[u32], dirty: &mut DirtySet)
-    requires { (i : ℕ) → Contains numbers.now i → i < length dirty.old.top }
-    ensures { AreDirty (length numbers.now) numbers.now dirty.old dirty.new }
-{
-    for k in 0..numbers.len() {
-        dirty.set_dirty(numbers[k] as usize, true);
-    }
-}
-
-/// Sets dirty each constraint that looks at an element, by its number, and so each on which a change of the element
-/// weighs. No other constraint is looked for.
-pub fn set_looking_dirty(index: &ConstraintIndex, p: &Problem, e: Element, dirty: &mut DirtySet)
-    requires right { IsIndexOf p.now.given (length p.now.given.constraints) index.now.lists }
-    requires element { IsElement p.now.given e }
-    requires count { length p.now.given.constraints ≤ length dirty.old.top }
-    ensures looking { AreLooking p.now.given e dirty.old dirty.new }
-    ensures disturbed { (old now : List AnyChoice) → IsDisturbed (constraint_watch p.now.given) p.now.given e old now dirty.old dirty.new }
-{
-    match e {
-        Element::Vm(v) => {
-            set_each_dirty(index.lists.of_machine(v), dirty);
-            set_each_dirty(index.lists.everywhere(), dirty);
-        }
-        Element::Node(n) => set_each_dirty(index.lists.of_node(n), dirty),
     }
 }

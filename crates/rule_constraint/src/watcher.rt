@@ -5,19 +5,19 @@ ghost use Rattle.rule_constraint.specs.Watches.{kept_watch, watch_at, watch_coun
 ghost use Rattle.rule_constraint.specs.Quiet.{kinds_are_quiet, watches_are_local};
 
 use crate::ConstraintIndex;
-use crate::index::set_looking_dirty;
+use crate::disturb::set_looking_dirty;
 use crate::kinds::reason_kind;
 use closing::watch::look_at_constraint;
 use relax::refutes::refutes_inside;
 use rule_frame::{
     Before, Change, DirtySet, Domain, Element, Instant, Look, Memory, Part, Problem, Reason,
-    ReasonKind, Region, Suggestion, View, Watcher,
+    ReasonKind, Region, Suggestion, View, VmId, Watcher,
 };
 
 /// The kinds of reasons that a rule covers, of those that constraints give, and how it looks at a constraint.
 pub trait Kinds: Drop {
-    ghost use Rattle.std.specs.Prelude.{◌≡◌, ◌<◌, ◌≤◌, Bool, IfSome, IsTrue, None, false, length, slice_get};
-    ghost use Rattle.rule_frame.specs.Prelude.{broken_at, constraint_watch, in_part, IsElement, IsLook, IsSized, keeping, seen, sets, sure};
+    ghost use Rattle.std.specs.Prelude.{◌≡◌, ◌<◌, ◌≤◌, Bool, IfSome, IsTrue, List, None, false, length, slice_get};
+    ghost use Rattle.rule_frame.specs.Prelude.{broken_at, Choice, constraint_watch, in_part, IsElement, IsLook, IsSized, keeping, machine_count, seen, sets, StaysClean, sure, Vm};
     ghost use Rattle.reasons.specs.declared.reason.ReasonKind.{ReasonKind as AnyKind};
     ghost use Rattle.reasons.specs.declared.reason.ReasonKind.TheVariants.{Load, Usable};
     ghost use Rattle.prop_core.specs.Propagators.{FailHolds, MayAnswer};
@@ -53,6 +53,17 @@ pub trait Kinds: Drop {
         ensures { IfSome result (FailHolds _p.now.given (sets g.now)) }
     {
         None
+    }
+
+    /// Whether it is seen that a constraint, where it was clean before a change of a machine, is clean after it. It need not be
+    /// seen, and then it is looked at again.
+    fn spares(&self, p: &Problem, g: &Region, c: u32, v: VmId) -> bool
+        requires region { IsSized p.now.given g.now }
+        requires constraint { c < length p.now.given.constraints }
+        requires machine { v.0 < machine_count p.now.given }
+        ensures { IsTrue result → (old : List Choice) → StaysClean (constraint_watch p.now.given c) p.now.given (Vm v) old (sets g.now (Vm v)) }
+    {
+        false
     }
 
     /// Puts cuts into a list that are worth a try before a look at a constraint. Nothing is promised of them.
@@ -139,18 +150,17 @@ impl<S: Kinds> Watcher<ConstraintIndex> for ConstraintWatcher<S> {
         self.kinds.covers(kind)
     }
 
-    #[tactic(auto, using(crate::proofs::DirtyLemmas::kept_disturbed))]
     fn disturb(
         &self,
         k: &ConstraintIndex,
         p: &Problem,
-        _g: &Region,
+        g: &Region,
         change: Change,
         _before: Before,
         _kept: &Domain,
         dirty: &mut DirtySet,
     ) {
-        set_looking_dirty(k, p, change.element, dirty);
+        set_looking_dirty(&self.kinds, k, p, g, change.element, dirty);
     }
 
     fn refuted(&self, _k: &ConstraintIndex, p: &Problem, g: &Region, i: usize) -> Option<Reason> {

@@ -3,7 +3,7 @@ pub use Rattle.rule_frame.specs.Words.{Act, all_nodes, Allowed, Apart, Bounded, 
 unfoldable pub use Rattle.rule_frame.specs.Words.{has_node, sure}
 pub use Rattle.rule_frame.specs.Asked.{AllClean}
 pub use Rattle.rule_frame.specs.Caches.{IsCacheFor}
-pub use Rattle.rule_frame.specs.Changes.{AreClean, IsDisturbed, IsKept, IsLess, IsCleanUpTo, IsStill}
+pub use Rattle.rule_frame.specs.Changes.{AreClean, IsDisturbed, IsKept, IsLess, IsCleanUpTo, IsStill, StaysClean}
 pub use Rattle.rule_frame.specs.Laws.{StillClean, UnseenStill}
 pub use Rattle.rule_frame.specs.Levels.{Levels}
 pub use Rattle.rule_frame.specs.Parts.{part_past, start_past}

@@ -1,8 +1,10 @@
 //! A rule: watches, each dirty or clean, and what is kept beside them.
-ghost use Rattle.std.specs.Prelude.{◌≡◌, ◌<◌, ◌≤◌};
+ghost use Rattle.std.specs.Prelude.{◌≡◌, ◌<◌, ◌≤◌, IfOk, length};
 ghost use Rattle.prop_core.specs.Prelude.{counted, IsRegionOf, sets};
+ghost use Rattle.prop_core.specs.declared.propagator.Answer.TheVariants.{Cut};
 ghost use Rattle.rule_frame.specs.Asked.{IsAskedOf};
 ghost use Rattle.rule_frame.specs.Caches.{IsCacheFor};
+ghost use Rattle.rule_frame.specs.Changes.{AreClean, IsKept};
 ghost use Rattle.rule_frame.specs.Rules.{AnswerHolds, meaning_of};
 
 use crate::suggestion::take_one;
@@ -25,7 +27,7 @@ fn answer<K: Keeper, W: Watcher<K>>(w: &W, k: &K, p: &Problem, g: &Region, asked
     match asked {
         Asked::Quiet => Answer::Quiet,
         Asked::Refuted(reason) => Answer::Fail(reason),
-        Asked::Proposed(it) => Answer::Cut(it.element, it.part, it.reason),
+        Asked::Proposed(it) => cut(it),
         Asked::Failed(i, t) => {
             let view = View {
                 region: g,
@@ -113,6 +115,45 @@ fn suggest<K: Keeper, W: Watcher<K>>(
         reason,
     };
     w.suggest(k, p, g, i, &found, suggestions)
+}
+
+// a cut that was suggested, as an answer
+fn cut(it: Suggestion) -> Answer
+    ensures { result ≡ Cut it.element it.part it.reason }
+{
+    Answer::Cut(it.element, it.part, it.reason)
+}
+
+// what one call answers: a cut of the list that holds, or else what asking the watches finds, which may be a cut of the list too
+fn next_answer<K: Keeper, W: Watcher<K>>(
+    w: &W,
+    k: &K,
+    p: &Problem,
+    g: &Region,
+    dirty: &mut DirtySet,
+    suggestions: &mut Vec<Suggestion>,
+) -> Result<Answer, Memory>
+    requires region { IsRegionOf p.now.given g.now }
+    requires right { IsCacheFor (K.cache k.now) p.now.given (sets g.now) }
+    requires count { length dirty.old.top ≡ W.count_of w.now p.now.given }
+    requires agreed { AreClean (W.watch w.now p.now.given) p.now.given (sets g.now) dirty.old.top }
+    ensures kept { IsKept (W.watch w.now p.now.given) p.now.given (sets g.now) dirty.old dirty.new }
+    ensures answer { IfOk result (AnswerHolds (W.kinds w.now) p.now.given (sets g.now)) }
+{
+    if let Some(it) = take_one(suggestions, w, k, p, g) {
+        return Ok(cut(it));
+    }
+    let asked = ask(w, k, p, g, dirty, suggestions)?;
+    if let Asked::Proposed(it) = asked {
+        return Ok(cut(it));
+    }
+    suggest_first(w, k, p, g, asked, suggestions)?;
+    if let Some(it) = take_one(suggestions, w, k, p, g) {
+        return Ok(cut(it));
+    }
+    let found = answer(w, k, p, g, asked);
+    suggest(w, k, p, g, asked, found, suggestions)?;
+    Ok(found)
 }
 
 // the count after an answer
@@ -220,45 +261,12 @@ impl<K: Keeper, W: Watcher<K> + Drop> Propagator for Rule<W, K> {
     }
 
     fn propagate(&mut self, p: &Problem, g: &Region) -> Result<Answer, Memory> {
-        if let Some(it) = take_one(&mut self.suggestions, &self.watcher, &self.keeper, p, g) {
-            let found = Answer::Cut(it.element, it.part, it.reason);
-            self.given = count(self.given, found);
-            return Ok(found);
-        }
-        let asked = ask(
+        let found = next_answer(
             &self.watcher,
             &self.keeper,
             p,
             g,
             &mut self.dirty,
-            &mut self.suggestions,
-        )?;
-        if let Asked::Proposed(it) = asked {
-            let found = Answer::Cut(it.element, it.part, it.reason);
-            self.given = count(self.given, found);
-            return Ok(found);
-        }
-        suggest_first(
-            &self.watcher,
-            &self.keeper,
-            p,
-            g,
-            asked,
-            &mut self.suggestions,
-        )?;
-        if let Some(it) = take_one(&mut self.suggestions, &self.watcher, &self.keeper, p, g) {
-            let found = Answer::Cut(it.element, it.part, it.reason);
-            self.given = count(self.given, found);
-            return Ok(found);
-        }
-        let found = answer(&self.watcher, &self.keeper, p, g, asked);
-        suggest(
-            &self.watcher,
-            &self.keeper,
-            p,
-            g,
-            asked,
-            found,
             &mut self.suggestions,
         )?;
         self.given = count(self.given, found);

@@ -60,5 +60,5 @@ disturbed p x old now m n o count total single =
       still = λ k h e.
           let at = (s.kept k h e).1 in
           let low : k < node_count p = omega (arith, at.0, h, s.count, count) in
-          subst (λ set. IsStill p (load_scope set) x old now) (sym (one_at p k low)) at.1;
+          inl (subst (λ set. IsStill p (load_scope set) x old now) (sym (one_at p k low)) at.1);
     }

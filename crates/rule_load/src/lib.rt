@@ -5,6 +5,7 @@ mod change_instants;
 mod confirm;
 mod dirty;
 mod doubt;
+mod horizon;
 mod kept;
 mod measures;
 mod node_look;

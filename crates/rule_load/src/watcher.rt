@@ -7,6 +7,7 @@ ghost use Rattle.rule_load.specs.Watched.{is_load, nodes_at, watch_at};
 
 use crate::Standings;
 use crate::dirty::set_disturbed_dirty;
+use crate::horizon::lack_at_horizon;
 use crate::node_look::node_look;
 use crate::nodes::{node_at, node_total};
 use crate::reason::load_reason;
@@ -48,6 +49,14 @@ impl Watcher<Standings> for Loads {
         dirty: &mut DirtySet,
     ) {
         set_disturbed_dirty(k, p, g, change.element, before, kept, dirty);
+    }
+
+    // the first watch is asked before all others, so what refutes the region at once is looked for there
+    fn refuted(&self, k: &Standings, p: &Problem, g: &Region, i: usize) -> Option<Reason> {
+        if i > 0 {
+            return None;
+        }
+        lack_at_horizon(p, k.fixed(p, g), g)
     }
 
     fn names_all(&self, p: &Problem, i: usize) -> bool {

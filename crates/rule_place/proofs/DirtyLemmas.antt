@@ -1,5 +1,5 @@
 -- Which watches of nodes are dirty.
-use Rattle.rule_place.proofs.Prelude.{◌≡◌, ◌≢◌, ◌⊎◌, inl, inr, ℕ, ◌+◌, ◌-◌, ◌<◌, ◌≤◌, Bool, true, false, List, length, get_or, set, refl, sym, ◌∙◌, arith, nat_lt, cases_eq, cases_lt, false≢true, nat_tests, get_or-set_other, length-set, get_or-set_at, AreLooking, AreDirtyFrom, AreNodesDirty, Choice, Element, forbidden_kinds, Instance, IsDisturbed, IsStill, Levels, TheNode, NodeId, place_watch, usable_watch, unseen_still, kept_still}
+use Rattle.rule_place.proofs.Prelude.{◌≡◌, ◌≢◌, ◌⊎◌, inl, inr, ℕ, ◌+◌, ◌-◌, ◌<◌, ◌≤◌, Bool, true, false, List, length, get_or, set, refl, sym, ◌∙◌, arith, nat_lt, cases_eq, cases_lt, false≢true, nat_tests, get_or-set_other, length-set, get_or-set_at, AreDirtyFrom, AreNodesDirty, Choice, Element, forbidden_kinds, Instance, IsDisturbed, IsStill, Levels, StaysClean, TheNode, NodeId, place_watch, usable_watch, watch_at, unseen_still}
 
 -- ---- one more is dirty
 
@@ -50,7 +50,7 @@ node_alone p k old now m low = record {
 
 -- ---- all watches
 
-module _ (p : Instance) (x : Element) (old now : List Choice) (m n : Levels) (looking : AreLooking p x m n) where
+module _ (p : Instance) (x : Element) (old now : List Choice) (m n : Levels) (looking : IsDisturbed (watch_at forbidden_kinds p) p x old now m n) where
   pub all_disturbed : (o : Levels) → AreNodesDirty p x old now n o → IsDisturbed (place_watch p) p x old now m o
   all_disturbed o nodes = record {
     older = nodes.older ∙ looking.older;
@@ -59,8 +59,8 @@ module _ (p : Instance) (x : Element) (old now : List Choice) (m n : Levels) (lo
     still = λ i h e. at i h e (cases_lt i (length p.constraints));
   }
     where
-      at : (i : ℕ) → i < length o.top → get_or o.top i false ≡ false → (i < length p.constraints) ⊎ (length p.constraints ≤ i) → IsStill p (place_watch p i).scope x old now
+      at : (i : ℕ) → i < length o.top → get_or o.top i false ≡ false → (i < length p.constraints) ⊎ (length p.constraints ≤ i) → IsStill p (place_watch p i).scope x old now ⊎ StaysClean (place_watch p i) p x old now
       at i h e (inl low) =
           let is : nat_lt i (length p.constraints) ≡ true = grind (arith, nat_tests, low) in
-          rw is (kept_still forbidden_kinds p x old now m n looking i (omega (arith, h, nodes.count)) (nodes.kept i e))
-      at i h e (inr high) = let is : nat_lt i (length p.constraints) ≡ false = grind (arith, nat_tests, high) in rw is (nodes.still i high h e)
+          rw is (looking.still i (omega (arith, h, nodes.count)) (nodes.kept i e))
+      at i h e (inr high) = let is : nat_lt i (length p.constraints) ≡ false = grind (arith, nat_tests, high) in rw is (inl (nodes.still i high h e))

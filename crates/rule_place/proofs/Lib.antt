@@ -3,5 +3,7 @@ mod AllowedLemmas
 mod BrokenLemmas
 mod DirtyLemmas
 mod NodeLemmas
+mod OptionalLemmas
 mod ShutdownLemmas
+mod SparedLemmas
 mod WatchLemmas

@@ -9,6 +9,20 @@ until-start : (p : Instance) (n t s : ℕ) (q : Place) → usable_at p n 0 Idle 
 unfolding usable_at stage_at
 until-start p n t s q on early = let later : nat_le s t ≡ false = grind (arith, nat_tests, early) in rw (on, later) refl
 
+first-row : (rows : List Row) → length rows ≡ 1 → Climbs 0 rows → (slice_index_or rows 0 no_row).lo ≤ (slice_index_or rows 0 no_row).hi
+first-row [] h c = cc
+first-row (r ∷ rs) h c = c.1
+
+-- so are the ends of its one row, before the first start
+pub ends_usable : (p : Instance) (n t : ℕ) (d : DomainView) (rows : List Row) → usable_at p n 0 Idle ≡ true → rows ≡ d.rows → Climbs 0 rows → length rows ≡ 1 → (q : Place) (u : ℕ) → IsEnd (choices d) (Act q u) → t < (slice_index_or rows 0 no_row).lo → usable_at p n t (Act q u) ≡ true
+ends_usable p n t d rows on same climbs single q u end early =
+    let r = (ends_of_rows d (rw same at climbs) (Act q u)).0 end in
+    let at : r.0 ≡ 0 = omega (arith, r.1, (rw same at single)) in
+    let start : t < (row_at d 0).lo = rw same at early in
+    let order : (row_at d 0).lo ≤ (row_at d 0).hi = first-row d.rows (rw same at single) (rw same at climbs) in
+    until-start p n t u q on
+    (elim r.3 [ inl low ↦ omega (arith, (rw at at low), start) | inr high ↦ omega (arith, (rw at at high), start, order) ])
+
 pub shutdown_is : (p : Instance) (s : Sets) (n : ℕ) (d : DomainView) (rows : List Row) → usable_at p n 0 Idle ≡ true → s (node n) ≡ choices d → d.idle ≡ false → rows ≡ d.rows → Climbs 0 rows → length rows ≡ 1 → IsShutdown p s n (record { first = (slice_index_or rows 0 no_row).lo; last = (slice_index_or rows 0 no_row).hi })
 unfolding sure
 shutdown_is p s n d rows on is idle same climbs single = rw same (record { order = order; ends = ends; may = may })
@@ -19,20 +33,12 @@ shutdown_is p s n d rows on is idle same climbs single = rw same (record { order
     one-row : length d.rows ≡ 1
     one-row = rw same at single
 
-    first-row : (rows : List Row) → length rows ≡ 1 → Climbs 0 rows → (slice_index_or rows 0 no_row).lo ≤ (slice_index_or rows 0 no_row).hi
-    first-row [] h c = cc
-    first-row (r ∷ rs) h c = c.1
-
     order : (row_at d 0).lo ≤ (row_at d 0).hi
     order = first-row d.rows one-row own
 
     ends : (c : Choice) (t : ℕ) → IsEnd (s (node n)) c → t < (row_at d 0).lo → usable_at p n t c ≡ true
     ends Idle t end early = absurd (false≢true (sym idle ∙ (ends_of_rows d own Idle).0 (rw is at end)))
-    ends (Act q u) t end early =
-        let r = (ends_of_rows d own (Act q u)).0 (rw is at end) in
-        let at : r.0 ≡ 0 = omega (arith, r.1, one-row) in
-        until-start p n t u q on
-        (elim r.3 [ inl low ↦ omega (arith, (rw at at low), early) | inr high ↦ omega (arith, (rw at at high), early, order) ])
+    ends (Act q u) t end early = ends_usable p n t d d.rows on refl own one-row q u (rw is at end) early
 
     may : (t : ℕ) → t < (row_at d 0).hi → (sure p s t).usable n ≡ true
     may t early =
@@ -49,7 +55,7 @@ holds_none p v n t w c h left come = kept_law p v w n t (c ∷ []) (numbers p v 
     nothing : comes_by n t (arrival c) ≡ false → kept_use p v w n t (numbers p v c) ≡ 0
     nothing e = rw (left, e) refl
 
-surely-gone : (p : Instance) (s : Sets) (v n t : ℕ) (c : Choice) → Contains (s (vm v)) c → held_at p v Presence (one n) t c ≡ 0 → held_at p v Image (one n) t c ≡ 0 → stands_on (sure p s t) v n ≡ false
+pub surely-gone : (p : Instance) (s : Sets) (v n t : ℕ) (c : Choice) → Contains (s (vm v)) c → held_at p v Presence (one n) t c ≡ 0 → held_at p v Image (one n) t c ≡ 0 → stands_on (sure p s t) v n ≡ false
 unfolding sure
 surely-gone p s v n t c there away gone = by ((sure p s t).present v (one n)) refl ((sure p s t).held v Image (one n)) none
   where
@@ -83,7 +89,7 @@ other_goes p s v n x short some away host =
     (λ t h. let c = some_end (s (vm v)) some in (c.0, end_is_choice (s (vm v)) c.0 c.1, rw host refl))
     (λ c t end h. rw host refl)
 
-too-late : (host : Bool) (t leave end : ℕ) → leave ≤ end → end ≤ t → (host && nat_lt t leave) ≡ false
+pub too-late : (host : Bool) (t leave end : ℕ) → leave ≤ end → end ≤ t → (host && nat_lt t leave) ≡ false
 too-late true t leave end l h = grind (arith, nat_tests)
 too-late false t leave end l h = refl
 

@@ -1,7 +1,7 @@
 //! Whether machines are only where a constraint lets them be, told for all instants up to the horizon at once.
-ghost use Rattle.std.specs.Prelude.{◌≡◌, ℕ, ◌<◌, ◌≤◌, ◌&&◌, ◌||◌, ◌==◌, false, length, nat_lt, true, slice_index_or, IsTrue};
+ghost use Rattle.std.specs.Prelude.{◌≡◌, ℕ, ◌<◌, ◌≤◌, ◌&&◌, ◌||◌, ◌==◌, false, length, nat_lt, true, slice_index_or, IsTrue, List};
 ghost use Rattle.std.specs.List.{list_all};
-ghost use Rattle.rule_place.specs.Prelude.{Choice as AnyChoice, choices, ForbidsPlace, inventory_of, is_rule, IsAllowed, IsClean, IsMember, IsOffHost, IsSized, machine_count, MayGo, no_row, rule_watch, sets};
+ghost use Rattle.rule_place.specs.Prelude.{Choice as AnyChoice, choices, constraint_watch, ForbidsPlace, inventory_of, is_rule, IsAllowed, IsClean, IsMember, IsOffHost, IsSized, machine_count, MayGo, no_row, rule_watch, sets, StaysClean, Vm};
 
 use crate::leaving::leaves_by;
 use crate::places::limits_of;
@@ -71,6 +71,21 @@ fn machine_is_allowed(p: &Problem, g: &Region, constraint: &Constraint, v: VmId)
     }
     let rows = domain.rows();
     rows_are_allowed(p, constraint, v, rows) && host_is_allowed(p, constraint, v, domain)
+}
+
+/// Whether it is seen that a machine is only where a constraint lets it be. Then no change of it breaks the constraint.
+#[tactic(auto, using(crate::proofs::SparedLemmas::allowed_spared))]
+pub fn is_spared(p: &Problem, g: &Region, c: u32, v: VmId) -> bool
+    requires region { IsSized p.now.given g.now }
+    requires constraint { c < length p.now.given.constraints }
+    requires machine { v.0 < machine_count p.now.given }
+    ensures { IsTrue result → (old : List AnyChoice) → StaysClean (constraint_watch p.now.given c) p.now.given (Vm v) old (sets g.now (Vm v)) }
+{
+    let constraint = &p.constraints()[c as usize];
+    match limits_of(constraint) {
+        None => false,
+        Some(_) => machine_is_allowed(p, g, constraint, v),
+    }
 }
 
 // whether each of these machines is seen to be nowhere that the constraint forbids to its members.

@@ -2,8 +2,10 @@
 #![tactic(auto)]
 
 mod allowed;
+mod forbidden;
 mod leaving;
 mod nodes;
+mod optional;
 mod places;
 pub mod rule;
 mod shutdowns;

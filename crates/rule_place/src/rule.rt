@@ -2,12 +2,15 @@
 ghost use Rattle.std.specs.Prelude.{refl};
 ghost use Rattle.rule_place.specs.Covers.{forbidden_kinds};
 
-use crate::allowed::is_kept;
+use crate::allowed::{is_kept, is_spared};
+use crate::forbidden::propose_rows;
 use crate::places::place_reason;
 use crate::watcher::PlaceWatcher;
 use closing::watch::look_at_constraint;
 use rule_constraint::{ConstraintIndex, ConstraintWatcher, Kinds};
-use rule_frame::{Instant, Look, Problem, Reason, ReasonKind, Region, Rule, View};
+use rule_frame::{
+    Instant, Look, Memory, Problem, Reason, ReasonKind, Region, Rule, Suggestion, View, VmId,
+};
 
 /// Machines on nodes where they may not be: `ban`, `fence`, `root`.
 #[derive(Clone, Copy, Default)]
@@ -25,6 +28,20 @@ impl Kinds for ForbiddenPlaces {
             return Look::Clean;
         }
         look_at_constraint(p, g, c)
+    }
+
+    fn spares(&self, p: &Problem, g: &Region, c: u32, v: VmId) -> bool {
+        is_spared(p, g, c, v)
+    }
+
+    fn propose(
+        &self,
+        p: &Problem,
+        g: &Region,
+        c: u32,
+        them: &mut Vec<Suggestion>,
+    ) -> Result<(), Memory> {
+        propose_rows(p, g, c, them)
     }
 
     #[tactic(auto, using(crate::proofs::BrokenLemmas::place_broken))]

@@ -41,8 +41,8 @@ fn shutdown_of(p: &Problem, g: &Region, n: NodeId) -> Option<Shutdown>
     })
 }
 
-// until when a machine has its host under a start at the place of a row
-fn leave_at(p: &Problem, v: VmId, row: Row, start: Instant) -> u64
+/// Until when a machine has its host under a start at the place of a row.
+pub fn leave_at(p: &Problem, v: VmId, row: Row, start: Instant) -> u64
     requires { v.0 < machine_count p.now.given }
     ensures { result ≡ leave_of p.now.given v.0 (AnyChoice.Act row.place start) }
 {

@@ -6,15 +6,15 @@ ghost use Rattle.rule_place.specs.Nodes.{place_count, place_watch};
 ghost use Rattle.rule_place.specs.Quiet.{places_are_local, places_are_quiet};
 
 use crate::nodes::set_nodes_dirty;
+use crate::optional::is_optional;
 use crate::places::usable_reason;
 use crate::rule::ForbiddenPlaces;
 use crate::shutdowns::is_let_go;
 use closing::watch::look_at_usable;
-use rule_constraint::index::set_looking_dirty;
 use rule_constraint::{ConstraintIndex, ConstraintWatcher};
 use rule_frame::{
-    Before, Change, DirtySet, Domain, Element, Instant, Look, NodeId, Part, Problem, Reason,
-    ReasonKind, Region, View, Watcher,
+    Before, Change, DirtySet, Domain, Element, Instant, Look, Memory, NodeId, Part, Problem,
+    Reason, ReasonKind, Region, Suggestion, View, Watcher,
 };
 
 // a look at whether a node is usable where it is needed
@@ -23,7 +23,7 @@ fn look_at_node(p: &Problem, g: &Region, n: NodeId) -> Look
     requires node { n.0 < node_count p.now.given }
     ensures { IsLook (usable_watch p.now.given n.0) p.now.given (sets g.now) result }
 {
-    if is_let_go(p, g, n) {
+    if is_let_go(p, g, n) || is_optional(p, g, n) {
         return Look::Clean;
     }
     look_at_usable(p, g, n)
@@ -71,12 +71,26 @@ impl Watcher<ConstraintIndex> for PlaceWatcher {
         p: &Problem,
         g: &Region,
         change: Change,
-        _before: Before,
-        _kept: &Domain,
+        before: Before,
+        kept: &Domain,
         dirty: &mut DirtySet,
     ) {
-        set_looking_dirty(k, p, change.element, dirty);
+        self.places.disturb(k, p, g, change, before, kept, dirty);
         set_nodes_dirty(p, g, change, dirty);
+    }
+
+    fn propose(
+        &self,
+        k: &ConstraintIndex,
+        p: &Problem,
+        g: &Region,
+        i: usize,
+        them: &mut Vec<Suggestion>,
+    ) -> Result<(), Memory> {
+        match node_of(p, i) {
+            None => self.places.propose(k, p, g, i, them),
+            Some(_) => Ok(()),
+        }
     }
 
     fn look(&self, k: &ConstraintIndex, p: &Problem, g: &Region, i: usize) -> Look {

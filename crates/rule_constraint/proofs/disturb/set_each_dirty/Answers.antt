@@ -1,6 +1,6 @@
 use Rattle.std.proofs.Common.{arith, get_or}
 use Rattle.rule_constraint.proofs.IndexLemmas.{number_at}
-use Rattle.rule_constraint.proofs.index.set_each_dirty.Goals as goal
+use Rattle.rule_constraint.proofs.disturb.set_each_dirty.Goals as goal
 
 pub set_dirty-requires : goal.set_dirty-requires
 set_dirty-requires c =

@@ -1,5 +1,0 @@
-use Rattle.rule_constraint.specs.Indexes.{AreDirty}
-use Rattle.rule_constraint.proofs.index.set_each_dirty.Given as goal
-
-abbrev pub invariant-loop-k : goal.invariant-loop-k
-invariant-loop-k l = AreDirty l.k l.numbers l.fn.dirty l.dirty

@@ -1,0 +1,80 @@
+//! Which constraints are dirty after a change: those that look at its element, but for those that are seen to stay clean.
+ghost use Rattle.std.specs.Prelude.{◌≡◌, ◌<◌, ◌≤◌, ℕ, IsTrue, List, length};
+ghost use Rattle.std.specs.List.{Contains};
+ghost use Rattle.rule_constraint.specs.Prelude.{AreDirty, Choice as AnyChoice, IsDisturbed, IsElement, IsIndexOf, IsSized, IsSpared, machine_count, sets, watch_at};
+ghost use Rattle.cluster.specs.declared.ids.Element.TheVariants.{Vm};
+
+use crate::kinds::reason_kind;
+use crate::{ConstraintIndex, Kinds};
+use rule_frame::{DirtySet, Element, Problem, Region, VmId};
+
+// whether a constraint gives no reasons of these kinds, or is seen to stay clean
+#[tactic(auto, using(crate::proofs::DirtyLemmas::spared_covered, crate::proofs::DirtyLemmas::spared_settled, crate::proofs::DirtyLemmas::spared_of_others))]
+fn is_spared<S: Kinds>(kinds: &S, p: &Problem, g: &Region, v: VmId, c: u32) -> bool
+    requires region { IsSized p.now.given g.now }
+    requires machine { v.0 < machine_count p.now.given }
+    requires constraint { c < length p.now.given.constraints }
+    ensures { IsTrue result → IsSpared (S.kinds kinds.now) p.now.given (Vm v) (sets g.now (Vm v)) c }
+{
+    match reason_kind(&p.constraints()[c as usize]) {
+        None => true,
+        Some(kind) => !kinds.covers(kind) || kinds.spares(p, g, c, v),
+    }
+}
+
+// sets dirty each of the watches of these numbers that is not spared
+fn set_unspared_dirty<S: Kinds>(
+    kinds: &S,
+    p: &Problem,
+    g: &Region,
+    v: VmId,
+    numbers: &[u32],
+    dirty: &mut DirtySet,
+)
+    requires region { IsSized p.now.given g.now }
+    requires machine { v.0 < machine_count p.now.given }
+    requires numbers { (i : ℕ) → Contains numbers.now i → i < length p.now.given.constraints }
+    requires count { length p.now.given.constraints ≤ length dirty.old.top }
+    ensures { AreDirty (IsSpared (S.kinds kinds.now) p.now.given (Vm v) (sets g.now (Vm v))) (length numbers.now) numbers.now dirty.old dirty.new }
+{
+    for k in 0..numbers.len() {
+        if !is_spared(kinds, p, g, v, numbers[k]) {
+            dirty.set_dirty(numbers[k] as usize, true);
+        }
+    }
+}
+
+// sets dirty each of the watches of these numbers
+fn set_each_dirty(numbers: &[u32], dirty: &mut DirtySet)
+    requires { (i : ℕ) → Contains numbers.now i → i < length dirty.old.top }
+    ensures { AreDirty (λ c. ⊥) (length numbers.now) numbers.now dirty.old dirty.new }
+{
+    for k in 0..numbers.len() {
+        dirty.set_dirty(numbers[k] as usize, true);
+    }
+}
+
+/// Sets dirty each constraint that looks at an element, by its number, but for those that stay clean: so each on which a
+/// change of the element weighs. No other constraint is looked for.
+pub fn set_looking_dirty<S: Kinds>(
+    kinds: &S,
+    index: &ConstraintIndex,
+    p: &Problem,
+    g: &Region,
+    e: Element,
+    dirty: &mut DirtySet,
+)
+    requires region { IsSized p.now.given g.now }
+    requires right { IsIndexOf p.now.given (length p.now.given.constraints) index.now.lists }
+    requires element { IsElement p.now.given e }
+    requires count { length p.now.given.constraints ≤ length dirty.old.top }
+    ensures { (old : List AnyChoice) → IsDisturbed (watch_at (S.kinds kinds.now) p.now.given) p.now.given e old (sets g.now e) dirty.old dirty.new }
+{
+    match e {
+        Element::Vm(v) => {
+            set_unspared_dirty(kinds, p, g, v, index.lists.of_machine(v), dirty);
+            set_unspared_dirty(kinds, p, g, v, index.lists.everywhere(), dirty);
+        }
+        Element::Node(n) => set_each_dirty(index.lists.of_node(n), dirty),
+    }
+}
