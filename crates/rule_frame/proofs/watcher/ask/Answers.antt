@@ -9,7 +9,7 @@ loop-i-preserved g c =
       | then-is_dirty+in_ok-found+in-None w ↦
           rw (w.dirty-is, w.set_dirty.ensures, w.pass.ensures)
           (clean_found (g.W.Watcher.watch c.args.w.now c.args.p.now.given) c.args.p.now.given (sets c.args.g.now) c.loop-i.i c.args.dirty.now c.loop-i.dirty c.loop-i.invariant
-          (omega (arith, c.loop-i-test.true, c.count-i-end.ensures, c.loop-i.invariant.kept.count)) w.in-None.ensures.clean)
+          (omega (arith, c.loop-i-test.true, c.count-i-end.ensures, c.loop-i.invariant.kept.count)) (rw w.in-None.is at w.in_ok-found.ensures.clean))
       | else-is_dirty w ↦
           rw w.dirty-is
           (clean_next (g.W.Watcher.watch c.args.w.now c.args.p.now.given) c.args.p.now.given (sets c.args.g.now) c.loop-i.i c.args.dirty.now c.loop-i.dirty c.loop-i.invariant
