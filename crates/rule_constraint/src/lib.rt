@@ -2,7 +2,7 @@
 //! some kinds.
 #![tactic(auto)]
 
-mod disturb;
+pub mod disturb;
 pub mod index;
 pub mod kinds;
 pub mod machines;

@@ -70,6 +70,14 @@ total_free p g ks r x used free short are sum is fits machines =
     (record { at = λ t h. omega (arith, is, steady-room p (sets g) x t h r) }) (omega (arith, fits)) machines
     (record { each = λ n c t l i h. omega (arith, is, fits, steady-fits p (sets g) x t h r n c i) })
 
+-- and of those that may be usable
+pub loose_free : (p : Instance) (g : RegionView) (ks : List Standing) (r : ℕ) (x : Period) (used total : ℕ) → x.to < never → AreStanding p (sets g) ks →
+    used ≡ sum_to (machine_count p) (λ v. most_anywhere p v r x (may_wait p (sets g) x v) (slice_index_or ks v no_standing)) → HasRoom p (sets g) r (all_nodes p) x total → used ≤ total →
+    MachinesFit p (sets g) r (all_nodes p) x (λ v. most_anywhere p v r x (may_wait p (sets g) x v) (slice_index_or ks v no_standing)) (total - used) → NodesFit p (sets g) r (all_nodes p) x used →
+    IsFreeDuring (λ b. IsOverload p b r (all_nodes p)) p (sets g) x
+loose_free p g ks r x used total short are sum has fits machines nodes =
+    free_during p (sets g) r (all_nodes p) x (λ v. most_anywhere p v r x (may_wait p (sets g) x v) (slice_index_or ks v no_standing)) used total (total - used) sum (are_most p g ks r (all_nodes p) x short are) has (omega (arith, fits)) machines nodes
+
 -- ---- resource by resource
 
 pub free_more : (p : Instance) (s : Sets) (set : Nodes) (x : Period) (k : ℕ) → ((r : ℕ) → r < k → IsFreeDuring (λ b. IsOverload p b r set) p s x) → IsFreeDuring (λ b. IsOverload p b k set) p s x → (r : ℕ) → r < k + 1 → IsFreeDuring (λ b. IsOverload p b r set) p s x

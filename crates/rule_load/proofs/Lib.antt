@@ -3,7 +3,8 @@ pub mod DoubtLemmas
 pub mod FreeLemmas
 pub mod KeptLemmas
 pub mod DirtyLemmas
-pub mod OverLemmas
+pub mod LooseLemmas
+mod OverLemmas
 pub mod RoomLemmas
 pub mod SetLemmas
 pub mod ConfirmLemmas

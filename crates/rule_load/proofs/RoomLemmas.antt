@@ -4,7 +4,7 @@ use Rattle.rule_load.specs.Prelude.{Act, action_duration, all_nodes, capacity_of
 
 -- ---- an online node is usable until a start, an offline one from an end
 
-online-before : (p : Instance) (n t to : ℕ) (c : Choice) → is_online p.nodes n ≡ true → t ≤ to → usable_at p n to c ≡ true → usable_at p n t c ≡ true
+pub online-before : (p : Instance) (n t to : ℕ) (c : Choice) → is_online p.nodes n ≡ true → t ≤ to → usable_at p n to c ≡ true → usable_at p n t c ≡ true
 unfolding usable_at stage_at
 online-before p n t to Idle on l e = e
 online-before p n t to (Act place start) on l e = rw on (at (rw on at e))
@@ -12,7 +12,7 @@ online-before p n t to (Act place start) on l e = rw on (at (rw on at e))
     at : not (nat_le start to) ≡ true → not (nat_le start t) ≡ true
     at h = grind (arith, nat_tests, l, h)
 
-offline-after : (p : Instance) (n from t : ℕ) (c : Choice) → is_online p.nodes n ≡ false → from ≤ t → usable_at p n from c ≡ true → usable_at p n t c ≡ true
+pub offline-after : (p : Instance) (n from t : ℕ) (c : Choice) → is_online p.nodes n ≡ false → from ≤ t → usable_at p n from c ≡ true → usable_at p n t c ≡ true
 unfolding usable_at stage_at
 offline-after p n from t Idle off l e = e
 offline-after p n from t (Act place start) off l e = rw off (at (action_duration p (node n) place) (rw off at e))
@@ -27,13 +27,13 @@ or-more true b c d f g e = rw (f refl) refl
 or-more false b true d f g e = refl
 or-more false b false d f g e = g e
 
-may-more : (f g : Choice → Bool) (cs : List Choice) → ((c : Choice) → f c ≡ true → g c ≡ true) → may f cs ≡ true → may g cs ≡ true
+pub may-more : (f g : Choice → Bool) (cs : List Choice) → ((c : Choice) → f c ≡ true → g c ≡ true) → may f cs ≡ true → may g cs ≡ true
 may-more f g [] h e = e
 may-more f g (c ∷ cs) h e = or-more (f c) (may f cs) (g c) (may g cs) (h c) (may-more f g cs h) e
 
 -- ---- between two instants
 
-may-between : (p : Instance) (n t : ℕ) (x : Period) (cs : List Choice) → IsDuring x t → may (usable_at p n x.from) cs ≡ true → may (usable_at p n x.to) cs ≡ true → may (usable_at p n t) cs ≡ true
+pub may-between : (p : Instance) (n t : ℕ) (x : Period) (cs : List Choice) → IsDuring x t → may (usable_at p n x.from) cs ≡ true → may (usable_at p n x.to) cs ≡ true → may (usable_at p n t) cs ≡ true
 may-between p n t x cs h first last = by (is_online p.nodes n) refl
   where
     by : (b : Bool) → is_online p.nodes n ≡ b → may (usable_at p n t) cs ≡ true
@@ -113,7 +113,7 @@ steady_fits p s r n x used free steady room fits =
     usable_fits p s r n x used free rest.0 rest.1 room fits
 
 module _ (p : Instance) (s : Sets) (x : Period) (t : ℕ) (h : IsDuring x t) where
-  each-steady : (n : ℕ) (c : Choice) → is_steady p s x n ≡ true → Contains (s (node n)) c → usable_at p n t c ≡ true
+  pub each-steady : (n : ℕ) (c : Choice) → is_steady p s x n ≡ true → Contains (s (node n)) c → usable_at p n t c ≡ true
   each-steady n c e i =
       let rest = both (surely (usable_at p n x.from) (s (node n))) (surely (usable_at p n x.to) (s (node n))) (both (may (usable_at p n x.from) (s (node n))) (surely (usable_at p n x.from) (s (node n)) && surely (usable_at p n x.to) (s (node n))) e).1 in
       usable-between p n t x c h (surely_each (usable_at p n x.from) (s (node n)) c i rest.0) (surely_each (usable_at p n x.to) (s (node n)) c i rest.1)

@@ -1,7 +1,7 @@
 -- What is so at each instant of a period.
 use Rattle.std.specs.Prelude.{ℕ, ◌+◌, ◌<◌, ◌≤◌, ◌&&◌, List, nat_lt, if◌then◌else◌}
 use Rattle.std.specs.List.{Contains}
-use Rattle.rule_load.specs.Words.{base, comes_by, gain, held_at, hosted_in, Instance, machine_count, node, node_count, Nodes, one, room, Sets, setting, Snapshot, state_of, sure, vm, IsFreeOf, IsOverloaded, Choice, Weight, Amount, Standing}
+use Rattle.rule_load.specs.Words.{base, capacity_of, comes_by, gain, held_at, hosted_in, Instance, machine_count, node, node_count, Nodes, one, room, Sets, setting, Snapshot, state_of, sure, usable_at, vm, IsFreeOf, IsOverloaded, Choice, Weight, Amount, Standing}
 use Rattle.rule_load.specs.declared.period.Period.{Period}
 
 -- the instant is one of the period
@@ -43,6 +43,11 @@ pub record MachinesFit (p : Instance) (s : Sets) (r : ℕ) (set : Nodes) (x : Pe
 -- the nodes of a set have so much room
 pub record HasRoom (p : Instance) (s : Sets) (r : ℕ) (set : Nodes) (x : Period) (free : ℕ) : Type 0 where
   pub at : (t : ℕ) → IsDuring x t → free ≤ room p (sure p s t) r set
+
+-- node n has no more than what it has under each of its choices and what is at stake
+abbrev pub IsAtStake : Instance → Sets → ℕ → Period → ℕ → ℕ → Type 0
+IsAtStake p s r x n stake = (c : Choice) (t : ℕ) → Contains (s (node n)) c → IsDuring x t →
+    (if (sure p s t).usable n then capacity_of p n r else 0) ≤ stake + (if usable_at p n t c then capacity_of p n r else 0)
 
 -- and so they do with any one node set to any of its choices
 pub record NodesFit (p : Instance) (s : Sets) (r : ℕ) (set : Nodes) (x : Period) (used : ℕ) : Type 0 where

@@ -4,7 +4,7 @@ unfoldable pub use Rattle.rule_load.specs.Words.{action_duration, capacity_of, d
 pub use Rattle.rule_load.specs.Kept.{AreKept, AreKeptAt, AreNearAt, cache_of, Grows, HaveCome, IsListedBy, IsListedFor}
 pub use Rattle.rule_load.specs.Dirty.{AreSpared, CameBefore, KeepsHost}
 pub use Rattle.rule_load.specs.Parts.{HasLeft, IsMostBrought, IsMostLeft, left_over, StartsAfter, StartsPast}
-pub use Rattle.rule_load.specs.Periods.{AreMost, HasRoom, IsDuring, IsFreeDuring, IsFreePast, IsMost, MachinesFit, most_kept, NodesFit}
+pub use Rattle.rule_load.specs.Periods.{AreMost, HasRoom, IsAtStake, IsDuring, IsFreeDuring, IsFreePast, IsMost, MachinesFit, most_kept, NodesFit}
 pub use Rattle.rule_load.specs.Quiet.{one_at}
 pub use Rattle.rule_load.specs.Totals.{is_steady, may_wait, most_anywhere, waits}
 pub use Rattle.rule_load.specs.Watched.{nodes_at, watch_at}

@@ -7,6 +7,7 @@ mod dirty;
 mod doubt;
 mod horizon;
 mod kept;
+mod loose_room;
 mod measures;
 mod node_look;
 mod nodes;

@@ -24,9 +24,9 @@ pub(crate) fn room_of(p: &Problem, g: &Region, n: NodeId, r: u8, x: Period) -> u
     }
 }
 
-// whether a node may be usable at both ends of a period
+/// Whether a node may be usable at both ends of a period.
 #[tactic(auto, using(crate::proofs::RoomLemmas::usable_when_steady))]
-fn may_be_used(p: &Problem, g: &Region, n: NodeId, x: Period) -> bool
+pub(crate) fn may_be_used(p: &Problem, g: &Region, n: NodeId, x: Period) -> bool
     requires region { IsSized p.now.given g.now }
     requires node { n.0 < node_count p.now.given }
     ensures first { IsTrue result → (sure p.now.given (sets g.now) x.from).usable n.0 ≡ true }
@@ -111,7 +111,7 @@ fn stays_online(p: &Problem, g: &Region, n: NodeId) -> bool
 
 /// Whether a node is usable at both ends of a period under each of its choices, of which there is one.
 #[tactic(auto, unfolding(reasons::specs::Sure::sure))]
-fn is_steady(p: &Problem, g: &Region, n: NodeId, x: Period) -> bool
+pub(crate) fn is_steady(p: &Problem, g: &Region, n: NodeId, x: Period) -> bool
     requires region { IsSized p.now.given g.now }
     requires node { n.0 < node_count p.now.given }
     ensures { result ≡ the_is_steady p.now.given (sets g.now) x n.0 }

@@ -3,14 +3,15 @@ ghost use Rattle.std.specs.Prelude.{◌+◌, ◌<◌, ◌≤◌, length, IfSome,
 ghost use Rattle.rule_load.specs.Prelude.{all_nodes, AreMovers, AreStanding, IsFixed, IsFreeDuring, IsFreePast, IsLook, IsOverload, IsOverloaded, IsSized, sets, total_load_watch};
 
 use crate::change_instants::next_change_anywhere;
+use crate::loose_room::loose_room;
 use crate::room::steady_room;
 use crate::total_uses::{machines_fit, most_total};
 use crate::{Fixed, Period, Standing, resource_total};
 use closing::watch::look_at_total_load;
 use rule_frame::{Look, Problem, Region};
 
-// whether it is seen that of a resource enough is there during a period
-fn has_enough(
+// whether it is seen that of a resource those nodes have enough during a period that are usable under all their choices
+fn has_steady_room(
     p: &Problem,
     f: &Fixed,
     g: &Region,
@@ -30,6 +31,50 @@ fn has_enough(
     let used = most_total(p, f, g, ks, movers, r, x);
     let room = steady_room(p, g, r, x);
     used <= room && machines_fit(p, f, g, ks, r, x, room - used)
+}
+
+// whether those have that may be usable, also without any one of them
+fn has_loose_room(
+    p: &Problem,
+    f: &Fixed,
+    g: &Region,
+    ks: &[Standing],
+    movers: &[u32],
+    r: u8,
+    x: Period,
+) -> bool
+    requires region { IsSized p.now.given g.now }
+    requires fixed { IsFixed p.now.given f.now }
+    requires right { AreStanding p.now.given (sets g.now) ks.now }
+    requires movers { AreMovers p.now.given (sets g.now) movers.now }
+    requires resource { r < length p.now.given.resources }
+    requires period { x.to ≤ p.now.given.horizon }
+    ensures { IsTrue result → IsFreeDuring (λ b. IsOverload p.now.given b r (all_nodes p.now.given)) p.now.given (sets g.now) x }
+{
+    let used = most_total(p, f, g, ks, movers, r, x);
+    let room = loose_room(p, g, r, x);
+    used + room.at_stake <= room.total && machines_fit(p, f, g, ks, r, x, room.total - used)
+}
+
+// whether it is seen that of a resource enough is there during a period
+fn has_enough(
+    p: &Problem,
+    f: &Fixed,
+    g: &Region,
+    ks: &[Standing],
+    movers: &[u32],
+    r: u8,
+    x: Period,
+) -> bool
+    requires region { IsSized p.now.given g.now }
+    requires fixed { IsFixed p.now.given f.now }
+    requires right { AreStanding p.now.given (sets g.now) ks.now }
+    requires movers { AreMovers p.now.given (sets g.now) movers.now }
+    requires resource { r < length p.now.given.resources }
+    requires period { x.to ≤ p.now.given.horizon }
+    ensures { IsTrue result → IsFreeDuring (λ b. IsOverload p.now.given b r (all_nodes p.now.given)) p.now.given (sets g.now) x }
+{
+    has_steady_room(p, f, g, ks, movers, r, x) || has_loose_room(p, f, g, ks, movers, r, x)
 }
 
 // whether it is of each resource

@@ -11,6 +11,7 @@ use crate::places::usable_reason;
 use crate::rule::ForbiddenPlaces;
 use crate::shutdowns::is_let_go;
 use closing::watch::look_at_usable;
+use rule_constraint::disturb::set_looking_dirty;
 use rule_constraint::{ConstraintIndex, ConstraintWatcher};
 use rule_frame::{
     Before, Change, DirtySet, Domain, Element, Instant, Look, Memory, NodeId, Part, Problem,
@@ -23,7 +24,10 @@ fn look_at_node(p: &Problem, g: &Region, n: NodeId) -> Look
     requires node { n.0 < node_count p.now.given }
     ensures { IsLook (usable_watch p.now.given n.0) p.now.given (sets g.now) result }
 {
-    if is_let_go(p, g, n) || is_optional(p, g, n) {
+    if is_let_go(p, g, n) {
+        return Look::Clean;
+    }
+    if is_optional(p, g, n) {
         return Look::Clean;
     }
     look_at_usable(p, g, n)
@@ -71,11 +75,11 @@ impl Watcher<ConstraintIndex> for PlaceWatcher {
         p: &Problem,
         g: &Region,
         change: Change,
-        before: Before,
-        kept: &Domain,
+        _before: Before,
+        _kept: &Domain,
         dirty: &mut DirtySet,
     ) {
-        self.places.disturb(k, p, g, change, before, kept, dirty);
+        set_looking_dirty(&ForbiddenPlaces, k, p, g, change.element, dirty);
         set_nodes_dirty(p, g, change, dirty);
     }
 

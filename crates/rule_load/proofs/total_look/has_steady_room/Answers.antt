@@ -1,6 +1,6 @@
 use Rattle.std.proofs.Common.{arith}
 use Rattle.rule_load.proofs.FreeLemmas.{total_free}
-use Rattle.rule_load.proofs.total_look.has_enough.Goals as goal
+use Rattle.rule_load.proofs.total_look.has_steady_room.Goals as goal
 
 pub returns-then-used-room : goal.returns-then-used-room
 returns-then-used-room c =
