@@ -68,6 +68,9 @@ loose_has_room p s r x total lasting = record {
   );
 }
 
+pub lasting_room : (p : Instance) (s : Sets) (r : ℕ) (x : Period) (count total : ℕ) → count ≡ node_count p → AreLasting p s r x count total → HasRoom p s r (all_nodes p) x total
+lasting_room p s r x count total all lasting = loose_has_room p s r x total (rw all at lasting)
+
 pub loose_fits : (p : Instance) (s : Sets) (r : ℕ) (x : Period) (total stake : ℕ) → HasRoom p s r (all_nodes p) x total → ((n : ℕ) → n < node_count p → IsAtStake p s r x n stake) → (used : ℕ) → used + stake ≤ total → NodesFit p s r (all_nodes p) x used
 loose_fits p s r x total stake room stakes used fits = record {
   each = λ m c t l i h.

@@ -1,4 +1,5 @@
-use Rattle.rule_load.proofs.Prelude.{ℕ, ◌*◌, ◌<◌, ◌≤◌, IsAtStake, max_capacity, sets}
+use Rattle.rule_load.proofs.Prelude.{ℕ, ◌*◌, ◌<◌, ◌≤◌, max_capacity, sets}
+use Rattle.rule_load.specs.Prelude.{IsAtStake}
 use Rattle.rule_load.proofs.LooseLemmas.{AreLasting}
 use Rattle.rule_load.proofs.loose_room.loose_room.Given as goal
 
