@@ -20,6 +20,7 @@ pub mod rule;
 pub mod standings;
 mod suggest;
 mod total_look;
+mod total_suggest;
 mod total_uses;
 mod uses;
 pub mod watcher;

@@ -14,6 +14,7 @@ use crate::reason::load_reason;
 use crate::refuting::refutes_part;
 use crate::suggest::suggest_on;
 use crate::total_look::total_look;
+use crate::total_suggest::suggest_everywhere;
 use rule_frame::{
     Before, Change, DirtySet, Domain, Element, Instant, Look, Memory, Part, Problem, Reason,
     ReasonKind, Region, Suggestion, View, Watcher,
@@ -96,7 +97,15 @@ impl Watcher<Standings> for Loads {
         them: &mut Vec<Suggestion>,
     ) -> Result<(), Memory> {
         match node_at(p, i) {
-            None => Ok(()),
+            None => suggest_everywhere(
+                p,
+                k.fixed(p, g),
+                g,
+                k.all(p, g),
+                k.movers(p, g),
+                found,
+                them,
+            ),
             Some(n) => suggest_on(p, g, k.at(p, g, n), n, found, them),
         }
     }
