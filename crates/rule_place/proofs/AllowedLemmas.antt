@@ -1,5 +1,5 @@
 -- Machines that are nowhere that a constraint forbids to them.
-use Rattle.rule_place.proofs.Prelude.{IsTrue, slice_index_or, ◌≡◌, ◌≢◌, ◌⊎◌, inl, inr, ℕ, ◌<◌, ◌≤◌, Bool, true, false, ◌&&◌, ◌||◌, ◌==◌, nat_lt, List, [], length, Some, refl, sym, ◌∙◌, arith, and_parts, eqb-true, false≢true, nat_tests, Idle, Place, sound_form, surely_each, end_is_choice, ends_of_rows, some_end, own_present, same_present, vm_or}
+use Rattle.rule_place.proofs.Prelude.{IsTrue, slice_index_or, ◌≡◌, ◌≢◌, inl, inr, ℕ, ◌<◌, ◌≤◌, Bool, true, false, ◌&&◌, ◌||◌, ◌==◌, nat_lt, List, [], length, Some, refl, sym, ◌∙◌, arith, and_parts, eqb-true, false≢true, nat_tests, Idle, Place, sound_form, surely_each, end_is_choice, ends_of_rows, some_end, own_present, same_present, vm_or}
 use Rattle.rule_place.specs.Prelude.{Act, Allowed, are_below, At, Choice, choices, Climbs, Constraint, DomainView, Element, ForbidsPlace, form_of, has_come, hosted_in, Instance, inventory_of, is_continuous, is_rule, IsAllowed, IsClean, IsDue, IsEnd, IsMember, IsOffHost, leave_of, machine_count, MayGo, never, no_row, Nodes, Nowhere, of_kind, one, Place as PlaceKind, Places, Presence, present_at, reason_kind, Row, rule_watch, Sets, setting, state_of, sure, vm, VmId}
 use Rattle.rule_place.proofs.ShutdownLemmas.{holds_none}
 

@@ -6,4 +6,3 @@ mod NodeLemmas
 mod OptionalLemmas
 mod ShutdownLemmas
 mod SparedLemmas
-mod WatchLemmas

@@ -1,49 +1,49 @@
 -- The watches of nodes on which a change of a machine does not weigh.
-use Rattle.rule_place.proofs.Prelude.{IsTrue, ◌≡◌, ◌≢◌, ◌⊎◌, inl, inr, ℕ, ◌+◌, ◌-◌, ◌<◌, ◌≤◌, Bool, true, false, List, [], ◌∷◌, length, set, refl, sym, ◌∙◌, arith, Contains, filter, and_parts, eqb-true, false≢true, nat_tests, length-set, Stay, Place, IsMachineLess, contains_filter, filter_contains, surely_each, away, away_least}
-use Rattle.rule_place.specs.Prelude.{Act, AreDirtyFrom, AreNodesDirty, AreSpared, At, Choice, From, goes_in, hosted_in, Idle, in_part, Inside, Instance, IsEnd, IsLess, IsStill, IsUntouched, Levels, node_count, NodeId, Nowhere, on_side, one, Outside, Part, Presence, present_at, same_place, Side, state_of, Upto, usable_watch, Vm, VmId}
+use Rattle.rule_place.proofs.Prelude.{IsTrue, ◌≡◌, ◌≢◌, ◌⊎◌, inl, inr, ℕ, ◌+◌, ◌<◌, ◌≤◌, Bool, true, false, List, [], ◌∷◌, length, set, refl, sym, ◌∙◌, arith, Contains, filter, and_parts, eqb-true, false≢true, nat_tests, length-set, Stay, Place, IsMachineLess, contains_filter, filter_contains, surely_each, away, away_least}
+use Rattle.rule_place.specs.Prelude.{Act, AreDirtyUpTo, AreNodesDirty, AreSpared, At, Choice, From, goes_in, hosted_in, Idle, in_part, Inside, Instance, IsEnd, IsLess, IsStill, IsUntouched, Levels, node_count, NodeId, Nowhere, on_side, one, Outside, Part, Presence, present_at, same_place, Side, state_of, Upto, usable_watch, Vm, VmId}
 use Rattle.rule_place.proofs.DirtyLemmas.{other}
 
 -- ---- dirty watches
 
-pub none_spared : (p : Instance) (spared : ℕ → Type 0) (m : Levels) → ((k : ℕ) → spared k) → AreSpared p spared m m
-none_spared p spared m all = record { older = refl; count = refl; kept = λ i e. e; spared = λ i above h e. all (i - length p.constraints) }
+pub none_spared : (p : Instance) (spared : ℕ → Type 0) (m : Levels) → ((k : ℕ) → spared k) → AreSpared spared m m
+none_spared p spared m all = record { older = refl; count = refl; kept = λ i e. e; spared = λ i h e. all i }
 
-pub one_dirty : (p : Instance) (n : ℕ) (m : Levels) → length p.constraints + n < length m.top → AreSpared p (λ k. k ≢ n) m (record m { top = set m.top (length p.constraints + n) true })
-one_dirty p n m low = record {
+pub one_dirty : (n : ℕ) (m : Levels) → n < length m.top → AreSpared (λ k. k ≢ n) m (record m { top = set m.top n true })
+one_dirty n m low = record {
   older = refl;
-  count = length-set m.top (length p.constraints + n) true;
-  kept = λ i e. (other m.top (length p.constraints + n) i low e).1;
-  spared = λ i above h e same. (other m.top (length p.constraints + n) i low e).0 (omega (arith, same, above));
+  count = length-set m.top n true;
+  kept = λ i e. (other m.top n i low e).1;
+  spared = λ i h e same. (other m.top n i low e).0 (omega (arith, same));
 }
 
 -- there is no such node
-pub past_dirty : (p : Instance) (n : ℕ) (m : Levels) → length m.top ≡ length p.constraints + node_count p → node_count p ≤ n → AreSpared p (λ k. k ≢ n) m m
-past_dirty p n m many past = record { older = refl; count = refl; kept = λ i e. e; spared = λ i above h e same. absurd (omega (arith, same, above, h, many, past)) }
+pub past_dirty : (p : Instance) (n : ℕ) (m : Levels) → length m.top ≡ node_count p → node_count p ≤ n → AreSpared (λ k. k ≢ n) m m
+past_dirty p n m many past = record { older = refl; count = refl; kept = λ i e. e; spared = λ i h e same. absurd (omega (arith, same, h, many, past)) }
 
-pub all_dirty : (p : Instance) (spared : ℕ → Type 0) (m n : Levels) → AreDirtyFrom (length p.constraints) (length m.top) m n → AreSpared p spared m n
+pub all_dirty : (p : Instance) (spared : ℕ → Type 0) (m n : Levels) → AreDirtyUpTo (length m.top) m n → AreSpared spared m n
 all_dirty p spared m n dirty = record {
   older = dirty.older;
   count = dirty.count;
   kept = dirty.kept;
-  spared = λ i above h e. absurd (false≢true (sym e ∙ dirty.dirty i above (omega (arith, h, dirty.count)) h));
+  spared = λ i h e. absurd (false≢true (sym e ∙ dirty.dirty i (omega (arith, h, dirty.count)) h));
 }
 
-pub spared_weaker : (p : Instance) (P Q : ℕ → Type 0) (m n : Levels) → ((k : ℕ) → P k → Q k) → AreSpared p P m n → AreSpared p Q m n
-spared_weaker p P Q m n to s = record { older = s.older; count = s.count; kept = s.kept; spared = λ i above h e. to (i - length p.constraints) (s.spared i above h e) }
+pub spared_weaker : (p : Instance) (P Q : ℕ → Type 0) (m n : Levels) → ((k : ℕ) → P k → Q k) → AreSpared P m n → AreSpared Q m n
+spared_weaker p P Q m n to s = record { older = s.older; count = s.count; kept = s.kept; spared = λ i h e. to i (s.spared i h e) }
 
-spared_both : (p : Instance) (P Q : ℕ → Type 0) (m n o : Levels) → AreSpared p P m n → AreSpared p Q n o → AreSpared p (λ k. P k × Q k) m o
+spared_both : (p : Instance) (P Q : ℕ → Type 0) (m n o : Levels) → AreSpared P m n → AreSpared Q n o → AreSpared (λ k. P k × Q k) m o
 spared_both p P Q m n o first second = record {
   older = second.older ∙ first.older;
   count = second.count ∙ first.count;
   kept = λ i e. first.kept i (second.kept i e);
-  spared = λ i above h e. (first.spared i above (omega (arith, h, second.count)) (second.kept i e), second.spared i above h e);
+  spared = λ i h e. (first.spared i (omega (arith, h, second.count)) (second.kept i e), second.spared i h e);
 }
 
 -- the host, the place of a part, and a place to which not all go
 pub untouched : (p : Instance) (v : ℕ) (part : Part) (now : List Choice) (m n o q : Levels) →
-    AreSpared p (λ k. hosted_in (state_of p v) (one k) ≡ false) m n →
-    AreSpared p (λ k. (c : Choice) → IsTrue (in_part part c) → goes_in c (one k) ≡ false) n o →
-    AreSpared p (λ k. (c : Choice) × Contains now c × (goes_in c (one k) ≡ false)) o q → AreSpared p (IsUntouched p v part now) m q
+    AreSpared (λ k. hosted_in (state_of p v) (one k) ≡ false) m n →
+    AreSpared (λ k. (c : Choice) → IsTrue (in_part part c) → goes_in c (one k) ≡ false) n o →
+    AreSpared (λ k. (c : Choice) × Contains now c × (goes_in c (one k) ≡ false)) o q → AreSpared (IsUntouched p v part now) m q
 untouched p v part now m n o q host parts elsewhere =
     spared_weaker p _ (IsUntouched p v part now) m q (λ k x. record { host = x.0; part = x.1.0; elsewhere = x.1.1 })
     (spared_both p _ _ m n q host (spared_both p _ _ n o q parts elsewhere))
@@ -63,7 +63,7 @@ goes_started (At n) s k g = g
 pub one_other : (n k : ℕ) → k ≢ n → one k n ≡ false
 one_other n k ne = grind (arith, nat_tests, ne)
 
-pub at_spared : (p : Instance) (n : NodeId) (m o : Levels) → AreSpared p (λ k. k ≢ n.0) m o → AreSpared p (λ k. goes_in (Act (At n) 0) (one k) ≡ false) m o
+pub at_spared : (p : Instance) (n : NodeId) (m o : Levels) → AreSpared (λ k. k ≢ n.0) m o → AreSpared (λ k. goes_in (Act (At n) 0) (one k) ≡ false) m o
 at_spared p n m o = spared_weaker p _ _ m o (λ k ne. one_other n.0 k ne)
 
 pub part_goes : (part : Part) (r : Place) (k : ℕ) → ((q : Place) (s : ℕ) → IsTrue (in_part part (Act q s)) → same_place q r ≡ true) → (in_part part Stay ≡ false) → goes_in (Act r 0) (one k) ≡ false → (c : Choice) → IsTrue (in_part part c) → goes_in c (one k) ≡ false
@@ -133,10 +133,10 @@ module _ (p : Instance) (v : VmId) (side : Side) (part : Part) (old now : List C
       by c end t false g = inl (less (c ∷ []) old t c (0, omega arith, refl) g)
       by c end t true g = inr (c, end-before c end g, record { held = λ w set i. omega arith; present = λ set i x. x; action = λ far i x. x })
 
-pub nodes_spared : (p : Instance) (v : VmId) (side : Side) (part : Part) (old now : List Choice) (m n : Levels) → now ≡ filter (on_side side part) old → AreSpared p (IsUntouched p v.0 part now) m n → AreNodesDirty p (Vm v) old now m n
+pub nodes_spared : (p : Instance) (v : VmId) (side : Side) (part : Part) (old now : List Choice) (m n : Levels) → now ≡ filter (on_side side part) old → AreSpared (IsUntouched p v.0 part now) m n → AreNodesDirty p (Vm v) old now m n
 nodes_spared p v side part old now m n left s = record {
   older = s.older;
   count = s.count;
   kept = s.kept;
-  still = λ i above h e. untouched-still p v side part old now (i - length p.constraints) left (s.spared i above h e);
+  still = λ i h e. untouched-still p v side part old now i left (s.spared i h e);
 }

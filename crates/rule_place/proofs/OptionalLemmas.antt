@@ -1,6 +1,6 @@
 -- Nodes that may stay usable or shut down.
-use Rattle.rule_place.proofs.Prelude.{slice_index_or, ◌≡◌, ◌⊎◌, inl, inr, ℕ, ◌<◌, ◌≤◌, ◌&&◌, true, false, nat_le, nat_lt, List, length, refl, arith, Contains, nat_tests, Idle, may_each, end_is_choice, ends_of_rows}
-use Rattle.rule_place.specs.Prelude.{Act, At, Choice, choices, Climbs, DomainView, goes_in, has_come, held_at, hosted_in, Image, Instance, IsAway, IsEnd, IsShutdown, leave_of, LetsGo, never, no_row, node, Nowhere, one, Presence, Row, row_at, Sets, Shutdown, stage_at, state_of, sure, usable_at, vm, Weight}
+use Rattle.rule_place.proofs.Prelude.{slice_index_or, ◌≡◌, inl, inr, ℕ, ◌<◌, ◌≤◌, ◌&&◌, true, false, nat_lt, List, length, refl, arith, Contains, Idle, may_each, end_is_choice, ends_of_rows}
+use Rattle.rule_place.specs.Prelude.{Act, At, Choice, choices, Climbs, DomainView, goes_in, has_come, held_at, hosted_in, Image, Instance, IsAway, IsEnd, IsShutdown, leave_of, LetsGo, never, no_row, node, Nowhere, one, Presence, Row, Sets, Shutdown, stage_at, state_of, sure, usable_at, vm, Weight}
 use Rattle.rule_place.proofs.ShutdownLemmas.{ends_usable, surely-gone, holds_none, too-late}
 
 -- a node that is usable at first stays so where it does nothing

@@ -1,5 +1,5 @@
 -- A constraint on places stays clean where a machine that changes is only where it may be.
-use Rattle.rule_place.proofs.Prelude.{IsTrue, slice_get, ◌≡◌, ◌≢◌, ◌⊎◌, inl, inr, ℕ, ◌<◌, ◌≤◌, ◌||◌, ◌==◌, List, Some, refl, sym, ◌∙◌, cases_eq, ne_eqb, own_present, same_present, vm_or}
+use Rattle.rule_place.proofs.Prelude.{IsTrue, slice_get, ◌≡◌, ◌≢◌, inl, inr, ℕ, ◌<◌, ◌≤◌, ◌||◌, ◌==◌, List, Some, refl, sym, ◌∙◌, cases_eq, ne_eqb, own_present, same_present, vm_or}
 use Rattle.rule_place.specs.Prelude.{Allowed, Choice, Constraint, constraint_watch, Element, ForbidsPlace, form_of, Instance, is_continuous, IsAllowed, IsClean, IsElement, IsEnd, machine_count, node_count, of_kind, one, Place as PlaceKind, Places, putting, reason_kind, rule_watch, Sets, setting, StaysClean, sure, vm, VmId, Vm}
 use Rattle.rule_place.proofs.AllowedLemmas.{off-with, surely-off}
 

@@ -2,18 +2,18 @@
 use Rattle.std.specs.Prelude.{Bool, true, false}
 use Rattle.rule_place.specs.Words.{ReasonKind, Empty, Bound, Load, Pair, Place, Group, SetLoad, Power, Usable, Hall}
 
--- machines where a constraint lets them not be, or where the node is not usable
-abbrev pub place_kinds : ReasonKind → Bool
-place_kinds Empty = false
-place_kinds Bound = false
-place_kinds Load = false
-place_kinds Pair = false
-place_kinds Place = true
-place_kinds Group = false
-place_kinds SetLoad = false
-place_kinds Power = false
-place_kinds Usable = true
-place_kinds Hall = false
+-- machines where the node is not usable
+abbrev pub needed_kinds : ReasonKind → Bool
+needed_kinds Empty = false
+needed_kinds Bound = false
+needed_kinds Load = false
+needed_kinds Pair = false
+needed_kinds Place = false
+needed_kinds Group = false
+needed_kinds SetLoad = false
+needed_kinds Power = false
+needed_kinds Usable = true
+needed_kinds Hall = false
 
 -- machines where a constraint lets them not be
 abbrev pub forbidden_kinds : ReasonKind → Bool

@@ -3,7 +3,7 @@ pub use Rattle.rule_place.specs.Words.{Act, Allowed, Applies, are_below, AreLeav
 unfoldable pub use Rattle.rule_place.specs.Words.{held_at, stage_at, sure, usable_at}
 pub use Rattle.rule_place.specs.Allowed.{IsAllowed, IsDue, IsOffHost, MayGo}
 pub use Rattle.rule_place.specs.Covers.{forbidden_kinds}
-pub use Rattle.rule_place.specs.Dirty.{AreDirtyFrom, AreNodesDirty, AreSpared, IsUntouched}
-pub use Rattle.rule_place.specs.Nodes.{place_watch}
+pub use Rattle.rule_place.specs.Dirty.{AreDirtyUpTo, AreNodesDirty, AreSpared, IsUntouched}
+pub use Rattle.rule_place.specs.Nodes.{needed_watch}
 pub use Rattle.rule_place.specs.Shutdowns.{IsAway, IsShutdown, LetsGo}
 pub use Rattle.rule_place.specs.declared.shutdowns.Shutdown.{Shutdown}

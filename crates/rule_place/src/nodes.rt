@@ -1,19 +1,18 @@
-//! Which watches of nodes are dirty; they stand after those of the constraints.
+//! Which watches of nodes are dirty.
 ghost use Rattle.std.specs.Prelude.{◌≡◌, ◌≢◌, ◌+◌, ◌-◌, ◌<◌, ◌≤◌, ℕ, false, filter, IfNone, IfSome, IsTrue, List, [], length};
 ghost use Rattle.std.specs.List.{Contains};
-ghost use Rattle.rule_place.specs.Prelude.{AreDirtyFrom, AreNodesDirty, AreSpared, Choice as AnyChoice, choices, goes_in, hosted_in, in_part, IsElement, IsRegionOf, machine_count, node_count, on_side, one, sets, state_of};
+ghost use Rattle.rule_place.specs.Prelude.{AreDirtyUpTo, AreNodesDirty, AreSpared, Choice as AnyChoice, choices, goes_in, hosted_in, in_part, IsElement, IsRegionOf, machine_count, node_count, on_side, one, sets, state_of};
 
 use rule_constraint::host;
 use rule_frame::{
     Change, Choice, DirtySet, Domain, Element, NodeId, Part, Place, Problem, Region, VmId,
 };
 
-// sets dirty each watch from one on
-fn set_from_dirty(dirty: &mut DirtySet, first: usize)
-    requires { first ≤ length dirty.old.top }
-    ensures { AreDirtyFrom first (length dirty.old.top) dirty.old dirty.new }
+// sets dirty each watch
+fn set_all_dirty(dirty: &mut DirtySet)
+    ensures { AreDirtyUpTo (length dirty.old.top) dirty.old dirty.new }
 {
-    for i in first..dirty.count() {
+    for i in 0..dirty.count() {
         dirty.set_dirty(i, true);
     }
 }
@@ -21,18 +20,18 @@ fn set_from_dirty(dirty: &mut DirtySet, first: usize)
 // sets dirty the watch of a node, if there is one
 #[tactic(auto, using(crate::proofs::NodeLemmas::one_dirty, crate::proofs::NodeLemmas::past_dirty))]
 fn set_node_dirty(p: &Problem, n: NodeId, dirty: &mut DirtySet)
-    requires count { length dirty.old.top ≡ length p.now.given.constraints + node_count p.now.given }
-    ensures { AreSpared p.now.given (λ k. k ≢ n.0) dirty.old dirty.new }
+    requires count { length dirty.old.top ≡ node_count p.now.given }
+    ensures { AreSpared (λ k. k ≢ n.0) dirty.old dirty.new }
 {
     if (n.0 as usize) < p.cluster().nodes().len() {
-        dirty.set_dirty(p.constraints().len() + n.0 as usize, true);
+        dirty.set_dirty(n.0 as usize, true);
     }
 }
 
 // sets dirty that of the node at a place
 fn set_place_dirty(p: &Problem, place: Place, dirty: &mut DirtySet)
-    requires count { length dirty.old.top ≡ length p.now.given.constraints + node_count p.now.given }
-    ensures { AreSpared p.now.given (λ k. goes_in (AnyChoice.Act place 0) (one k) ≡ false) dirty.old dirty.new }
+    requires count { length dirty.old.top ≡ node_count p.now.given }
+    ensures { AreSpared (λ k. goes_in (AnyChoice.Act place 0) (one k) ≡ false) dirty.old dirty.new }
 {
     match place {
         Place::Nowhere => {}
@@ -43,8 +42,8 @@ fn set_place_dirty(p: &Problem, place: Place, dirty: &mut DirtySet)
 // sets dirty that of a machine's host
 fn set_host_dirty(p: &Problem, v: VmId, dirty: &mut DirtySet)
     requires machine { v.0 < machine_count p.now.given }
-    requires count { length dirty.old.top ≡ length p.now.given.constraints + node_count p.now.given }
-    ensures { AreSpared p.now.given (λ k. hosted_in (state_of p.now.given v.0) (one k) ≡ false) dirty.old dirty.new }
+    requires count { length dirty.old.top ≡ node_count p.now.given }
+    ensures { AreSpared (λ k. hosted_in (state_of p.now.given v.0) (one k) ≡ false) dirty.old dirty.new }
 {
     match host(p, v) {
         None => {}
@@ -67,8 +66,8 @@ fn place_of(part: Part) -> Option<Place>
 
 // sets dirty that of the node to which the choices of a part go
 fn set_part_dirty(p: &Problem, part: Part, dirty: &mut DirtySet)
-    requires count { length dirty.old.top ≡ length p.now.given.constraints + node_count p.now.given }
-    ensures { AreSpared p.now.given (λ k. (c : AnyChoice) → IsTrue (in_part part c) → goes_in c (one k) ≡ false) dirty.old dirty.new }
+    requires count { length dirty.old.top ≡ node_count p.now.given }
+    ensures { AreSpared (λ k. (c : AnyChoice) → IsTrue (in_part part c) → goes_in c (one k) ≡ false) dirty.old dirty.new }
 {
     match place_of(part) {
         None => {}
@@ -78,8 +77,8 @@ fn set_part_dirty(p: &Problem, part: Part, dirty: &mut DirtySet)
 
 // sets dirty that of the node to which a choice goes
 fn set_choice_dirty(p: &Problem, c: Choice, dirty: &mut DirtySet)
-    requires count { length dirty.old.top ≡ length p.now.given.constraints + node_count p.now.given }
-    ensures { AreSpared p.now.given (λ k. goes_in c (one k) ≡ false) dirty.old dirty.new }
+    requires count { length dirty.old.top ≡ node_count p.now.given }
+    ensures { AreSpared (λ k. goes_in c (one k) ≡ false) dirty.old dirty.new }
 {
     match c {
         Choice::Idle => {}
@@ -106,11 +105,11 @@ fn some_choice(domain: &Domain) -> Option<Choice>
 
 // sets dirty those of the nodes to which all choices of a domain go
 fn set_only_dirty(p: &Problem, domain: &Domain, dirty: &mut DirtySet)
-    requires count { length dirty.old.top ≡ length p.now.given.constraints + node_count p.now.given }
-    ensures { AreSpared p.now.given (λ k. (c : AnyChoice) × Contains (choices domain.now) c × (goes_in c (one k) ≡ false)) dirty.old dirty.new }
+    requires count { length dirty.old.top ≡ node_count p.now.given }
+    ensures { AreSpared (λ k. (c : AnyChoice) × Contains (choices domain.now) c × (goes_in c (one k) ≡ false)) dirty.old dirty.new }
 {
     match some_choice(domain) {
-        None => set_from_dirty(dirty, p.constraints().len()),
+        None => set_all_dirty(dirty),
         Some(c) => set_choice_dirty(p, c, dirty),
     }
 }
@@ -120,7 +119,7 @@ fn set_only_dirty(p: &Problem, domain: &Domain, dirty: &mut DirtySet)
 pub fn set_nodes_dirty(p: &Problem, g: &Region, change: Change, dirty: &mut DirtySet)
     requires region { IsRegionOf p.now.given g.now }
     requires element { IsElement p.now.given change.element }
-    requires count { length dirty.old.top ≡ length p.now.given.constraints + node_count p.now.given }
+    requires count { length dirty.old.top ≡ node_count p.now.given }
     ensures { (old : List AnyChoice) → sets g.now change.element ≡ filter (on_side change.side change.part) old → AreNodesDirty p.now.given change.element old (sets g.now change.element) dirty.old dirty.new }
 {
     match change.element {
@@ -129,6 +128,6 @@ pub fn set_nodes_dirty(p: &Problem, g: &Region, change: Change, dirty: &mut Dirt
             set_part_dirty(p, change.part, dirty);
             set_only_dirty(p, g.domain(Element::Vm(v)), dirty);
         }
-        Element::Node(n) => dirty.set_dirty(p.constraints().len() + n.0 as usize, true),
+        Element::Node(n) => dirty.set_dirty(n.0 as usize, true),
     }
 }

@@ -5,7 +5,7 @@ ghost use Rattle.rule_place.specs.Covers.{forbidden_kinds};
 use crate::allowed::{is_kept, is_spared};
 use crate::forbidden::propose_rows;
 use crate::places::place_reason;
-use crate::watcher::PlaceWatcher;
+use crate::watcher::NeededNodes;
 use closing::watch::look_at_constraint;
 use rule_constraint::{ConstraintIndex, ConstraintWatcher, Kinds};
 use rule_frame::{
@@ -54,9 +54,9 @@ impl Kinds for ForbiddenPlaces {
     ghost no_nodes = { λ k. refl };
 }
 
-/// The rule of the constraints on where machines may be, and of nodes that are needed.
-pub type PlaceRule = Rule<PlaceWatcher, ConstraintIndex>;
+/// The rule of nodes that are needed.
+pub type NeededRule = Rule<NeededNodes, ConstraintIndex>;
 
-/// The part of `PlaceRule` that looks at no node: a place that is forbidden is cut for good, so a caller may ask for
-/// those before all else.
+/// The rule of the constraints on where machines may be: a place that is forbidden is cut for good, so a caller may ask
+/// for those before all else.
 pub type ForbiddenRule = Rule<ConstraintWatcher<ForbiddenPlaces>, ConstraintIndex>;

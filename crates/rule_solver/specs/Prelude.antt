@@ -5,5 +5,5 @@ pub use Rattle.reasons.specs.declared.reason.ReasonKind.{ReasonKind}
 pub use Rattle.rule_load.specs.Watched.{is_load}
 pub use Rattle.rule_group.specs.Covers.{group_kinds}
 pub use Rattle.rule_pair.specs.Covers.{pair_kinds}
-pub use Rattle.rule_place.specs.Covers.{forbidden_kinds, place_kinds}
+pub use Rattle.rule_place.specs.Covers.{forbidden_kinds, needed_kinds}
 pub use Rattle.rule_setload.specs.Covers.{set_kinds}

@@ -1,4 +1,4 @@
-//! The solver of the program: the five rules, with forbidden places before all else, and a brancher.
+//! The solver of the program: six rules, with forbidden places before all else, and a brancher.
 #![tactic(auto)]
 
 ghost use Rattle.std.specs.Prelude.{IsTrue};
@@ -13,12 +13,12 @@ use prop_core::propagator::Propagator;
 use rule_group::rule::GroupRule;
 use rule_load::rule::load_rule;
 use rule_pair::rule::PairRule;
-use rule_place::rule::{ForbiddenRule, PlaceRule};
+use rule_place::rule::{ForbiddenRule, NeededRule};
 use rule_setload::rule::SetRule;
 use search::Found;
 use std::alloc::Global;
 
-/// Searches as a solver does, by the five rules and the brancher that is handed in. `Memory` also where there is no
+/// Searches as a solver does, by the six rules and the brancher that is handed in. `Memory` also where there is no
 /// memory for the rules, and then no file is touched.
 #[tactic(auto, using(commands::proofs::Public::untouched))]
 pub fn certify_by_rules<D: Desk>(
@@ -37,14 +37,14 @@ pub fn certify_by_rules<D: Desk>(
     // and then fewer loads are to be looked at.
     rules.push(Box::new(alloc, ForbiddenRule::new(alloc))?)?;
     rules.push(Box::new(alloc, load_rule(alloc))?)?;
-    rules.push(Box::new(alloc, PlaceRule::new(alloc))?)?;
+    rules.push(Box::new(alloc, NeededRule::new(alloc))?)?;
     rules.push(Box::new(alloc, PairRule::new(alloc))?)?;
     rules.push(Box::new(alloc, SetRule::new(alloc))?)?;
     rules.push(Box::new(alloc, GroupRule::new(alloc))?)?;
     certify(alloc, desk, p, budget, &mut rules, brancher, certificate)
 }
 
-/// Searches by the five rules and `Guided`.
+/// Searches by the six rules and `Guided`.
 #[derive(Clone, Copy, Debug, PartialEq, Eq)]
 pub struct RuleSolver;
 

@@ -16,7 +16,7 @@ use prop_core::propagator::Propagator;
 use rule_group::rule::GroupRule;
 use rule_load::rule::load_rule;
 use rule_pair::rule::PairRule;
-use rule_place::rule::PlaceRule;
+use rule_place::rule::{ForbiddenRule, NeededRule};
 use rule_setload::rule::SetRule;
 use std::alloc::Global;
 use std::process::Abort;
@@ -76,7 +76,8 @@ fn rules_close_regions(rt: HostRuntime) -> Result<(), Fail> {
     let alloc = rt.alloc();
     let mut rules: Vec<Box<dyn Propagator>> = Vec::new(alloc);
     rules.push(Box::new(alloc, PairRule::new(alloc))?)?;
-    rules.push(Box::new(alloc, PlaceRule::new(alloc))?)?;
+    rules.push(Box::new(alloc, ForbiddenRule::new(alloc))?)?;
+    rules.push(Box::new(alloc, NeededRule::new(alloc))?)?;
     rules.push(Box::new(alloc, GroupRule::new(alloc))?)?;
     rules.push(Box::new(alloc, SetRule::new(alloc))?)?;
     rules.push(Box::new(alloc, load_rule(alloc))?)?;

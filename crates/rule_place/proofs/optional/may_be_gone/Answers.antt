@@ -1,4 +1,4 @@
-use Rattle.rule_place.proofs.Prelude.{slice_index_or, arith, Act, choices, no_row, end_is_choice, row_end}
+use Rattle.rule_place.proofs.Prelude.{slice_index_or, Act, choices, no_row, end_is_choice, row_end}
 use Rattle.rule_place.proofs.optional.may_be_gone.Goals as goal
 
 pub returns-then-is_gone : goal.returns-then-is_gone
