@@ -1,1 +1,5 @@
+mod Prelude
 mod BrokenLemmas
+mod SpotLemmas
+mod TogetherLemmas
+mod ActingLemmas

@@ -1,4 +1,14 @@
 //! The rule of the constraints on whole groups of machines.
 #![tactic(auto)]
 
+mod acting;
+mod cuts;
+mod in_turn;
+mod kept;
+mod ordered;
+mod places;
 pub mod rule;
+mod spots;
+mod together;
+mod together_cuts;
+mod turn_cuts;

@@ -2,8 +2,12 @@
 ghost use Rattle.std.specs.Prelude.{refl};
 ghost use Rattle.rule_group.specs.Covers.{group_kinds};
 
+use crate::cuts::propose_cuts;
+use crate::kept::look_quickly;
 use rule_constraint::{ConstraintIndex, ConstraintWatcher, Kinds};
-use rule_frame::{Instant, Problem, Reason, ReasonKind, Rule, View};
+use rule_frame::{
+    Instant, Look, Memory, Problem, Reason, ReasonKind, Region, Rule, Suggestion, View,
+};
 
 /// Whole groups of machines: `gather`, `among`, `precedence`, `serialize`.
 #[derive(Clone, Copy, Default)]
@@ -14,6 +18,20 @@ impl Kinds for Groups {
 
     fn covers(&self, kind: ReasonKind) -> bool {
         matches!(kind, ReasonKind::Group)
+    }
+
+    fn look(&self, p: &Problem, g: &Region, c: u32) -> Look {
+        look_quickly(p, g, c)
+    }
+
+    fn propose(
+        &self,
+        p: &Problem,
+        g: &Region,
+        c: u32,
+        them: &mut Vec<Suggestion>,
+    ) -> Result<(), Memory> {
+        propose_cuts(p, g, c, them)
     }
 
     // it is broken as a whole, and has no witness

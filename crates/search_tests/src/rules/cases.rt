@@ -109,7 +109,7 @@ const V2_STAYS: Change = Change {
 };
 
 /// The cases. Machine 2 of `TIGHT` may not come to node 0 before one of the others may have gone, at 2.
-pub const CASES: [Case; 21] = [
+pub const CASES: [Case; 22] = [
     Case {
         cluster: TIGHT,
         constraints: r#"{"kind":"spread","machines":["v0","v1"]}"#,
@@ -148,6 +148,13 @@ pub const CASES: [Case; 21] = [
         constraints: r#"{"kind":"among","machines":["v0","v1"],"groups":[[],["n1"]]}"#,
         changes: &[],
         closed: " 1:0-4 | 1:0-4 | 0:2-2 | idle | idle",
+    },
+    // neither may leave the group of both, not even on the way, and machine 2 finds no room
+    Case {
+        cluster: TIGHT,
+        constraints: r#"{"kind":"among","machines":["v0","v1"],"groups":[["n0"],["n1"]],"continuous":true}"#,
+        changes: &[],
+        closed: " idle | idle | idle | idle | idle",
     },
     Case {
         cluster: TIGHT,
