@@ -1,6 +1,6 @@
 -- When machines surely act, and who keeps off then.
-use Rattle.rule_group.proofs.Prelude.{and_parts, arith, Bool, cases_eq, end_is_choice, ends_of_rows, false, false≢true, inl, inr, IsTrue, length, List, max, min, nat_le, nat_tests, not, other-vm, refl, setting_sets, slice_index_or, Some, some_end, surely_each, sym, true, vm_or, ◌&&◌, ◌+◌, ◌<◌, ◌∙◌, ◌∷◌, ◌⊎◌, ◌≡◌, ◌≢◌, ◌≤◌, ℕ, []}
-use Rattle.rule_group.specs.Prelude.{Act, Acting, action_at, action_duration, AnyPlace, AreBothActing, AreEndedBy, AreStartedFrom, AvoidsSpan, Choice, choices, Climbs, Constraint, DomainView, Element, end_of, EndsBy, form_of, Group, HasSpan, Idle, Instance, InTurn, IsClean, IsClearOf, IsEnd, IsMember, KeepsOff, never, no_row, of_kind, Ordered, reason_kind, Row, row_at, rule_watch, Sets, setting, Snapshot, Span, stage_at, Started, StartsFrom, sure, surely, Unended, vm, VmId}
+use Rattle.rule_group.proofs.Prelude.{and_parts, arith, Bool, end_is_choice, ends_of_rows, false, false≢true, inl, inr, IsTrue, length, List, max, min, nat_le, nat_tests, not, other-vm, refl, setting_sets, slice_index_or, Some, some_end, surely_each, sym, true, vm_or, ◌+◌, ◌<◌, ◌∙◌, ◌∷◌, ◌⊎◌, ◌≡◌, ◌≢◌, ◌≤◌, ℕ, []}
+use Rattle.rule_group.specs.Prelude.{Act, Acting, action_at, action_duration, AnyPlace, AreEndedBy, AreStartedFrom, AvoidsSpan, Choice, choices, Climbs, Constraint, DomainView, Element, end_of, EndsBy, form_of, Group, HasSpan, Idle, Instance, InTurn, IsClean, IsClearOf, IsEnd, IsMember, KeepsOff, never, no_row, of_kind, Ordered, reason_kind, Row, row_at, rule_watch, Sets, setting, Span, stage_at, Started, StartsFrom, sure, surely, Unended, vm, VmId}
 use Rattle.rule_group.proofs.TogetherLemmas.{each_end}
 
 -- ---- one choice

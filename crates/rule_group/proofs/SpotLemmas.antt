@@ -1,6 +1,6 @@
 -- Where a machine may be under a choice, whenever a constraint is due.
 use Rattle.rule_group.proofs.Prelude.{and_parts, ap, arith, if◌then◌else◌, inl, inr, ◌⊎◌, ◌+◌, Bool, eqb-true, false, false≢true, IsTrue, kept_law, nat_lt, nat_tests, None, not, Option, present_somewhere, refl, Some, sym, true, ◌&&◌, ◌<◌, ◌==◌, ◌||◌, ◌∙◌, ◌≡◌, ◌≤◌, ℕ, [], ◌∷◌, arrived, arrival, numbers, of_one}
-use Rattle.rule_group.specs.Prelude.{Act, AnyPlace, AreSpots, At, Choice, comes_by, has_come, HasHost, HasSpots, hosted_in, Idle, Instance, IsDue, IsInside, IsInstance, IsPlaceSpot, IsSpot, IsSpotIn, kept_use, leave_of, never, NodeId, Nodes, Nowhere, one, Presence, present_at, Spots, state_of}
+use Rattle.rule_group.specs.Prelude.{Act, AnyPlace, AreSpots, At, Choice, comes_by, HasHost, HasSpots, hosted_in, Idle, Instance, IsDue, IsInside, IsInstance, IsPlaceSpot, IsSpot, IsSpotIn, leave_of, never, NodeId, Nodes, Nowhere, one, Presence, present_at, Spots, state_of}
 
 -- a constraint that is not continuous is due at the horizon alone
 at-horizon : (b : Bool) (t h : ℕ) → b ≡ false → IsTrue (b || (t == h)) → t ≡ h

@@ -1,6 +1,6 @@
 -- Members that are told to be together.
-use Rattle.rule_group.proofs.Prelude.{All, arith, Bool, cases_eq, Contains, end_is_choice, ends_of_rows, eqb-true, false, false≢true, get_or, get_or-map, get_or-map-range_with_len, inl, inr, IsTrue, length, length-map, length-map-range_with_len, List, map, not, or_cases, other-vm, range_with_len, refl, row_end, setting_sets, Some, some_end, slice_index_or, sound_form, subst, surely_each, sym, true, ◌==◌, ◌||◌, ◌<◌, ◌∙◌, ◌∷◌, ◌⊎◌, ◌≡◌, ◌≢◌, ◌≤◌, ℕ, []}
-use Rattle.rule_group.specs.Prelude.{Act, AnyNode, AnyOf, AnyPlace, are_below, AreCommon, AreScattered, AreSpots, Choice, choices, Climbs, Constraint, DomainView, Element, FitsAt, FitsMember, Form, form_of, Group, group_count, group_nodes, group_sets, Groups, has_node, HasOutside, HasSpots, Idle, Instance, inventory_of, is_continuous, is_member, is_rule, IsClean, IsDue, IsEnd, IsFound, IsInside, IsInstance, IsMember, IsServed, machine_count, members, never, no_row, node_count, Node as TheNode, Nodes, NodeSet, of_kind, one, present_at, reason_kind, Row, row_at, rule_watch, Sets, setting, Snapshot, Spots, sure, Together, Vm, vm, VmId}
+use Rattle.rule_group.proofs.Prelude.{All, arith, Bool, cases_eq, Contains, end_is_choice, ends_of_rows, eqb-true, false, false≢true, get_or, get_or-map, get_or-map-range_with_len, inl, inr, IsTrue, length, length-map, length-map-range_with_len, List, map, not, or_cases, other-vm, range_with_len, refl, row_end, setting_sets, Some, some_end, slice_index_or, sound_form, subst, surely_each, sym, true, ◌==◌, ◌||◌, ◌<◌, ◌∙◌, ◌∷◌, ◌⊎◌, ◌≡◌, ◌≢◌, ℕ, []}
+use Rattle.rule_group.specs.Prelude.{Act, AnyNode, AnyOf, AnyPlace, are_below, AreCommon, AreScattered, AreSpots, Choice, choices, Climbs, Constraint, DomainView, Element, FitsAt, FitsMember, Form, form_of, Group, group_count, group_nodes, group_sets, Groups, has_node, HasOutside, Idle, Instance, inventory_of, is_continuous, is_member, is_rule, IsClean, IsDue, IsEnd, IsFound, IsInside, IsInstance, IsMember, IsServed, machine_count, members, never, no_row, node_count, Node as TheNode, Nodes, NodeSet, of_kind, one, present_at, reason_kind, Row, row_at, rule_watch, Sets, setting, Snapshot, Spots, sure, Together, Vm, vm, VmId}
 use Rattle.cluster.specs.Sets.{no_nodes}
 use Rattle.rule_group.proofs.SpotLemmas.{inside_by_spots}
 
