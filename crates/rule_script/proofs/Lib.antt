@@ -5,3 +5,8 @@ mod SetLemmas
 mod ReadingLemmas
 mod CursorLemmas
 mod LawLemmas
+mod BindingLemmas
+mod ElementLemmas
+mod PassLemmas
+mod CallLemmas
+mod ScriptLemmas

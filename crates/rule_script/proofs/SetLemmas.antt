@@ -1,6 +1,6 @@
 -- Where a set ends.
 use Rattle.std.proofs.lemmas.List.{drop_all}
-use Rattle.base.proofs.Public.{◌≡◌, ◌∙◌, ℕ, ◌+◌, ◌-◌, suc, Bool, true, false, nat_lt, List, [], ◌∷◌, length, Option, Some, None, refl, sym, ap, arith, inl, inr, cases_Bool, lt-ltb, ne_eqb, add-one, get_or, drop, drop-cons, is_some, option_map, if◌then◌else◌, ◌<◌, ◌≤◌}
+use Rattle.base.proofs.Public.{◌≡◌, ◌∙◌, ℕ, ◌+◌, ◌-◌, suc, Bool, true, false, nat_lt, List, [], ◌∷◌, length, Option, Some, None, refl, sym, ap, arith, inl, inr, cases_Bool, lt-ltb, ne_eqb, add-one, get_or, drop, drop-cons, is_some, cases_lt, option_map, if◌then◌else◌, ◌<◌, ◌≤◌}
 use Rattle.cluster.specs.Prelude.{is_name}
 use Rattle.rule_script.specs.Sets.{Set, named, span, bound, bracket, Waiting, combined, Due, term_due, more_due, max_open, reading, set_at, set_or}
 use Rattle.rule_script.specs.SetSteps.{ends, is_whole, rest_of, rest_where, state, step}
@@ -133,3 +133,15 @@ no_set None ts end is none = refl
 no_set (Some x) ts end is none = absurd (let some : None ≡ Some x.1 = ap (option_map (λ (i : ℕ). drop i ts)) (sym none) ∙ is in cc)
 
 pub ruleset found_rules = (found_set, set_found, no_set)
+
+-- ---- the tokens of a set that was found
+
+none_past : (ts : List Token) (at : ℕ) → length ts ≤ at → set_at (drop at ts) ≡ None
+unfolding set_at reading
+none_past ts at past = rw (drop_all at ts past) refl
+
+pub begins_within : (ts : List Token) (at : ℕ) → is_some (set_at (drop at ts)) ≡ true → at ≤ length ts
+begins_within ts at some = elim (cases_lt (length ts) at) [
+  | inl past ↦ absurd (let none = none_past ts at (omega arith) in let never : false ≡ true = ap is_some (sym none) ∙ some in cc)
+  | inr within ↦ within
+]

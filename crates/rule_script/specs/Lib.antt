@@ -5,4 +5,14 @@ pub mod SetCode
 pub mod SetSteps
 pub mod Kinds
 pub mod Grammar
+pub mod Small
+pub mod Elements
+pub mod Answers
+pub mod Bindings
+pub mod Values
+pub mod Pass
+pub mod Calls
+pub mod Script
+pub mod LineRefusals
+pub mod Reads
 pub mod Laws

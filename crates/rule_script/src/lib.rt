@@ -1,13 +1,18 @@
 //! Scripts: a small language of rules, whose lines are read and put into a problem.
 #![tactic(auto)]
 
+pub mod bindings;
+pub mod calls;
 mod cursor;
+pub mod elements;
 pub mod faults;
 pub mod kinds;
 pub mod laws;
 mod number;
+pub mod pass;
 mod pieces;
 pub mod reading;
+pub mod script;
 pub mod sets;
 pub mod statement;
 pub mod text;

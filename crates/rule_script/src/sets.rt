@@ -1,7 +1,7 @@
 //! Sets as they are written, by their tokens.
-ghost use Rattle.std.specs.Prelude.{◌≡◌, MatchOption, None, Some, drop, option_map, if◌then◌else◌};
+ghost use Rattle.std.specs.Prelude.{◌≡◌, IsSome, MatchOption, None, Some, drop, option_map, if◌then◌else◌};
 ghost use Rattle.rule_script.specs.SetSteps.{is_whole, rest_of, step};
-ghost use Rattle.rule_script.specs.Sets.{set_at};
+ghost use Rattle.rule_script.specs.Sets.{set_at, set_or};
 
 use crate::tokens::Token;
 use cluster::names::is_name_text;
@@ -119,6 +119,16 @@ impl<'a> SetText<'a> {
             Some(after) => Some((SetText { tokens, first }, after)),
             None => None,
         }
+    }
+
+    /// The tokens that begin with the set.
+    #[tactic(auto, using(crate::proofs::SetLemmas::begins_within))]
+    pub(crate) fn tokens(&self) -> &'a [Token<'a>]
+        ensures some { IsSome (set_at result.now) }
+        ensures set { set_or (set_at result.now) ≡ self.now }
+    {
+        let tokens = self.tokens;
+        &tokens[self.first..]
     }
 }
 
