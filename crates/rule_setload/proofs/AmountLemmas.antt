@@ -1,6 +1,6 @@
 -- What all machines have at present, what those hold more that may not stay, and that both stay within an amount.
 use Rattle.rule_setload.proofs.Prelude.{◌≡◌, inl, inr, ℕ, zero, suc, ◌+◌, ◌-◌, ◌<◌, ◌≤◌, max, Bool, true, false, ◌&&◌, ◌==◌, nat_le, nat_lt, cond, Option, Some, None, List, [], ◌∷◌, ◌++◌, length, get_or, take, refl, ap, subst, ◌∙◌, arith, slice_index_or, Contains, flat_map, sum_by, cases_eq, cases_lt, ne_eqb, take_all, take-suc, sum_by_push, sum_to-add, sum_to-le, sum_to-none, sum_to-one, sum_to-term, Place, OfImage, use_of_le, held_by_node, contains_here, least_of_each, end_is_choice, all_over, kept_law, arrival, numbers, of_one, row_end}
-use Rattle.rule_setload.specs.Prelude.{Act, Amount, AreExtra, AreMovers, AreStayersTo, At, base, brought, Choice, choices, Climbs, comes_by, Demand, DomainView, gain, goes_in, Gone, held_at, hosted_in, Idle, if_so, Image, Init, Instance, IsExtra, IsInstance, kept_use, kind_of, leave_of, machine_count, max_amount, never, no_row, node_count, Nodes, Nowhere, one, Presence, Raise, Ready, Row, row_choices, Running, Sets, Sleeping, State, state_of, stay_of, Stayers, StaysIn, sum_to, sure, unit_of, Use, vm, Weight, weight_if, What}
+use Rattle.rule_setload.specs.Prelude.{Act, Amount, AreExtra, AreMovers, AreStayersTo, At, base, brought, Choice, choices, Climbs, comes_by, Demand, DomainView, gain, goes_in, Gone, has_started, held_at, hosted_in, Idle, if_so, Image, Init, Instance, IsExtra, IsInstance, kept_use, kind_of, leave_of, machine_count, max_amount, never, no_row, node_count, Nodes, Nowhere, one, Presence, Raise, Ready, Row, row_choices, Running, Sets, Sleeping, State, state_of, stay_of, Stayers, StaysIn, sum_to, sure, unit_of, Use, vm, Weight, weight_if, What}
 
 -- ---- one machine on one node
 
@@ -23,23 +23,23 @@ module _ (p : Instance) (v : ℕ) (w : Weight) where
       at Image (Some Raise) = omega arith
       at Image (Some OfImage) = omega arith
 
-  had : (a b : Bool) (x : ℕ) → cond (a && b) x 0 ≤ if_so a x
+  had : (a b : Bool) (x : ℕ) → cond (a && b) x 0 ≤ if_so a (if_so b x)
   had true true x = omega arith
   had true false x = omega arith
   had false b x = omega arith
 
-  brings : (n t g : ℕ) (c : Choice) → g ≤ unit_of p v w → cond (comes_by n t (arrival c)) g 0 ≤ if_so (goes_in c (one n)) (unit_of p v w)
+  brings : (n t g : ℕ) (c : Choice) → g ≤ unit_of p v w → cond (comes_by n t (arrival c)) g 0 ≤ if_so (goes_in c (one n)) (if_so (has_started t c) (unit_of p v w))
   brings n t g Idle l = omega arith
   brings n t g (Act Nowhere s) l = omega arith
   brings n t g (Act (At m) s) l = at (one n m.0) (nat_le s t)
     where
-      at : (a b : Bool) → cond (a && b) g 0 ≤ if_so a (unit_of p v w)
+      at : (a b : Bool) → cond (a && b) g 0 ≤ if_so a (if_so b (unit_of p v w))
       at true true = l
       at true false = omega arith
       at false b = omega arith
 
-  -- what it has there at present, and what it brings if it goes there
-  on-node : (n t : ℕ) (c : Choice) → t < never → held_at p v w (one n) t c ≤ if_so (hosted_in (state_of p v) (one n)) (base p v w) + if_so (goes_in c (one n)) (unit_of p v w)
+  -- what it has there at present until it leaves, and what it brings if it goes there, once it has started
+  on-node : (n t : ℕ) (c : Choice) → t < never → held_at p v w (one n) t c ≤ if_so (hosted_in (state_of p v) (one n)) (if_so (nat_lt t (leave_of p v c)) (base p v w)) + if_so (goes_in c (one n)) (if_so (has_started t c) (unit_of p v w))
   on-node n t c short =
       let law : held_at p v w (one n) t c ≡ kept_use p v w n t (numbers p v c) = kept_law p v w n t (c ∷ []) (numbers p v c) short (of_one p v c) in
       omega (arith, law, had (hosted_in (state_of p v) (one n)) (nat_lt t (leave_of p v c)) (base p v w), brings n t (gain p v w n) c (weight-most (brought (kind_of p (vm v) (At (record { 0 = n }))))))
@@ -78,21 +78,36 @@ parted true x y z h = h
 parted false x y z h = omega arith
 
 module _ (p : Instance) (sound : IsInstance p) (w : Weight) (set : Nodes) where
-  -- a machine holds no more than what it has at present, and what it brings where it goes to the set
-  held-most : (v t : ℕ) (c : Choice) → t ≤ p.horizon → held_at p v w set t c ≤ stay_of p w set v + if_so (goes_in c set) (unit_of p v w)
-  held-most v t c l =
+  swapped : (a b : Bool) (n : ℕ) → if_so a (if_so b n) ≤ if_so b (if_so a n)
+  swapped true b n = omega arith
+  swapped false true n = omega arith
+  swapped false false n = omega arith
+
+  -- a machine holds no more than what it has at present until it leaves, and what it brings where it goes to the set, once it has started
+  pub held_parts : (v t : ℕ) (c : Choice) → t ≤ p.horizon → held_at p v w set t c ≤ if_so (nat_lt t (leave_of p v c)) (stay_of p w set v) + if_so (goes_in c set) (if_so (has_started t c) (unit_of p v w))
+  held_parts v t c l =
       let short : t < never = omega (arith, sound.horizon, l) in
-      let had : ℕ → ℕ = λ n. cond (set n) (if_so (hosted_in (state_of p v) (one n)) (base p v w)) 0 in
-      let new : ℕ → ℕ = λ n. cond (set n) (if_so (goes_in c (one n)) (unit_of p v w)) 0 in
-      let all = sum_to-le (node_count p) (λ n. cond (set n) (held_at p v w (one n) t c) 0) (λ n. had n + new n) (λ n low. parted (set n) (held_at p v w (one n) t c) (if_so (hosted_in (state_of p v) (one n)) (base p v w)) (if_so (goes_in c (one n)) (unit_of p v w)) (on-node p v w n t c short)) in
-      omega (arith, held_by_node p sound v w set t c, all, sum_to-add (node_count p) had new, hosts-in (node_count p) (base p v w) set (state_of p v), goes-to (node_count p) (unit_of p v w) set c)
+      let old : ℕ = if_so (nat_lt t (leave_of p v c)) (base p v w) in
+      let come : ℕ = if_so (has_started t c) (unit_of p v w) in
+      let had : ℕ → ℕ = λ n. cond (set n) (if_so (hosted_in (state_of p v) (one n)) old) 0 in
+      let new : ℕ → ℕ = λ n. cond (set n) (if_so (goes_in c (one n)) come) 0 in
+      let all = sum_to-le (node_count p) (λ n. cond (set n) (held_at p v w (one n) t c) 0) (λ n. had n + new n) (λ n low. parted (set n) (held_at p v w (one n) t c) (if_so (hosted_in (state_of p v) (one n)) old) (if_so (goes_in c (one n)) come) (on-node p v w n t c short)) in
+      omega (arith, held_by_node p sound v w set t c, all, sum_to-add (node_count p) had new, hosts-in (node_count p) old set (state_of p v), goes-to (node_count p) come set c, swapped (hosted_in (state_of p v) set) (nat_lt t (leave_of p v c)) (base p v w))
 
-  so-most : (b : Bool) (n : ℕ) → if_so b n ≤ n
-  so-most true n = omega arith
-  so-most false n = omega arith
+  pub so_most : (b : Bool) (n : ℕ) → if_so b n ≤ n
+  so_most true n = omega arith
+  so_most false n = omega arith
 
-  held-ever : (v t : ℕ) (c : Choice) → t ≤ p.horizon → held_at p v w set t c ≤ stay_of p w set v + unit_of p v w
-  held-ever v t c l = omega (arith, held-most v t c l, so-most (goes_in c set) (unit_of p v w))
+  so-so : (a b : Bool) (n : ℕ) → if_so a (if_so b n) ≤ if_so a n
+  so-so true b n = so_most b n
+  so-so false b n = omega arith
+
+  -- so it holds no more than what it has at present, and what it brings where it goes to the set
+  held-most : (v t : ℕ) (c : Choice) → t ≤ p.horizon → held_at p v w set t c ≤ stay_of p w set v + if_so (goes_in c set) (unit_of p v w)
+  held-most v t c l = omega (arith, held_parts v t c l, so_most (nat_lt t (leave_of p v c)) (stay_of p w set v), so-so (goes_in c set) (has_started t c) (unit_of p v w))
+
+  pub held_ever : (v t : ℕ) (c : Choice) → t ≤ p.horizon → held_at p v w set t c ≤ stay_of p w set v + unit_of p v w
+  held_ever v t c l = omega (arith, held-most v t c l, so_most (goes_in c set) (unit_of p v w))
 
   module _ (s : Sets) (v : ℕ) where
     -- by one choice
@@ -124,7 +139,7 @@ module _ (p : Instance) (sound : IsInstance p) (w : Weight) (set : Nodes) where
       where
         by : (cs : List Choice) → s (vm v) ≡ cs → IsExtra p s w set v extra
         by [] none = record { each = λ t l. rw none (omega arith) }
-        by (c ∷ cs) some = by-choice c extra (rw some (contains_here c cs)) (λ t l. omega (arith, held-ever v t c l, is))
+        by (c ∷ cs) some = by-choice c extra (rw some (contains_here c cs)) (λ t l. omega (arith, held_ever v t c l, is))
 
 -- ---- all machines
 
@@ -173,9 +188,9 @@ both-more zero f g = refl
 both-more (suc m) f g = omega (arith, both-more m f g)
 
 pub stays_in : (p : Instance) (s : Sets) (w : Weight) (set : Nodes) (xs : List ℕ) (y : Stayers) (extra amount : ℕ) → IsInstance p → AreStayersTo p w set (machine_count p) y → AreMovers p s xs → AreExtra p s w set xs extra → y.total + extra + y.most ≤ amount → StaysIn p s w set amount
-stays_in p s w set xs y extra amount sound stayers movers more fits = record {
-  base = λ t l. omega (arith, all t l, stayers.total, more.each t l, fits);
-  each = λ v t c l low end. omega (arith, all t l, less t v low, held-ever p sound w set v t c l, stayers.most v low, stayers.total, more.each t l, fits);
+stays_in p s w set xs y extra amount sound stayers movers more fits t l = record {
+  base = omega (arith, all t l, stayers.total, more.each t l, fits);
+  each = λ v c low end. omega (arith, all t l, less t v low, held_ever p sound w set v t c l, stayers.most v low, stayers.total, more.each t l, fits);
 }
   where
     -- who may stay holds no more than what it has at present

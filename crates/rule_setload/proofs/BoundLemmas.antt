@@ -1,17 +1,17 @@
 -- A constraint whose bound is kept at every instant is broken at none; and what is kept beside its rule stays right.
-use Rattle.rule_setload.proofs.Prelude.{◌≡◌, inl, inr, ℕ, ◌+◌, ◌<◌, ◌≤◌, Bool, true, false, List, [], ◌∷◌, ◌++◌, Some, refl, sym, ap, ◌∙◌, arith, slice_get, length-append, Allowed, Apart, AreAllStayers, AreAmountsKept, AreStayersOf, Before, Bound, bound_in, bound_of, Bounded, cache_of, Choice, choices, choose, Constraint, domain_at, domain_before, DomainView, Element, Form, form_of, has_node, Instance, InTurn, IsBroken, IsClean, IsElement, IsEnd, IsFreeOf, IsGrown, IsToldOf, Lists, machine_count, no_stayers, no_watch, node, TheNode, Nodes, NodeSet, of_kind, Ordered, passes, Powered, reason_kind, RegionView, rule_watch, set_kinds, SetLoad, Sets, sets, setting, Settled, Snapshot, Stayers, StaysIn, sure, Together, total, Vm, Watch, watch_at, Weight, sets_before, IsCacheTold, node_change, setting_agrees, setting_total, movers_grown, movers_told, each_push}
+use Rattle.rule_setload.proofs.Prelude.{◌≡◌, inl, inr, ℕ, ◌+◌, ◌<◌, ◌≤◌, Bool, true, false, List, [], ◌∷◌, ◌++◌, Some, refl, sym, ap, ◌∙◌, arith, slice_get, length-append, Allowed, Apart, AreAllStayers, AreAmountsKept, AreStayersOf, Before, Bound, bound_in, bound_of, Bounded, cache_of, Choice, choices, choose, Constraint, domain_at, domain_before, DomainView, Element, Form, form_of, has_node, Instance, InTurn, IsBroken, IsClean, IsElement, IsEnd, IsFreeOf, IsGrown, IsToldOf, Lists, machine_count, no_stayers, no_watch, node, TheNode, Nodes, NodeSet, of_kind, Ordered, passes, Powered, reason_kind, RegionView, rule_watch, set_kinds, SetLoad, Sets, sets, setting, Settled, Snapshot, Stayers, StaysAt, StaysWhenDue, is_continuous, sure, Together, total, Vm, Watch, watch_at, Weight, sets_before, IsCacheTold, node_change, setting_agrees, setting_total, movers_grown, movers_told, each_push}
 
 -- ---- the bound of a constraint
 
-within-free : (p : Instance) (s : Sets) (w : Weight) (set : Nodes) (amount t : ℕ) → t ≤ p.horizon → StaysIn p s w set amount → IsFreeOf (λ b. amount < total p b w set) p s t
-within-free p s w set amount t l within = record { base = λ over. omega (arith, over, within.base t l); ends = at }
+within-free : (p : Instance) (s : Sets) (w : Weight) (set : Nodes) (amount t : ℕ) → StaysAt p s w set amount t → IsFreeOf (λ b. amount < total p b w set) p s t
+within-free p s w set amount t within = record { base = λ over. omega (arith, over, within.base); ends = at }
   where
     at : (e : Element) (c : Choice) → IsElement p e → IsEnd (s e) c → ¬ (amount < total p (sure p (setting e c s) t) w set)
-    at (Vm v) c h end over = omega (arith, setting_total p s v.0 c t w set h, over, within.each v.0 t c l h end)
-    at (TheNode n) c h end over = omega (arith, (node_change p (setting (node n.0) c s) s n.0 t h (setting_agrees s (node n.0) c)).of_total w set, over, within.base t l)
+    at (Vm v) c h end over = omega (arith, setting_total p s v.0 c t w set h, over, within.each v.0 c h end)
+    at (TheNode n) c h end over = omega (arith, (node_change p (setting (node n.0) c s) s n.0 t h (setting_agrees s (node n.0) c)).of_total w set, over, within.base)
 
 -- a form that bounds something is broken by that alone
-bounded : (f : Form) (b : Bound) → bound_of f ≡ Some b → f ≡ Bounded b.weight b.nodes b.amount
+pub bounded : (f : Form) (b : Bound) → bound_of f ≡ Some b → f ≡ Bounded b.weight b.nodes b.amount
 bounded (Apart separation) b is = cc
 bounded (Allowed vs places) b is = cc
 bounded (Together vs groups) b is = cc
@@ -24,8 +24,8 @@ bounded (Bounded weight ns amount) b is = by is
 bounded (Powered ns amount) b is = cc
 bounded Settled b is = cc
 
-unbroken : (p : Instance) (s : Sets) (k : Constraint) (b : Bound) (t : ℕ) → t ≤ p.horizon → bound_of (form_of k) ≡ Some b → StaysIn p s b.weight (has_node b.nodes) b.amount → IsFreeOf (λ x. IsBroken p x k) p s t
-unbroken p s k b t l is within = record { base = λ x. free.base (exceeds _ x); ends = λ e c there end x. free.ends e c there end (exceeds _ x) }
+unbroken : (p : Instance) (s : Sets) (k : Constraint) (b : Bound) (t : ℕ) → bound_of (form_of k) ≡ Some b → StaysAt p s b.weight (has_node b.nodes) b.amount t → IsFreeOf (λ x. IsBroken p x k) p s t
+unbroken p s k b t is within = record { base = λ x. free.base (exceeds _ x); ends = λ e c there end x. free.ends e c there end (exceeds _ x) }
   where
     form : form_of k ≡ Bounded b.weight b.nodes b.amount
     form = bounded (form_of k) b is
@@ -34,18 +34,18 @@ unbroken p s k b t l is within = record { base = λ x. free.base (exceeds _ x); 
     exceeds x h = rw form at (of_kind p x SetLoad k (rw form refl) h)
 
     free : IsFreeOf (λ x. b.amount < total p x b.weight (has_node b.nodes)) p s t
-    free = within-free p s b.weight (has_node b.nodes) b.amount t l within
+    free = within-free p s b.weight (has_node b.nodes) b.amount t within
 
-chosen-clean : (on : Bool) (w : Watch) (p : Instance) (s : Sets) → IsClean w p s → IsClean (choose on w no_watch) p s
-chosen-clean true w p s clean = clean
-chosen-clean false w p s clean = λ t h. record { base = λ x. x; ends = λ e c there end x. x }
+pub chosen_clean : (on : Bool) (w : Watch) (p : Instance) (s : Sets) → IsClean w p s → IsClean (choose on w no_watch) p s
+chosen_clean true w p s clean = clean
+chosen_clean false w p s clean = λ t h. record { base = λ x. x; ends = λ e c there end x. x }
 
 -- it is clean as a watch of the rule of amounts
-pub bound_clean : (p : Instance) (s : Sets) (c : ℕ) (k : Constraint) (b : Bound) → slice_get p.constraints c ≡ Some k → bound_of (form_of k) ≡ Some b → StaysIn p s b.weight (has_node b.nodes) b.amount → IsClean (watch_at set_kinds p c) p s
+pub bound_clean : (p : Instance) (s : Sets) (c : ℕ) (k : Constraint) (b : Bound) → slice_get p.constraints c ≡ Some k → bound_of (form_of k) ≡ Some b → StaysWhenDue p s b.weight (has_node b.nodes) b.amount (is_continuous k) → IsClean (watch_at set_kinds p c) p s
 bound_clean p s c k b read is within =
-    rw read (chosen-clean (passes set_kinds (reason_kind k)) (rule_watch p k) p s (λ t h. record {
-      base = λ x. (unbroken p s k b t h is within).base x.1;
-      ends = λ e d there end x. (unbroken p s k b t h is within).ends e d there end x.1;
+    rw read (chosen_clean (passes set_kinds (reason_kind k)) (rule_watch p k) p s (λ t h. record {
+      base = λ x. (unbroken p s k b t is (within t h x.0)).base x.1;
+      ends = λ e d there end x. (unbroken p s k b t is (within t h x.0)).ends e d there end x.1;
     }))
 
 -- ---- what is kept beside the rule
@@ -57,21 +57,4 @@ pub next_stayers : (p : Instance) (c : ℕ) (xs : List Stayers) (x : Stayers) �
 next_stayers p c xs x before here = record {
   count = omega (arith, length-append xs (x ∷ []), before.count);
   each = each_push (λ d y. AreStayersOf p (bound_in (slice_get p.constraints d)) y) no_stayers c xs x before.count before.each here;
-}
-
--- after a change of one element
-pub amounts_told : (p : Instance) (g : RegionView) (x : Element) (before : Before) (kept : DomainView) (l : Lists) (level : ℕ) (xs ys : List ℕ) (zs : List Stayers) → AreAmountsKept p (sets_before g x before kept) l xs zs → IsGrown (machine_count p) xs ys → IsToldOf (sets g) x ys → IsCacheTold p (sets g) (cache_of l level xs zs) (cache_of l level ys zs)
-amounts_told p g x before kept l level xs ys zs was grown told = record {
-  below = record {
-    kept = λ j q r low k. record {
-      index = k.index;
-      movers = movers_grown q r xs ys (machine_count p) (sym k.index.machines ∙ was.index.machines) k.movers grown;
-      stayers = k.stayers;
-    };
-  };
-  top = record {
-    index = was.index;
-    movers = movers_told p (sets g) x (choices (domain_before before kept (domain_at g x))) xs ys (machine_count p) refl was.movers grown told;
-    stayers = was.stayers;
-  };
 }

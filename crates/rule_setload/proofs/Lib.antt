@@ -1,4 +1,9 @@
 mod Prelude
 mod AmountLemmas
+mod HoldLemmas
+mod FitLemmas
 mod BoundLemmas
+mod OverLemmas
+mod PowerLemmas
+mod KeptLemmas
 mod BrokenLemmas

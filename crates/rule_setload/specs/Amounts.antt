@@ -2,6 +2,7 @@
 use Rattle.std.specs.Prelude.{◌≡◌, ℕ, ◌+◌, ◌-◌, ◌*◌, ◌<◌, ◌≤◌, List, length, Option, Some, None, slice_get, slice_index_or}
 use Rattle.std.specs.List.{sum_by}
 use Rattle.rule_constraint.specs.Prelude.{Allowed, Apart, AreMovers, base, Bounded, Form, form_of, has_node, held_at, hosted_in, if_so, Instance, InTurn, IsEnd, IsIndexOf, Lists, machine_count, max_amount, Nodes, Ordered, Powered, Sets, Settled, state_of, sum_to, sure, Together, unit_of, vm}
+use Rattle.profiles.specs.Prelude.{AreStanding, level_at, Tables}
 use Rattle.cluster.specs.declared.choices.Choice.{Choice}
 use Rattle.catalogue.specs.declared.constraint.Constraint.{Constraint}
 use Rattle.slices.specs.declared.slice.Weight.{Weight}
@@ -23,11 +24,6 @@ bound_of Settled = None
 abbrev pub bound_in : Option Constraint → Option Bound
 bound_in None = None
 bound_in (Some k) = bound_of (form_of k)
-
--- up to the horizon what all machines surely hold on the set is no more than the amount, nor is it with one of them set to an end of its choices
-pub record StaysIn (p : Instance) (s : Sets) (w : Weight) (set : Nodes) (amount : ℕ) : Type 0 where
-  pub base : (t : ℕ) → t ≤ p.horizon → sum_to (machine_count p) (λ k. (sure p s t).held k w set) ≤ amount
-  pub each : (v t : ℕ) (c : Choice) → t ≤ p.horizon → v < machine_count p → IsEnd (s (vm v)) c → sum_to (machine_count p) (λ k. (sure p s t).held k w set) + held_at p v w set t c ≤ amount + (sure p s t).held v w set
 
 -- ---- what no change of a region changes
 
@@ -67,11 +63,13 @@ pub record AreExtra (p : Instance) (s : Sets) (w : Weight) (set : Nodes) (xs : L
 
 -- ---- what is kept beside the rule
 
--- the index of the constraints, the machines that may not stay, and for each constraint what all have at present
-pub record AreAmountsKept (p : Instance) (s : Sets) (l : Lists) (xs : List ℕ) (ys : List Stayers) : Type 0 where
+-- the index of the constraints, the machines that may not stay, for each constraint what all have at present, and of a level where each
+-- machine surely stands
+pub record AreAmountsKept (p : Instance) (s : Sets) (l : Lists) (m : Tables) (xs : List ℕ) (ys : List Stayers) (k : ℕ) : Type 0 where
   pub index : IsIndexOf p (length p.constraints) l
+  pub standing : AreStanding p s (level_at m k)
   pub movers : AreMovers p s xs
   pub stayers : AreAllStayers p (length p.constraints) ys
 
-abbrev pub cache_of : Lists → ℕ → List ℕ → List Stayers → Cache
-cache_of l level xs ys = record { right = λ p k s. AreAmountsKept p s l xs ys; level = level }
+abbrev pub cache_of : Lists → Tables → List ℕ → List Stayers → Cache
+cache_of l m xs ys = record { right = λ p k s. AreAmountsKept p s l m xs ys k; level = length m.older }

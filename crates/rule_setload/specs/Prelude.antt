@@ -1,10 +1,12 @@
 -- What is cited together of this crate and of those below it, passed on from one place. Declares nothing.
-pub use Rattle.relax.specs.Prelude.{Applies, IsInstance}
+pub use Rattle.relax.specs.Prelude.{Applies, is_online, IsInstance, max_held, max_nodes, powered_nodes, surely}
+unfoldable pub use Rattle.closing.specs.Prelude.{powered_at}
+pub use Rattle.reasons.specs.Prelude.{IsRowEnd}
 pub use Rattle.closing.specs.Prelude.{inventory_of, is_rule, max_machines, total}
-pub use Rattle.profiles.specs.Prelude.{AreMachines, brought, gain, IsGrown, IsToldOf, IsWeight, kept_use, never, weight_if}
+pub use Rattle.profiles.specs.Prelude.{AreMachines, AreStanding, IsStanding, kept_use, least, no_standing, had_there, brought, gain, IsGrown, IsToldOf, IsWeight, never, weight_if}
 unfoldable pub use Rattle.profiles.specs.Prelude.{kind_of}
-pub use Rattle.rule_frame.specs.Prelude.{domain_at, IsBroken, IsFreeOf, IsPower, IsSetLoad, RegionView, row_choices}
-pub use Rattle.rule_constraint.specs.Prelude.{Allowed, Apart, AreMovers, base, Bounded, broken_at, choices, choose, Climbs, comes_by, DomainView, Form, form_of, goes_in, hosted_in, if_so, Instance, InTurn, IsBrokenBy, IsClean, IsElement, IsEnd, IsSized, leave_of, Lists, machine_count, max_amount, no_row, no_watch, node, node_count, Nodes, one, Ordered, passes, Powered, reason_kind, rule_watch, Sets, sets, setting, Settled, Snapshot, state_of, sum_to, Together, unit_of, vm, Watch, watch_at}
+pub use Rattle.rule_frame.specs.Prelude.{domain_at, ExceedsAmount, seen, IsBroken, IsFreeOf, IsPower, IsSetLoad, RegionView, row_choices}
+pub use Rattle.rule_constraint.specs.Prelude.{Allowed, Apart, AreMovers, base, Bounded, broken_at, choices, choose, Climbs, comes_by, is_continuous, DomainView, Form, form_of, goes_in, hosted_in, if_so, Instance, InTurn, IsBrokenBy, IsClean, IsElement, IsEnd, IsSized, leave_of, Lists, machine_count, max_amount, no_row, no_watch, node, node_count, Nodes, one, Ordered, passes, Powered, reason_kind, rule_watch, Sets, sets, setting, Settled, Snapshot, state_of, sum_to, Together, unit_of, vm, Watch, watch_at}
 unfoldable pub use Rattle.rule_constraint.specs.Prelude.{has_node, held_at, sure}
 pub use Rattle.cluster.specs.declared.choices.Choice.{Choice}
 pub use Rattle.cluster.specs.declared.choices.Choice.TheVariants.{Act, Idle}
@@ -25,7 +27,13 @@ pub use Rattle.slices.specs.declared.slice.What.TheVariants.{Demand, Raise, Use}
 pub use Rattle.reasons.specs.declared.reason.ReasonKind.{ReasonKind}
 pub use Rattle.reasons.specs.declared.reason.ReasonKind.TheVariants.{Power, SetLoad}
 pub use Rattle.rule_constraint.specs.Broken.{of_kind}
-pub use Rattle.rule_setload.specs.Amounts.{AreAllStayers, AreAmountsKept, AreExtra, AreStayersOf, AreStayersTo, bound_in, bound_of, cache_of, IsExtra, no_stayers, stay_of, StaysIn}
+pub use Rattle.rule_setload.specs.Amounts.{AreAllStayers, AreAmountsKept, AreExtra, AreStayersOf, AreStayersTo, bound_in, bound_of, cache_of, IsExtra, no_stayers, stay_of}
+pub use Rattle.rule_setload.specs.Periods.{AreWithin, has_started, HoldsLeast, HoldsMost, IsDuring, IsFit, IsShare, max_spare, StaysAt, StaysBefore, StaysDuring, StaysIn, StaysPast, StaysWhenDue}
+pub use Rattle.rule_setload.specs.Powers.{AreNotPowered, IsPoweredFit, power_most, power_of, powered_most, PowerStaysAt, PowerStaysDuring, PowerStaysPast, PowerStaysWhenDue}
+pub use Rattle.rule_setload.specs.declared.power.PowerBound.{PowerBound}
 pub use Rattle.rule_setload.specs.Covers.{set_kinds}
 pub use Rattle.rule_setload.specs.declared.bounds.Bound.{Bound}
+pub use Rattle.rule_setload.specs.declared.period.Period.{Period}
+pub use Rattle.profiles.specs.declared.standing.numbers.Standing.{Standing}
+pub use Rattle.profiles.specs.declared.standing.numbers.Arrival.{Arrival}
 pub use Rattle.rule_setload.specs.declared.stayers.Stayers.{Stayers}

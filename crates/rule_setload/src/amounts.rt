@@ -1,17 +1,24 @@
 //! The watches of constraints on amounts, looked at with the help of what all machines hold while they stay.
-ghost use Rattle.std.specs.Prelude.{◌≡◌, ◌<◌, IsTrue, length};
-ghost use Rattle.rule_constraint.specs.Prelude.{constraint_watch, IsCacheFor, IsClean, IsSized, kinds_are_quiet, sets, watch_at, watch_count, watches_are_local};
-ghost use Rattle.rule_setload.specs.Covers.{set_kinds};
+ghost use Rattle.std.specs.Prelude.{◌≡◌, ◌<◌, IsTrue, Some, length, slice_get, true};
+ghost use Rattle.rule_constraint.specs.Prelude.{FailHolds, in_part, IsCacheFor, IsClean, IsElement, IsSized, kinds_are_quiet, MayAnswer, sets, watch_at, watch_count, watches_are_local};
+ghost use Rattle.rule_frame.specs.Prelude.{keeping};
+ghost use Rattle.rule_setload.specs.Prelude.{AreStanding, bound_in, has_node, inventory_of, is_rule, IsWeight, set_kinds, StaysIn, StaysWhenDue};
 
-use crate::bounds::bound_of;
+use crate::bounds::{Bound, bound_of};
 use crate::movers_hold::stays_within;
+use crate::power::{power_of, power_when_due};
+use crate::propose::propose_amount;
+use crate::refuting::exceeds;
 use crate::rule::Sets;
 use crate::stayers::{Stayers, all_stayers};
+use crate::walk::stays_when_due;
 use profiles::movers::Movers;
+use profiles::standing::numbers::Standing;
+use profiles::standing::table::Table;
 use rule_constraint::{ConstraintIndex, ConstraintWatcher};
 use rule_frame::{
-    Before, Change, DirtySet, Domain, Element, Instant, Keeper, Look, Memory, Part, Problem,
-    Reason, ReasonKind, Region, View, Watcher,
+    Before, Change, Constraint, DirtySet, Domain, Element, Instant, Keeper, Lens, Look, Memory,
+    Part, Problem, Reason, ReasonKind, Region, Suggestion, View, Watcher,
 };
 use std::alloc::Global;
 use std::default::MadeWith;
@@ -23,38 +30,159 @@ pub struct AmountKeeper {
     index: ConstraintIndex,
     movers: Movers,
     stayers: Vec<Stayers>,
-    level: u64,
+    table: Table,
     alloc: Global,
+}
+
+// whether it is seen that no more nodes are powered than the constraint of a number lets be
+fn has_power(p: &Problem, g: &Region, _c: usize, constraint: &Constraint) -> bool
+    requires region { IsSized p.now.given g.now }
+    requires there { slice_get p.now.given.constraints _c ≡ Some constraint.now }
+    ensures { IsTrue result → IsClean (watch_at set_kinds p.now.given _c) p.now.given (sets g.now) }
+{
+    match power_of(constraint) {
+        None => false,
+        Some(bound) => power_when_due(p, g, &bound, constraint.is_continuous()),
+    }
 }
 
 impl AmountKeeper {
     ghost use Rattle.rule_setload.specs.Amounts.{cache_of};
 
     /// Of no problem. It takes no memory.
-    pub fn new(alloc: Global) -> AmountKeeper
-        ensures { result.level ≡ 0 }
-    {
+    pub fn new(alloc: Global) -> AmountKeeper {
         AmountKeeper {
             index: ConstraintIndex::new(alloc),
             movers: Movers::none(alloc),
             stayers: Vec::new(alloc),
-            level: 0,
+            table: Table::new(alloc),
             alloc,
         }
     }
 
     // whether it is seen that what the constraint of a number bounds stays within its amount
-    #[tactic(auto, using(crate::proofs::BoundLemmas::bound_clean))]
     fn is_clean(&self, p: &Problem, g: &Region, c: usize) -> bool
         requires region { IsSized p.now.given g.now }
-        requires right { IsCacheFor (cache_of self.now.index.lists self.now.level self.now.movers self.now.stayers.items) p.now.given (sets g.now) }
+        requires right { IsCacheFor (cache_of self.now.index.lists self.now.table self.now.movers self.now.stayers.items) p.now.given (sets g.now) }
         requires constraint { c < length p.now.given.constraints }
         ensures { IsTrue result → IsClean (watch_at set_kinds p.now.given c) p.now.given (sets g.now) }
     {
-        match bound_of(p, &p.constraints()[c]) {
-            None => false,
-            Some(bound) => stays_within(p, g, &bound, self.stayers[c], self.movers.machines()),
+        self.is_clean_as(p, g, c, &p.constraints()[c])
+    }
+
+    // the same, with the constraint at hand
+    fn is_clean_as(&self, p: &Problem, g: &Region, c: usize, constraint: &Constraint) -> bool
+        requires region { IsSized p.now.given g.now }
+        requires right { IsCacheFor (cache_of self.now.index.lists self.now.table self.now.movers self.now.stayers.items) p.now.given (sets g.now) }
+        requires constraint { c < length p.now.given.constraints }
+        requires there { slice_get p.now.given.constraints c ≡ Some constraint.now }
+        requires rule { is_rule (inventory_of p.now.given) constraint.now ≡ true }
+        ensures { IsTrue result → IsClean (watch_at set_kinds p.now.given c) p.now.given (sets g.now) }
+    {
+        match bound_of(p, constraint) {
+            None => has_power(p, g, c, constraint),
+            Some(bound) => self.stays(p, g, &bound, c, constraint.is_continuous()),
         }
+    }
+
+    // whether what machines hold stays within the bound of the constraint of a number, whenever it has to
+    #[tactic(auto, using(crate::proofs::FitLemmas::due_always))]
+    fn stays(&self, p: &Problem, g: &Region, bound: &Bound, c: usize, always: bool) -> bool
+        requires region { IsSized p.now.given g.now }
+        requires right { IsCacheFor (cache_of self.now.index.lists self.now.table self.now.movers self.now.stayers.items) p.now.given (sets g.now) }
+        requires constraint { c < length p.now.given.constraints }
+        requires bound { bound_in (slice_get p.now.given.constraints c) ≡ Some bound.now }
+        requires weight { IsWeight p.now.given bound.now.weight }
+        ensures { IsTrue result → StaysWhenDue p.now.given (sets g.now) bound.now.weight (has_node bound.now.nodes) bound.now.amount always }
+    {
+        self.is_ample(p, g, bound, c) || stays_when_due(p, g, self.standings(p, g), bound, always)
+    }
+
+    // whether there is ample room
+    fn is_ample(&self, p: &Problem, g: &Region, bound: &Bound, c: usize) -> bool
+        requires region { IsSized p.now.given g.now }
+        requires right { IsCacheFor (cache_of self.now.index.lists self.now.table self.now.movers self.now.stayers.items) p.now.given (sets g.now) }
+        requires constraint { c < length p.now.given.constraints }
+        requires bound { bound_in (slice_get p.now.given.constraints c) ≡ Some bound.now }
+        requires weight { IsWeight p.now.given bound.now.weight }
+        ensures { IsTrue result → StaysIn p.now.given (sets g.now) bound.now.weight (has_node bound.now.nodes) bound.now.amount }
+    {
+        stays_within(p, g, bound, self.stayers[c], self.movers.machines())
+    }
+
+    // puts into a list what may be cut for the constraint of a number
+    fn propose(
+        &self,
+        p: &Problem,
+        g: &Region,
+        c: usize,
+        them: &mut Vec<Suggestion>,
+    ) -> Result<(), Memory>
+        requires region { IsSized p.now.given g.now }
+        requires right { IsCacheFor (cache_of self.now.index.lists self.now.table self.now.movers self.now.stayers.items) p.now.given (sets g.now) }
+        requires constraint { c < length p.now.given.constraints }
+    {
+        self.propose_as(p, g, c, &p.constraints()[c], them)
+    }
+
+    // the same, with the constraint at hand
+    fn propose_as(
+        &self,
+        p: &Problem,
+        g: &Region,
+        c: usize,
+        constraint: &Constraint,
+        them: &mut Vec<Suggestion>,
+    ) -> Result<(), Memory>
+        requires region { IsSized p.now.given g.now }
+        requires right { IsCacheFor (cache_of self.now.index.lists self.now.table self.now.movers self.now.stayers.items) p.now.given (sets g.now) }
+        requires constraint { c < length p.now.given.constraints }
+        requires there { slice_get p.now.given.constraints c ≡ Some constraint.now }
+        requires rule { is_rule (inventory_of p.now.given) constraint.now ≡ true }
+    {
+        let Some(bound) = bound_of(p, constraint) else {
+            return Ok(());
+        };
+        if self.is_ample(p, g, &bound, c) {
+            return Ok(());
+        }
+        let ks = self.standings(p, g);
+        propose_amount(p, g, ks, &bound, c as u32, constraint.is_continuous(), them)
+    }
+
+    // whether a reason is seen to refute what is inside a part of an element's choices
+    fn refutes(&self, p: &Problem, g: &Region, e: Element, part: Part, reason: &Reason) -> bool
+        requires region { IsSized p.now.given g.now }
+        requires right { IsCacheFor (cache_of self.now.index.lists self.now.table self.now.movers self.now.stayers.items) p.now.given (sets g.now) }
+        requires element { IsElement p.now.given e }
+        requires may { MayAnswer reason.now }
+        ensures { IsTrue result → FailHolds p.now.given (keeping e (in_part part) (sets g.now)) reason.now }
+    {
+        let view = View {
+            region: g,
+            lens: Lens::Inside(e, part),
+        };
+        match reason {
+            Reason::SetLoad(c, t) => exceeds(p, &view, self.standings(p, g), *c, *t),
+            Reason::Empty(_)
+            | Reason::Bound
+            | Reason::Load(..)
+            | Reason::Pair(..)
+            | Reason::Place(..)
+            | Reason::Group(..)
+            | Reason::Power(..)
+            | Reason::Usable(..)
+            | Reason::Hall(..) => false,
+        }
+    }
+
+    /// Where each machine surely stands in the region of which this was told last.
+    #[tactic(auto, using(crate::proofs::KeptLemmas::kept_standings))]
+    pub(crate) fn standings(&self, p: &Problem, _g: &Region) -> &[Standing]
+        requires { IsCacheFor (cache_of self.now.index.lists self.now.table self.now.movers self.now.stayers.items) p.now.given (sets _g.now) }
+        ensures { AreStanding p.now.given (sets _g.now) result.now }
+    {
+        self.table.standings()
     }
 }
 
@@ -67,14 +195,13 @@ impl MadeWith<Global> for AmountKeeper {
 impl Keeper for AmountKeeper {
     ghost use Rattle.rule_setload.specs.Amounts.{cache_of};
 
-    ghost cache = { λ k. cache_of k.index.lists k.level k.movers k.stayers.items };
+    ghost cache = { λ k. cache_of k.index.lists k.table k.movers k.stayers.items };
 
     fn post(&mut self, p: &Problem, g: &Region) -> Result<(), Memory> {
         self.index.post(p, g)?;
         self.movers = Movers::of(self.alloc, p, g)?;
         self.stayers = all_stayers(self.alloc, p)?;
-        self.level = 0;
-        Ok(())
+        self.table.post(p, g)
     }
 
     // the index and what all hold while they stay are of the problem alone
@@ -83,21 +210,23 @@ impl Keeper for AmountKeeper {
         p: &Problem,
         g: &Region,
         change: Change,
-        _before: Before,
-        _kept: &Domain,
+        before: Before,
+        kept: &Domain,
     ) -> Result<(), Memory> {
+        self.table.told(p, g, change, before, kept)?;
         self.movers.told(p, g, change.element)?;
         Ok(())
     }
 
     fn mark(&mut self) -> Result<(), Memory> {
-        self.level = self.level.saturating_add(1);
-        Ok(())
+        self.table.mark()
     }
 
     // the movers of a level above are kept: a list that has grown is as right
     fn back(&mut self) {
-        self.level = self.level.saturating_sub(1);
+        if self.table.level() > 0 {
+            self.table.back();
+        }
     }
 }
 
@@ -138,6 +267,17 @@ impl Watcher<AmountKeeper> for AmountWatcher {
             .disturb(&k.index, p, g, change, before, kept, dirty);
     }
 
+    fn propose(
+        &self,
+        k: &AmountKeeper,
+        p: &Problem,
+        g: &Region,
+        i: usize,
+        them: &mut Vec<Suggestion>,
+    ) -> Result<(), Memory> {
+        k.propose(p, g, i, them)
+    }
+
     fn look(&self, k: &AmountKeeper, p: &Problem, g: &Region, i: usize) -> Look {
         if k.is_clean(p, g, i) {
             return Look::Clean;
@@ -158,7 +298,7 @@ impl Watcher<AmountKeeper> for AmountWatcher {
         part: Part,
         reason: &Reason,
     ) -> bool {
-        self.watches.refutes(&k.index, p, g, e, part, reason)
+        k.refutes(p, g, e, part, reason) || self.watches.refutes(&k.index, p, g, e, part, reason)
     }
 
     ghost local = { λ w. watches_are_local set_kinds };

@@ -3,6 +3,14 @@
 
 pub mod amounts;
 mod bounds;
+mod fit;
+mod holding;
+mod most;
 mod movers_hold;
+mod period;
+mod power;
+mod propose;
+mod refuting;
 pub mod rule;
 mod stayers;
+mod walk;

@@ -28,8 +28,8 @@ pub fn unit(p: &Problem, v: VmId, weight: Weight) -> u64
     }
 }
 
-// what a machine has on its host at present, where that is a node of a bound
-fn stay(p: &Problem, v: VmId, bound: &Bound) -> u64
+/// What a machine has on its host at present, where that is a node of a bound.
+pub(crate) fn stay(p: &Problem, v: VmId, bound: &Bound) -> u64
     requires machine { v.0 < machine_count p.now.given }
     requires weight { IsWeight p.now.given bound.now.weight }
     ensures stay { result ≡ stay_of p.now.given bound.now.weight (has_node bound.now.nodes) v.0 }

@@ -214,6 +214,26 @@ pub const CASES: [Case; 22] = [
         changes: &[],
         closed: " idle | idle | 0:0-2 | idle | -:2-4",
     },
+    // node 0 is full until machine 0 may have left it, which it has at 2 at the earliest
+    Case {
+        cluster: WIDE,
+        constraints: r#"{"kind":"online","nodes":["n0","n1"]},{"kind":"runningCapacity","nodes":["n0"],"amount":2,"continuous":true}"#,
+        changes: &[V1_STAYS],
+        closed: " idle 1:0-4 | idle | idle 0:2-4 | idle | idle",
+    },
+    // who moves is on both nodes for a while
+    Case {
+        cluster: WIDE,
+        constraints: r#"{"kind":"online","nodes":["n0","n1"]},{"kind":"runningCapacity","nodes":["n0","n1"],"amount":3,"continuous":true}"#,
+        changes: &[],
+        closed: " idle | idle | idle | idle | idle",
+    },
+    Case {
+        cluster: STATES,
+        constraints: r#"{"kind":"online","nodes":["n0"]},{"kind":"maxOnline","nodes":["n0","n1"],"amount":1,"continuous":true}"#,
+        changes: &[],
+        closed: " idle | idle | idle | idle | idle",
+    },
     Case {
         cluster: TIGHT,
         constraints: r#"{"kind":"overbook","nodes":["n1"],"resource":"cpu","num":1,"den":4}"#,

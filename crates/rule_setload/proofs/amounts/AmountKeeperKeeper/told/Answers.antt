@@ -1,6 +1,15 @@
-use Rattle.rule_setload.proofs.BoundLemmas.{amounts_told}
+use Rattle.rule_setload.proofs.Prelude.{subst, Contains, choices, domain_at, domain_before, on_side, sets, sets_before, filter_is_fewer}
+use Rattle.rule_setload.proofs.KeptLemmas.{amounts_told, kept_standings}
 use Rattle.rule_setload.proofs.amounts.AmountKeeperKeeper.told.Goals as goal
+
+pub told-requires-clause-fewer : goal.told-requires-clause-fewer
+told-requires-clause-fewer c =
+    λ d h. filter_is_fewer (on_side c.args.change.side c.args.change.part) (choices (domain_before c.args.before c.args.kept.now (domain_at c.args.g.now c.args.change.element))) d
+    (subst (λ cs. Contains cs d) c.requires.narrowed.left h)
+
+pub told-requires-clause-right : goal.told-requires-clause-right
+told-requires-clause-right c = kept_standings c.args.p.now.given (sets_before c.args.g.now c.args.change.element c.args.before c.args.kept.now) c.args.self.now.index.lists c.args.self.now.table c.args.self.now.movers c.args.self.now.stayers.items c.requires.right
 
 pub returns-clause-told : goal.returns-clause-told
 returns-clause-told c =
-    amounts_told c.args.p.now.given c.args.g.now c.args.change.element c.args._before c.args._kept.now c.args.self.now.index.lists c.args.self.now.level c.args.self.now.movers c.told.new.self c.args.self.now.stayers.items c.requires.right c.in_ok-told.ensures.grown c.in_ok-told.ensures.told
+    amounts_told c.args.p.now.given c.args.g.now c.args.change.element c.args.before c.args.kept.now c.args.self.now.index.lists c.args.self.now.table c.told.new.self c.args.self.now.movers c.told-2.new.self c.args.self.now.stayers.items c.in_ok-told.ensures.older c.in_ok-told.ensures.top c.requires.right c.in_ok-told-2.ensures.grown c.in_ok-told-2.ensures.told

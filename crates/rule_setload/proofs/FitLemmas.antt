@@ -1,0 +1,74 @@
+-- Where each machine fits in what is spare, what all hold stays within the amount.
+use Rattle.rule_setload.proofs.Prelude.{◌≡◌, ◌⊎◌, inl, inr, ℕ, suc, zero, ◌+◌, ◌-◌, ◌<◌, ◌≤◌, ◌==◌, ◌||◌, Bool, true, false, List, [], ◌∷◌, length, slice_index_or, refl, sym, subst, ◌∙◌, arith, IsTrue, Contains, cases_eq, cases_lt, nat_tests, contains_here, end_is_choice, ends_of_rows}
+use Rattle.rule_setload.specs.Prelude.{Act, AreWithin, Choice, choices, Climbs, DomainView, held_at, HoldsLeast, Idle, Instance, IsDuring, IsEnd, IsFit, IsInstance, IsRowEnd, IsShare, machine_count, no_row, Nodes, Period, Row, Sets, StaysAt, StaysDuring, StaysIn, StaysWhenDue, stay_of, sum_to, sure, unit_of, vm, Weight}
+use Rattle.rule_setload.proofs.AmountLemmas.{held_ever}
+
+module _ (p : Instance) (s : Sets) (w : Weight) (set : Nodes) (x : Period) where
+  -- ---- one machine
+
+  -- that has one choice
+  single : (cs : List Choice) → length cs ≡ 1 → (c : Choice) × (cs ≡ c ∷ [])
+  single [] e = absurd (omega (arith, e))
+  single (c ∷ []) e = (c, refl)
+  single (c ∷ d ∷ cs) e = absurd (omega (arith, e))
+
+  only : (c d : Choice) → Contains (c ∷ []) d → c ≡ d
+  only c d h = at h.0 h.1 h.2
+    where
+      at : (i : ℕ) → i < 1 → slice_index_or (c ∷ []) i d ≡ d → c ≡ d
+      at zero l e = e
+      at (suc i) l e = absurd (omega (arith, l))
+
+  pub one_fits : (v spare : ℕ) (d : DomainView) → s (vm v) ≡ choices d → (length (choices d) == 1) ≡ true → IsFit p s w set v x spare
+  unfolding sure
+  one_fits v spare d seen is = record {
+    each = λ t c h end.
+        let one = single (choices d) (grind (arith, nat_tests, is)) in
+        let all : s (vm v) ≡ one.0 ∷ [] = seen ∙ one.1 in
+        let same : one.0 ≡ c = only one.0 c (subst (λ cs. Contains cs c) all (end_is_choice (s (vm v)) c end)) in
+        rw (all, same) (omega arith);
+  }
+
+  pub ever_fits : IsInstance p → x.to ≤ p.horizon → (v spare : ℕ) → stay_of p w set v + unit_of p v w ≤ spare → IsFit p s w set v x spare
+  ever_fits sound within v spare l = record { each = λ t c h end. omega (arith, held_ever p sound w set v t c (omega (arith, h.1, within)), l) }
+
+  pub shares_fit : (v spare surely limit : ℕ) → limit ≡ spare + surely → HoldsLeast p s w set v x surely → ((c : Choice) → IsEnd (s (vm v)) c → IsShare p w set v c x limit) → IsFit p s w set v x spare
+  shares_fit v spare surely limit is least shares = record { each = λ t c h end. omega (arith, is, least.each t h, (shares c end).each t h) }
+
+  -- both ends of each row
+  abbrev pub RowsFit : ℕ → List Row → ℕ → ℕ → Type 0
+  RowsFit v rows count limit = (i : ℕ) → i < count → IsShare p w set v (Act (slice_index_or rows i no_row).place (slice_index_or rows i no_row).lo) x limit × IsShare p w set v (Act (slice_index_or rows i no_row).place (slice_index_or rows i no_row).hi) x limit
+
+  pub all_fit : (v limit count : ℕ) (d : DomainView) (rows : List Row) → s (vm v) ≡ choices d → rows ≡ d.rows → Climbs 0 rows → length rows ≤ count → (d.idle ≡ true → IsShare p w set v Idle x limit) → RowsFit v rows count limit → (c : Choice) → IsEnd (s (vm v)) c → IsShare p w set v c x limit
+  all_fit v limit count d rows seen same climbs past idle fit c end = at c ((ends_of_rows d (rw same at climbs) c).0 (rw seen at end))
+    where
+      at : (c : Choice) → IsRowEnd d c → IsShare p w set v c x limit
+      at Idle e = idle e
+      at (Act place start) e =
+          let both = fit e.0 (let low : e.0 < length rows = rw same e.1 in omega (arith, past, low)) in
+          elim e.3 [ inl lo ↦ rw (← e.2, ← lo) (rw same at both.0) | inr hi ↦ rw (← e.2, ← hi) (rw same at both.1) ]
+
+  -- ---- all machines
+
+  term-less : (m : ℕ) (f : ℕ → ℕ) (v : ℕ) → v < m → f v ≤ sum_to m f
+  term-less zero f v l = absurd (omega (arith, l))
+  term-less (suc m) f v l = elim (cases_eq v m) [ inl same ↦ rw same (omega arith) | inr other ↦ omega (arith, term-less m f v (omega (arith, l, other))) ]
+
+  pub stays_during : (total spare amount : ℕ) → AreWithin p s w set x total → total + spare ≤ amount → ((v : ℕ) → v < machine_count p → IsFit p s w set v x spare) → StaysDuring p s w set amount x
+  stays_during total spare amount all fits each t h = record {
+    base = omega (arith, all.each t h, fits);
+    each = λ v c low end. omega (arith, all.each t h, fits, (each v low).each t c h end);
+  }
+
+-- ---- period by period
+
+module _ (p : Instance) (s : Sets) (w : Weight) (set : Nodes) (amount : ℕ) where
+  -- what always is so is so whenever it is due
+  pub due_always : (always : Bool) → StaysIn p s w set amount → StaysWhenDue p s w set amount always
+  due_always always stays t l due = stays t l
+
+  pub due_last : (always : Bool) → always ≡ false → StaysAt p s w set amount p.horizon → StaysWhenDue p s w set amount always
+  due_last always off stays t l due = let last : t ≡ p.horizon = is t (rw off at due) in rw last stays
+    where
+      is : (t : ℕ) → IsTrue (false || (t == p.horizon)) → t ≡ p.horizon
+      is t e = grind (arith, nat_tests, e)

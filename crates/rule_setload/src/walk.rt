@@ -1,0 +1,162 @@
+//! Periods one after the other, from one change of what machines hold on the nodes of a bound to the next.
+ghost use Rattle.std.specs.Prelude.{◌≡◌, ◌+◌, ◌<◌, ◌≤◌, IfSome, IsTrue, length};
+ghost use Rattle.rule_setload.specs.Prelude.{AreStanding, has_node, IsSized, IsWeight, machine_count, sets, StaysAt, StaysIn, StaysPast, StaysWhenDue};
+
+use crate::bounds::Bound;
+use crate::fit::stays_during;
+use crate::period::Period;
+use profiles::standing::numbers::Standing;
+use rule_constraint::host;
+use rule_frame::{Element, Problem, Region, Row, VmId};
+
+/// The sooner of what is found and an instant, if that is later than `after`.
+pub(crate) fn sooner(after: u64, best: u64, at: u64) -> u64
+    requires { after < best }
+    ensures later { after < result }
+    ensures less { result ≤ best }
+{
+    if at > after && at < best { at } else { best }
+}
+
+// the first instant of these at which a row starts or ends
+fn next_of_rows(rows: &[Row], after: u64, best: u64) -> u64
+    requires { after < best }
+    ensures later { after < result }
+    ensures less { result ≤ best }
+{
+    let mut next = best;
+    for row in rows {
+        next = sooner(after, next, u64::from(row.lo));
+        next = sooner(after, next, u64::from(row.hi));
+    }
+    next
+}
+
+// whether a machine is on a node of a bound at present
+fn is_inside(p: &Problem, v: VmId, bound: &Bound) -> bool
+    requires { v.0 < machine_count p.now.given }
+{
+    match host(p, v) {
+        None => false,
+        Some(h) => bound.nodes.has(h),
+    }
+}
+
+// the first instant of these at which a machine may have left the nodes, or come to them
+fn next_of_machine(
+    p: &Problem,
+    g: &Region,
+    k: Standing,
+    v: VmId,
+    bound: &Bound,
+    after: u64,
+    best: u64,
+) -> u64
+    requires region { IsSized p.now.given g.now }
+    requires machine { v.0 < machine_count p.now.given }
+    requires later { after < best }
+    ensures later { after < result }
+    ensures less { result ≤ best }
+{
+    let mut next = best;
+    if is_inside(p, v, bound) {
+        next = sooner(after, next, k.leave);
+    }
+    let domain = g.domain(Element::Vm(v));
+    if domain.idle() {
+        next
+    } else {
+        next_of_rows(domain.rows(), after, next)
+    }
+}
+
+/// The first instant after one at which what machines hold may change, or the one after the horizon.
+pub(crate) fn next_change(
+    p: &Problem,
+    g: &Region,
+    ks: &[Standing],
+    bound: &Bound,
+    after: u64,
+) -> u64
+    requires region { IsSized p.now.given g.now }
+    requires count { length ks.now ≡ machine_count p.now.given }
+    requires within { after ≤ p.now.given.horizon }
+    ensures later { after < result }
+    ensures most { result ≤ p.now.given.horizon + 1 }
+{
+    let mut next = u64::from(p.horizon()) + 1;
+    for i in 0..p.cluster().machines().len() {
+        next = next_of_machine(p, g, ks[i], VmId(i as u32), bound, after, next);
+    }
+    next
+}
+
+// the end of a period from an instant on in which it is seen that what machines hold stays within an amount, if it is
+fn stays_until(p: &Problem, g: &Region, ks: &[Standing], bound: &Bound, from: u64) -> Option<u64>
+    requires region { IsSized p.now.given g.now }
+    requires standings { AreStanding p.now.given (sets g.now) ks.now }
+    requires weight { IsWeight p.now.given bound.now.weight }
+    requires within { from ≤ p.now.given.horizon }
+    ensures { IfSome result (StaysPast p.now.given (sets g.now) bound.now.weight (has_node bound.now.nodes) bound.now.amount from) }
+{
+    let next = next_change(p, g, ks, bound, from);
+    let x = Period {
+        from: from as u32,
+        to: (next - 1) as u32,
+    };
+    if stays_during(p, g, ks, bound, x) {
+        return Some(next);
+    }
+    None
+}
+
+// whether it is seen at all instants
+fn stays_always(p: &Problem, g: &Region, ks: &[Standing], bound: &Bound) -> bool
+    requires region { IsSized p.now.given g.now }
+    requires standings { AreStanding p.now.given (sets g.now) ks.now }
+    requires weight { IsWeight p.now.given bound.now.weight }
+    ensures { IsTrue result → StaysIn p.now.given (sets g.now) bound.now.weight (has_node bound.now.nodes) bound.now.amount }
+{
+    let end = u64::from(p.horizon()) + 1;
+    let mut from = 0u64;
+    'periods: while from < end {
+        let Some(until) = stays_until(p, g, ks, bound, from) else {
+            return false;
+        };
+        from = until;
+    }
+    true
+}
+
+// whether it is seen at the horizon
+fn stays_last(p: &Problem, g: &Region, ks: &[Standing], bound: &Bound) -> bool
+    requires region { IsSized p.now.given g.now }
+    requires standings { AreStanding p.now.given (sets g.now) ks.now }
+    requires weight { IsWeight p.now.given bound.now.weight }
+    ensures { IsTrue result → StaysAt p.now.given (sets g.now) bound.now.weight (has_node bound.now.nodes) bound.now.amount p.now.given.horizon }
+{
+    let last = Period {
+        from: p.horizon(),
+        to: p.horizon(),
+    };
+    stays_during(p, g, ks, bound, last)
+}
+
+/// Whether it is seen whenever it has to be so: always, or at the horizon alone.
+pub(crate) fn stays_when_due(
+    p: &Problem,
+    g: &Region,
+    ks: &[Standing],
+    bound: &Bound,
+    always: bool,
+) -> bool
+    requires region { IsSized p.now.given g.now }
+    requires standings { AreStanding p.now.given (sets g.now) ks.now }
+    requires weight { IsWeight p.now.given bound.now.weight }
+    ensures { IsTrue result → StaysWhenDue p.now.given (sets g.now) bound.now.weight (has_node bound.now.nodes) bound.now.amount always }
+{
+    if always {
+        return stays_always(p, g, ks, bound);
+    }
+    stays_last(p, g, ks, bound)
+}
