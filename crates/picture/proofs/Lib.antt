@@ -1,4 +1,6 @@
 mod AxisLemmas
+mod Drawn
 mod Lists
 mod Placed
+mod Printed
 mod Whole

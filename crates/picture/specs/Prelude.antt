@@ -7,3 +7,5 @@ pub use Rattle.picture.specs.Bars.{acting_node, action_of_bar, AreBars, first_of
 unfoldable pub use Rattle.picture.specs.Bars.{stands}
 pub use Rattle.picture.specs.Curves.{AreCurves, AreLoads, IsCurve, resource_of_curve, steps_of}
 pub use Rattle.picture.specs.Picture.{AreBands, AreLoose, IsBand, IsPicture, is_shown, node_of_band, touches}
+pub use Rattle.picture.specs.Text.{height_at, IsDrawn, mark_text, rise, step_text, steps_text}
+unfoldable pub use Rattle.picture.specs.Text.{band_text, bar_text, curve_text, head_text, picture_text, styles_text, twin_text}

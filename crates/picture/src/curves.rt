@@ -1,6 +1,6 @@
 //! The curves of the nodes: their loads at each instant at which something starts or ends.
 ghost use Rattle.std.specs.Prelude.{◌≡◌, ◌^◌, ◌<◌, length, IfOk};
-ghost use Rattle.picture.specs.Prelude.{AreCurves, AreLoads, choices_of, IsCurve, IsPlanOf, max_nodes, steps_of};
+ghost use Rattle.picture.specs.Prelude.{AreCurves, AreLoads, choices_of, IsCurve, IsPlanOf, max_nodes, rise, steps_of};
 
 use crate::marks::{Curve, Step};
 use base::Memory;
@@ -60,7 +60,9 @@ pub(crate) fn peak_of(steps: &[Step]) -> u64 {
 }
 
 /// How high a load is, in a strip of 18 that the most fills.
-pub(crate) fn rise(most: u64, load: u64) -> u64 {
+pub(crate) fn rise(most: u64, load: u64) -> u64
+    ensures { result ≡ rise most load }
+{
     load.saturating_mul(18) / most.max(1)
 }
 

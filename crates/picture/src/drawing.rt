@@ -6,7 +6,7 @@ ghost use Rattle.picture.specs.Prelude.{AreBands, AreLoose, choices_of, InRange,
 use crate::axis::{axis, grid, place_at, span_of};
 use crate::bands::bands_of;
 use crate::bars::{Row, bars_of};
-use crate::head::head;
+use crate::head::{head, verdict_words};
 use crate::marks::{Bar, Picture};
 use crate::nodes::is_shown;
 use crate::rows::Rows;
@@ -131,11 +131,11 @@ fn broken_line(
     sheet: &mut Sheet,
     answer: Option<Broken>,
     span: Instant,
-    end: u64,
+    low: u64,
 ) -> Result<(), Memory> {
     if let Some(broken) = answer {
         let x = place_at(span, broken.at.min(span));
-        sheet.line(Style::Broken, x, GRID_TOP, x, end)?;
+        sheet.line(Style::Broken, x, GRID_TOP, x, low)?;
     }
     Ok(())
 }
@@ -166,9 +166,10 @@ fn draw(
     let below = loose_below(&mut sheet, p, plan, actions, span, made.foot)?;
     let is_whole = made.bands.len() == p.cluster().nodes().len();
     let end = finish(&mut sheet, p, plan, actions, is_whole, span, below.foot)?;
-    grid(&mut sheet, span, GRID_TOP, end)?;
-    broken_line(&mut sheet, answer, span, end)?;
+    grid(&mut sheet, span, GRID_TOP, below.foot)?;
+    broken_line(&mut sheet, answer, span, below.foot)?;
     Ok(Picture {
+        title: verdict_words(alloc, p, plan, answer)?,
         tall: end + 12,
         span,
         under: sheet.under,

@@ -19,13 +19,13 @@ use slices::plan::cost;
 use std::alloc::Global;
 
 /// How many characters of a verdict fit.
-const LONGEST: usize = 84;
+const LONGEST: usize = 72;
 
 /// How many actions there are of each kind.
 type Counts = [usize; KIND_COUNT];
 
 /// The verdict, in words.
-fn verdict_words(
+pub(crate) fn verdict_words(
     alloc: Global,
     p: &Problem,
     plan: &Plan,
@@ -37,7 +37,7 @@ fn verdict_words(
     match answer {
         Some(broken) => {
             let line = broken_line(alloc, p, broken)?;
-            cut(alloc, line.trim_end(), LONGEST)
+            Ok(line.trim_end().to_string(alloc)?)
         }
         None => {
             let cost = cost(p, plan);
@@ -98,7 +98,7 @@ fn key(sheet: &mut Sheet, x: u64, style: Style, words: &str) -> Result<u64, Memo
     sheet.rect(style, x, 58, 16, 11)?;
     let after = x.saturating_add(21);
     sheet.text(Style::Small, after, 68, words)?;
-    Ok(after.saturating_add(words.len().min(60) as u64 * 6 + 18))
+    Ok(after.saturating_add(words.len().min(60) as u64 * 6 + 14))
 }
 
 /// Whether an action of one of two kinds occurs.
@@ -110,28 +110,28 @@ fn occurs(counts: Counts, kinds: &[Kind]) -> bool {
 fn legend(sheet: &mut Sheet, counts: Counts, is_off: bool, is_broken: bool) -> Result<(), Memory> {
     let mut x = MARGIN;
     if occurs(counts, &[Kind::Migrate]) {
-        x = key(sheet, x, Style::Moves, "migrates (hollow: at the source)")?;
+        x = key(sheet, x, Style::Moves, "migrates (hollow: source)")?;
     }
     if occurs(counts, &[Kind::Boot, Kind::Resume]) {
-        x = key(sheet, x, Style::Arrives, "arrives (boot, resume)")?;
+        x = key(sheet, x, Style::Arrives, "boot, resume")?;
     }
     if occurs(counts, &[Kind::Shutdown, Kind::Suspend, Kind::Kill]) {
-        x = key(sheet, x, Style::Leaves, "leaves (shutdown, suspend, kill)")?;
+        x = key(sheet, x, Style::Leaves, "shutdown, suspend, kill")?;
     }
     if occurs(counts, &[Kind::Forge, Kind::Allocate]) {
         x = key(sheet, x, Style::Changes, "forge, allocate")?;
     }
     if occurs(counts, &[Kind::NodeBoot, Kind::NodeShutdown]) {
-        x = key(sheet, x, Style::Power, "node boots, shuts down")?;
+        x = key(sheet, x, Style::Power, "node boots, stops")?;
     }
     if is_off {
-        x = key(sheet, x, Style::Off, "node off")?;
+        x = key(sheet, x, Style::OffKey, "node off")?;
     }
     let middle = x.saturating_add(16);
     sheet.line(Style::Capacity, x, 63, middle, 63)?;
     sheet.text(Style::Small, x.saturating_add(21), 68, "capacity")?;
     if is_broken {
-        key(sheet, x.saturating_add(90), Style::Over, "over capacity")?;
+        key(sheet, x.saturating_add(90), Style::Over, "overload")?;
     }
     Ok(())
 }
@@ -149,6 +149,7 @@ pub(crate) fn head(
     requires rule { IfSome answer (λ b. InRange p.now.given b.rule) }
 {
     let verdict = verdict_words(sheet.alloc, p, plan, answer)?;
+    let verdict = cut(sheet.alloc, &verdict, LONGEST)?;
     let style = if answer.is_some() {
         Style::BadVerdict
     } else {

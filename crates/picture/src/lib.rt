@@ -12,6 +12,7 @@ mod head;
 mod labels;
 pub mod marks;
 mod nodes;
+mod printing;
 mod rows;
 mod sheet;
 mod strips;
@@ -19,3 +20,4 @@ pub mod style;
 mod words;
 
 pub use drawing::picture_of;
+pub use printing::{draw_plan, picture_text};

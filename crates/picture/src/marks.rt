@@ -76,6 +76,8 @@ pub enum Mark {
 /// A picture of a plan.
 #[derive(Drop)]
 pub struct Picture {
+    /// What it tells: the verdict.
+    pub title: String,
     pub tall: u64,
     /// The last instant of the axis.
     pub span: Instant,

@@ -64,8 +64,9 @@ fn excess(
     let x = place_at(span, step.at.min(span));
     let right = place_at(span, to.min(span));
     let y = curve.base.saturating_sub(rise(curve.most, step.load));
-    if y < line && x < right {
-        sheet.rect(Style::Over, x, y, right - x, line - y)?;
+    if y < line {
+        let width = right.saturating_sub(x).max(2);
+        sheet.rect(Style::Over, x, y, width, line - y)?;
     }
     Ok(())
 }
@@ -196,10 +197,12 @@ pub(crate) fn surround(
     for phase in phases {
         shade(sheet, phase, span, top, tall)?;
     }
-    let name = cut(sheet.alloc, p.cluster().name(Element::Node(n)), 13)?;
+    let name = cut(sheet.alloc, p.cluster().name(Element::Node(n)), 11)?;
     sheet.words(Style::Name, MARGIN, top + 18, name)?;
     let power = power_words(sheet.alloc, p, plan, n)?;
-    sheet.words(Style::Tick, MARGIN, top + 32, power)?;
+    if !power.is_empty() {
+        sheet.words(Style::Tick, MARGIN, top + 32, power)?;
+    }
     beside_curves(sheet, p, phases, curves, n, span)?;
     sheet.line(Style::Separator, MARGIN, top + tall, PAGE, top + tall)
 }

@@ -1,0 +1,2 @@
+-- What crates above may cite.
+pub use Rattle.svg.proofs.Lists.{flat_more}
