@@ -1,12 +1,13 @@
 -- Machines that are told to keep apart at all instants.
-use Rattle.rule_pair.proofs.Prelude.{if◌then◌else◌, IsTrue, slice_index_or, ◌≡◌, ◌≢◌, ◌⊎◌, inl, inr, ℕ, zero, suc, ◌+◌, ◌<◌, ◌≤◌, Bool, true, false, ◌&&◌, nat_lt, List, [], ◌∷◌, length, get_or, Some, refl, sym, ◌∙◌, arith, and_parts, both_ways, cases_eq, cases_lt, eqb-true, false≢true, nat_tests, get_or_default, get_or_past, part_listed, sound_form, surely_each, end_is_choice, ends_of_rows, some_end, present_law, and-true, arrival, arrived, numbers, of_one, other-vm, own_present, same_present, vm_or}
-use Rattle.rule_pair.specs.Prelude.{Act, Apart, are_below, AreClear, AreLonger, AreOrdered, At, base, Between, Choice, choices, Clear, Climbs, comes_by, Constraint, DomainView, Doubtful, Each, Element, form_of, gain, has_come, HasPosts, hosted_in, Idle, Instance, inventory_of, is_member, is_rule, IsAt, IsClean, IsEnd, IsInPart, IsLate, IsMember, IsStanding, IsTold, KeepsClear, KeepsOff, kept_use, least, leave_of, Longest, machine_count, never, no_row, Nowhere, of_kind, OnClear, one, Pair, place_index, Posts, Presence, present_at, reason_kind, Row, row_at, rule_watch, Seen, separated, Separation, Sets, setting, Standing, StandsWithin, state_of, sure, told_until, Unknown, vm, VmId}
+use Rattle.rule_pair.proofs.Prelude.{if◌then◌else◌, IsTrue, slice_index_or, ◌≡◌, ◌≢◌, ◌⊎◌, inl, inr, ℕ, zero, suc, ◌+◌, ◌<◌, ◌≤◌, Bool, true, false, ◌&&◌, ◌||◌, ◌==◌, max, nat_lt, List, [], ◌∷◌, length, get_or, Some, refl, sym, ◌∙◌, arith, and_parts, cases_eq, eqb-true, false≢true, nat_tests, get_or_default, part_listed, sound_form, surely_each, end_is_choice, ends_of_rows, some_end, present_law, and-true, arrival, arrived, numbers, of_one, other-vm, own_present, same_present, vm_or}
+use Rattle.rule_pair.specs.Prelude.{Act, Apart, are_below, AreClear, AreLonger, AreOrdered, At, base, Between, Choice, choices, class_of, Clear, Climbs, comes_by, Constraint, DomainView, Doubtful, Each, Element, form_of, FromOthers, gain, has_come, HasPosts, hosted_in, Idle, Instance, inventory_of, is_continuous, is_member, is_rule, IsAt, IsClean, IsEnd, IsInPart, IsLate, IsMember, IsStanding, IsTold, KeepsClear, KeepsOff, kept_use, least, leave_of, Longest, machine_count, never, no_row, Nowhere, of_kind, OnClear, one, Pair, place_index, Posts, Presence, present_at, reason_kind, Row, row_at, rule_watch, Seen, separated, Separation, Sets, setting, Standing, StandsWithin, state_of, sure, told_until, Unknown, vm, VmId}
 use Rattle.cluster.specs.declared.choices.Place.{Place}
+use Rattle.profiles.specs.Prelude.{leave_climbs}
 
 -- ---- one choice
 
--- who is hosted elsewhere is on a node only where it has come there
-not-there : (p : Instance) (v n t : ℕ) (c : Choice) → t < never → hosted_in (state_of p v) (one n) ≡ false → has_come n t c ≡ false → present_at p v (one n) t c ≡ false
+-- who is hosted elsewhere, or has left its host, is on a node only where it has come there
+not-there : (p : Instance) (v n t : ℕ) (c : Choice) → t < never → (hosted_in (state_of p v) (one n) && nat_lt t (leave_of p v c)) ≡ false → has_come n t c ≡ false → present_at p v (one n) t c ≡ false
 not-there p v n t c h host come =
     sym (and-true (present_at p v (one n) t c))
     ∙ present_law p v n t (c ∷ []) (numbers p v c) h (λ e. cc) (of_one p v c)
@@ -14,6 +15,11 @@ not-there p v n t c h host come =
   where
     nothing : comes_by n t (arrival c) ≡ false → nat_lt 0 (kept_use p v Presence n t (numbers p v c)) ≡ false
     nothing e = rw (host, e) refl
+
+-- who has left by an instant is not on its host later
+not-hosted : (b : Bool) (t leave : ℕ) → (IsTrue b → leave ≤ t) → (b && nat_lt t leave) ≡ false
+not-hosted false t leave h = refl
+not-hosted true t leave h = let out = h refl in grind (arith, nat_tests, out)
 
 -- ---- posts
 
@@ -64,9 +70,9 @@ told_posts p s v part x ys zs posts longer host come = record {
 }
 
 -- an action that starts late has not come where a stay goes on
-late-come : (xs : List Longest) (part n t : ℕ) (q : Place) (low u : ℕ) → IsLate xs part q low → low ≤ u → t < told_until xs part n → has_come n t (Act q u) ≡ false
-late-come xs part n t Nowhere low u late l before = refl
-late-come xs part n t (At m) low u late l before = by (has_come n t (Act (At m) u)) refl
+late-come : (xs : List Longest) (part from n t : ℕ) (q : Place) (low u : ℕ) → IsLate xs part from q low → low ≤ u → from ≤ t → t < told_until xs part n → has_come n t (Act q u) ≡ false
+late-come xs part from n t Nowhere low u late l f before = refl
+late-come xs part from n t (At m) low u late l f before = by (has_come n t (Act (At m) u)) refl
   where
     by : (b : Bool) → has_come n t (Act (At m) u) ≡ b → b ≡ false
     by false e = refl
@@ -74,39 +80,68 @@ late-come xs part n t (At m) low u late l before = by (has_come n t (Act (At m) 
         let parts = and_parts (one n m.0) _ e in
         let same : m.0 ≡ n = eqb-true m.0 n parts.0 in
         let early : u ≤ t = grind (arith, nat_tests, parts.1) in
-        absurd (omega (arith, (rw same at late), early, l, before))
+        let there : told_until xs part n ≤ max low from = rw same at late in
+        absurd (omega (arith, there, early, l, f, before))
 
 row-order : (from : ℕ) (rows : List Row) (i : ℕ) → Climbs from rows → i < length rows → (slice_index_or rows i no_row).lo ≤ (slice_index_or rows i no_row).hi
 row-order from [] i c h = absurd (omega (arith, h))
 row-order from (r ∷ rs) zero c h = c.1
 row-order from (r ∷ rs) (suc i) c h = row-order (place_index r.place + 1) rs i c.2 (omega (arith, h))
 
-module _ (p : Instance) (s : Sets) (xs : List Longest) (part w : ℕ) (short : p.horizon < never) where
-  -- under an end that has come to no stay, and with a host where there is none
-  off-end : (n t : ℕ) (c : Choice) → t ≤ p.horizon → t < told_until xs part n → ((n : ℕ) → IsTrue (hosted_in (state_of p w) (one n)) → told_until xs part n ≤ 0) → has_come n t c ≡ false → present_at p w (one n) t c ≡ false
-  off-end n t c l before host come = not-there p w n t c (omega (arith, l, short)) (by (hosted_in (state_of p w) (one n)) refl) come
-    where
-      by : (b : Bool) → hosted_in (state_of p w) (one n) ≡ b → b ≡ false
-      by false e = refl
-      by true e = absurd (omega (arith, host n e, before))
+-- where no row keeps the host longer, and it may not stay, no end does
+pub ends_left : (p : Instance) (v t : ℕ) (d : DomainView) (rows : List Row) → rows ≡ d.rows → Climbs 0 rows → d.idle ≡ false → ((i : ℕ) → i < length rows → leave_of p v (Act (slice_index_or rows i no_row).place (slice_index_or rows i no_row).hi) ≤ t) → (c : Choice) → IsEnd (choices d) c → leave_of p v c ≤ t
+ends_left p v t d rows same climbs none last c end = by c end
+  where
+    own : Climbs 0 d.rows
+    own = rw same at climbs
 
-  pub keeps_off : (d : DomainView) (rows : List Row) → s (vm w) ≡ choices d → choices d ≢ [] → rows ≡ d.rows → Climbs 0 rows → ((n : ℕ) → IsTrue (hosted_in (state_of p w) (one n)) → told_until xs part n ≤ 0) → ((i : ℕ) → i < length rows → IsLate xs part (slice_index_or rows i no_row).place (slice_index_or rows i no_row).lo) → KeepsOff p s xs part w
-  keeps_off d rows is some same climbs host late = record { some = rw is some; off = λ n t c l before end. off-end n t c l before host (come n t c before (rw is at end)) }
+    row : (i u : ℕ) (q : Place) → i < length d.rows → (row_at d i).place ≡ q → u ≤ (row_at d i).hi → leave_of p v (Act q u) ≤ t
+    row i u q low place l =
+        let most : leave_of p v (Act (row_at d i).place (row_at d i).hi) ≤ t = (rw same at last) i low in
+        let here : leave_of p v (Act q (row_at d i).hi) ≤ t = rw place at most in
+        omega (arith, here, leave_climbs p v q u (row_at d i).hi l)
+
+    by : (c : Choice) → IsEnd (choices d) c → leave_of p v c ≤ t
+    by Idle end = absurd (false≢true (sym none ∙ (ends_of_rows d own Idle).0 end))
+    by (Act q u) end =
+        let r = (ends_of_rows d own (Act q u)).0 end in
+        row r.0 u q r.1 r.2 (elim r.3 [ inl first ↦ omega (arith, first, row-order 0 d.rows r.0 own r.1) | inr last ↦ omega (arith, last) ])
+
+-- where stays at the host end by an instant, or the machine has left by then, it has left while another one stays
+pub host_late : (p : Instance) (xs : List Longest) (part from w : ℕ) (cs : List Choice) → ((n : ℕ) → IsTrue (hosted_in (state_of p w) (one n)) → told_until xs part n ≤ from) → (n t : ℕ) (c : Choice) → from ≤ t → t < told_until xs part n → IsTrue (hosted_in (state_of p w) (one n)) → IsEnd cs c → leave_of p w c ≤ t
+host_late p xs part from w cs late n t c f before there end = absurd (omega (arith, late n there, f, before))
+
+pub host_left : (p : Instance) (xs : List Longest) (part from w : ℕ) (cs : List Choice) → ((c : Choice) → IsEnd cs c → leave_of p w c ≤ from) → (n t : ℕ) (c : Choice) → from ≤ t → t < told_until xs part n → IsTrue (hosted_in (state_of p w) (one n)) → IsEnd cs c → leave_of p w c ≤ t
+host_left p xs part from w cs left n t c f before there end = omega (arith, left c end, f)
+
+module _ (p : Instance) (s : Sets) (xs : List Longest) (part from w : ℕ) (short : p.horizon < never) where
+  -- under an end that has come to no stay, and has left its host where there is one
+  off-end : (n t : ℕ) (c : Choice) → t ≤ p.horizon → (IsTrue (hosted_in (state_of p w) (one n)) → leave_of p w c ≤ t) → has_come n t c ≡ false → present_at p w (one n) t c ≡ false
+  off-end n t c l left come = not-there p w n t c (omega (arith, l, short)) (not-hosted (hosted_in (state_of p w) (one n)) t (leave_of p w c) left) come
+
+  pub keeps_off : (d : DomainView) (rows : List Row) → s (vm w) ≡ choices d → choices d ≢ [] → rows ≡ d.rows → Climbs 0 rows → ((n t : ℕ) (c : Choice) → from ≤ t → t < told_until xs part n → IsTrue (hosted_in (state_of p w) (one n)) → IsEnd (choices d) c → leave_of p w c ≤ t) → ((i : ℕ) → i < length rows → IsLate xs part from (slice_index_or rows i no_row).place (slice_index_or rows i no_row).lo) → KeepsOff p s xs part from w
+  keeps_off d rows is some same climbs host late = record { some = rw is some; off = λ n t c f l before end. let there : IsEnd (choices d) c = rw is at end in off-end n t c l (λ here. host n t c f before here there) (come n t c f before there) }
     where
       own : Climbs 0 d.rows
       own = rw same at climbs
 
-      by : (n t i u : ℕ) (q : Place) → t < told_until xs part n → i < length d.rows → (row_at d i).place ≡ q → ((row_at d i).lo ≡ u) ⊎ ((row_at d i).hi ≡ u) → has_come n t (Act q u) ≡ false
-      by n t i u q before low place ends =
-          late-come xs part n t q (row_at d i).lo u (rw place at ((rw same at late) i low)) (elim ends [ inl first ↦ omega (arith, first) | inr last ↦ omega (arith, last, row-order 0 d.rows i own low) ]) before
+      by : (n t i u : ℕ) (q : Place) → from ≤ t → t < told_until xs part n → i < length d.rows → (row_at d i).place ≡ q → ((row_at d i).lo ≡ u) ⊎ ((row_at d i).hi ≡ u) → has_come n t (Act q u) ≡ false
+      by n t i u q f before low place ends =
+          late-come xs part from n t q (row_at d i).lo u (rw place at ((rw same at late) i low)) (elim ends [ inl first ↦ omega (arith, first) | inr last ↦ omega (arith, last, row-order 0 d.rows i own low) ]) f before
 
-      come : (n t : ℕ) (c : Choice) → t < told_until xs part n → IsEnd (choices d) c → has_come n t c ≡ false
-      come n t Idle before end = refl
-      come n t (Act q u) before end = let r = (ends_of_rows d own (Act q u)).0 end in by n t r.0 u q before r.1 r.2 r.3
+      come : (n t : ℕ) (c : Choice) → from ≤ t → t < told_until xs part n → IsEnd (choices d) c → has_come n t c ≡ false
+      come n t Idle f before end = refl
+      come n t (Act q u) f before end = let r = (ends_of_rows d own (Act q u)).0 end in by n t r.0 u q f before r.1 r.2 r.3
 
 -- one that keeps off what is told of another one keeps clear of it
-pub keeps_clear : (p : Instance) (s : Sets) (xs : List Longest) (i j v w : ℕ) → i ≢ j → IsTold p s xs i v → KeepsOff p s xs j w → KeepsClear p s v w
-keeps_clear p s xs i j v w ne told off = record { some = off.some; off = λ n t c l there end. off.off n t c l (told.each j n t (λ e. ne (sym e)) l there) end }
+pub keeps_clear : (p : Instance) (s : Sets) (xs : List Longest) (from i j v w : ℕ) → i ≢ j → IsTold p s xs i v → KeepsOff p s xs j from w → KeepsClear p s from v w
+keeps_clear p s xs from i j v w ne told off = record { some = off.some; off = λ n t c f l there end. off.off n t c f l (told.each j n t (λ e. ne (sym e)) l there) end }
+
+-- a machine that passes a test and one that does not are of two parts
+two-classes : (a b : Bool) → IsTrue a → ¬ IsTrue b → class_of (λ v. a) 0 ≢ class_of (λ v. b) 0
+two-classes true true first second = λ e. second refl
+two-classes true false first second = λ e. omega (arith, e)
+two-classes false b first second = absurd (false≢true first)
 
 -- ---- loops over parts
 
@@ -122,48 +157,54 @@ next_part P parts vs given i low same is before here k v h there =
 pub each_part : (P : ℕ → ℕ → Type 0) (parts : List (List VmId)) (count : ℕ) → length parts ≤ count → ((k v : ℕ) → k < count → IsInPart parts k v → P k v) → (k v : ℕ) → IsInPart parts k v → P k v
 each_part P parts count l each k v there = each k v (omega (arith, part_listed parts k v there, l)) there
 
-module _ (p : Instance) (s : Sets) where
+module _ (p : Instance) (s : Sets) (from : ℕ) where
   -- ---- two machines
 
-  never-both : (v w n t : ℕ) → t ≤ p.horizon → KeepsClear p s v w → IsTrue ((sure p s t).present v (one n)) → IsTrue ((sure p s t).present w (one n)) → ⊥
+  never-both : (v w n t : ℕ) → from ≤ t → t ≤ p.horizon → KeepsClear p s from v w → IsTrue ((sure p s t).present v (one n)) → IsTrue ((sure p s t).present w (one n)) → ⊥
   unfolding sure
-  never-both v w n t l clear first second =
+  never-both v w n t f l clear first second =
       let c = some_end (s (vm w)) clear.some in
-      false≢true (sym (clear.off n t c.0 l first c.1) ∙ surely_each (present_at p w (one n) t) (s (vm w)) c.0 (end_is_choice (s (vm w)) c.0 c.1) second)
+      false≢true (sym (clear.off n t c.0 f l first c.1) ∙ surely_each (present_at p w (one n) t) (s (vm w)) c.0 (end_is_choice (s (vm w)) c.0 c.1) second)
 
   -- where one is set to a choice
-  never-with : (v w n t : ℕ) (c : Choice) → v ≢ w → t ≤ p.horizon → KeepsClear p s v w → IsEnd (s (vm w)) c → IsTrue ((sure p (setting (vm w) c s) t).present v (one n)) → IsTrue ((sure p (setting (vm w) c s) t).present w (one n)) → ⊥
-  never-with v w n t c ne l clear end first second =
-      false≢true (sym (clear.off n t c l (sym (same_present p s (vm w) c v n t (other-vm v w ne)) ∙ first) end) ∙ (sym (own_present p s w n t c) ∙ second))
+  never-with : (v w n t : ℕ) (c : Choice) → v ≢ w → from ≤ t → t ≤ p.horizon → KeepsClear p s from v w → IsEnd (s (vm w)) c → IsTrue ((sure p (setting (vm w) c s) t).present v (one n)) → IsTrue ((sure p (setting (vm w) c s) t).present w (one n)) → ⊥
+  never-with v w n t c ne f l clear end first second =
+      false≢true (sym (clear.off n t c f l (sym (same_present p s (vm w) c v n t (other-vm v w ne)) ∙ first) end) ∙ (sym (own_present p s w n t c) ∙ second))
 
-  meet-never : (v w n t : ℕ) (e : Element) (c : Choice) → v ≢ w → t ≤ p.horizon → KeepsClear p s v w → KeepsClear p s w v → IsEnd (s e) c → IsTrue ((sure p (setting e c s) t).present v (one n)) → IsTrue ((sure p (setting e c s) t).present w (one n)) → ⊥
-  meet-never v w n t e c ne l one_way other_way end first second =
+  meet-never : (v w n t : ℕ) (e : Element) (c : Choice) → v ≢ w → from ≤ t → t ≤ p.horizon → KeepsClear p s from v w → KeepsClear p s from w v → IsEnd (s e) c → IsTrue ((sure p (setting e c s) t).present v (one n)) → IsTrue ((sure p (setting e c s) t).present w (one n)) → ⊥
+  meet-never v w n t e c ne f l one_way other_way end first second =
       elim (vm_or e w) [
-        | inl same ↦ never-with v w n t c ne l one_way (rw same at end) (rw same at first) (rw same at second)
+        | inl same ↦ never-with v w n t c ne f l one_way (rw same at end) (rw same at first) (rw same at second)
         | inr off_w ↦
             elim (vm_or e v) [
-              | inl same ↦ never-with w v n t c (λ x. ne (sym x)) l other_way (rw same at end) (rw same at second) (rw same at first)
-              | inr off_v ↦ never-both v w n t l one_way (sym (same_present p s e c v n t off_v) ∙ first) (sym (same_present p s e c w n t off_w) ∙ second)
+              | inl same ↦ never-with w v n t c (λ x. ne (sym x)) f l other_way (rw same at end) (rw same at second) (rw same at first)
+              | inr off_v ↦ never-both v w n t f l one_way (sym (same_present p s e c v n t off_v) ∙ first) (sym (same_present p s e c w n t off_w) ∙ second)
             ]
       ]
 
   -- ---- constraints
 
-  pub each_clear : (vs : List VmId) → ((v w : ℕ) → IsMember vs v → IsMember vs w → v ≢ w → KeepsClear p s v w) → AreClear p s (Each vs)
-  each_clear vs apart = record { one_way = λ v w h ne. apart v w h.0 h.1 ne; other_way = λ v w h ne. apart w v h.1 h.0 (λ e. ne (sym e)) }
+  pub each_clear : (vs : List VmId) → ((v w : ℕ) → IsMember vs v → IsMember vs w → v ≢ w → KeepsClear p s from v w) → AreClear p s from (Each vs)
+  each_clear vs apart = record { one_way = λ v w a b h ne. apart v w h.0 h.1 ne; other_way = λ v w a b h ne. apart w v h.1 h.0 (λ e. ne (sym e)) }
 
-  pub between_clear : (parts : List (List VmId)) → ((i j v w : ℕ) → i ≢ j → IsInPart parts i v → IsInPart parts j w → KeepsClear p s v w) → AreClear p s (Between parts)
-  between_clear parts apart = record { one_way = λ v w h ne. apart h.0 h.1 v w h.2 h.3 h.4; other_way = λ v w h ne. apart h.1 h.0 w v (λ e. h.2 (sym e)) h.4 h.3 }
+  pub between_clear : (parts : List (List VmId)) → ((i j v w : ℕ) → i ≢ j → IsInPart parts i v → IsInPart parts j w → KeepsClear p s from v w) → AreClear p s from (Between parts)
+  between_clear parts apart = record { one_way = λ v w a b h ne. apart h.0 h.1 v w h.2 h.3 h.4; other_way = λ v w a b h ne. apart h.1 h.0 w v (λ e. h.2 (sym e)) h.4 h.3 }
 
-  pub apart_clean : (k : Constraint) (separation : Separation) → form_of k ≡ Apart separation → AreClear p s separation → IsClean (rule_watch p k) p s
-  apart_clean k separation is clear t l = record {
+  pub from_others_clear : (vs : List VmId) → ((v w : ℕ) → v < machine_count p → w < machine_count p → class_of (is_member vs) v ≢ class_of (is_member vs) w → KeepsClear p s from v w) → AreClear p s from (FromOthers vs)
+  from_others_clear vs apart = record {
+    one_way = λ v w a b h ne. apart v w a b (two-classes (is_member vs v) (is_member vs w) h.0 h.1);
+    other_way = λ v w a b h ne. apart w v b a (λ e. two-classes (is_member vs v) (is_member vs w) h.0 h.1 (sym e));
+  }
+
+  pub apart_clean : (k : Constraint) (separation : Separation) → ((t : ℕ) → IsTrue (is_continuous k || (t == p.horizon)) → from ≤ t) → form_of k ≡ Apart separation → AreClear p s from separation → IsClean (rule_watch p k) p s
+  apart_clean k separation starts is clear t l = record {
     base = λ x.
         let h = of_kind p (sure p s t) Pair k kind x.1 in
-        never-both h.0 h.1 h.2 t l (clear.one_way h.0 h.1 (rw is at h.6.forbidden) h.6.differ) h.6.first h.6.second;
+        never-both h.0 h.1 h.2 t (starts t x.0) l (clear.one_way h.0 h.1 h.3 h.4 (rw is at h.6.forbidden) h.6.differ) h.6.first h.6.second;
     ends = λ e c there end x.
         let h = of_kind p (sure p (setting e c s) t) Pair k kind x.1 in
         let kept = rw is at h.6.forbidden in
-        meet-never h.0 h.1 h.2 t e c h.6.differ l (clear.one_way h.0 h.1 kept h.6.differ) (clear.other_way h.0 h.1 kept h.6.differ) end h.6.first h.6.second;
+        meet-never h.0 h.1 h.2 t e c h.6.differ (starts t x.0) l (clear.one_way h.0 h.1 h.3 h.4 kept h.6.differ) (clear.other_way h.0 h.1 h.3 h.4 kept h.6.differ) end h.6.first h.6.second;
   }
     where
       kind : reason_kind k ≡ Some Pair

@@ -3,3 +3,4 @@ mod ApartLemmas
 mod BrokenLemmas
 mod LongestLemmas
 mod StayLemmas
+mod StrangerLemmas

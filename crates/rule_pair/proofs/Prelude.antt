@@ -1,5 +1,6 @@
 -- What proofs of this crate cite together of std, of the crates below and of its definitions, passed on from one place. Declares nothing.
-pub use Rattle.base.proofs.Public.{Bool, IsTrue, List, None, Option, Some, [], and_parts, ap, arith, both_ways, cases_eq, cases_lt, copies_at, eqb-true, false, false≢true, filter, get_or, get_or_default, get_or_past, if◌then◌else◌, inl, inr, length, max, nat_lt, nat_tests, refl, replicate, rules, slice_get, slice_index_or, suc, sym, true, unwrap_or, zero, ℕ, ◌&&◌, ◌+◌, ◌<◌, ◌∙◌, ◌∷◌, ◌≡◌, ◌≢◌, ◌≤◌, ◌⊎◌}
+pub use Rattle.base.proofs.Public.{Bool, IsTrue, List, None, Option, Some, [], and_parts, ap, arith, both_ways, cases_eq, cases_lt, copies_at, eq-eqb, eqb-true, false, false≢true, filter, get_or, get_or_default, get_or_past, if◌then◌else◌, inl, inr, length, list_any_more, max, nat_lt, nat_tests, refl, replicate, rules, slice_get, slice_index_or, suc, sym, take, true, unwrap_or, zero, ℕ, ◌&&◌, ◌+◌, ◌<◌, ◌==◌, ◌||◌, ◌∙◌, ◌∷◌, ◌≡◌, ◌≢◌, ◌≤◌, ◌⊎◌}
+pub use borrow.Author.Count.{below_more}
 pub use Rattle.catalogue.proofs.Public.{below_parts}
 pub use Rattle.domains.proofs.Public.{surely_each}
 pub use Rattle.profiles.proofs.Public.{all_stay, present_law}

@@ -1,6 +1,6 @@
 -- Helping only: where a machine may surely be up to the horizon, and who keeps off.
-use Rattle.std.specs.Prelude.{◌≡◌, ◌≢◌, ◌⊎◌, ℕ, ◌<◌, ◌≤◌, false, List, [], Option, Some, None, IsTrue}
-use Rattle.rule_constraint.specs.Prelude.{Instance, IsEnd, one, present_at, Separates, Separation, Sets, sure, vm}
+use Rattle.std.specs.Prelude.{◌≡◌, ◌≢◌, ◌⊎◌, ℕ, ◌<◌, ◌≤◌, Bool, false, List, [], max, Option, Some, None, if◌then◌else◌, IsTrue}
+use Rattle.rule_constraint.specs.Prelude.{Instance, IsEnd, machine_count, one, present_at, Separates, Separation, Sets, sure, vm}
 use Rattle.cluster.specs.declared.choices.Choice.{Choice}
 use Rattle.cluster.specs.declared.choices.Place.{Place}
 use Rattle.cluster.specs.declared.choices.Place.TheVariants.{Nowhere, At}
@@ -29,25 +29,29 @@ part_of (Some i) v = i
 pub record IsTold (p : Instance) (s : Sets) (xs : List Longest) (part v : ℕ) : Type 0 where
   pub each : (q n t : ℕ) → q ≢ part → t ≤ p.horizon → IsTrue ((sure p s t).present v (one n)) → t < told_until xs q n
 
--- an action there starts after all stays of machines of other parts
-abbrev pub IsLate : List Longest → ℕ → Place → ℕ → Type 0
-IsLate xs part Nowhere start = Unit {0}
-IsLate xs part (At n) start = told_until xs part n.0 ≤ start
+-- an action there starts after all stays of machines of other parts that last past an instant
+abbrev pub IsLate : List Longest → ℕ → ℕ → Place → ℕ → Type 0
+IsLate xs part from Nowhere start = Unit {0}
+IsLate xs part from (At n) start = told_until xs part n.0 ≤ max start from
 
--- machine w of a part has a choice, and is under no end of its choices at a node where a stay of another part is told
-pub record KeepsOff (p : Instance) (s : Sets) (xs : List Longest) (part w : ℕ) : Type 0 where
+-- from an instant on, machine w of a part has a choice, and is under no end of its choices at a node where a stay of another part is told
+pub record KeepsOff (p : Instance) (s : Sets) (xs : List Longest) (part from w : ℕ) : Type 0 where
   pub some : s (vm w) ≢ []
-  pub off : (n t : ℕ) (c : Choice) → t ≤ p.horizon → t < told_until xs part n → IsEnd (s (vm w)) c → present_at p w (one n) t c ≡ false
+  pub off : (n t : ℕ) (c : Choice) → from ≤ t → t ≤ p.horizon → t < told_until xs part n → IsEnd (s (vm w)) c → present_at p w (one n) t c ≡ false
 
--- machine w has a choice, and is under no end of its choices where v surely is
-pub record KeepsClear (p : Instance) (s : Sets) (v w : ℕ) : Type 0 where
+-- from an instant on, machine w has a choice, and is under no end of its choices where v surely is
+pub record KeepsClear (p : Instance) (s : Sets) (from v w : ℕ) : Type 0 where
   pub some : s (vm w) ≢ []
-  pub off : (n t : ℕ) (c : Choice) → t ≤ p.horizon → IsTrue ((sure p s t).present v (one n)) → IsEnd (s (vm w)) c → present_at p w (one n) t c ≡ false
+  pub off : (n t : ℕ) (c : Choice) → from ≤ t → t ≤ p.horizon → IsTrue ((sure p s t).present v (one n)) → IsEnd (s (vm w)) c → present_at p w (one n) t c ≡ false
 
--- and so are two machines of each other that are kept apart
-pub record AreClear (p : Instance) (s : Sets) (separation : Separation) : Type 0 where
-  pub one_way : (v w : ℕ) → Separates separation v w → v ≢ w → KeepsClear p s v w
-  pub other_way : (v w : ℕ) → Separates separation v w → v ≢ w → KeepsClear p s w v
+-- and so are two machines of the instance of each other that are kept apart
+pub record AreClear (p : Instance) (s : Sets) (from : ℕ) (separation : Separation) : Type 0 where
+  pub one_way : (v w : ℕ) → v < machine_count p → w < machine_count p → Separates separation v w → v ≢ w → KeepsClear p s from v w
+  pub other_way : (v w : ℕ) → v < machine_count p → w < machine_count p → Separates separation v w → v ≢ w → KeepsClear p s from w v
+
+-- machines that pass a test are one part, and all others one
+abbrev pub class_of : (ℕ → Bool) → ℕ → ℕ
+class_of test v = if test v then 1 else 0
 
 -- what is so where it was seen that machines keep apart
 abbrev pub OnClear : Seen → Type 0 → Type 0

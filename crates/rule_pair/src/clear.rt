@@ -1,14 +1,20 @@
-//! Whether a constraint is kept, told for all instants up to the horizon at once.
-ghost use Rattle.std.specs.Prelude.{◌≡◌, ◌≢◌, ℕ, ◌<◌, ◌≤◌, nat_lt, true, length, slice_index_or, IfNone, IsTrue};
+//! Whether a constraint is kept, told at once for all instants from the first one at which it is to hold.
+ghost use Rattle.std.specs.Prelude.{◌≡◌, ◌≢◌, ℕ, ◌<◌, ◌≤◌, ◌||◌, ◌==◌, nat_lt, true, length, slice_index_or, IfNone, IsTrue};
 ghost use Rattle.std.specs.List.{list_all};
-ghost use Rattle.rule_pair.specs.Prelude.{are_below, AreClear, AreLonger, AreOrdered, hosted_in, inventory_of, is_rule, IsClean, IsInPart, IsLate, IsMember, IsSized, IsTold, KeepsClear, KeepsOff, machine_count, no_row, OnClear, one, part_of as the_part_of, rule_watch, separated, separation_seen, sets, state_of, told_until};
+ghost use Rattle.cluster.specs.declared.choices.Choice.{Choice as AnyChoice};
+ghost use Rattle.rule_pair.specs.Prelude.{are_below, AreClear, AreLonger, AreOrdered, choices, Climbs, hosted_in, inventory_of, is_continuous, is_rule, IsClean, IsEnd, IsInPart, IsLate, IsMember, IsSized, IsTold, KeepsClear, KeepsOff, leave_of, machine_count, no_row, OnClear, one, part_of as the_part_of, rule_watch, separated, separation_seen, sets, state_of, told_until};
 
 use crate::longest::{NOBODY, Stay, Table, stay_after, tell};
 use crate::pairs::separation_of;
 use crate::posts::{Post, last_before, posts_of};
+use crate::stays::leaves_by;
+use crate::strangers::strangers_alone;
 use cluster::limits::MAX_NODES;
 use rule_constraint::host;
-use rule_frame::{Constraint, Element, NodeId, Place, Problem, Region, Row, Separation, VmId, Vms};
+use rule_frame::{
+    Constraint, Domain, Element, Instant, NodeId, Place, Problem, Region, Row, Separation, VmId,
+    Vms,
+};
 
 /// Two machines, of which the second one may be at a post of the first one.
 #[derive(Clone, Copy)]
@@ -29,15 +35,26 @@ pub enum Seen {
     Unknown,
 }
 
-// a stay at a node
+/// A stay at a node.
 #[derive(Clone, Copy)]
-struct Met {
-    node: NodeId,
-    stay: Stay,
+pub(crate) struct Met {
+    pub node: NodeId,
+    pub stay: Stay,
 }
 
-// the part of a machine: of machines that are each to be alone, its number
-fn part_of(part: Option<usize>, v: VmId) -> usize
+/// The first instant at which a constraint is to hold: one that is not to hold always is to at the horizon alone.
+pub(crate) fn first_instant(p: &Problem, constraint: &Constraint) -> Instant
+    ensures { (t : ℕ) → IsTrue (is_continuous constraint.now || (t == p.now.given.horizon)) → result ≤ t }
+{
+    if constraint.is_continuous() {
+        0
+    } else {
+        p.horizon()
+    }
+}
+
+/// The part of a machine: of machines that are each to be alone, its number.
+pub(crate) fn part_of(part: Option<usize>, v: VmId) -> usize
     ensures { result ≡ the_part_of part v.0 }
 {
     match part {
@@ -46,9 +63,9 @@ fn part_of(part: Option<usize>, v: VmId) -> usize
     }
 }
 
-// tells where a machine surely stays. False where that is not known
+/// Tells where a machine surely stays. False where that is not known.
 #[tactic(auto, using(crate::proofs::ApartLemmas::told_posts, crate::proofs::ApartLemmas::longer_both))]
-fn tell_machine(p: &Problem, g: &Region, v: VmId, part: usize, table: &mut Table) -> bool
+pub(crate) fn tell_machine(p: &Problem, g: &Region, v: VmId, part: usize, table: &mut Table) -> bool
     requires region { IsSized p.now.given g.now }
     requires machine { v.0 < machine_count p.now.given }
     requires ordered { AreOrdered table.old }
@@ -63,8 +80,8 @@ fn tell_machine(p: &Problem, g: &Region, v: VmId, part: usize, table: &mut Table
     tell(table, v, part, posts.host) && tell(table, v, part, posts.come)
 }
 
-// tells it of each machine of a part, or of each of a list where no two are to meet
-fn tell_machines(
+/// Tells it of each machine of a part, or of each of a list where no two are to meet.
+pub(crate) fn tell_machines(
     p: &Problem,
     g: &Region,
     machines: &[VmId],
@@ -87,8 +104,8 @@ fn tell_machines(
     true
 }
 
-// tells it of each machine of each part
-fn tell_parts(p: &Problem, g: &Region, parts: &[Vms], table: &mut Table) -> bool
+/// Tells it of each machine of each part.
+pub(crate) fn tell_parts(p: &Problem, g: &Region, parts: &[Vms], table: &mut Table) -> bool
     requires region { IsSized p.now.given g.now }
     requires machines { list_all (list_all (λ x. nat_lt x.0 (machine_count p.now.given))) parts.now ≡ true }
     requires ordered { AreOrdered table.old }
@@ -102,35 +119,57 @@ fn tell_parts(p: &Problem, g: &Region, parts: &[Vms], table: &mut Table) -> bool
     true
 }
 
-// a stay of a machine of another part at the host of one
-fn host_met(p: &Problem, w: VmId, part: usize, table: &Table) -> Option<Met>
+// a stay of a machine of another part at the host of one, where it ends after an instant
+fn host_met(p: &Problem, w: VmId, part: usize, from: Instant, table: &Table) -> Option<Met>
     requires machine { w.0 < machine_count p.now.given }
-    ensures { IfNone result ((n : ℕ) → IsTrue (hosted_in (state_of p.now.given w.0) (one n)) → told_until table.now part n ≤ 0) }
+    ensures { IfNone result ((n : ℕ) → IsTrue (hosted_in (state_of p.now.given w.0) (one n)) → told_until table.now part n ≤ from) }
 {
     let node = host(p, w)?;
-    let stay = stay_after(table, node, part, 0)?;
+    let stay = stay_after(table, node, part, from)?;
     Some(Met { node, stay })
 }
 
-// one that may still last when a row starts
-fn row_met(row: Row, part: usize, table: &Table) -> Option<Met>
-    ensures { IfNone result (IsLate table.now part row.place row.lo) }
+// such a stay at the host of a machine that may not have left it by the instant
+#[tactic(auto, using(crate::proofs::ApartLemmas::host_late, crate::proofs::ApartLemmas::host_left))]
+fn host_doubt(
+    p: &Problem,
+    w: VmId,
+    domain: &Domain,
+    part: usize,
+    from: Instant,
+    table: &Table,
+) -> Option<Met>
+    requires machine { w.0 < machine_count p.now.given }
+    requires climbs { Climbs 0 domain.now.rows }
+    ensures { IfNone result ((n t : ℕ) (c : AnyChoice) → from ≤ t → t < told_until table.now part n → IsTrue (hosted_in (state_of p.now.given w.0) (one n)) → IsEnd (choices domain.now) c → leave_of p.now.given w.0 c ≤ t) }
+{
+    let met = host_met(p, w, part, from, table)?;
+    if leaves_by(p, w, domain, from) {
+        None
+    } else {
+        Some(met)
+    }
+}
+
+/// A stay that may still last when a row starts, and after an instant.
+pub(crate) fn row_met(row: Row, part: usize, from: Instant, table: &Table) -> Option<Met>
+    ensures { IfNone result (IsLate table.now part from row.place row.lo) }
 {
     match row.place {
         Place::Nowhere => None,
         Place::At(node) => {
-            let stay = stay_after(table, node, part, row.lo)?;
+            let stay = stay_after(table, node, part, row.lo.max(from))?;
             Some(Met { node, stay })
         }
     }
 }
 
 // the first such of some rows
-fn rows_met(rows: &[Row], part: usize, table: &Table) -> Option<Met>
-    ensures { IfNone result ((i : ℕ) → i < length rows.now → IsLate table.now part (slice_index_or rows.now i no_row).place (slice_index_or rows.now i no_row).lo) }
+fn rows_met(rows: &[Row], part: usize, from: Instant, table: &Table) -> Option<Met>
+    ensures { IfNone result ((i : ℕ) → i < length rows.now → IsLate table.now part from (slice_index_or rows.now i no_row).place (slice_index_or rows.now i no_row).lo) }
 {
     for i in 0..rows.len() {
-        if let Some(met) = row_met(rows[i], part, table) {
+        if let Some(met) = row_met(rows[i], part, from, table) {
             return Some(met);
         }
     }
@@ -149,21 +188,28 @@ fn make_doubt(p: &Problem, w: VmId, met: Met) -> Doubt {
     }
 }
 
-// whether a machine is nowhere while one of another part stays there
-fn machine_keeps_off(p: &Problem, g: &Region, w: VmId, part: usize, table: &Table) -> Seen
+/// Whether a machine is nowhere while one of another part stays there, from an instant on.
+pub(crate) fn machine_keeps_off(
+    p: &Problem,
+    g: &Region,
+    w: VmId,
+    part: usize,
+    from: Instant,
+    table: &Table,
+) -> Seen
     requires region { IsSized p.now.given g.now }
     requires machine { w.0 < machine_count p.now.given }
-    ensures { OnClear result (KeepsOff p.now.given (sets g.now) table.now part w.0) }
+    ensures { OnClear result (KeepsOff p.now.given (sets g.now) table.now part from w.0) }
 {
     let domain = g.domain(Element::Vm(w));
     if domain.is_empty() {
         return Seen::Unknown;
     }
-    if let Some(met) = host_met(p, w, part, table) {
+    if let Some(met) = host_doubt(p, w, domain, part, from, table) {
         return Seen::Doubtful(make_doubt(p, w, met));
     }
     let rows = domain.rows();
-    match rows_met(rows, part, table) {
+    match rows_met(rows, part, from, table) {
         None => Seen::Clear,
         Some(met) => Seen::Doubtful(make_doubt(p, w, met)),
     }
@@ -175,15 +221,16 @@ fn machines_keep_off(
     g: &Region,
     machines: &[VmId],
     part: Option<usize>,
+    from: Instant,
     table: &Table,
 ) -> Seen
     requires region { IsSized p.now.given g.now }
     requires machines { list_all (λ x. nat_lt x.0 (machine_count p.now.given)) machines.now ≡ true }
-    ensures { OnClear result ((w : ℕ) → IsMember machines.now w → KeepsOff p.now.given (sets g.now) table.now (the_part_of part w) w) }
+    ensures { OnClear result ((w : ℕ) → IsMember machines.now w → KeepsOff p.now.given (sets g.now) table.now (the_part_of part w) from w) }
 {
     for i in 0..machines.len() {
         let w = machines[i];
-        match machine_keeps_off(p, g, w, part_of(part, w), table) {
+        match machine_keeps_off(p, g, w, part_of(part, w), from, table) {
             Seen::Clear => {}
             Seen::Doubtful(d) => return Seen::Doubtful(d),
             Seen::Unknown => return Seen::Unknown,
@@ -193,13 +240,13 @@ fn machines_keep_off(
 }
 
 // whether so is each machine of each part
-fn parts_keep_off(p: &Problem, g: &Region, parts: &[Vms], table: &Table) -> Seen
+fn parts_keep_off(p: &Problem, g: &Region, parts: &[Vms], from: Instant, table: &Table) -> Seen
     requires region { IsSized p.now.given g.now }
     requires machines { list_all (list_all (λ x. nat_lt x.0 (machine_count p.now.given))) parts.now ≡ true }
-    ensures { OnClear result ((j w : ℕ) → IsInPart parts.now j w → KeepsOff p.now.given (sets g.now) table.now j w) }
+    ensures { OnClear result ((j w : ℕ) → IsInPart parts.now j w → KeepsOff p.now.given (sets g.now) table.now j from w) }
 {
     for j in 0..parts.len() {
-        match machines_keep_off(p, g, parts[j].items(), Some(j), table) {
+        match machines_keep_off(p, g, parts[j].items(), Some(j), from, table) {
             Seen::Clear => {}
             Seen::Doubtful(d) => return Seen::Doubtful(d),
             Seen::Unknown => return Seen::Unknown,
@@ -209,46 +256,46 @@ fn parts_keep_off(p: &Problem, g: &Region, parts: &[Vms], table: &Table) -> Seen
 }
 
 // whether no two of these machines meet
-fn each_alone(p: &Problem, g: &Region, machines: &[VmId]) -> Seen
+fn each_alone(p: &Problem, g: &Region, machines: &[VmId], from: Instant) -> Seen
     requires region { IsSized p.now.given g.now }
     requires machines { list_all (λ x. nat_lt x.0 (machine_count p.now.given)) machines.now ≡ true }
-    ensures { OnClear result ((v w : ℕ) → IsMember machines.now v → IsMember machines.now w → v ≢ w → KeepsClear p.now.given (sets g.now) v w) }
+    ensures { OnClear result ((v w : ℕ) → IsMember machines.now v → IsMember machines.now w → v ≢ w → KeepsClear p.now.given (sets g.now) from v w) }
 {
     let mut table = [NOBODY; MAX_NODES];
     if !tell_machines(p, g, machines, None, &mut table) {
         return Seen::Unknown;
     }
-    machines_keep_off(p, g, machines, None, &table)
+    machines_keep_off(p, g, machines, None, from, &table)
 }
 
 // whether no two machines of different parts do
-fn parts_alone(p: &Problem, g: &Region, parts: &[Vms]) -> Seen
+fn parts_alone(p: &Problem, g: &Region, parts: &[Vms], from: Instant) -> Seen
     requires region { IsSized p.now.given g.now }
     requires machines { list_all (list_all (λ x. nat_lt x.0 (machine_count p.now.given))) parts.now ≡ true }
-    ensures { OnClear result ((i j v w : ℕ) → i ≢ j → IsInPart parts.now i v → IsInPart parts.now j w → KeepsClear p.now.given (sets g.now) v w) }
+    ensures { OnClear result ((i j v w : ℕ) → i ≢ j → IsInPart parts.now i v → IsInPart parts.now j w → KeepsClear p.now.given (sets g.now) from v w) }
 {
     let mut table = [NOBODY; MAX_NODES];
     if !tell_parts(p, g, parts, &mut table) {
         return Seen::Unknown;
     }
-    parts_keep_off(p, g, parts, &table)
+    parts_keep_off(p, g, parts, from, &table)
 }
 
 // whether no two machines meet that are kept apart
-fn all_alone(p: &Problem, g: &Region, separation: &Separation) -> Seen
+fn all_alone(p: &Problem, g: &Region, separation: &Separation, from: Instant) -> Seen
     requires region { IsSized p.now.given g.now }
     requires machines { are_below (machine_count p.now.given) (separated (separation_seen separation.now)) ≡ true }
-    ensures { OnClear result (AreClear p.now.given (sets g.now) (separation_seen separation.now)) }
+    ensures { OnClear result (AreClear p.now.given (sets g.now) from (separation_seen separation.now)) }
 {
     match separation {
-        Separation::Each(machines) => each_alone(p, g, machines.items()),
-        Separation::Between(parts) => parts_alone(p, g, parts.items()),
-        Separation::FromOthers(_) => Seen::Unknown,
+        Separation::Each(machines) => each_alone(p, g, machines.items(), from),
+        Separation::Between(parts) => parts_alone(p, g, parts.items(), from),
+        Separation::FromOthers(machines) => strangers_alone(p, g, machines.items(), from),
     }
 }
 
-/// Whether a constraint is seen to be kept at all instants. Of machines that are to keep apart it is told where
-/// each surely stays, and then asked of each whether it may be anywhere that one of another part stays.
+/// Whether a constraint is seen to be kept at all instants at which it is to hold. Of machines that are to keep apart it
+/// is told where each surely stays, and then asked of each whether it may be anywhere that one of another part stays.
 pub fn look_over(p: &Problem, g: &Region, constraint: &Constraint) -> Seen
     requires region { IsSized p.now.given g.now }
     requires rule { is_rule (inventory_of p.now.given) constraint.now ≡ true }
@@ -256,6 +303,6 @@ pub fn look_over(p: &Problem, g: &Region, constraint: &Constraint) -> Seen
 {
     match separation_of(constraint) {
         None => Seen::Unknown,
-        Some(separation) => all_alone(p, g, &separation),
+        Some(separation) => all_alone(p, g, &separation, first_instant(p, constraint)),
     }
 }

@@ -4,10 +4,12 @@
 mod clear;
 mod hall;
 mod longest;
+mod members;
 mod pair_look;
 mod pairs;
 mod posts;
 mod refuting;
 pub mod rule;
 mod stays;
+mod strangers;
 mod suggest;

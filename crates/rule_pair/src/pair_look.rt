@@ -6,7 +6,7 @@ use crate::clear::{Doubt, Seen, look_over};
 use closing::watch::look_at_constraint;
 use profiles::host::is_host;
 use profiles::standing::pairs::is_pair;
-use rule_frame::{Choice, Domain, Element, Lens, Look, NodeId, Place, Problem, Region, View};
+use rule_frame::{Choice, Domain, Element, Lens, Look, NodeId, Place, Problem, Region, View, VmId};
 
 // whether a place is a node
 fn is_at(place: Place, n: NodeId) -> bool {
@@ -69,12 +69,12 @@ fn is_within(p: &Problem, d: Doubt) -> bool
         && d.post.last <= p.horizon()
 }
 
-// whether they break the constraint where the second one is set to a choice
-fn breaks(p: &Problem, g: &Region, c: u32, d: Doubt, choice: Choice) -> bool
+// whether two machines, named in an order, break the constraint where the second one in doubt is set to a choice
+fn break_so(p: &Problem, g: &Region, c: u32, d: Doubt, choice: Choice, v: VmId, w: VmId) -> bool
     requires region { IsSized p.now.given g.now }
     requires constraint { c < length p.now.given.constraints }
-    requires first { d.first.0 < machine_count p.now.given }
-    requires second { d.second.0 < machine_count p.now.given }
+    requires first { v.0 < machine_count p.now.given }
+    requires second { w.0 < machine_count p.now.given }
     requires node { d.post.node.0 < node_count p.now.given }
     ensures { IsTrue result → broken_at (constraint_watch p.now.given c) p.now.given d.post.last (sure p.now.given (setting (vm d.second.0) choice (sets g.now)) d.post.last) }
 {
@@ -86,15 +86,20 @@ fn breaks(p: &Problem, g: &Region, c: u32, d: Doubt, choice: Choice) -> bool
         return false;
     }
     let constraint = &p.constraints()[c as usize];
-    is_pair(
-        p,
-        &view,
-        constraint,
-        d.first,
-        d.second,
-        d.post.node,
-        d.post.last,
-    )
+    is_pair(p, &view, constraint, v, w, d.post.node, d.post.last)
+}
+
+// whether they do, in either order: a member is named before a machine that is none
+fn breaks(p: &Problem, g: &Region, c: u32, d: Doubt, choice: Choice) -> bool
+    requires region { IsSized p.now.given g.now }
+    requires constraint { c < length p.now.given.constraints }
+    requires first { d.first.0 < machine_count p.now.given }
+    requires second { d.second.0 < machine_count p.now.given }
+    requires node { d.post.node.0 < node_count p.now.given }
+    ensures { IsTrue result → broken_at (constraint_watch p.now.given c) p.now.given d.post.last (sure p.now.given (setting (vm d.second.0) choice (sets g.now)) d.post.last) }
+{
+    break_so(p, g, c, d, choice, d.first, d.second)
+        || break_so(p, g, c, d, choice, d.second, d.first)
 }
 
 // an end of the second machine's choices under which two machines in doubt are seen to break the constraint

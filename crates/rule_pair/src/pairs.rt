@@ -2,12 +2,13 @@
 ghost use Rattle.std.specs.Prelude.{◌≡◌, ℕ, ◌<◌, ◌≤◌, false, length, IfNone, IfSome, IsTrue};
 ghost use Rattle.rule_pair.specs.Prelude.{Apart, Applies, FailHolds, ForbidsPair, form_of as the_form_of, HasPair, IsInPart, IsPair, IsSized, machine_count, node_count, seen, Separates, separation_seen, sure};
 
+use profiles::host::is_host;
 use profiles::standing::pairs::is_pair;
 use profiles::standing::stays::surely_at;
 use rule_constraint::machines::likely_node;
 use rule_frame::{
-    Choice, Constraint, Element, Form, Instant, Lens, NodeId, Problem, Reason, Separation, View,
-    VmId, Vms, form_of,
+    Choice, Constraint, Element, Form, Instant, Lens, NodeId, Place, Problem, Reason, Separation,
+    View, VmId, Vms, form_of,
 };
 
 /// How a constraint keeps machines apart, if it does.
@@ -110,6 +111,39 @@ fn pair_with(
     None
 }
 
+// whether a machine may surely be on a node: it is its host, or the only place of its rows
+fn may_surely_be(p: &Problem, view: &View, w: VmId, n: NodeId) -> bool
+    requires region { IsSized p.now.given view.now.region.now }
+    requires machine { w.0 < machine_count p.now.given }
+{
+    if is_host(p, w, n) {
+        return true;
+    }
+    let domain = view.region.domain(Element::Vm(w));
+    match domain.rows() {
+        [row] => row.place == Place::At(n),
+        _ => false,
+    }
+}
+
+// whether two machines are seen to be on a node, of which the second one is not set to a choice
+fn is_pair_with(
+    p: &Problem,
+    view: &View,
+    constraint: &Constraint,
+    v: VmId,
+    w: VmId,
+    n: NodeId,
+    t: Instant,
+) -> bool
+    requires region { IsSized p.now.given view.now.region.now }
+    requires first { v.0 < machine_count p.now.given }
+    requires second { w.0 < machine_count p.now.given }
+    ensures { IsTrue result → IsPair p.now.given (sure p.now.given (seen view.now.region.now view.now.lens) t) constraint.now v.0 w.0 n.0 }
+{
+    may_surely_be(p, view, w, n) && is_pair(p, view, constraint, v, w, n, t)
+}
+
 // one of these machines that is on a node with this one
 fn member_on(
     p: &Problem,
@@ -126,7 +160,7 @@ fn member_on(
 {
     for w in machines {
         if (w.0 as usize) < p.cluster().machines().len()
-            && is_pair(p, view, constraint, v, *w, n, t)
+            && is_pair_with(p, view, constraint, v, *w, n, t)
         {
             return Some(*w);
         }
@@ -157,7 +191,36 @@ fn part_on(
     None
 }
 
-// a machine that is, looked for among those that a constraint names alone
+// a machine that is, where that one or this one is to be alone
+fn stranger_on(
+    p: &Problem,
+    view: &View,
+    constraint: &Constraint,
+    v: VmId,
+    n: NodeId,
+    t: Instant,
+) -> Option<(VmId, VmId, NodeId)>
+    requires region { IsSized p.now.given view.now.region.now }
+    requires machine { v.0 < machine_count p.now.given }
+    requires node { n.0 < node_count p.now.given }
+    ensures { IfSome result (λ x. (x.0.0 < machine_count p.now.given) × (x.1.0 < machine_count p.now.given) × (x.2.0 < node_count p.now.given) × IsPair p.now.given (sure p.now.given (seen view.now.region.now view.now.lens) t) constraint.now x.0.0 x.1.0 x.2.0) }
+{
+    for i in 0..p.cluster().machines().len() {
+        let w = VmId(i as u32);
+        if !may_surely_be(p, view, w, n) {
+            continue;
+        }
+        if is_pair(p, view, constraint, v, w, n, t) {
+            return Some((v, w, n));
+        }
+        if is_pair(p, view, constraint, w, v, n, t) {
+            return Some((w, v, n));
+        }
+    }
+    None
+}
+
+// a machine that is, looked for among those that a constraint names, or among all where it keeps its own apart from all others
 fn named_on(
     p: &Problem,
     view: &View,
@@ -165,42 +228,46 @@ fn named_on(
     v: VmId,
     n: NodeId,
     t: Instant,
-) -> Option<VmId>
+) -> Option<(VmId, VmId, NodeId)>
     requires region { IsSized p.now.given view.now.region.now }
     requires machine { v.0 < machine_count p.now.given }
-    ensures { IfSome result (λ w. (w.0 < machine_count p.now.given) × IsPair p.now.given (sure p.now.given (seen view.now.region.now view.now.lens) t) constraint.now v.0 w.0 n.0) }
+    requires node { n.0 < node_count p.now.given }
+    ensures { IfSome result (λ x. (x.0.0 < machine_count p.now.given) × (x.1.0 < machine_count p.now.given) × (x.2.0 < node_count p.now.given) × IsPair p.now.given (sure p.now.given (seen view.now.region.now view.now.lens) t) constraint.now x.0.0 x.1.0 x.2.0) }
 {
     match separation_of(constraint)? {
-        Separation::Each(machines) => member_on(p, view, constraint, machines.items(), v, n, t),
-        Separation::Between(parts) => part_on(p, view, constraint, parts.items(), v, n, t),
-        Separation::FromOthers(_) => None,
+        Separation::Each(machines) => {
+            let w = member_on(p, view, constraint, machines.items(), v, n, t)?;
+            Some((v, w, n))
+        }
+        Separation::Between(parts) => {
+            let w = part_on(p, view, constraint, parts.items(), v, n, t)?;
+            Some((v, w, n))
+        }
+        Separation::FromOthers(_) => stranger_on(p, view, constraint, v, n, t),
     }
 }
 
-// a machine and a node on which it is with this one, which is set to a choice, where that is where it is likely to be
-fn likely_with(
+// two machines and a node that are, of which one is set to a choice, where that is where it is likely to be
+fn likely_pair(
     p: &Problem,
     view: &View,
     constraint: &Constraint,
     v: VmId,
     c: Choice,
     t: Instant,
-) -> Option<(VmId, NodeId)>
+) -> Option<(VmId, VmId, NodeId)>
     requires region { IsSized p.now.given view.now.region.now }
     requires machine { v.0 < machine_count p.now.given }
-    ensures { IfSome result (λ x. (x.0.0 < machine_count p.now.given) × (x.1.0 < node_count p.now.given) × IsPair p.now.given (sure p.now.given (seen view.now.region.now view.now.lens) t) constraint.now v.0 x.0.0 x.1.0) }
+    ensures { IfSome result (λ x. (x.0.0 < machine_count p.now.given) × (x.1.0 < machine_count p.now.given) × (x.2.0 < node_count p.now.given) × IsPair p.now.given (sure p.now.given (seen view.now.region.now view.now.lens) t) constraint.now x.0.0 x.1.0 x.2.0) }
 {
     let n = likely_node(p, v, c)?;
     if n.0 as usize >= p.cluster().nodes().len() {
         return None;
     }
-    match named_on(p, view, constraint, v, n, t) {
-        Some(w) => Some((w, n)),
-        None => None,
-    }
+    named_on(p, view, constraint, v, n, t)
 }
 
-// a machine and a node on which it is with this one, which is set to a choice
+// two machines and a node that are, of which one is set to a choice
 fn pair_set(
     p: &Problem,
     view: &View,
@@ -208,15 +275,16 @@ fn pair_set(
     v: VmId,
     c: Choice,
     t: Instant,
-) -> Option<(VmId, NodeId)>
+) -> Option<(VmId, VmId, NodeId)>
     requires region { IsSized p.now.given view.now.region.now }
     requires machine { v.0 < machine_count p.now.given }
-    ensures { IfSome result (λ x. (x.0.0 < machine_count p.now.given) × (x.1.0 < node_count p.now.given) × IsPair p.now.given (sure p.now.given (seen view.now.region.now view.now.lens) t) constraint.now v.0 x.0.0 x.1.0) }
+    ensures { IfSome result (λ x. (x.0.0 < machine_count p.now.given) × (x.1.0 < machine_count p.now.given) × (x.2.0 < node_count p.now.given) × IsPair p.now.given (sure p.now.given (seen view.now.region.now view.now.lens) t) constraint.now x.0.0 x.1.0 x.2.0) }
 {
-    match likely_with(p, view, constraint, v, c, t) {
-        Some(found) => Some(found),
-        None => pair_with(p, view, constraint, v, t),
+    if let Some(found) = likely_pair(p, view, constraint, v, c, t) {
+        return Some(found);
     }
+    let (w, n) = pair_with(p, view, constraint, v, t)?;
+    Some((v, w, n))
 }
 
 /// Two machines and a node on which both surely are, where the constraint keeps them apart. The machine
@@ -234,8 +302,8 @@ pub fn pair_on(
     let machines = p.cluster().machines().len();
     if let Lens::Set(Element::Vm(v), c) = view.lens {
         if (v.0 as usize) < machines {
-            if let Some((w, n)) = pair_set(p, view, constraint, v, c, t) {
-                return Some((v, w, n));
+            if let Some(found) = pair_set(p, view, constraint, v, c, t) {
+                return Some(found);
             }
         }
     }

@@ -46,10 +46,10 @@ impl Kinds for Pairs {
         p: &Problem,
         g: &Region,
         c: u32,
-        found: &Suggestion,
+        _found: &Suggestion,
         them: &mut Vec<Suggestion>,
     ) -> Result<(), Memory> {
-        suggest_pairs(p, g, c, found, them)
+        suggest_pairs(p, g, c, them)
     }
 
     ghost no_loads = { λ k. refl };

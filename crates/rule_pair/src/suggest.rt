@@ -1,169 +1,227 @@
-//! Cuts that are worth a try after one was found of a machine that is kept apart from another one.
+//! Cuts that are worth a try after one was found of machines that are kept apart: all that stays of others refute.
 ghost use Rattle.std.specs.Prelude.{◌≡◌, ◌<◌, length, nat_lt, true};
 ghost use Rattle.std.specs.List.{list_all};
 ghost use Rattle.rule_pair.specs.Prelude.{are_below, IsSized, machine_count, separated, separation_seen};
 
+use crate::clear::{Met, first_instant, part_of, row_met, tell_machines, tell_parts};
+use crate::longest::{NOBODY, Table, stay_after};
 use crate::pairs::separation_of;
+use crate::posts::last_before;
+use crate::strangers::{class_of, members, tell_all};
+use cluster::MachineSet;
+use cluster::limits::MAX_NODES;
+use rule_constraint::host;
 use rule_frame::{
-    Change, Element, Instant, Memory, NodeId, Part, Place, Problem, Reason, Region, Separation,
-    Side, Suggestion, VmId, Vms,
+    Element, Instant, Memory, Part, Place, Problem, Reason, Region, Separation, Suggestion, VmId,
+    Vms,
 };
 
-// a machine that is on a node at an instant, and the number of a constraint that keeps others off it
+// how many cuts are put into the list at once: each takes some hundred bytes
+const MOST: usize = 65_536;
+
+// the number of a constraint, and the first instant at which it is to hold
 #[derive(Clone, Copy)]
-struct Stay {
+struct Asked {
     constraint: u32,
-    instant: Instant,
-    machine: VmId,
-    node: NodeId,
+    from: Instant,
 }
 
-// what the cut found of a machine says of the other one that its reason names
-fn stay_of(c: u32, found: &Suggestion) -> Option<Stay> {
-    let Element::Vm(v) = found.element else {
-        return None;
-    };
-    let Part::Upto(..) = found.part else {
-        return None;
-    };
-    let Reason::Pair(_, instant, a, b, node) = found.reason else {
-        return None;
-    };
-    let machine = if a.0 == v.0 { b } else { a };
-    Some(Stay {
-        constraint: c,
-        instant,
-        machine,
-        node,
-    })
-}
-
-// suggests that another machine does not start at the node by the instant, where it may
-fn suggest_of(
+// suggests a part of a machine's choices that is refuted by a stay of a machine of another part. A member is named before
+// a machine that is none
+fn push(
     p: &Problem,
-    g: &Region,
-    v: VmId,
-    stay: Stay,
+    asked: Asked,
+    w: VmId,
+    number: usize,
+    part: Part,
+    met: Met,
     them: &mut Vec<Suggestion>,
-) -> Result<(), Memory>
-    requires region { IsSized p.now.given g.now }
-    requires machine { v.0 < machine_count p.now.given }
-{
-    let element = Element::Vm(v);
-    let part = Part::Upto(Place::At(stay.node), stay.instant);
-    let inside = Change {
-        element,
-        part,
-        side: Side::Inside,
-    };
-    if v.0 == stay.machine.0 || g.leaves_none(inside) {
+) -> Result<(), Memory> {
+    let Some(last) = last_before(p, met.stay.until) else {
         return Ok(());
-    }
-    let reason = Reason::Pair(stay.constraint, stay.instant, v, stay.machine, stay.node);
+    };
+    let part = match part {
+        Part::Upto(place, _) => Part::Upto(place, last),
+        other => other,
+    };
+    let (first, second) = if number >= met.stay.part {
+        (w, met.stay.machine)
+    } else {
+        (met.stay.machine, w)
+    };
     them.push(Suggestion {
-        element,
+        element: Element::Vm(w),
         part,
-        reason,
+        reason: Reason::Pair(asked.constraint, last, first, second, met.node),
     })?;
     Ok(())
 }
 
-// of each of these machines
+// where a machine may stay, that it does not where one of another part stays or comes
+fn suggest_idle(
+    p: &Problem,
+    asked: Asked,
+    w: VmId,
+    part: usize,
+    table: &Table,
+    them: &mut Vec<Suggestion>,
+) -> Result<(), Memory>
+    requires machine { w.0 < machine_count p.now.given }
+{
+    let Some(node) = host(p, w) else {
+        return Ok(());
+    };
+    match stay_after(table, node, part, asked.from) {
+        None => Ok(()),
+        Some(stay) => push(p, asked, w, part, Part::Idle, Met { node, stay }, them),
+    }
+}
+
+// of a machine, that it is nowhere while one of another part stays there
+fn suggest_machine(
+    p: &Problem,
+    g: &Region,
+    asked: Asked,
+    w: VmId,
+    part: usize,
+    table: &Table,
+    them: &mut Vec<Suggestion>,
+) -> Result<(), Memory>
+    requires region { IsSized p.now.given g.now }
+    requires machine { w.0 < machine_count p.now.given }
+{
+    if them.len() >= MOST {
+        return Ok(());
+    }
+    let domain = g.domain(Element::Vm(w));
+    if domain.idle() {
+        suggest_idle(p, asked, w, part, table, them)?;
+    }
+    for row in domain.rows() {
+        if let Some(met) = row_met(*row, part, asked.from, table) {
+            push(p, asked, w, part, Part::Upto(row.place, row.lo), met, them)?;
+        }
+    }
+    Ok(())
+}
+
+// of each machine of a part, or of each of a list where no two are to meet
 fn suggest_each(
     p: &Problem,
     g: &Region,
+    asked: Asked,
     machines: &[VmId],
-    stay: Stay,
+    part: Option<usize>,
+    table: &Table,
     them: &mut Vec<Suggestion>,
 ) -> Result<(), Memory>
     requires region { IsSized p.now.given g.now }
     requires machines { list_all (λ x. nat_lt x.0 (machine_count p.now.given)) machines.now ≡ true }
 {
-    for v in machines {
-        suggest_of(p, g, *v, stay, them)?;
+    for w in machines {
+        suggest_machine(p, g, asked, *w, part_of(part, *w), table, them)?;
     }
     Ok(())
 }
 
-// of each machine of the parts that the one on the node is not in
+// of machines of which no two are to meet
+fn suggest_list(
+    p: &Problem,
+    g: &Region,
+    asked: Asked,
+    machines: &[VmId],
+    them: &mut Vec<Suggestion>,
+) -> Result<(), Memory>
+    requires region { IsSized p.now.given g.now }
+    requires machines { list_all (λ x. nat_lt x.0 (machine_count p.now.given)) machines.now ≡ true }
+{
+    let mut table = [NOBODY; MAX_NODES];
+    if !tell_machines(p, g, machines, None, &mut table) {
+        return Ok(());
+    }
+    suggest_each(p, g, asked, machines, None, &table, them)
+}
+
+// of those of parts
 fn suggest_parts(
     p: &Problem,
     g: &Region,
+    asked: Asked,
     parts: &[Vms],
-    stay: Stay,
     them: &mut Vec<Suggestion>,
 ) -> Result<(), Memory>
     requires region { IsSized p.now.given g.now }
     requires machines { list_all (list_all (λ x. nat_lt x.0 (machine_count p.now.given))) parts.now ≡ true }
 {
+    let mut table = [NOBODY; MAX_NODES];
+    if !tell_parts(p, g, parts, &mut table) {
+        return Ok(());
+    }
     for i in 0..parts.len() {
-        let machines = parts[i].items();
-        if !parts[i].has(stay.machine) {
-            suggest_each(p, g, machines, stay, them)?;
-        }
+        suggest_each(p, g, asked, parts[i].items(), Some(i), &table, them)?;
     }
     Ok(())
 }
 
-// of each machine outside a list
+// of members and all other machines
 fn suggest_strangers(
     p: &Problem,
     g: &Region,
-    machines: &Vms,
-    stay: Stay,
+    asked: Asked,
+    members: &MachineSet,
     them: &mut Vec<Suggestion>,
 ) -> Result<(), Memory>
     requires region { IsSized p.now.given g.now }
 {
+    let mut table = [NOBODY; MAX_NODES];
+    if !tell_all(p, g, members, &mut table) {
+        return Ok(());
+    }
     for i in 0..p.cluster().machines().len() {
-        let v = VmId(i as u32);
-        if !machines.has(v) {
-            suggest_of(p, g, v, stay, them)?;
-        }
+        let w = VmId(i as u32);
+        suggest_machine(p, g, asked, w, class_of(members, w), &table, them)?;
     }
     Ok(())
 }
 
-// of each machine that is kept apart from the one on the node: where members are kept apart from all others, these where a
-// member is on the node, and the members where another one is
+// of all machines that are kept apart
 fn suggest_apart(
     p: &Problem,
     g: &Region,
+    asked: Asked,
     separation: &Separation,
-    stay: Stay,
     them: &mut Vec<Suggestion>,
 ) -> Result<(), Memory>
     requires region { IsSized p.now.given g.now }
     requires machines { are_below (machine_count p.now.given) (separated (separation_seen separation.now)) ≡ true }
 {
     match separation {
-        Separation::Each(machines) => suggest_each(p, g, machines.items(), stay, them),
-        Separation::Between(parts) => suggest_parts(p, g, parts.items(), stay, them),
-        Separation::FromOthers(machines) => if machines.has(stay.machine) {
-            suggest_strangers(p, g, machines, stay, them)
-        } else {
-            suggest_each(p, g, machines.items(), stay, them)
-        },
+        Separation::Each(machines) => suggest_list(p, g, asked, machines.items(), them),
+        Separation::Between(parts) => suggest_parts(p, g, asked, parts.items(), them),
+        Separation::FromOthers(machines) => {
+            suggest_strangers(p, g, asked, &members(p, machines.items()), them)
+        }
     }
 }
 
-/// Puts cuts into a list that are worth a try after one was found by a look at a constraint: where it keeps
-/// two machines apart, of each other machine that it keeps apart from the one that is on the node.
+/// Puts cuts into a list that are worth a try, after one was found by a look at a constraint: where it keeps machines
+/// apart, of each of them that it is not at a node while another one surely stays there.
 pub(crate) fn suggest_pairs(
     p: &Problem,
     g: &Region,
     c: u32,
-    found: &Suggestion,
     them: &mut Vec<Suggestion>,
 ) -> Result<(), Memory>
     requires region { IsSized p.now.given g.now }
     requires constraint { c < length p.now.given.constraints }
 {
-    let Some(stay) = stay_of(c, found) else {
-        return Ok(());
+    let constraint = &p.constraints()[c as usize];
+    let asked = Asked {
+        constraint: c,
+        from: first_instant(p, constraint),
     };
-    match separation_of(&p.constraints()[c as usize]) {
+    match separation_of(constraint) {
         None => Ok(()),
-        Some(separation) => suggest_apart(p, g, &separation, stay, them),
+        Some(separation) => suggest_apart(p, g, asked, &separation, them),
     }
 }

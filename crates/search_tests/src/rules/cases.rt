@@ -109,7 +109,7 @@ const V2_STAYS: Change = Change {
 };
 
 /// The cases. Machine 2 of `TIGHT` may not come to node 0 before one of the others may have gone, at 2.
-pub const CASES: [Case; 22] = [
+pub const CASES: [Case; 25] = [
     Case {
         cluster: TIGHT,
         constraints: r#"{"kind":"spread","machines":["v0","v1"]}"#,
@@ -161,6 +161,27 @@ pub const CASES: [Case; 22] = [
         constraints: r#"{"kind":"split","parts":[["v0"],["v2"]],"continuous":true}"#,
         changes: &[],
         closed: " idle | idle 1:0-4 | idle | idle | idle",
+    },
+    // at the horizon alone
+    Case {
+        cluster: TIGHT,
+        constraints: r#"{"kind":"split","parts":[["v0"],["v2"]]}"#,
+        changes: &[V2_STAYS],
+        closed: " idle | idle 1:0-4 | idle | idle | idle",
+    },
+    // machine 2 leaves the node to which machine 0 comes
+    Case {
+        cluster: TIGHT,
+        constraints: r#"{"kind":"spread","machines":["v0","v2"]}"#,
+        changes: &[V0_MOVES],
+        closed: " 1:0-4 | idle 1:0-4 | 0:2-4 | idle | idle",
+    },
+    // machine 2 stays until 4 at least, so machine 0 is where it was until 6, and machine 2 cannot come there
+    Case {
+        cluster: TIGHT,
+        constraints: r#"{"kind":"lonely","machines":["v2"],"continuous":true}"#,
+        changes: &[],
+        closed: " idle | idle | idle | idle | idle",
     },
     // both are on one node at the first instant
     Case {

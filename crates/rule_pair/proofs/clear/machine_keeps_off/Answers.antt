@@ -4,5 +4,5 @@ use Rattle.rule_pair.proofs.clear.machine_keeps_off.Goals as goal
 
 pub returns-in-None : goal.returns-in-None
 returns-in-None c =
-    keeps_off c.args.p.now.given (sets c.args.g.now) c.args.table.now c.args.part c.args.w.0 (omega (arith, c.args.p.now.sound.horizon)) c.domain-domain.result.now c.rows-rows.result.now (ap choices (sym c.domain-domain.ensures.domain))
+    keeps_off c.args.p.now.given (sets c.args.g.now) c.args.table.now c.args.part c.args.from c.args.w.0 (omega (arith, c.args.p.now.sound.horizon)) c.domain-domain.result.now c.rows-rows.result.now (ap choices (sym c.domain-domain.ensures.domain))
     (λ none. false≢true (sym c.if-is_empty.false ∙ c.is_empty.ensures.1 none)) c.rows-rows.ensures.items c.rows-rows.ensures.climbs c.in_default.ensures c.in-None.ensures

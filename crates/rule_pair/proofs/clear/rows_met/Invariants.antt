@@ -2,4 +2,4 @@ use Rattle.rule_pair.proofs.Prelude.{ℕ, ◌<◌, slice_index_or, IsLate, no_ro
 use Rattle.rule_pair.proofs.clear.rows_met.Given as goal
 
 abbrev pub invariant-loop-i : goal.invariant-loop-i
-invariant-loop-i l = (k : ℕ) → k < l.i → IsLate l.table l.part (slice_index_or l.rows k no_row).place (slice_index_or l.rows k no_row).lo
+invariant-loop-i l = (k : ℕ) → k < l.i → IsLate l.table l.part l.from (slice_index_or l.rows k no_row).place (slice_index_or l.rows k no_row).lo

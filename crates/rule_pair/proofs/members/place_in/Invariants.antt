@@ -1,0 +1,9 @@
+use Rattle.rule_pair.proofs.Prelude.{◌≤◌, length}
+use Rattle.std.proofs.Common.{◌-◌}
+use Rattle.rule_pair.proofs.members.place_in.Given as goal
+
+abbrev pub invariant-loop-low : goal.invariant-loop-low
+invariant-loop-low l = l.high ≤ length l.machines
+
+abbrev pub decreases-loop-low : goal.decreases-loop-low
+decreases-loop-low l = l.high - l.low
