@@ -10,3 +10,4 @@ mod ElementLemmas
 mod PassLemmas
 mod CallLemmas
 mod ScriptLemmas
+mod AddLemmas

@@ -1,5 +1,8 @@
--- The law of sets: what is read is what is spelled.
-use Rattle.std.specs.Prelude.{◌≡◌, ◌≤◌, List, [], ◌∷◌, ◌++◌, Some}
+-- The laws: of sets, what is read is what is spelled; of scripts, what they add stands last.
+use Rattle.std.specs.Prelude.{◌≡◌, ◌≤◌, ℕ, List, [], ◌∷◌, ◌++◌, Ok, Some}
+use Rattle.catalogue.specs.Instance.{Instance}
+use Rattle.catalogue.specs.declared.constraint.Constraint.{Constraint}
+use Rattle.rule_script.specs.Script.{Progress, script_done}
 use Rattle.rule_script.specs.Sets.{Set, IsSet, max_open, open_in, set_at, spelled}
 use Rattle.rule_script.specs.declared.tokens.Token.{Token}
 use Rattle.rule_script.specs.declared.tokens.Token.TheVariants.{Word, Variable, Span, Sign, Opens, Closes, From, Upto, Colon, Comma, Bar, Equals, Other}
@@ -30,3 +33,11 @@ pub record IsWritten (s : Set) : Type 0 where
 pub record SetsAreExact : Type 0 where
   pub read : (s : Set) (rest : List Token) → IsWritten s → Stops rest → set_at (spelled s ++ rest) ≡ Some (s, rest)
   pub spelled : (ts rest : List Token) (s : Set) → set_at ts ≡ Some (s, rest) → IsWritten s × Stops rest × (ts ≡ spelled s ++ rest)
+
+-- q is p with more constraints, which stand after those of p
+abbrev pub AddsTo : Instance → Instance → Type 0
+AddsTo p q = (more : List Constraint) × (q ≡ record p { constraints = p.constraints ++ more })
+
+-- a script changes nothing of a problem, but adds constraints after its own
+abbrev pub ScriptsAdd : Type 0
+ScriptsAdd = (p : Instance) (bytes : List ℕ) (after : Progress) → script_done p bytes ≡ Ok after → AddsTo p after.given

@@ -28,7 +28,3 @@ ReadsLines p bytes result after = IsReading after (script_done p bytes) result
 abbrev pub ReadsScript : Instance → List ℕ → Result SoundInstance ScriptFault → Type 0
 ReadsScript p bytes (Ok q) = IsReading q.given (script_done p bytes) (Ok tt)
 ReadsScript p bytes (Err f) = IsReading p (script_done p bytes) (Err f)
-
--- the constraints of q are those of p, and others after them; all else is equal
-abbrev pub AddsTo : Instance → Instance → Type 0
-AddsTo p q = (more : List Constraint) × (q ≡ record p { constraints = p.constraints ++ more })

@@ -1,7 +1,12 @@
 //! Laws, each proved for all values; the functions do nothing.
-ghost use Rattle.rule_script.specs.Laws.{SetsAreExact};
+ghost use Rattle.rule_script.specs.Laws.{ScriptsAdd, SetsAreExact};
 
 /// Each set that is written is read, whatever follows, and what is read is a set that is written so.
 pub fn sets_are_exact()
     ensures { SetsAreExact }
+{}
+
+/// A script changes nothing of a problem, but adds constraints after its own.
+pub fn scripts_add()
+    ensures { ScriptsAdd }
 {}
