@@ -109,7 +109,7 @@ const V2_STAYS: Change = Change {
 };
 
 /// The cases. Machine 2 of `TIGHT` may not come to node 0 before one of the others may have gone, at 2.
-pub const CASES: [Case; 25] = [
+pub const CASES: [Case; 28] = [
     Case {
         cluster: TIGHT,
         constraints: r#"{"kind":"spread","machines":["v0","v1"]}"#,
