@@ -8,7 +8,9 @@ pub mod ExecuteAnswers
 pub mod GenerateAnswers
 pub mod LastLines
 pub mod Numbers
+pub mod PictureAnswers
 pub mod PlanAnswers
 pub mod Printing
 pub mod Readings
 pub mod ReplayAnswers
+pub mod ShowAnswers

@@ -1,8 +1,8 @@
 -- What each command answers and leaves: a line for each command in each table, and a room for each below.
 use Rattle.std.specs.Prelude.{◌≡◌, Bool, ℕ, List, Option, Some, None, IsTrue, codes}
 use Rattle.plan_io.specs.Files.{Files}
-use Rattle.commands.specs.Words.{Command, plan, check, replay, execute, generate, demo}
-use Rattle.commands.specs.{Inputs.Instance.instance_in, Answer.Outside, Answer.Says, Answer.AnswersBy, Answer.LeavesBy, Planning.IsPlanned, Planning.LeavesPlanned, Checking.IsChecked, Replaying.IsReplayed}
+use Rattle.commands.specs.Words.{Command, plan, check, replay, show, picture, execute, generate, demo}
+use Rattle.commands.specs.{Inputs.Instance.instance_in, Inputs.Plan.plan_in, Answer.Outside, Answer.Says, Answer.AnswersBy, Answer.LeavesBy, Planning.IsPlanned, Planning.LeavesPlanned, Checking.IsChecked, Replaying.IsReplayed, Showing.IsListed, Picturing.IsPictured, Picturing.LeavesPictured}
 use Rattle.commands.specs.{Executing.IsExecuted, Executing.Starts, Executing.Taking, Executing.TakesRead, Generating.IsGenerated, Generating.LeavesGenerated, declared.status.Status.Status}
 use Rattle.commands.specs.Demonstrating.{IsDemonstrated, LeavesDemo, demo_certificate, demo_instance, demo_plan}
 
@@ -12,6 +12,8 @@ MayRun reads writes None = Unit {0}
 MayRun reads writes (Some (plan instance plan_file certificate budget)) = IsTrue (reads instance) × IsTrue (writes plan_file) × IsTrue (writes certificate)
 MayRun reads writes (Some (check instance plan_file certificate strict)) = IsTrue (reads instance) × IsTrue (reads plan_file) × IsTrue (reads certificate)
 MayRun reads writes (Some (replay instance plan_file)) = IsTrue (reads instance) × IsTrue (reads plan_file)
+MayRun reads writes (Some (show instance plan_file)) = IsTrue (reads instance) × IsTrue (reads plan_file)
+MayRun reads writes (Some (picture instance plan_file picture_file)) = IsTrue (reads instance) × IsTrue (reads plan_file) × IsTrue (writes picture_file)
 MayRun reads writes (Some (execute instance plan_file)) = IsTrue (reads instance) × IsTrue (reads plan_file)
 MayRun reads writes (Some (generate seed instance)) = IsTrue (writes instance)
 MayRun reads writes (Some (demo seed)) = IsTrue (writes demo_instance) × IsTrue (reads demo_instance) × IsTrue (writes demo_plan) × IsTrue (reads demo_plan) × IsTrue (writes demo_certificate) × IsTrue (reads demo_certificate)
@@ -25,6 +27,10 @@ IsAnswer (Some (check instance plan_file certificate strict)) source before afte
     AnswersBy (IsChecked plan_file certificate strict) (instance_in before.files instance) before after result
 IsAnswer (Some (replay instance plan_file)) source before after result =
     AnswersBy (IsReplayed plan_file) (instance_in before.files instance) before after result
+IsAnswer (Some (show instance plan_file)) source before after result =
+    AnswersBy (IsListed plan_file) (instance_in before.files instance) before after result
+IsAnswer (Some (picture instance plan_file picture_file)) source before after result =
+    AnswersBy (IsPictured plan_file picture_file) (instance_in before.files instance) before after result
 IsAnswer (Some (execute instance plan_file)) source before after result =
     AnswersBy (IsExecuted source plan_file) (instance_in before.files instance) before after result
 IsAnswer (Some (generate seed instance)) source before after result = IsGenerated seed instance before after result
@@ -36,6 +42,9 @@ Leaves None before after = after ≡ before
 Leaves (Some (plan instance plan_file certificate budget)) before after = LeavesBy (LeavesPlanned plan_file certificate budget) (instance_in before instance) before after
 Leaves (Some (check instance plan_file certificate strict)) before after = after ≡ before
 Leaves (Some (replay instance plan_file)) before after = after ≡ before
+Leaves (Some (show instance plan_file)) before after = after ≡ before
+Leaves (Some (picture instance plan_file picture_file)) before after =
+    LeavesBy (λ p start end. LeavesBy (LeavesPictured picture_file p) (plan_in p start plan_file) start end) (instance_in before instance) before after
 Leaves (Some (execute instance plan_file)) before after = after ≡ before
 Leaves (Some (generate seed instance)) before after = LeavesGenerated seed instance before after
 Leaves (Some (demo seed)) before after = LeavesDemo seed before after
@@ -46,6 +55,8 @@ LeavesAtFailedRead None before after = after ≡ before
 LeavesAtFailedRead (Some (plan instance plan_file certificate budget)) before after = after ≡ before
 LeavesAtFailedRead (Some (check instance plan_file certificate strict)) before after = after ≡ before
 LeavesAtFailedRead (Some (replay instance plan_file)) before after = after ≡ before
+LeavesAtFailedRead (Some (show instance plan_file)) before after = after ≡ before
+LeavesAtFailedRead (Some (picture instance plan_file picture_file)) before after = after ≡ before
 LeavesAtFailedRead (Some (execute instance plan_file)) before after = after ≡ before
 LeavesAtFailedRead (Some (generate seed instance)) before after = ⊥
 LeavesAtFailedRead (Some (demo seed)) before after = LeavesDemo seed before after
@@ -56,6 +67,8 @@ KeepsSource told files None before after = after ≡ before
 KeepsSource told files (Some (plan instance plan_file certificate budget)) before after = after ≡ before
 KeepsSource told files (Some (check instance plan_file certificate strict)) before after = after ≡ before
 KeepsSource told files (Some (replay instance plan_file)) before after = after ≡ before
+KeepsSource told files (Some (show instance plan_file)) before after = after ≡ before
+KeepsSource told files (Some (picture instance plan_file picture_file)) before after = after ≡ before
 KeepsSource told files (Some (execute instance plan_file)) before after = IsTrue told → ¬ Starts files instance plan_file → after ≡ before
 KeepsSource told files (Some (generate seed instance)) before after = after ≡ before
 KeepsSource told files (Some (demo seed)) before after = after ≡ before
@@ -66,6 +79,8 @@ Takes None taking before after result = Unit {0}
 Takes (Some (plan instance plan_file certificate budget)) taking before after result = Unit {0}
 Takes (Some (check instance plan_file certificate strict)) taking before after result = Unit {0}
 Takes (Some (replay instance plan_file)) taking before after result = Unit {0}
+Takes (Some (show instance plan_file)) taking before after result = Unit {0}
+Takes (Some (picture instance plan_file picture_file)) taking before after result = Unit {0}
 Takes (Some (execute instance plan_file)) taking before after result = TakesRead instance plan_file taking before after result
 Takes (Some (generate seed instance)) taking before after result = Unit {0}
 Takes (Some (demo seed)) taking before after result = Unit {0}
@@ -76,6 +91,8 @@ KeepsDeskWrites None before after = after ≡ before
 KeepsDeskWrites (Some (plan instance plan_file certificate budget)) before after = Unit {0}
 KeepsDeskWrites (Some (check instance plan_file certificate strict)) before after = after ≡ before
 KeepsDeskWrites (Some (replay instance plan_file)) before after = after ≡ before
+KeepsDeskWrites (Some (show instance plan_file)) before after = after ≡ before
+KeepsDeskWrites (Some (picture instance plan_file picture_file)) before after = Unit {0}
 KeepsDeskWrites (Some (execute instance plan_file)) before after = after ≡ before
 KeepsDeskWrites (Some (generate seed instance)) before after = Unit {0}
 KeepsDeskWrites (Some (demo seed)) before after = Unit {0}
@@ -86,6 +103,8 @@ KeepsDeskReads None before after = after ≡ before
 KeepsDeskReads (Some (plan instance plan_file certificate budget)) before after = Unit {0}
 KeepsDeskReads (Some (check instance plan_file certificate strict)) before after = Unit {0}
 KeepsDeskReads (Some (replay instance plan_file)) before after = Unit {0}
+KeepsDeskReads (Some (show instance plan_file)) before after = Unit {0}
+KeepsDeskReads (Some (picture instance plan_file picture_file)) before after = Unit {0}
 KeepsDeskReads (Some (execute instance plan_file)) before after = Unit {0}
 KeepsDeskReads (Some (generate seed instance)) before after = after ≡ before
 KeepsDeskReads (Some (demo seed)) before after = Unit {0}
@@ -96,6 +115,8 @@ ReadsInput None = ⊥
 ReadsInput (Some (plan instance plan_file certificate budget)) = Unit {0}
 ReadsInput (Some (check instance plan_file certificate strict)) = Unit {0}
 ReadsInput (Some (replay instance plan_file)) = Unit {0}
+ReadsInput (Some (show instance plan_file)) = Unit {0}
+ReadsInput (Some (picture instance plan_file picture_file)) = Unit {0}
 ReadsInput (Some (execute instance plan_file)) = Unit {0}
 ReadsInput (Some (generate seed instance)) = ⊥
 ReadsInput (Some (demo seed)) = Unit {0}

@@ -6,6 +6,8 @@ pub mod Inputs
 pub mod Planning
 pub mod Checking
 pub mod Replaying
+pub mod Showing
+pub mod Picturing
 pub mod Executing
 pub mod Generating
 pub mod Demonstrating

@@ -1,13 +1,15 @@
 -- A command as the program holds it.
-use Rattle.commands.specs.Words.{Command, plan, check, replay, execute, generate, demo}
+use Rattle.commands.specs.Words.{Command, plan, check, replay, show, picture, execute, generate, demo}
 use Rattle.commands.specs.declared.words.Command.{Command as Read}
-use Rattle.commands.specs.declared.words.Command.TheVariants.{Plan, Check, Replay, Execute, Generate, Demo}
+use Rattle.commands.specs.declared.words.Command.TheVariants.{Plan, Check, Replay, Show, Picture, Execute, Generate, Demo}
 use Rattle.std.specs.Prelude.{◌≢◌}
 
 abbrev pub meaning : Read → Command
 meaning (Plan instance plan_file certificate budget) = plan instance.now plan_file.now certificate.now budget
 meaning (Check instance plan_file certificate strict) = check instance.now plan_file.now certificate.now strict
 meaning (Replay instance plan_file) = replay instance.now plan_file.now
+meaning (Show instance plan_file) = show instance.now plan_file.now
+meaning (Picture instance plan_file picture_file) = picture instance.now plan_file.now picture_file.now
 meaning (Execute instance plan_file) = execute instance.now plan_file.now
 meaning (Generate seed instance) = generate seed instance.now
 meaning (Demo seed) = demo seed
@@ -17,6 +19,8 @@ abbrev pub HasFilesApart : Command → Type 0
 HasFilesApart (plan instance plan_file certificate budget) = plan_file ≢ certificate
 HasFilesApart (check instance plan_file certificate strict) = Unit {0}
 HasFilesApart (replay instance plan_file) = Unit {0}
+HasFilesApart (show instance plan_file) = Unit {0}
+HasFilesApart (picture instance plan_file picture_file) = Unit {0}
 HasFilesApart (execute instance plan_file) = Unit {0}
 HasFilesApart (generate seed instance) = Unit {0}
 HasFilesApart (demo seed) = Unit {0}

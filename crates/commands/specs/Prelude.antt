@@ -4,8 +4,11 @@ pub use Rattle.instance_json.specs.{Prelude.Fails, Prelude.instance_fault_of, de
 pub use Rattle.plan_json.specs.Prelude.{plan_fault_of}
 unfoldable pub use Rattle.plan_json.specs.Prelude.{plan_of, plan_text}
 unfoldable pub use Rattle.instance_make.specs.Prelude.{generated, instance_of, instance_text}
-pub use Rattle.replay.specs.Prelude.{InRange, IsPrefixOfReport}
+pub use Rattle.replay.specs.Prelude.{InRange, IsPrefixOfReport, IsVerdict}
 unfoldable pub use Rattle.replay.specs.Prelude.{broken_line, report_text}
+pub use Rattle.show.specs.Prelude.{IsPartOfShown}
+unfoldable pub use Rattle.show.specs.Prelude.{listing_text}
+pub use Rattle.picture.specs.Prelude.{IsDrawn}
 pub use Rattle.transcript.specs.Prelude.{ExecuteGives, first_point, IsBegun, NamesListed, RunGives}
 pub use Rattle.cert_write.specs.Prelude.{Files, IsCertificate, OthersStay}
 pub use Rattle.search.specs.Prelude.{choices_in, choices_of, CountsWrites, Covered, goal_in, IsShown, IsStayed, IsTrueOf, least_in, LeavesText, MayStay, Meaning, PlanChoices}
@@ -33,7 +36,7 @@ pub use Rattle.commands.specs.Executing.{conclusion_status, events_line, IsExecu
 pub use Rattle.commands.specs.{Generating.HasGenerated, Generating.LeavesGenerated, Inputs.input_line, Inputs.Instance.instance_in, Inputs.Instance.instance_line, Inputs.Instance.lined}
 unfoldable pub use Rattle.commands.specs.{Generating.generated_line, Inputs.whole_of, Inputs.Instance.reading_of, Inputs.Plan.any_plan_reading_of, Planning.found_line, Printed.PrintsPrefix, Words.number_of}
 pub use Rattle.commands.specs.Inputs.Plan.{any_plan_in, any_plan_lined, needed, plan_in, plan_line}
-pub use Rattle.commands.specs.{Laws.AreAccepted, Laws.PlannedIsChecked, Laws.WrittenIsAccepted, Laws.yes_to, Meaning.HasFilesApart, Meaning.meaning, Replaying.IsReplayed, Replaying.Replays, declared.demonstrating.TheConstants.DEMO_BUDGET}
+pub use Rattle.commands.specs.{Laws.AreAccepted, Laws.PlannedIsChecked, Laws.WrittenIsAccepted, Laws.yes_to, Meaning.HasFilesApart, Meaning.meaning, Picturing.HasPicture, Picturing.IsPictureCut, Picturing.IsPictured, Picturing.LeavesPictured, Picturing.Pictures, Replaying.IsReplayed, Replaying.Replays, Showing.IsListed, Showing.Lists, declared.demonstrating.TheConstants.DEMO_BUDGET}
 pub use Rattle.commands.specs.Planning.{Certifies, found_status, IsCertificateCut, IsCertified, IsPlanCut, IsPlanned, IsToStay, IsWritten, LeavesPlanned, plan_cost, RestStays}
-pub use Rattle.commands.specs.Words.{are_names, asked, check, Command, command_of, demo, execute, generate, is_name, is_plain, plan, replay}
+pub use Rattle.commands.specs.Words.{are_names, asked, check, Command, command_of, demo, execute, generate, is_name, is_plain, picture, plan, replay, show}
 pub use Rattle.commands.specs.declared.{fault.Ending.Ending, fault.Fault.Fault, status.Status.Status}

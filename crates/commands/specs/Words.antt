@@ -8,6 +8,8 @@ pub data Command : Type 0 where
   plan : (instance plan_file certificate : List ℕ) (budget : ℕ) → Command
   check : (instance plan_file certificate : List ℕ) (strict : Bool) → Command
   replay : (instance plan_file : List ℕ) → Command
+  show : (instance plan_file : List ℕ) → Command
+  picture : (instance plan_file picture_file : List ℕ) → Command
   execute : (instance plan_file : List ℕ) → Command
   generate : (seed : ℕ) (instance : List ℕ) → Command
   demo : (seed : ℕ) → Command
@@ -35,13 +37,15 @@ is_plain (x ∷ y ∷ rest) = not (x == 43) && not (x == 48)
 abbrev pub command_of : List (List ℕ) → Option Command
 command_of (word ∷ instance ∷ plan_file ∷ certificate ∷ []) =
     if bytes_eq word (codes "plan") && are_names (instance ∷ plan_file ∷ certificate ∷ []) then Some (plan instance plan_file certificate BUDGET) else
-    if bytes_eq word (codes "check") && are_names (instance ∷ plan_file ∷ certificate ∷ []) then Some (check instance plan_file certificate false) else None
+    if bytes_eq word (codes "check") && are_names (instance ∷ plan_file ∷ certificate ∷ []) then Some (check instance plan_file certificate false) else
+    if bytes_eq word (codes "picture") && are_names (instance ∷ plan_file ∷ certificate ∷ []) then Some (picture instance plan_file certificate) else None
 command_of (word ∷ instance ∷ plan_file ∷ certificate ∷ last ∷ []) =
     if bytes_eq word (codes "check") && bytes_eq last (codes "strict") && are_names (instance ∷ plan_file ∷ certificate ∷ []) then Some (check instance plan_file certificate true) else None
 command_of (word ∷ instance ∷ plan_file ∷ certificate ∷ between ∷ number ∷ []) =
     if bytes_eq word (codes "plan") && bytes_eq between (codes "budget") && are_names (instance ∷ plan_file ∷ certificate ∷ []) then option_map (plan instance plan_file certificate) (number_of number) else None
 command_of (word ∷ first ∷ second ∷ []) =
     if bytes_eq word (codes "replay") && are_names (first ∷ second ∷ []) then Some (replay first second) else
+    if bytes_eq word (codes "show") && are_names (first ∷ second ∷ []) then Some (show first second) else
     if bytes_eq word (codes "execute") && are_names (first ∷ second ∷ []) then Some (execute first second) else
     if bytes_eq word (codes "generate") && is_name second then option_map (λ seed. generate seed second) (number_of first) else None
 command_of (word ∷ number ∷ []) = if bytes_eq word (codes "demo") then option_map demo (number_of number) else None

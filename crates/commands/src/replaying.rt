@@ -16,7 +16,7 @@ use slices::rule::Broken;
 use std::alloc::Global;
 
 /// What the command answers by the verdict on the plan.
-fn outcome_of(verdict: &Option<Broken>) -> Outcome
+pub fn outcome_of(verdict: &Option<Broken>) -> Outcome
     ensures { outcome_status result ≡ verdict_status verdict.now }
 {
     match verdict {

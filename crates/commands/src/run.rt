@@ -8,8 +8,10 @@ use crate::demonstrating::demo;
 use crate::executing::execute;
 use crate::fault::{Ending, Fault};
 use crate::generating::generate;
+use crate::picturing::picture;
 use crate::planning::plan;
 use crate::replaying::replay;
+use crate::showing::show;
 use crate::solver::Solver;
 use crate::status::Status;
 use crate::words::{Command, read_words};
@@ -17,7 +19,7 @@ use plan_io::{Desk, OutFault, Sink, Source, write_text};
 use std::alloc::Global;
 
 /// Does what the words ask for, but for the last line where one is still to be printed.
-#[tactic(auto, using(crate::proofs::Ends::no_command, crate::proofs::LastLines::no_command_takes, crate::proofs::LastLines::plan_takes, crate::proofs::LastLines::check_takes, crate::proofs::LastLines::replay_takes, crate::proofs::GenerateAnswers::generate_takes, crate::proofs::DemoAnswers::demo_takes, crate::proofs::Printing::prints_nothing))]
+#[tactic(auto, using(crate::proofs::Ends::no_command, crate::proofs::LastLines::no_command_takes, crate::proofs::DemoAnswers::demo_takes, crate::proofs::Printing::prints_nothing))]
 fn answer<D: Desk, I: Source, O: Sink, S: Solver>(
     alloc: Global,
     words: &[String],
@@ -89,6 +91,19 @@ fn answer<D: Desk, I: Source, O: Sink, S: Solver>(
                 plan_file,
             },
         ) => replay(alloc, desk, out, instance, plan_file),
+        Some(
+            Command::Show {
+                instance,
+                plan_file,
+            },
+        ) => show(alloc, desk, out, instance, plan_file),
+        Some(
+            Command::Picture {
+                instance,
+                plan_file,
+                picture_file,
+            },
+        ) => picture(alloc, desk, instance, plan_file, picture_file),
         Some(
             Command::Execute {
                 instance,

@@ -25,6 +25,17 @@ pub enum Command<'a> {
         instance: &'a str,
         plan_file: &'a str,
     },
+    /// Lists a plan of the instance, line by line.
+    Show {
+        instance: &'a str,
+        plan_file: &'a str,
+    },
+    /// Draws a plan of the instance into a file, and prints the verdict on it.
+    Picture {
+        instance: &'a str,
+        plan_file: &'a str,
+        picture_file: &'a str,
+    },
     /// Executes a plan of the instance: prints starts, and reads event lines.
     Execute {
         instance: &'a str,
@@ -124,6 +135,11 @@ fn with_two<'a>(word: &str, first: &'a str, second: &'a str) -> Option<Command<'
             instance: first,
             plan_file: second,
         })
+    } else if word == "show" && are_two_names(first, second) {
+        Some(Command::Show {
+            instance: first,
+            plan_file: second,
+        })
     } else if word == "execute" && are_two_names(first, second) {
         Some(Command::Execute {
             instance: first,
@@ -141,25 +157,31 @@ fn with_three<'a>(
     word: &str,
     instance: &'a str,
     plan_file: &'a str,
-    certificate: &'a str,
+    third: &'a str,
 ) -> Option<Command<'a>>
-    ensures meaning { let command = command_of (word.now ∷ instance.now ∷ plan_file.now ∷ certificate.now ∷ []) in
+    ensures meaning { let command = command_of (word.now ∷ instance.now ∷ plan_file.now ∷ third.now ∷ []) in
         option_map meaning result ≡ command }
     ensures apart { IfSome result (λ command. HasFilesApart (meaning command)) }
 {
-    if word == "plan" && are_three_names(instance, plan_file, certificate) {
+    if word == "plan" && are_three_names(instance, plan_file, third) {
         Some(Command::Plan {
             instance,
             plan_file,
-            certificate,
+            certificate: third,
             budget: BUDGET,
         })
-    } else if word == "check" && are_three_names(instance, plan_file, certificate) {
+    } else if word == "check" && are_three_names(instance, plan_file, third) {
         Some(Command::Check {
             instance,
             plan_file,
-            certificate,
+            certificate: third,
             strict: false,
+        })
+    } else if word == "picture" && are_three_names(instance, plan_file, third) {
+        Some(Command::Picture {
+            instance,
+            plan_file,
+            picture_file: third,
         })
     } else {
         None

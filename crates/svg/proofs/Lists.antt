@@ -1,5 +1,5 @@
 -- A text that grows by what each item of a list gives.
-use Rattle.base.proofs.Public.{◌≡◌, ℕ, ◌+◌, ◌<◌, List, [], ◌∷◌, ◌++◌, length, sym, ap, ◌∙◌, append_assoc, append-nil, flat_map, flat_map-append, get_or, take, take_more}
+use Rattle.base.proofs.Public.{◌≡◌, ℕ, ◌+◌, ◌<◌, List, [], ◌∷◌, ◌++◌, length, ap, ◌∙◌, append_assoc, append-nil, flat_map, flat_map-append, get_or, take, take_more}
 
 -- one item more
 one_more : {A B : Type 0} (f : A → List B) (xs : List A) (i : ℕ) (d : A) → i < length xs → flat_map f (take (i + 1) xs) ≡ flat_map f (take i xs) ++ f (get_or xs i d)
