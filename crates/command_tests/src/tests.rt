@@ -14,10 +14,8 @@ mod executing;
 mod generating;
 mod instances;
 mod one_byte;
-mod picturing;
 mod planning;
 mod replaying;
-mod showing;
 mod solvers;
 
 /// What a run is given: the words of a line, one after each blank, and what stands in the files `i` and
@@ -131,14 +129,6 @@ fn words_in_no_command(rt: HostRuntime) -> Result<(), Fail> {
         "replay i",
         "replay i i",
         "replay i p c",
-        "show i",
-        "show i i",
-        "show i p c",
-        "picture i p",
-        "picture i p i",
-        "picture i p p",
-        "picture i i c",
-        "picture i p c strict",
         "execute i",
         "execute p p",
         "check i p",

@@ -12,8 +12,6 @@ mod listings;
 #[cfg(test)]
 mod making;
 #[cfg(test)]
-mod pictures;
-#[cfg(test)]
 mod plan_texts;
 #[cfg(test)]
 mod printed;
