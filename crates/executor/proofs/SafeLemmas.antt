@@ -50,15 +50,15 @@ pub some_action : (p : Instance) (plan : Choices) (phases : Phases) → IsExecut
 some_action p plan phases ex e some =
     elim (cases_Bool _) [ inl sure ↦ sure | inr none ↦ absurd (some ((ex.idle e).1 none)) ]
 
-started_at : (p : Instance) (e : Element) (place : Place) (start t : ℕ) → start ≤ t → IsTrue (stage_at p e (Act place start) t).started
+pub started_at : (p : Instance) (e : Element) (place : Place) (start t : ℕ) → start ≤ t → IsTrue (stage_at p e (Act place start) t).started
 unfolding stage_at
 started_at p e place start t l = le-leb start t l
 
-over_at : (p : Instance) (e : Element) (place : Place) (start t : ℕ) → IsTrue (stage_at p e (Act place start) t).ended → start + action_duration p e place ≤ t
+pub over_at : (p : Instance) (e : Element) (place : Place) (start t : ℕ) → IsTrue (stage_at p e (Act place start) t).ended → start + action_duration p e place ≤ t
 unfolding stage_at
 over_at p e place start t h = leb-true (start + action_duration p e place) t h
 
-idle_is_never_over : (p : Instance) (e : Element) (c : Choice) (t : ℕ) → IsTrue (stage_at p e c t).ended → IsSome (start_of c)
+pub idle_is_never_over : (p : Instance) (e : Element) (c : Choice) (t : ℕ) → IsTrue (stage_at p e c t).ended → IsSome (start_of c)
 unfolding stage_at
 idle_is_never_over p e Idle t h = absurd (false≢true h)
 idle_is_never_over p e (Act place start) t h = refl

@@ -1,7 +1,7 @@
 -- Each step of an execution keeps what is so at every moment.
 use Rattle.std.proofs.lemmas.Bool.{true≢false}
 use Rattle.base.proofs.Public.{◌≡◌, ◌≢◌, ◌⊎◌, inl, inr, ℕ, false, refl, sym, ap, subst, ◌∙◌, option_map_or, cases_eq, false≢true, ◌↔◌, IsNone, IsTrue}
-use Rattle.executor.specs.Prelude.{Act, BeginsWell, Choice, Choices, Element, End, Ended, Fail, Failed, first_phase, Idle, Instance, is_over_by, IsExecution, Moves, Node as TheNode, None as NoAction, Phase, Phases, Running, Start, start_of, StepsKeep, Vm, Waiting, waits}
+use Rattle.executor.specs.Prelude.{Act, BeginsWell, Choice, Choices, Element, End, Ended, Fail, Failed, first_phase, Idle, Instance, is_over_by, IsExecution, IsHindrance, MayStart, Moves, Node as TheNode, None as NoAction, Phase, Phases, Running, Start, start_of, StepsKeep, Vm, Waiting, waits}
 
 -- ---- elements
 
@@ -79,3 +79,10 @@ begins_well p plan = record {
   idle = λ e. first_idle (plan e);
   forerunners = λ a b out w. absurd (first_waits p b (plan a) (plan b) out w);
 }
+
+-- ---- what is not ready
+
+-- what may start is not hindered
+pub not_hindered : (p : Instance) (plan : Choices) (phases : Phases) (a e : Element) → MayStart p plan phases a → ¬ IsHindrance p plan phases a e
+not_hindered p plan phases a e may (inl failed) = may.none_failed e failed.here
+not_hindered p plan phases a e may (inr still) = still.1.here.1 (may.ended e still.1.here.0)

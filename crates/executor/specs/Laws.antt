@@ -1,9 +1,9 @@
 -- The laws of executions.
-use Rattle.std.specs.Prelude.{◌≡◌, ◌≢◌, List, false}
+use Rattle.std.specs.Prelude.{◌≡◌, ◌≢◌, ℕ, ◌≤◌, ◌==◌, true, false, if◌then◌else◌, List}
 use Rattle.judge.specs.Prelude.{Choices, choices_of, InRange, Instance, IsInstance, IsPlanOf, IsValid, Keeps, PlanChoices, snapshot, snapshot_at}
 use Rattle.cluster.specs.declared.ids.Element.{Element}
-use Rattle.slices.specs.declared.rule.Rule.{Rule}
-use Rattle.executor.specs.{declared.phase.Phase.TheVariants.Waiting, declared.phase.Phase.TheVariants.Running, declared.phase.Phase.TheVariants.Failed, Phases.AllEnded, Phases.Phases, Phases.first_phases, Phases.stages_in}
+use Rattle.slices.specs.{Snapshots.stages_at, declared.rule.Rule.Rule, declared.stage.Stage.Stage}
+use Rattle.executor.specs.{declared.phase.Phase.TheVariants.Waiting, declared.phase.Phase.TheVariants.Running, declared.phase.Phase.TheVariants.Failed, Phases.AllEnded, Phases.Phases, Phases.first_phases, Phases.is_ended, Phases.stages_in}
 use Rattle.executor.specs.Steps.{Event, IsExecution, IsStep, MayStart, Runs}
 
 -- ---- every execution is one at each moment
@@ -59,3 +59,16 @@ abbrev pub EndsAsPlanned : Type 0
 EndsAsPlanned =
     (p : Instance) (plan : PlanChoices) → IsPlanOf p plan → (phases : Phases) → IsExecution p (choices_of plan) phases →
     AllEnded phases → IsAtTheEnd p (choices_of plan) phases
+
+-- ---- what has ended counts at once, and all else goes as planned
+
+-- the stages at an instant of the plan, but that what has ended is over from the beginning on
+unfoldable pub rest_stages : Instance → Choices → Phases → ℕ → Element → Stage
+rest_stages p plan phases t e = if is_ended (phases e) then record { started = true; ended = true } else stages_at p plan t e
+
+-- so each rule is kept at each instant, at the horizon also the discrete constraints
+abbrev pub RestKeeps : Type 0
+RestKeeps =
+    (p : Instance) → IsInstance p → (plan : PlanChoices) → IsPlanOf p plan → IsValid p (choices_of plan) →
+    (phases : Phases) → IsExecution p (choices_of plan) phases → (t : ℕ) → t ≤ p.horizon → (r : Rule) → InRange p r →
+    Keeps p (snapshot p (choices_of plan) (rest_stages p (choices_of plan) phases t)) (t == p.horizon) r

@@ -1,5 +1,5 @@
 -- How far each action is, and the stages that this makes.
-use Rattle.std.specs.Prelude.{◌≡◌, ◌≢◌, ◌⊎◌, ℕ, ◌+◌, true, false, nat_lt, if◌then◌else◌, List, slice_index_or}
+use Rattle.std.specs.Prelude.{◌≡◌, ◌≢◌, ◌⊎◌, ℕ, ◌+◌, Bool, true, false, nat_lt, if◌then◌else◌, List, slice_index_or}
 use Rattle.judge.specs.Prelude.{Choices, Instance, machine_count}
 use Rattle.cluster.specs.declared.{choices.Choice.Choice, choices.Choice.TheVariants.Idle, choices.Choice.TheVariants.Act, ids.Element.Element, ids.Element.TheVariants.Vm, ids.Element.TheVariants.Node as TheNode}
 use Rattle.slices.specs.declared.stage.Stage.{Stage}
@@ -30,6 +30,14 @@ first_phases plan e = first_phase (plan e)
 pub record Moves (before : Phases) (e : Element) (phase : Phase) (after : Phases) : Type 0 where
   pub here : after e ≡ phase
   pub others : (x : Element) → x ≢ e → after x ≡ before x
+
+-- whether an action has ended; one that has failed has not
+abbrev pub is_ended : Phase → Bool
+is_ended NoAction = false
+is_ended Waiting = false
+is_ended Running = false
+is_ended Ended = true
+is_ended Failed = false
 
 -- every action has ended
 abbrev pub AllEnded : Phases → Type 0

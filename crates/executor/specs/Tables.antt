@@ -2,17 +2,7 @@
 use Rattle.std.specs.Prelude.{◌≡◌, ℕ, ◌<◌, ◌≤◌, Bool, true, false, not, ◌&&◌, min, nat_le, nat_lt, if◌then◌else◌, List, length, slice_index_or, Option, Some, None, IfSome, IsTrue}
 use Rattle.judge.specs.Prelude.{Choices, element_at, element_count, end_of, Instance, inventory_of}
 use Rattle.cluster.specs.declared.{choices.Choice.Choice, choices.Choice.TheVariants.Idle, choices.Choice.TheVariants.Act, ids.Element.Element}
-use Rattle.executor.specs.{declared.phase.Phase.Phase, declared.times.Times.Times, Phases.phase_at}
-use Rattle.executor.specs.declared.phase.Phase.TheVariants.{None as NoAction, Waiting, Running, Ended, Failed}
-
--- ---- phases
-
-abbrev pub is_ended : Phase → Bool
-is_ended NoAction = false
-is_ended Waiting = false
-is_ended Running = false
-is_ended Ended = true
-is_ended Failed = false
+use Rattle.executor.specs.{declared.phase.Phase.Phase, declared.phase.Phase.TheVariants.Waiting, declared.times.Times.Times, Phases.is_ended, Phases.phase_at}
 
 -- ---- times
 

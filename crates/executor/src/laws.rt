@@ -1,6 +1,6 @@
 //! Laws of executions: each is the contract of a function that does nothing, and a lemma of the same
 //! name in proofs/Public proves it.
-ghost use Rattle.executor.specs.Laws.{BeginsWell, StepsKeep, ExecutionsAreSafe, EveryRunIsSafe, NeverStandsStill, EndsAsPlanned};
+ghost use Rattle.executor.specs.Laws.{BeginsWell, StepsKeep, ExecutionsAreSafe, EveryRunIsSafe, NeverStandsStill, EndsAsPlanned, RestKeeps};
 
 /// At first all actions wait, and so an execution begins.
 #[tactic(auto, using(crate::proofs::Public::begins_well))]
@@ -37,4 +37,10 @@ pub fn never_stands_still()
 #[tactic(auto, using(crate::proofs::Public::ends_as_planned))]
 pub fn ends_as_planned()
     ensures { EndsAsPlanned }
+{}
+
+/// What has ended counts at once, and all else goes as planned: so each rule is kept at each instant of the plan.
+#[tactic(auto, using(crate::proofs::Public::rest_keeps))]
+pub fn rest_keeps()
+    ensures { RestKeeps }
 {}

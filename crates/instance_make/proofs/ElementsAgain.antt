@@ -1,6 +1,6 @@
 -- Printed resources, nodes and machines are read again.
 use Rattle.std.proofs.Common.{map, codes}
-use Rattle.base.proofs.Public.{◌≡◌, ℕ, ◌==◌, ◌||◌, Bool, true, false, not, List, [], ◌∷◌, ◌++◌, length, nat_le, Option, Some, None, is_some, Ok, refl, sym, ap, ◌∙◌, append_assoc, arith, le-leb, and_parts, eqb-true, length-map, map-append, list_any, list_all, position, bytes_eq}
+use Rattle.base.proofs.Public.{◌≡◌, ℕ, ◌==◌, ◌||◌, Bool, true, false, not, List, [], ◌∷◌, ◌++◌, length, nat_le, Option, Some, None, is_some, Ok, refl, sym, ap, ◌∙◌, arith, le-leb, and_parts, eqb-true, length-map, map-append, list_any, list_all, position, bytes_eq}
 use Rattle.instance_make.specs.Prelude.{amounts_data, amounts_fit, amounts_in, are_distinct, element_of_places, Field, field_by, field_of, flag_of, has_places, host_data, host_from, host_is_online, Inventory, is_name, is_online, IsInventory, IsListed, item_path, key_path, keys_of, kind_count, list_data, list_of, listed_node, Machine, machine_data, machine_fits, machine_from, machine_keys, machine_step, machines_from, max_machines, max_nodes, max_resources, name_of, names_of_machines, names_of_nodes, new_name_from, Node as NodeElement, node_data, node_fits, node_from, node_name, node_step, NodeId, nodes_from, only_keys, only_of, optional, optional_flag, own_data, own_durations, put_if, resource_step, resources_from, State, state_by, state_from, state_word}
 use Rattle.cluster.specs.declared.nodes.Node.{Node}
 use Rattle.serde_json.specs.Data.{Data, boolean, string, object, Members, no_members, member}
@@ -9,7 +9,8 @@ use Rattle.json_walk.proofs.Public.{items_list-items_of}
 use Rattle.cluster.specs.declared.states.State.TheVariants as states
 use Rattle.cluster.proofs.Public.{element_named-name_of, is_name-name_of, is_online-lt}
 use Rattle.instance_json.proofs.Public.{of_node, of_machine, word_of_state, word_field-state, name_from-name}
-use Rattle.instance_make.proofs.Making.{each_made, All_at, apart_before, apart_after, later_part, earlier_part, position_none, none_at_position}
+use Rattle.remake.proofs.Public.{All_at, apart_before, earlier_part, machine_is_new, node_is_new, none_at_position, position_none}
+use Rattle.instance_make.proofs.Making.{each_made}
 use Rattle.instance_make.proofs.Putting.{put_if-other, put_if-here, keys-put_if}
 use Rattle.instance_make.proofs.AmountsAgain.{amounts_again, own_again, node_fits-owner, machine_fits-owner}
 
@@ -81,8 +82,6 @@ node_again k sound path done x rest whole =
     let ms = put_if (codes "durations") own base in
     let places = and_parts (length x.capacity == max_resources) _ (All_at (λ n. has_places n.capacity n.own ≡ true) k.nodes done x rest whole sound.nodes_have_places) in
     let fits = and_parts (amounts_fit (length k.resources) x.capacity) _ (All_at (λ n. node_fits (length k.resources) n ≡ true) k.nodes done x rest whole sound.nodes_fit) in
-    let names : names_of_nodes done ++ x.name ∷ names_of_nodes rest ≡ names_of_nodes k.nodes = sym (map-append (λ n. n.name) done (x ∷ rest)) ∙ ap names_of_nodes whole in
-    let distinct : are_distinct (names_of_nodes done ++ x.name ∷ names_of_nodes rest) ≡ true = ap are_distinct names ∙ distinct_nodes k sound in
     let named : is_name x.name ≡ true = All_at (λ n. is_name n.name ≡ true) k.nodes done x rest whole sound.named_nodes in
     let name_at : get_member (codes "name") ms ≡ Some (string x.name) = put_if-other (codes "name") (codes "durations") own base refl in
     let online_at : get_member (codes "online") ms ≡ Some (boolean x.online) = put_if-other (codes "online") (codes "durations") own base refl in
@@ -90,18 +89,11 @@ node_again k sound path done x rest whole =
     let own_at : get_member (codes "durations") ms ≡ own = put_if-here (codes "durations") own base refl in
     let long : length x.own ≡ kind_count = eqb-true (length x.own) kind_count places.1 in
     node_by_steps (with_nodes k done) (object ms) path x
-    (rw (field_found ms path (codes "name") (string x.name) name_at) (new_name (with_nodes k done) x.name (key_path path (codes "name")) named refl (apart_before (names_of_nodes done) x.name (names_of_nodes rest) distinct)))
+    (rw (field_found ms path (codes "name") (string x.name) name_at) (new_name (with_nodes k done) x.name (key_path path (codes "name")) named refl (node_is_new k sound done x rest whole)))
     (flag_found true ms path (codes "online") x.online online_at)
     (amounts_found k sound x.capacity (eqb-true (length x.capacity) max_resources places.0) fits.0 ms path (codes "capacity") capacity_at)
     (own_again k sound of_node x.own (node_fits-owner (length k.resources) x.own long fits.1) (object ms) path own_at)
     (λ keys is. only_known ms path keys (rw is (keys-put_if (λ key. list_any (bytes_eq key) (codes "name" ∷ codes "online" ∷ codes "capacity" ∷ codes "durations" ∷ [])) (codes "durations") own base (or_true (not (is_some own))) refl)))
-  where
-    distinct_right : (xs ys : List (List ℕ)) → are_distinct (xs ++ ys) ≡ true → are_distinct ys ≡ true
-    distinct_right [] ys all = all
-    distinct_right (x ∷ xs) ys all = distinct_right xs ys (and_parts (not (list_any (bytes_eq x) (xs ++ ys))) _ all).1
-
-    distinct_nodes : (k : Inventory) → IsInventory k → are_distinct (names_of_nodes k.nodes) ≡ true
-    distinct_nodes k sound = distinct_right (names_of_machines k.machines) (names_of_nodes k.nodes) sound.apart
 
 node_once : (k : Inventory) → IsInventory k → (path : List ℕ) (done : List Node) (x : Node) (rest : List Node) → done ++ x ∷ rest ≡ k.nodes
     → node_step path (length done) (with_nodes k done) (node_data k x) ≡ Ok (with_nodes k (done ++ x ∷ []))
@@ -199,11 +191,7 @@ machine_again k sound path done m rest whole =
     let fits = and_parts (amounts_fit (length k.resources) m.usage) _ (All_at (λ m. machine_fits (length k.resources) m ≡ true) k.machines done m rest whole sound.machines_fit) in
     let online = All_at (λ m. host_is_online k.nodes m.state ≡ true) k.machines done m rest whole sound.hosts in
     let named : is_name m.name ≡ true = All_at (λ m. is_name m.name ≡ true) k.machines done m rest whole sound.named_machines in
-    let names : names_of_machines done ++ m.name ∷ names_of_machines rest ≡ names_of_machines k.machines = sym (map-append (λ m. m.name) done (m ∷ rest)) ∙ ap names_of_machines whole in
-    let distinct : are_distinct (names_of_machines done ++ m.name ∷ (names_of_machines rest ++ names_of_nodes k.nodes)) ≡ true =
-    ap are_distinct (sym (append_assoc (names_of_machines done) (m.name ∷ names_of_machines rest) (names_of_nodes k.nodes)) ∙ ap (λ (l : List (List ℕ)). l ++ names_of_nodes k.nodes) names) ∙ sound.apart in
-    let other_nodes = later_part (bytes_eq m.name) (names_of_machines rest) (names_of_nodes k.nodes) (apart_after (names_of_machines done) m.name (names_of_machines rest ++ names_of_nodes k.nodes) distinct) in
-    let other_machines = apart_before (names_of_machines done) m.name (names_of_machines rest ++ names_of_nodes k.nodes) distinct in
+    let new = machine_is_new k sound done m rest whole in
     let name_at : get_member (codes "name") ms ≡ Some (string m.name) = put_if-other (codes "name") (codes "durations") own hosted refl ∙ put_if-other (codes "name") (codes "node") host base refl in
     let state_at : get_member (codes "state") ms ≡ Some (string (state_word m.state)) = put_if-other (codes "state") (codes "durations") own hosted refl ∙ put_if-other (codes "state") (codes "node") host base refl in
     let usage_at : get_member (codes "use") ms ≡ Some (amounts_data k.resources m.usage) = put_if-other (codes "use") (codes "durations") own hosted refl ∙ put_if-other (codes "use") (codes "node") host base refl in
@@ -211,7 +199,7 @@ machine_again k sound path done m rest whole =
     let own_at : get_member (codes "durations") ms ≡ own = put_if-here (codes "durations") own hosted (put_if-other (codes "durations") (codes "node") host base refl) in
     let long : length m.own ≡ kind_count = eqb-true (length m.own) kind_count places.1 in
     machine_by_steps (with_machines k done) (object ms) path m
-    (rw (field_found ms path (codes "name") (string m.name) name_at) (new_name (with_machines k done) m.name (key_path path (codes "name")) named other_machines other_nodes))
+    (rw (field_found ms path (codes "name") (string m.name) name_at) (new_name (with_machines k done) m.name (key_path path (codes "name")) named new.0 new.1))
     (state_again k sound done (m ∷ rest) whole m.state online ms path state_at node_at)
     (amounts_found k sound m.usage (eqb-true (length m.usage) max_resources places.0) fits.0 ms path (codes "use") usage_at)
     (own_again k sound of_machine m.own (machine_fits-owner (length k.resources) m.own long fits.1) (object ms) path own_at)

@@ -4,7 +4,7 @@ use Rattle.std.specs.Fmt.{digits}
 use Rattle.base.proofs.Public.{◌≡◌, ℕ, zero, suc, ◌+◌, ◌<◌, ◌≤◌, Bool, true, false, not, List, [], ◌∷◌, ◌++◌, length, nat_le, Option, Some, None, is_none, refl, ap, ◌∙◌, arith, le-leb, lt-leb, false_from_ne_true, decimal_injective, length-map, length-range_with_len, map-range_with_len_more, bytes_eq-Decides, list_all, list_any, range_with_len, decimal, bytes_eq, each_passes}
 use Rattle.instance_make.specs.Prelude.{BadHost, cpu_of, from, generated_machine, generated_node, host_is_online, host_of, is_name, is_online, is_taken, machine_fault, machine_fits, machine_text, machine_total, machines_to, max_amount, mem_of, names_of_machines, names_of_nodes, node_fault, node_text, node_total, nodes_to}
 use Rattle.cluster.specs.declared.inventory.AddFault.TheVariants.{TooMany, Twice, TooGreat}
-use Rattle.instance_make.proofs.Making.{position_none}
+use Rattle.remake.proofs.Public.{position_none}
 
 -- ---- names
 

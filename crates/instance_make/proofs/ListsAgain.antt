@@ -6,7 +6,8 @@ use Rattle.json_walk.proofs.Public.{items_list-items_of}
 use Rattle.cluster.proofs.Public.{has_node-no_nodes, has_node-with_node, same_set}
 use Rattle.catalogue.proofs.Public.{IsWithin-are_nodes}
 use Rattle.instance_json.proofs.Public.{listed_machine-name, listed_node-name}
-use Rattle.instance_make.proofs.Making.{each_made, All_at}
+use Rattle.remake.proofs.Public.{All_at}
+use Rattle.instance_make.proofs.Making.{each_made}
 
 -- what passes for all items of a list passes for each
 pass_at : {X : Type 0} (test : X → Bool) (all done : List X) (x : X) (rest : List X) → done ++ x ∷ rest ≡ all → list_all test all ≡ true → test x ≡ true

@@ -5,7 +5,7 @@ use Rattle.instance_make.specs.Prelude.{are_distinct, Forge, keys_of, Kind, kind
 use Rattle.serde_json.specs.Data.{Data, number, unsigned, Members, no_members, member, put}
 use Rattle.serde_json.specs.Find.{get_member}
 use Rattle.serde_json.proofs.Views.{get_member-put, get_member-put_other}
-use Rattle.instance_make.proofs.Making.{apart_before}
+use Rattle.remake.proofs.Public.{apart_before}
 
 any_map : {X : Type 0} (test : List ℕ → Bool) (f : X → List ℕ) (xs : List X) → list_any test (map f xs) ≡ list_any (λ x. test (f x)) xs
 any_map test f [] = refl

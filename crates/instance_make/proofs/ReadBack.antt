@@ -6,7 +6,8 @@ use Rattle.catalogue.specs.declared.constraint.Constraint.{Constraint}
 use Rattle.serde_json.specs.Data.{Data, depth}
 use Rattle.serde_json.specs.Read.{max_depth}
 use Rattle.json_walk.proofs.Public.{items_list-items_of}
-use Rattle.instance_make.proofs.Making.{each_made, All_at}
+use Rattle.remake.proofs.Public.{All_at}
+use Rattle.instance_make.proofs.Making.{each_made}
 use Rattle.instance_make.proofs.Printed.{small_instance}
 use Rattle.instance_make.proofs.AmountsAgain.{from_zero, base_again}
 use Rattle.instance_make.proofs.ElementsAgain.{resources_again, nodes_again, machines_again}

@@ -1,11 +1,12 @@
 -- The constraints of a generated problem are added without a fault.
-use Rattle.std.proofs.Common.{map, if◌then◌else◌}
-use Rattle.base.proofs.Public.{◌≡◌, ℕ, zero, suc, ◌+◌, ◌*◌, ◌<◌, ◌≤◌, ◌==◌, ◌&&◌, ◌||◌, Bool, true, false, not, List, [], ◌∷◌, ◌++◌, length, nat_le, nat_lt, Some, None, refl, sym, ap, ◌∙◌, append_assoc, arith, common_steps, and_parts, lt-leb, lt-ltb, ltb-true, nat_tests, length-append, length-map, filter-append, length-range_with_len, map-range_with_len_more, fold-append, filter, fold, list_all, list_any, range_with_len, each_passes, range_more}
-use Rattle.instance_make.specs.Prelude.{are_below, are_machines, are_named_machines, are_named_nodes, are_nodes, constraint_fault, differ, emptied, from, generated, generated_constraints, generated_machine, generated_node, has_node, HasRoom, Instance, inventory_of, is_fitting, is_named_resource, is_rule, IsWithin, machine_total, machines_in, machines_to, max_constraints, max_nodes, no_nodes, node_total, NodeSet, NoSuch, others, rule_fault, set_of, spread_of, TooGreat, TooMany, Twice, VmId, vms, with_more, with_node}
+use Rattle.std.proofs.Common.{map}
+use Rattle.base.proofs.Public.{◌≡◌, ℕ, zero, suc, ◌+◌, ◌*◌, ◌<◌, ◌≤◌, ◌==◌, ◌&&◌, ◌||◌, Bool, true, false, List, [], ◌∷◌, ◌++◌, length, nat_lt, None, refl, sym, ap, ◌∙◌, append_assoc, arith, and_parts, lt-ltb, ltb-true, nat_tests, length-append, length-map, filter-append, length-range_with_len, map-range_with_len_more, fold-append, filter, fold, list_all, list_any, range_with_len, each_passes, range_more}
+use Rattle.instance_make.specs.Prelude.{are_below, are_machines, are_nodes, differ, emptied, from, generated, generated_constraints, generated_machine, generated_node, has_node, HasRoom, Instance, inventory_of, is_rule, IsWithin, machine_total, machines_to, max_nodes, no_nodes, node_total, NodeSet, others, rule_fault, set_of, spread_of, VmId, vms, with_more, with_node}
 use Rattle.catalogue.specs.declared.constraint.Constraint.{Constraint}
 use Rattle.catalogue.specs.declared.constraint.Constraint.TheVariants.{Ban, RunningCapacity, Online, Offline}
 use Rattle.cluster.proofs.Public.{has_node-no_nodes, has_node-with_node}
 use Rattle.catalogue.proofs.Public.{are_nodes-within}
+use Rattle.remake.proofs.Public.{rule_not_refused}
 
 -- ---- sets
 
@@ -47,15 +48,8 @@ nodes_listed p count ns small = sym (are_nodes-within (inventory_of p) (set_of n
 
 -- ---- rules
 
-by_tests : (full : Bool) (a b c d e : Bool) → full ≡ false → (a && b && c && d && e) ≡ true
-    → (if full then Some TooMany else if not (a && b && c) then Some NoSuch else if not d then Some Twice else if e then None else Some TooGreat) ≡ None
-by_tests full a b c d e room all = grind (arith, common_steps)
-
 no_fault : (p : Instance) (c : Constraint) → HasRoom p 1 → is_rule (inventory_of p) c ≡ true → rule_fault p c ≡ None
-unfolding rule_fault constraint_fault
-no_fault p c has all =
-    by_tests (nat_le max_constraints (length p.constraints)) (are_named_machines (inventory_of p) c) (are_named_nodes (inventory_of p) c) (is_named_resource (inventory_of p) c) (differ (machines_in c)) (is_fitting c)
-    (lt-leb max_constraints (length p.constraints) (omega (arith, has.room))) all
+no_fault p c has all = rule_not_refused p c (omega (arith, has.room)) all
 
 -- there is still room after one more constraint
 pub room_after : (p : Instance) (count : ℕ) (c : Constraint) → HasRoom p (suc count) → HasRoom (record p { constraints = p.constraints ++ c ∷ [] }) count

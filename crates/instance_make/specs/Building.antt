@@ -1,7 +1,6 @@
 -- Helping only: a generated problem as it is built up.
-use Rattle.std.specs.Prelude.{◌≡◌, ℕ, ◌+◌, ◌≤◌, List, [], ◌∷◌, ◌++◌, length, map, codes}
+use Rattle.std.specs.Prelude.{◌≡◌, ℕ, ◌+◌, ◌≤◌, List, [], ◌∷◌, length, map, codes}
 use Rattle.instance_json.specs.Prelude.{Instance, Inventory, kinds, max_constraints}
-use Rattle.catalogue.specs.declared.constraint.Constraint.{Constraint}
 use Rattle.instance_make.specs.Generated.{node_total, machine_total, from, generated_duration, generated_node, generated_machine}
 
 abbrev pub generated_resources : List (List ℕ)
@@ -20,7 +19,3 @@ pub record HasRoom (p : Instance) (count : ℕ) : Type 0 where
   pub nodes : length p.nodes ≡ node_total
   pub machines : length p.machines ≡ machine_total
   pub room : length p.constraints + count ≤ max_constraints
-
--- a problem with these constraints after its own
-abbrev pub with_more : Instance → List Constraint → Instance
-with_more p cs = record p { constraints = p.constraints ++ cs }

@@ -7,6 +7,7 @@ pub use Rattle.slices.specs.Prelude.{are_below, common_of, differs_in, element_o
 unfoldable pub use Rattle.slices.specs.Prelude.{action_duration, capacity_of, demand_of, duration_of, end_of, held_by, is_legal, IsValid, kind_duration, kind_of, kind_words, limit_of, may_idle, preserved_of, slices_by, slices_of, snapshot, stage_at, stages_at, wanted_machine, wanted_node}
 pub use Rattle.instance_json.specs.Prelude.{all_of, amounts_fit, amounts_in, are_distinct, are_machines, are_named_machines, are_named_nodes, are_nodes, differ, duration_fits, field_by, has_kind, host_is_online, Instance, Inventory, inventory_of, is_fitting, is_kind_key, is_member, is_named_resource, is_online, is_resource, is_rule, is_taken, IsInventory, IsListed, IsWithin, json_of, kind_count, kind_number, machine_fits, machine_keys, machine_kind_count, machines_in, max_amount, max_constraints, max_groups, max_machines, max_nodes, max_parts, max_resources, name_of, no_durations, node_fits, one_instant, only_keys, optional_number, own_durations, own_fits, Walk}
 unfoldable pub use Rattle.instance_json.specs.Prelude.{among_from, amounts_from, base_durations, base_from, both_fields, constraint_by, constraint_fault, constraint_from, constraint_step, constraint_word, constraints_from, duration_by_kind, duration_from, durations_from, each, field_of, flagged_machines_fields, given_duration, group_step, groups_from, has_node, host_from, instance_of, inventory_from, is_name, key_path, kind_word, kinds, listed_node, listed_resource, machine_from, machine_item, machine_step, machines_after, machines_fields, machines_from, new_name_from, no_nodes, node_count_fields, node_from, node_item, node_set, node_step, nodes_fields, nodes_from, overbook_from, part_step, parts_from, precedence_from, preserve_from, problem_from, resource_amounts, resource_capacity_from, resource_step, resources_from, rule_fault, split_from, state_by, state_from, state_word, unit_from, walk, with_node}
+pub use Rattle.remake.specs.Making.{with_more}
 pub use Rattle.cluster.specs.declared.choices.Place.TheVariants.{At, Nowhere}
 pub use Rattle.cluster.specs.declared.durations.Duration.{Duration}
 pub use Rattle.cluster.specs.declared.ids.Element.TheVariants.{Node, Vm}
@@ -34,7 +35,7 @@ pub use Rattle.slices.specs.declared.slice.Weight.TheVariants.{Amount, Image, Pr
 pub use Rattle.slices.specs.declared.slice.What.TheVariants.{Demand, Use}
 pub use Rattle.slices.specs.declared.stage.Stage.{Stage}
 pub use Rattle.instance_json.specs.declared.fault.InstanceFault.TheVariants.{Field}
-pub use Rattle.instance_make.specs.Building.{generated_resources, HasRoom, with_more}
+pub use Rattle.instance_make.specs.Building.{generated_resources, HasRoom}
 unfoldable pub use Rattle.instance_make.specs.Building.{machines_to, nodes_to}
 pub use Rattle.instance_make.specs.Elements.{duration_of_kind, host_data, machine_name, node_name, own_data, resource_name, unit_members}
 unfoldable pub use Rattle.instance_make.specs.Elements.{amounts_data, duration_data, durations_data, machine_data, node_data}

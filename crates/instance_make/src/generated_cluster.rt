@@ -2,14 +2,14 @@
 
 ghost use Rattle.std.specs.Prelude.{◌≡◌, ◌+◌, ◌∷◌, ◌++◌, ◌<◌, [], None, IfOk, OnOk, map, true};
 ghost use Rattle.std.specs.Fmt.{decimal};
-ghost use Rattle.instance_make.specs.Prelude.{amounts, cpu_of, generated_duration, generated_machine, generated_node, generated_resources, is_name, kinds, machine_fault, machine_total, machines_to, mem_of, node_fault, node_total, nodes_to};
+ghost use Rattle.instance_make.specs.Prelude.{amounts, cpu_of, generated_duration, generated_machine, generated_node, generated_resources, is_name, kinds, machine_total, machines_to, mem_of, node_total, nodes_to};
 
 use base::Memory;
-use cluster::inventory::AddFault;
 use cluster::kinds::KIND_COUNT;
 use cluster::limits::MAX_RESOURCES;
 use cluster::names::NameFault;
 use cluster::{Cluster, Duration, Kind, Machine, Name, Node, NodeId, State};
+use remake::{add_machine, add_node, new_cluster};
 use std::alloc::Global;
 
 /// How many nodes there are.
@@ -107,32 +107,6 @@ fn machine(alloc: Global, seed: u64, i: u32) -> Result<Machine, Memory>
     })
 }
 
-/// Adds a node that is not refused.
-fn add_node(cluster: &mut Cluster, node: Node) -> Result<(), Memory>
-    requires { node_fault cluster.old.given node ≡ None }
-    ensures { let nodes = cluster.old.given.nodes ++ node ∷ [] in
-        OnOk result (cluster.new.given ≡ record cluster.old.given { nodes = nodes }) }
-{
-    match cluster.add_node(node) {
-        Ok(_) => Ok(()),
-        Err(AddFault::Memory) => Err(Memory),
-        Err(_) => unreachable!(),
-    }
-}
-
-/// Adds a machine that is not refused.
-fn add_machine(cluster: &mut Cluster, machine: Machine) -> Result<(), Memory>
-    requires { machine_fault cluster.old.given machine ≡ None }
-    ensures { let machines = cluster.old.given.machines ++ machine ∷ [] in
-        OnOk result (cluster.new.given ≡ record cluster.old.given { machines = machines }) }
-{
-    match cluster.add_machine(machine) {
-        Ok(_) => Ok(()),
-        Err(AddFault::Memory) => Err(Memory),
-        Err(_) => unreachable!(),
-    }
-}
-
 /// Adds the node of a number, where those before it are there.
 #[tactic(auto, using(crate::proofs::Faultless::node_rules))]
 fn push_node(alloc: Global, cluster: &mut Cluster, n: u32) -> Result<(), Memory>
@@ -158,11 +132,7 @@ fn push_machine(alloc: Global, cluster: &mut Cluster, seed: u64, i: u32) -> Resu
 fn bare_cluster(alloc: Global) -> Result<Cluster, Memory>
     ensures { IfOk result (λ k. k.given ≡ nodes_to 0) }
 {
-    match Cluster::new(alloc, resources(alloc)?, durations()) {
-        Ok(cluster) => Ok(cluster),
-        Err(AddFault::Memory) => Err(Memory),
-        Err(_) => unreachable!(),
-    }
+    new_cluster(alloc, resources(alloc)?, durations())
 }
 
 /// The whole cluster.

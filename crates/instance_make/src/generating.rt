@@ -2,14 +2,14 @@
 
 ghost use Rattle.std.specs.Prelude.{◌≡◌, ◌==◌, ◌∷◌, ◌<◌, ◌≤◌, ◌+◌, [], None, IfOk, OnOk, map, not, true, false};
 ghost use Rattle.std.specs.List.{fold, filter};
-ghost use Rattle.instance_make.specs.Prelude.{emptied, from, generated, HasRoom, IsInfeasible, machine_total, node_total, others, rule_fault, set_of, spread_of, vms, with_more, with_node};
+ghost use Rattle.instance_make.specs.Prelude.{emptied, from, generated, HasRoom, IsInfeasible, machine_total, node_total, others, set_of, spread_of, vms, with_more, with_node};
 ghost use Rattle.catalogue.specs.declared.constraint.Constraint.TheVariants as constraint;
 
 use crate::generated_cluster::{NODES, cluster};
 use base::Memory;
-use catalogue::constraint::RuleFault;
 use catalogue::{Constraint, Problem, Vms};
 use cluster::{NodeId, NodeSet, VmId};
+use remake::add_rule;
 use std::alloc::Global;
 
 /// The last instant.
@@ -59,18 +59,6 @@ fn others(k: u32) -> NodeSet
     set
 }
 
-/// Adds a constraint that is not refused.
-fn add(problem: &mut Problem, constraint: Constraint) -> Result<(), Memory>
-    requires { rule_fault problem.old.given constraint ≡ None }
-    ensures { OnOk result (problem.new.given ≡ with_more problem.old.given (constraint ∷ [])) }
-{
-    match problem.add(constraint) {
-        Ok(()) => Ok(()),
-        Err(RuleFault::Memory) => Err(Memory),
-        Err(_) => unreachable!(),
-    }
-}
-
 /// The node is wanted offline, and all others online.
 fn add_goals(problem: &mut Problem, k: u32) -> Result<(), Memory>
     requires node { k < node_total }
@@ -81,8 +69,8 @@ fn add_goals(problem: &mut Problem, k: u32) -> Result<(), Memory>
 {
     let mut emptied = NodeSet::new();
     emptied.insert(NodeId(k));
-    add(problem, Constraint::Offline { nodes: emptied })?;
-    add(problem, Constraint::Online { nodes: others(k) })
+    add_rule(problem, Constraint::Offline { nodes: emptied })?;
+    add_rule(problem, Constraint::Online { nodes: others(k) })
 }
 
 /// Four machines are to stay apart.
@@ -92,7 +80,7 @@ fn add_spread(alloc: Global, problem: &mut Problem, g: u32) -> Result<(), Memory
     ensures { OnOk result (problem.new.given ≡ with_more problem.old.given (spread_of g ∷ [])) }
 {
     let machines = machines(alloc, 4 * g, 4)?;
-    add(
+    add_rule(
         problem,
         Constraint::Spread {
             machines,
@@ -123,7 +111,7 @@ fn add_limits(alloc: Global, problem: &mut Problem) -> Result<(), Memory>
     let machines = machines(alloc, 40, 10)?;
     let mut last = NodeSet::new();
     last.insert(NodeId(39));
-    add(
+    add_rule(
         problem,
         Constraint::Ban {
             machines,
@@ -131,7 +119,7 @@ fn add_limits(alloc: Global, problem: &mut Problem) -> Result<(), Memory>
             continuous: false,
         },
     )?;
-    add(
+    add_rule(
         problem,
         Constraint::RunningCapacity {
             nodes: nodes(10, 10),

@@ -3,10 +3,11 @@ use Rattle.base.proofs.Public.{◌≡◌, inl, inr, ℕ, zero, suc, ◌+◌, ◌
 use Rattle.transcript.specs.Prelude.{AlwaysEnds, Choices, choices_of, Conclusion, Done, Element, element_named, End, Ended, EndsAt, EventKind, EveryPointIsSafe, Fail, FaultsLeaveABeginning, first_point, Instance, inventory_of, IsBegun, IsDue, IsEvent, IsExecution, IsFirst, IsPlanOf, IsStep, IsTurn, Line, MayStart, Memory, Nothing, NotValid, PlanChoices, Point, point, Reaches, ReadFault, ReadsLine, Refused, Running, Short, Start, start_line, StoppedEnd, StoppedFail, StopsInStart, TakesEvent, TooLong, Turns, Whole, WriteFault}
 use Rattle.executor.specs.Steps.{End as AnEnd}
 use Rattle.cluster.proofs.Public.{listed-element_named}
-use Rattle.executor.proofs.Public.{begins_well, executions_are_safe, steps_keep}
-use Rattle.transcript.specs.declared.conclusion.EventFault.{EventFault}
+use Rattle.executor.proofs.Public.{begins_well, end_left, executions_are_safe, start_left, steps_keep, steps_left}
+use Rattle.event_lines.specs.declared.faults.EventFault.{EventFault}
+use Rattle.event_lines.proofs.Public.{takes_line}
 use Rattle.transcript.proofs.Deciding.{ended_or_not, is_or_not, moved_to, moves, ready_or_quiet}
-use Rattle.transcript.proofs.{EventLines.event_or_not, EventLines.takes_line, Measure.end_left, Measure.start_left, Measure.steps_left}
+use Rattle.transcript.proofs.EventLines.{event_or_not}
 
 -- ---- turns
 

@@ -1,4 +1,3 @@
-pub mod Measure
 pub mod Steps
 pub mod Deciding
 pub mod EventLines

@@ -1,90 +1,9 @@
 -- Two transcripts of one text are the same.
-use Rattle.base.proofs.Public.{◌≡◌, ◌≢◌, ◌⊎◌, inl, inr, ℕ, zero, suc, ◌+◌, ◌<◌, List, [], ◌∷◌, ◌++◌, length, Option, Some, None, refl, sym, ap, subst, ◌∙◌, arith, cases_order, length-append}
-use Rattle.transcript.specs.Prelude.{AllEnded, Choices, Conclusion, Done, Element, element_at, element_named, element_number, End, Ended, EndsAt, EventFault, EventKind, Fail, Instance, inventory_of, IsDue, IsEndTurn, IsEvent, IsFirst, IsOneLine, IsRefused, IsStartTurn, IsTurn, Line, MayStart, Moves, None as NoAction, Nothing, Phase, Phases, Point, ReadsLine, Refused, Running, Short, start_line, StoppedEnd, StoppedFail, TakesEvent, TooLong, TranscriptIsOne, Turns, Waiting, Whole}
+use Rattle.base.proofs.Public.{◌≡◌, ◌≢◌, ◌⊎◌, inl, inr, ℕ, zero, suc, ◌+◌, List, [], ◌++◌, Option, Some, None, refl, sym, ap, subst, ◌∙◌, cases_order}
+use Rattle.transcript.specs.Prelude.{AllEnded, Choices, Conclusion, Done, Element, element_at, element_named, element_number, End, Ended, EndsAt, EventFault, EventKind, Fail, Instance, inventory_of, IsDue, IsEndTurn, IsEvent, IsFirst, IsRefused, IsStartTurn, IsTurn, Line, MayStart, Moves, None as NoAction, Nothing, Phase, Phases, Point, ReadsLine, Refused, Running, Short, start_line, StoppedEnd, StoppedFail, TakesEvent, TooLong, TranscriptIsOne, Turns, Waiting, Whole}
 use Rattle.cluster.proofs.Public.{element_at-element_number}
-use Rattle.transcript.proofs.{Deciding.is_or_not, Deciding.same_or_not, EventLines.contains_here, EventLines.event_or_not, EventLines.later_line, EventLines.same_event}
-
--- ---- bytes have one line
-
--- the first line of some bytes is one
-split_one : (a b r s : List ℕ) → IsOneLine a → IsOneLine b → (a ++ 10 ∷ r) ≡ (b ++ 10 ∷ s) → (a ≡ b) × (r ≡ s)
-split_one [] [] r s f g e = (refl, cc)
-split_one [] (y ∷ b) r s f g e = let same : y ≡ 10 = cc in absurd (g (contains_here y b same))
-split_one (x ∷ a) [] r s f g e = let same : x ≡ 10 = cc in absurd (f (contains_here x a same))
-split_one (x ∷ a) (y ∷ b) r s f g e =
-    let head : x ≡ y = cc in
-    let tail : (a ++ 10 ∷ r) ≡ (b ++ 10 ∷ s) = cc in
-    let below = split_one a b r s (later_line x a f) (later_line y b g) tail in
-    (λ i. head i ∷ below.0 i, below.1)
-
--- a text past the end of the line has that end in it
-not_past : (a b r s : List ℕ) → IsOneLine b → length a < length b → (a ++ 10 ∷ r) ≢ (b ++ s)
-not_past a [] r s g less e = omega (arith, less)
-not_past [] (y ∷ b) r s g less e = let same : y ≡ 10 = cc in g (contains_here y b same)
-not_past (x ∷ a) (y ∷ b) r s g less e =
-    let tail : (a ++ 10 ∷ r) ≡ (b ++ s) = cc in
-    not_past a b r s (later_line y b g) (omega (arith, less)) tail
-
--- texts of one length
-split_long : (a b r s : List ℕ) → length a ≡ length b → (a ++ r) ≡ (b ++ s) → (a ≡ b) × (r ≡ s)
-split_long [] [] r s same e = (refl, e)
-split_long [] (y ∷ b) r s same e = absurd (omega (arith, same))
-split_long (x ∷ a) [] r s same e = absurd (omega (arith, same))
-split_long (x ∷ a) (y ∷ b) r s same e =
-    let head : x ≡ y = cc in
-    let tail : (a ++ r) ≡ (b ++ s) = cc in
-    let below = split_long a b r s (omega (arith, same)) tail in
-    (λ i. head i ∷ below.0 i, below.1)
-
-none_left : (text : List ℕ) → text ++ [] ≡ text
-none_left [] = refl
-none_left (x ∷ text) = ap (λ l. x ∷ l) (none_left text)
-
-some_there : (a r : List ℕ) → (a ++ 10 ∷ r) ≢ []
-some_there [] r e = cc
-some_there (x ∷ a) r e = cc
-
--- what two readings of the same bytes have in common
-record SameLine (found found' : Line) (text text' rest rest' : List ℕ) : Type 0 where
-  kind : found ≡ found'
-  taken : text ≡ text'
-  left : rest ≡ rest'
-
-line_is_one : (bytes : List ℕ) (f g : Line) (a b r s : List ℕ) → ReadsLine bytes f a r → ReadsLine bytes g b s → SameLine f g a b r s
-line_is_one bytes Whole Whole a b r s h k = let same = split_one a b r s h.1 k.1 (sym h.0 ∙ k.0) in record { kind = refl; taken = same.0; left = same.1 }
-line_is_one bytes Whole TooLong a b r s h k = absurd (not_past a b r s k.1 (omega (arith, h.2, k.2)) (sym h.0 ∙ k.0))
-line_is_one bytes Whole Short a b r s h k =
-    let all : (a ++ 10 ∷ r) ≡ (b ++ []) = sym h.0 ∙ k.0 ∙ sym (none_left b) in
-    let size : length (a ++ 10 ∷ r) ≡ length b = ap length (sym h.0 ∙ k.0) in
-    absurd (not_past a b r [] k.2 (omega (arith, size, length-append a (10 ∷ r))) all)
-line_is_one bytes Whole Nothing a b r s h k = absurd (some_there a r (sym h.0 ∙ k.0))
-line_is_one bytes TooLong Whole a b r s h k = absurd (not_past b a s r h.1 (omega (arith, h.2, k.2)) (sym k.0 ∙ h.0))
-line_is_one bytes TooLong TooLong a b r s h k = let same = split_long a b r s (h.2 ∙ sym k.2) (sym h.0 ∙ k.0) in record { kind = refl; taken = same.0; left = same.1 }
-line_is_one bytes TooLong Short a b r s h k =
-    let size : length (a ++ r) ≡ length b = ap length (sym h.0 ∙ k.0) in
-    absurd (omega (arith, size, length-append a r, h.2, k.4))
-line_is_one bytes TooLong Nothing a b r s h k =
-    let size : length (a ++ r) ≡ 0 = ap length (sym h.0 ∙ k.0) in
-    absurd (omega (arith, size, length-append a r, h.2))
-line_is_one bytes Short Whole a b r s h k =
-    let all : (b ++ 10 ∷ s) ≡ (a ++ []) = sym k.0 ∙ h.0 ∙ sym (none_left a) in
-    let size : length (b ++ 10 ∷ s) ≡ length a = ap length (sym k.0 ∙ h.0) in
-    absurd (not_past b a s [] h.2 (omega (arith, size, length-append b (10 ∷ s))) all)
-line_is_one bytes Short TooLong a b r s h k =
-    let size : length (b ++ s) ≡ length a = ap length (sym k.0 ∙ h.0) in
-    absurd (omega (arith, size, length-append b s, k.2, h.4))
-line_is_one bytes Short Short a b r s h k = record { kind = refl; taken = sym h.0 ∙ k.0; left = h.1 ∙ sym k.1 }
-line_is_one bytes Short Nothing a b r s h k =
-    let size : length a ≡ 0 = ap length (sym h.0 ∙ k.0) in
-    absurd (omega (arith, size, h.3))
-line_is_one bytes Nothing Whole a b r s h k = absurd (some_there b s (sym k.0 ∙ h.0))
-line_is_one bytes Nothing TooLong a b r s h k =
-    let size : length (b ++ s) ≡ 0 = ap length (sym k.0 ∙ h.0) in
-    absurd (omega (arith, size, length-append b s, k.2))
-line_is_one bytes Nothing Short a b r s h k =
-    let size : length b ≡ 0 = ap length (sym k.0 ∙ h.0) in
-    absurd (omega (arith, size, k.3))
-line_is_one bytes Nothing Nothing a b r s h k = record { kind = refl; taken = h.2 ∙ sym k.2; left = h.1 ∙ sym k.1 }
+use Rattle.event_lines.proofs.Public.{line_is_one}
+use Rattle.transcript.proofs.{Deciding.is_or_not, Deciding.same_or_not, EventLines.event_or_not, EventLines.same_event}
 
 -- ---- a line has one meaning at a point: a conclusion, or none where the execution goes on
 
@@ -175,6 +94,7 @@ module _ (p : Instance) (a : Point) where
     reads = h.3;
     is = event_is h.0 h.1 h.2 h.4 (event_or_not h.0) ∙ ap (by_name h.1) h.5;
   }
+  means_refused plan EventFault.NotReady rest h = absurd h
   means_refused plan EventFault.NotRunning rest h =
       subst (λ m. Means m rest) (running_is h.0 h.1 (is_or_not (a.phases h.1) Running) h.3) (means_event plan h.0 h.1 rest h.2)
 

@@ -1,17 +1,12 @@
 -- What the parts of a run do to where it stands.
 use Rattle.base.proofs.Public.{◌≡◌, ◌≢◌, inl, inr, ℕ, suc, ◌+◌, List, Bool, true, false, Option, Some, None, Ok, refl, sym, ap, subst, ◌∙◌, false≢true, Result, Err, IsTrue}
-use Rattle.transcript.specs.Prelude.{AllEnded, Already, BeginsLine, BeginsStart, Choices, choices_of, Conclusion, Done, Element, element_named, End, EndsAt, EventGives, EventKind, ExecuteFault, ExecuteGives, Fail, first_phases, first_point, Instance, inventory_of, IsDue, IsEvent, IsFirst, IsHindrance, IsStep, IsValid, MayStart, Memory, NotReady, NotRunning, NotValid, Phase, Phases, PlanChoices, Point, point, Reaches, ReadFault, ReadsLine, Refused, RunGives, Running, Start, StartGives, StepFault, StopGives as Stops, StoppedEnd, StoppedFail, StopsInEvent, StopsInStart, TakeGives, TakesEvent, WriteFault}
+use Rattle.transcript.specs.Prelude.{AllEnded, Already, BeginsLine, BeginsStart, Choices, choices_of, Conclusion, Done, Element, element_named, End, EndsAt, EventGives, EventKind, ExecuteFault, ExecuteGives, Fail, first_phases, first_point, Instance, inventory_of, IsDue, IsEvent, IsFirst, IsStep, IsValid, MayStart, Memory, NotReady, NotRunning, NotValid, Phase, Phases, PlanChoices, Point, point, Reaches, ReadFault, ReadsLine, Refused, RunGives, Running, Start, StartGives, StepFault, StopGives as Stops, StoppedEnd, StoppedFail, StopsInEvent, StopsInStart, TakeGives, TakesEvent, WriteFault}
 use Rattle.executor.specs.Answers.{StartGives as Starts}
 use Rattle.cluster.proofs.Public.{listed-element_named}
-use Rattle.transcript.specs.declared.{conclusion.EventFault.EventFault, lines.Line.Line}
-use Rattle.transcript.proofs.Measure.{end_left, start_left, steps_left}
+use Rattle.event_lines.specs.declared.{faults.EventFault.EventFault, lines.Line.Line}
+use Rattle.executor.proofs.Public.{end_left, not_hindered, start_left, steps_left}
 
 -- ---- a start
-
--- what may start is not hindered
-not_hindered : (p : Instance) (plan : Choices) (phases : Phases) (a e : Element) → MayStart p plan phases a → ¬ IsHindrance p plan phases a e
-not_hindered p plan phases a e may (inl failed) = may.none_failed e failed.here
-not_hindered p plan phases a e may (inr still) = still.1.here.1 (may.ended e still.1.here.0)
 
 -- a start that is due is taken
 pub starts : {T : Type 0} (p : Instance) (plan : Choices) (before after : Phases) (e : Element) (result : Result T StepFault) → IsFirst p (MayStart p plan before) e →
@@ -67,6 +62,7 @@ takes_event told p plan number before after bytes text rest (Some (Refused n Eve
     (text, event.1, event.2, line t, event.3, event.4),
   ),
 )
+takes_event told p plan number before after bytes text rest (Some (Refused n EventFault.NotReady)) due line event = absurd event
 takes_event told p plan number before after bytes text rest (Some (Refused n EventFault.NotRunning)) due line event = (
   tt,
   λ t lines written is. (

@@ -5,14 +5,19 @@ use Rattle.executor.specs.Prelude.{Choices, element_named, End as AnEnd, Instanc
 use Rattle.plan_io.specs.declared.faults.OutFault.{OutFault}
 use Rattle.cluster.specs.declared.ids.Element.{Element}
 use Rattle.executor.specs.declared.phase.Phase.TheVariants.{Running, Ended}
-use Rattle.transcript.specs.declared.conclusion.{Conclusion.Conclusion, Conclusion.TheVariants.Done, Conclusion.TheVariants.StoppedFail, Conclusion.TheVariants.StoppedEnd, Conclusion.TheVariants.Refused, EventFault.EventFault}
+use Rattle.transcript.specs.declared.conclusion.{Conclusion.Conclusion, Conclusion.TheVariants.Done, Conclusion.TheVariants.StoppedFail, Conclusion.TheVariants.StoppedEnd, Conclusion.TheVariants.Refused}
 use Rattle.transcript.specs.declared.conclusion.ExecuteFault.{ExecuteFault, TheVariants.NotValid, TheVariants.ReadFault, TheVariants.WriteFault, TheVariants.Memory}
-use Rattle.transcript.specs.{declared.lines.EventKind.EventKind, declared.lines.EventKind.TheVariants.End, declared.lines.EventKind.TheVariants.Fail, declared.lines.Line.Line, Lines.BeginsLine, Lines.IsEvent, Lines.ReadsLine, Lines.start_line}
+use Rattle.event_lines.specs.{declared.faults.EventFault.EventFault, declared.faults.LineFault.LineFault, Lines.BeginsLine}
+use Rattle.transcript.specs.{declared.lines.EventKind.EventKind, declared.lines.EventKind.TheVariants.End, declared.lines.EventKind.TheVariants.Fail, Lines.IsEvent, Lines.start_line}
 use Rattle.transcript.specs.Transcript.{EndsAt, TakesEvent, point}
 
 abbrev pub out_fault : OutFault → ExecuteFault
 out_fault OutFault.Failed = WriteFault
 out_fault OutFault.Memory = Memory
+
+abbrev pub line_fault : LineFault → ExecuteFault
+line_fault LineFault.ReadFault = ReadFault
+line_fault LineFault.Memory = Memory
 
 -- the plan is judged: it is valid unless what is broken first is the answer
 abbrev pub IsJudged : Instance → Choices → Result Conclusion ExecuteFault → Type 0
@@ -36,15 +41,6 @@ StaysIfNotValid (Err (NotValid broken)) before after = after ≡ before
 StaysIfNotValid (Err ReadFault) before after = Unit {0}
 StaysIfNotValid (Err WriteFault) before after = Unit {0}
 StaysIfNotValid (Err Memory) before after = Unit {0}
-
--- ---- a line is read
-
-abbrev pub LineGives : Bool → List ℕ → List ℕ → List ℕ → Result Line ExecuteFault → Type 0
-LineGives told bytes text rest (Ok found) = IsTrue told → ReadsLine bytes found text rest
-LineGives told bytes text rest (Err (NotValid broken)) = ⊥
-LineGives told bytes text rest (Err ReadFault) = IsTrue told → BeginsLine bytes rest
-LineGives told bytes text rest (Err WriteFault) = ⊥
-LineGives told bytes text rest (Err Memory) = IsTrue told → BeginsLine bytes rest
 
 -- ---- an action starts
 
@@ -78,6 +74,7 @@ EventGives p before number text after (Some (Refused n EventFault.NotALine)) = (
 EventGives p before number text after (Some (Refused n EventFault.TooLong)) = ⊥
 EventGives p before number text after (Some (Refused n EventFault.NoSuchName)) =
     (n ≡ number) × (kind : EventKind) × (name : List ℕ) × IsEvent text kind name × (element_named (inventory_of p) name ≡ None)
+EventGives p before number text after (Some (Refused n EventFault.NotReady)) = ⊥
 EventGives p before number text after (Some (Refused n EventFault.NotRunning)) =
     (n ≡ number) × (kind : EventKind) × (name : List ℕ) × (e : Element) × IsEvent text kind name × (element_named (inventory_of p) name ≡ Some e) × (before e ≢ Running)
 

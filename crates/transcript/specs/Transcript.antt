@@ -4,9 +4,10 @@ use Rattle.std.specs.Io.{StartsWith}
 use Rattle.executor.specs.Prelude.{AllEnded, Choices, element_named, End as AnEnd, first_phases, Instance, inventory_of, IsFirst, IsFirstBroken, IsStep, IsValid, MayStart, Phases, Start}
 use Rattle.cluster.specs.declared.ids.Element.{Element}
 use Rattle.executor.specs.declared.phase.Phase.TheVariants.{Running}
-use Rattle.transcript.specs.declared.conclusion.{Conclusion.Conclusion, Conclusion.TheVariants.Done, Conclusion.TheVariants.StoppedFail, Conclusion.TheVariants.StoppedEnd, Conclusion.TheVariants.Refused, EventFault.EventFault}
+use Rattle.transcript.specs.declared.conclusion.{Conclusion.Conclusion, Conclusion.TheVariants.Done, Conclusion.TheVariants.StoppedFail, Conclusion.TheVariants.StoppedEnd, Conclusion.TheVariants.Refused}
 use Rattle.transcript.specs.declared.conclusion.ExecuteFault.{ExecuteFault, TheVariants.NotValid, TheVariants.ReadFault, TheVariants.WriteFault, TheVariants.Memory}
-use Rattle.transcript.specs.{declared.lines.EventKind.EventKind, declared.lines.EventKind.TheVariants.End, declared.lines.EventKind.TheVariants.Fail, declared.lines.Line.Line, Lines.BeginsLine, Lines.IsEvent, Lines.ReadsLine, Lines.start_line}
+use Rattle.event_lines.specs.{declared.faults.EventFault.EventFault, declared.lines.Line.Line, Lines.BeginsLine, Lines.ReadsLine}
+use Rattle.transcript.specs.{declared.lines.EventKind.EventKind, declared.lines.EventKind.TheVariants.End, declared.lines.EventKind.TheVariants.Fail, Lines.IsEvent, Lines.start_line}
 
 -- where an execution stands: how far each action is, how many event lines were taken, what the source has left, and all that the sink has got
 pub record Point : Type 0 where
@@ -75,6 +76,8 @@ IsRefused p plan a EventFault.NotALine rest =
 IsRefused p plan a EventFault.TooLong rest = (text : List ℕ) × ReadsLine a.rest Line.TooLong text rest
 IsRefused p plan a EventFault.NoSuchName rest =
     (text : List ℕ) × (kind : EventKind) × (name : List ℕ) × ReadsLine a.rest Line.Whole text rest × IsEvent text kind name × (element_named (inventory_of p) name ≡ None)
+-- no line says here that an action starts
+IsRefused p plan a EventFault.NotReady rest = ⊥
 IsRefused p plan a EventFault.NotRunning rest = (kind : EventKind) × (element : Element) × TakesEvent p plan a kind element rest × (a.phases element ≢ Running)
 
 -- how it ends at a point, and what is then left of the bytes

@@ -1,9 +1,9 @@
 //! How an execution ends, and why it gives no conclusion.
 ghost use Rattle.std.specs.Prelude.{◌≡◌};
-ghost use Rattle.transcript.specs.{Lines.fault_text, Parts.out_fault};
-ghost use Rattle.transcript.specs.declared.conclusion.ExecuteFault.TheVariants as faults;
+ghost use Rattle.transcript.specs.Parts.{line_fault, out_fault};
 
 use cluster::Element;
+use event_lines::{EventFault, LineFault};
 use plan_io::OutFault;
 use slices::rule::Broken;
 
@@ -18,34 +18,6 @@ pub enum Conclusion {
     StoppedEnd,
     /// An event line is refused: its number, from 1, and what is wrong with it.
     Refused(u32, EventFault),
-}
-
-/// What is wrong with an event line.
-#[derive(Clone, Copy, Debug, PartialEq, Eq)]
-pub enum EventFault {
-    /// It says neither `end NAME` nor `fail NAME`, or the source ended in it.
-    NotALine,
-    /// It has more than `MAX_LINE_BYTES` bytes.
-    TooLong,
-    /// No element has the name.
-    NoSuchName,
-    /// The element has no action that runs.
-    NotRunning,
-}
-
-impl EventFault {
-    /// What is wrong, in words.
-    #[tactic(auto, unfolding(crate::specs::Lines::fault_text))]
-    pub fn text(self) -> &'static str
-        ensures { result.now ≡ fault_text self }
-    {
-        match self {
-            EventFault::NotALine => "not a line",
-            EventFault::TooLong => "too long",
-            EventFault::NoSuchName => "no such name",
-            EventFault::NotRunning => "not running",
-        }
-    }
 }
 
 /// Why an execution gives no conclusion.
@@ -68,6 +40,17 @@ impl From<OutFault> for ExecuteFault {
         match fault {
             OutFault::Failed => ExecuteFault::WriteFault,
             OutFault::Memory => ExecuteFault::Memory,
+        }
+    }
+}
+
+impl From<LineFault> for ExecuteFault {
+    ghost from_gives = { λ fault e. e ≡ line_fault fault };
+
+    fn from(fault: LineFault) -> ExecuteFault {
+        match fault {
+            LineFault::ReadFault => ExecuteFault::ReadFault,
+            LineFault::Memory => ExecuteFault::Memory,
         }
     }
 }

@@ -7,6 +7,6 @@ pub mod laws;
 mod lines;
 mod running;
 
-pub use conclusion::{Conclusion, EventFault, ExecuteFault};
-pub use lines::MAX_LINE_BYTES;
+pub use conclusion::{Conclusion, ExecuteFault};
+pub use event_lines::{EventFault, MAX_LINE_BYTES};
 pub use running::execute;

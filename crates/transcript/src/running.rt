@@ -3,10 +3,11 @@ ghost use Rattle.std.specs.Prelude.{◌≡◌, IsTrue, IfOk, IfErr};
 ghost use Rattle.std.specs.Io.{StartsWith};
 ghost use Rattle.transcript.specs.Prelude.{choices_of, EventGives, ExecuteGives, IsDue, IsElement, IsJudged, IsOfRunning, IsPlanOf, IsSameWork, NamesListed, phases_of, point, ReadCauses, RunGives, start_line, StartGives, StaysIfNotValid, TakeGives, WriteCauses};
 
-use crate::conclusion::{Conclusion, EventFault, ExecuteFault};
-use crate::lines::{EventKind, Line, event_of, read_line};
+use crate::conclusion::{Conclusion, ExecuteFault};
+use crate::lines::{EventKind, event_of};
 use catalogue::Problem;
 use cluster::Element;
+use event_lines::{EventFault, Line, read_line};
 use executor::{Monitor, NewFault};
 use plan_io::{Sink, Source, write_text};
 use slices::Plan;

@@ -1,6 +1,6 @@
 use Rattle.base.proofs.Public.{◌≡◌, ◌+◌, ◌∙◌, sym, refl, rules, arith, further, Err}
 use Rattle.transcript.specs.Prelude.{AllEnded, choices_of, IsDue, phases_of}
-use Rattle.transcript.proofs.Measure.{few_steps, steps_left}
+use Rattle.executor.proofs.Public.{few_steps, steps_left}
 use Rattle.transcript.proofs.Steps.{after_end, after_quiet, after_start, all_done, due_after, end_fewer, line_ends, quiet_same, start_fewer, stops_in_event, stops_in_start}
 use Rattle.transcript.proofs.running.follow.Goals as goal
 

@@ -1,6 +1,6 @@
 use Rattle.base.proofs.Public.{◌≡◌, ◌+◌, ◌≤◌, StartsWith, IsTrue}
 use Rattle.transcript.specs.Prelude.{choices_of, phases_of, point, Reaches}
-use Rattle.transcript.proofs.Measure.{steps_left}
+use Rattle.executor.proofs.Public.{steps_left}
 use Rattle.transcript.proofs.running.follow.Given as goal
 
 abbrev pub invariant-turns : goal.invariant-turns

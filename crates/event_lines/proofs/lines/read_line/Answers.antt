@@ -1,6 +1,6 @@
 use Rattle.std.proofs.Common.{◌≡◌, ◌∷◌, ◌≤◌, length, rules}
-use Rattle.transcript.proofs.EventLines.{begins_more}
-use Rattle.transcript.proofs.lines.read_line.Goals as goal
+use Rattle.event_lines.proofs.LineLemmas.{begins_more}
+use Rattle.event_lines.proofs.lines.read_line.Goals as goal
 
 pub returns-then-is_err-clause-line : goal.returns-then-is_err-clause-line
 returns-then-is_err-clause-line g c = λ told.

@@ -1,7 +1,7 @@
 -- An execution has so many steps before it at most.
-use Rattle.base.proofs.Public.{◌≡◌, inl, inr, ℕ, ◌+◌, ◌-◌, ◌≤◌, length, refl, sym, ap, ◌∙◌, arith, cases_lt, lt-ltb, le-ltb, sum_to-bound, sum_to-change}
-use Rattle.transcript.specs.Prelude.{Choices, Element, element_at, element_count, element_number, Ended, Failed, Instance, inventory_of, IsElement, IsInstance, IsStep, Moves, None as NoAction, Phase, Phases, Running, Start, sum_to, Waiting}
-use Rattle.executor.specs.Steps.{End}
+use Rattle.base.proofs.Public.{◌≡◌, inl, inr, ℕ, ◌+◌, ◌≤◌, length, refl, sym, ap, ◌∙◌, arith, cases_lt, lt-ltb, le-ltb, sum_to-bound, sum_to-change}
+use Rattle.base.specs.Sums.{sum_to}
+use Rattle.executor.specs.Prelude.{Choices, Element, element_at, element_count, element_number, End, Ended, Fail, Failed, Instance, inventory_of, IsElement, IsInstance, IsStep, Moves, None as NoAction, Phase, Phases, Running, Start, Waiting}
 use Rattle.cluster.proofs.Public.{element_at-element_number, element_number-lt}
 
 -- how many steps an action has before it at most
@@ -57,7 +57,7 @@ moved p before after e f listed moves =
     let first : weight_at p before (element_number (inventory_of p) e) ≡ weight (before e) = ap weight (ap before back) in
     omega (arith, change, then, first)
 
--- a start and an end leave fewer steps
+-- each event leaves fewer steps
 pub start_left : (p : Instance) (plan : Choices) (before after : Phases) (e : Element) → IsElement p e → IsStep p plan before (Start e) after → steps_left p after + 1 ≡ steps_left p before
 start_left p plan before after e listed step =
     let waiting : weight (before e) ≡ 2 = ap weight step.0.waiting in
@@ -67,3 +67,8 @@ pub end_left : (p : Instance) (plan : Choices) (before after : Phases) (e : Elem
 end_left p plan before after e listed step =
     let running : weight (before e) ≡ 1 = ap weight step.0 in
     omega (arith, moved p before after e Ended listed step.1, running)
+
+pub fail_left : (p : Instance) (plan : Choices) (before after : Phases) (e : Element) → IsElement p e → IsStep p plan before (Fail e) after → steps_left p after + 1 ≡ steps_left p before
+fail_left p plan before after e listed step =
+    let running : weight (before e) ≡ 1 = ap weight step.0 in
+    omega (arith, moved p before after e Failed listed step.1, running)

@@ -1,6 +1,6 @@
 use Rattle.std.proofs.Common.{◌≡◌, ◌++◌, ◌+◌, ◌-◌, ◌≤◌, length, IsTrue}
-use Rattle.transcript.specs.Prelude.{IsOneLine, MAX_LINE_BYTES}
-use Rattle.transcript.proofs.lines.read_line.Given as goal
+use Rattle.event_lines.specs.Prelude.{IsOneLine, MAX_LINE_BYTES}
+use Rattle.event_lines.proofs.lines.read_line.Given as goal
 
 abbrev pub invariant-bytes : goal.invariant-bytes
 invariant-bytes g l = record {

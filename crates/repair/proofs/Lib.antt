@@ -1,0 +1,10 @@
+pub mod RowLemmas
+pub mod EndedLemmas
+pub mod KeptLemmas
+pub mod ThereLemmas
+pub mod PartLemmas
+pub mod LegalLemmas
+pub mod CostLemmas
+pub mod HostLemmas
+pub mod SoundLemmas
+pub mod Public
