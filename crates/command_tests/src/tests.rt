@@ -14,8 +14,11 @@ mod executing;
 mod generating;
 mod instances;
 mod one_byte;
+mod picturing;
 mod planning;
 mod replaying;
+mod scripting;
+mod showing;
 mod solvers;
 
 /// What a run is given: the words of a line, one after each blank, and what stands in the files `i` and
@@ -129,6 +132,14 @@ fn words_in_no_command(rt: HostRuntime) -> Result<(), Fail> {
         "replay i",
         "replay i i",
         "replay i p c",
+        "show i",
+        "show i i",
+        "show i p c",
+        "picture i p",
+        "picture i p i",
+        "picture i p p",
+        "picture i i c",
+        "picture i p c strict",
         "execute i",
         "execute p p",
         "check i p",
@@ -136,6 +147,13 @@ fn words_in_no_command(rt: HostRuntime) -> Result<(), Fail> {
         "check p p c strict",
         "check i p c lean",
         "check i p c strict strict",
+        "script i s",
+        "script i s s",
+        "script i s i",
+        "script s s c",
+        "script i  c",
+        "script i s c x",
+        "scripts i s c",
         "demo",
         "demo ",
         "demo 01",

@@ -1,6 +1,6 @@
 -- How commands end: what each command's answers are built of.
 use Rattle.std.proofs.Common.{◌≡◌, ℕ, List, ◌++◌, Option, None, Result, Ok, Err, refl}
-use Rattle.commands.specs.Prelude.{AnswersBy, Ending, Ends, Fault, Files, IsAnswer, out_fault, OutFault, Outside, outside, Says, Status}
+use Rattle.commands.specs.Prelude.{AnswersBy, Ending, Ends, Fault, Files, IsAnswer, LeavesBy, out_fault, OutFault, Outside, outside, Says, Status}
 
 -- words that are in no command end with their fault, and leave all as it was
 pub no_command : (source : Option (List ℕ)) (before : Outside) → Ends (IsAnswer None source before) before (Err Fault.Words)
@@ -34,3 +34,12 @@ answers_well answer reading x before after result read is = rw read is
 -- the line that refuses an input
 pub answers_refused : {X : Type 0} (answer : X → Outside → Outside → Status → Type 0) (reading : Result X (List ℕ)) (line : List ℕ) (before after : Outside) (result : Status) → reading ≡ Err line → Says line Status.Input before after result → AnswersBy answer reading before after result
 answers_refused answer reading line before after result read is = rw read is
+
+-- what is left by an input's value
+pub left_well : {X : Type 0} (leaves : X → Files → Files → Type 0) (reading : Result X (List ℕ)) (x : X) (before after : Files) → reading ≡ Ok x → leaves x before after → LeavesBy leaves reading before after
+left_well leaves reading x before after read is = rw read is
+
+-- all as it was, whatever the input means
+pub left_same : {X : Type 0} (leaves : X → Files → Files → Type 0) (reading : Result X (List ℕ)) (files : Files) → ((x : X) → leaves x files files) → LeavesBy leaves reading files files
+left_same leaves (Ok x) files each = each x
+left_same leaves (Err line) files each = refl

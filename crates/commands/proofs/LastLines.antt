@@ -1,6 +1,6 @@
 -- How a part ends that has a last line, and what is so however it ends.
-use Rattle.base.proofs.Public.{◌≡◌, ℕ, Bool, List, ◌++◌, Option, Some, None, Ok, String, refl, sym, subst, Global, whole, longer, Result, Err, option_map, string_bytes}
-use Rattle.commands.specs.Prelude.{check, Command, Ending, Ends, EndsAnyhow, Fault, fault_status, IsLastLine, LastEnds, line_of, LineEnds, outcome_status, Outside, outside, picture, plan, printed_with, replay, show, Status, Takes, Taking}
+use Rattle.base.proofs.Public.{◌≡◌, ℕ, List, ◌++◌, Option, Some, None, Ok, String, refl, sym, subst, Global, whole, longer, Result, Err, option_map, string_bytes}
+use Rattle.commands.specs.Prelude.{Command, Ending, Ends, EndsAnyhow, Fault, fault_status, IsLastLine, LastEnds, line_of, LineEnds, outcome_status, Outside, outside, printed_with, Status, Takes, Taking}
 
 -- the line that is due is printed
 printed_is : (printed line : List ℕ) (o : Option (String Global)) → option_map string_bytes o ≡ Some line → printed_with printed o ≡ printed ++ line
@@ -66,25 +66,7 @@ always_anyhow takes after (Err f) always = last_always takes after (line_of f) (
 pub no_command_takes : (command : Option Command) (taking : Taking) (before after : Outside) (ended : Result Ending Fault) → command ≡ None → EndsAnyhow (Takes command taking before) after ended
 no_command_takes command taking before after ended is = rw is (always_anyhow (Takes None taking before) after ended (λ then result. tt))
 
-pub plan_takes : (command : Option Command) (instance plan_file certificate : List ℕ) (budget : ℕ) (taking : Taking) (before after : Outside) (ended : Result Ending Fault) →
-    command ≡ Some (plan instance plan_file certificate budget) → EndsAnyhow (Takes command taking before) after ended
-plan_takes command instance plan_file certificate budget taking before after ended is =
-    rw is (always_anyhow (Takes (Some (plan instance plan_file certificate budget)) taking before) after ended (λ then result. tt))
-
-pub check_takes : (command : Option Command) (instance plan_file certificate : List ℕ) (strict : Bool) (taking : Taking) (before after : Outside) (ended : Result Ending Fault) →
-    command ≡ Some (check instance plan_file certificate strict) → EndsAnyhow (Takes command taking before) after ended
-check_takes command instance plan_file certificate strict taking before after ended is =
-    rw is (always_anyhow (Takes (Some (check instance plan_file certificate strict)) taking before) after ended (λ then result. tt))
-
-pub replay_takes : (command : Option Command) (instance plan_file : List ℕ) (taking : Taking) (before after : Outside) (ended : Result Ending Fault) → command ≡ Some (replay instance plan_file) →
+pub unread : (command other : Option Command) (taking : Taking) (before after : Outside) (ended : Result Ending Fault) → other ≡ command → ((then : Outside) (result : Status) → Takes other taking before then result) →
     EndsAnyhow (Takes command taking before) after ended
-replay_takes command instance plan_file taking before after ended is = rw is (always_anyhow (Takes (Some (replay instance plan_file)) taking before) after ended (λ then result. tt))
-
-pub show_takes : (command : Option Command) (instance plan_file : List ℕ) (taking : Taking) (before after : Outside) (ended : Result Ending Fault) → command ≡ Some (show instance plan_file) →
-    EndsAnyhow (Takes command taking before) after ended
-show_takes command instance plan_file taking before after ended is = rw is (always_anyhow (Takes (Some (show instance plan_file)) taking before) after ended (λ then result. tt))
-
-pub picture_takes : (command : Option Command) (instance plan_file picture_file : List ℕ) (taking : Taking) (before after : Outside) (ended : Result Ending Fault) → command ≡ Some (picture instance plan_file picture_file) →
-    EndsAnyhow (Takes command taking before) after ended
-picture_takes command instance plan_file picture_file taking before after ended is =
-    rw is (always_anyhow (Takes (Some (picture instance plan_file picture_file)) taking before) after ended (λ then result. tt))
+unread command other taking before after ended is always =
+    subst (λ (c : Option Command). EndsAnyhow (Takes c taking before) after ended) is (always_anyhow (Takes other taking before) after ended always)

@@ -8,9 +8,11 @@ pub mod ExecuteAnswers
 pub mod GenerateAnswers
 pub mod LastLines
 pub mod Numbers
+pub mod OutputLemmas
 pub mod PictureAnswers
 pub mod PlanAnswers
 pub mod Printing
 pub mod Readings
 pub mod ReplayAnswers
+pub mod ScriptAnswers
 pub mod ShowAnswers

@@ -1,21 +1,21 @@
 -- What `picture` answers and leaves, by the readings of its inputs.
-use Rattle.base.proofs.Public.{◌≡◌, ◌⊎◌, ℕ, List, ◌++◌, Option, Some, Ok, refl, ap, inl, inr, OnOk, Result, Err}
+use Rattle.base.proofs.Public.{◌≡◌, ℕ, List, ◌++◌, Option, Some, Ok, refl, ap, inl, inr, OnOk, Result, Err}
 use Rattle.replay.specs.Prelude.{verdict_line}
 use Rattle.slices.specs.declared.rule.Broken.{Broken}
 use Rattle.commands.specs.Prelude.{Choices, Ending, Ends, Fault, Files, HasPicture, Instance, instance_in, IsAnswer, IsCut, IsDrawn, IsPictured, IsVerdict, Leaves, LeavesBy, LeavesPictured, OthersStay, Outside, outside, picture, Pictures, plan_in, Status}
 use Rattle.commands.specs.Replaying.{verdict_status}
-use Rattle.commands.proofs.Ends.{says, answers_well, answers_refused, ends_more}
+use Rattle.commands.proofs.Ends.{says, answers_well, answers_refused, ends_more, left_same, left_well}
 
 -- ---- the file
 
 -- the picture is written, where nothing was refused
 pub has_picture : {T E : Type 0} (picture_file : List ℕ) (p : Instance) (plan : Choices) (before after : Files) (text shown : List ℕ) (result : Result T E) → IsDrawn p plan text → shown ≡ text → OthersStay picture_file before after → OnOk result (after picture_file ≡ Some shown) → OnOk result (HasPicture picture_file p plan before after)
-has_picture picture_file p plan before after text shown (Ok x) drawn is others whole = record { text = text; drawn = drawn; whole = rw is at whole; others = others }
+has_picture picture_file p plan before after text shown (Ok x) drawn is others whole = record { text = text; drawn = drawn; written = record { whole = rw is at whole; others = others } }
 has_picture picture_file p plan before after text shown (Err e) drawn is others whole = tt
 
 -- what is left of it
 pub picture_cut : (picture_file : List ℕ) (p : Instance) (plan : Choices) (before after : Files) (text : List ℕ) → IsDrawn p plan text → IsCut (before picture_file) text (after picture_file) → OthersStay picture_file before after → LeavesPictured picture_file p plan before after
-picture_cut picture_file p plan before after text drawn cut others = inr (record { text = text; drawn = drawn; cut = cut; others = others })
+picture_cut picture_file p plan before after text drawn cut others = inr (record { text = text; drawn = drawn; cut = record { cut = cut; others = others } })
 
 -- the picture is written, and its verdict is said
 pub pictured : (picture_file : List ℕ) (p : Instance) (plan : Choices) (answer : Option Broken) (before after : Files) (printed line : List ℕ) (said : Status) → IsVerdict p plan answer → HasPicture picture_file p plan before after → line ≡ verdict_line p plan answer → said ≡ verdict_status answer → Pictures picture_file p plan (outside before printed) (outside after (printed ++ line)) said
@@ -55,21 +55,14 @@ ends_drawn instance plan_file picture_file source before between then after prin
 
 -- ---- what is left
 
-same_by : {X : Type 0} (leaves : X → Files → Files → Type 0) (reading : Result X (List ℕ)) (files : Files) → ((x : X) → leaves x files files) → LeavesBy leaves reading files files
-same_by leaves (Ok x) files each = each x
-same_by leaves (Err line) files each = refl
-
 -- all as it was
 pub leaves_nothing : (instance plan_file picture_file : List ℕ) (before after : Files) → after ≡ before → Leaves (Some (picture instance plan_file picture_file)) before after
 leaves_nothing instance plan_file picture_file before after kept =
-    rw kept (same_by (λ p start end. LeavesBy (LeavesPictured picture_file p) (plan_in p start plan_file) start end) (instance_in before instance) before
-    (λ p. same_by (LeavesPictured picture_file p) (plan_in p before plan_file) before (λ plan. inl refl)))
-
-left_by : {X : Type 0} (leaves : X → Files → Files → Type 0) (reading : Result X (List ℕ)) (x : X) (before after : Files) → reading ≡ Ok x → leaves x before after → LeavesBy leaves reading before after
-left_by leaves reading x before after read is = rw read is
+    rw kept (left_same (λ p start end. LeavesBy (LeavesPictured picture_file p) (plan_in p start plan_file) start end) (instance_in before instance) before
+    (λ p. left_same (LeavesPictured picture_file p) (plan_in p before plan_file) before (λ plan. inl refl)))
 
 -- what is left of the picture
 pub leaves_picture : (instance plan_file picture_file : List ℕ) (before between then after : Files) (p : Instance) (plan : Choices) → between ≡ before → then ≡ between → instance_in before instance ≡ Ok p → plan_in p between plan_file ≡ Ok plan → LeavesPictured picture_file p plan then after → Leaves (Some (picture instance plan_file picture_file)) before after
 leaves_picture instance plan_file picture_file before between then after p plan kept then_kept read plan_read left =
-    left_by (λ q start end. LeavesBy (LeavesPictured picture_file q) (plan_in q start plan_file) start end) (instance_in before instance) p before after read
-    (left_by (LeavesPictured picture_file p) (plan_in p before plan_file) plan before after (rw kept at plan_read) (rw (then_kept, kept) at left))
+    left_well (λ q start end. LeavesBy (LeavesPictured picture_file q) (plan_in q start plan_file) start end) (instance_in before instance) p before after read
+    (left_well (LeavesPictured picture_file p) (plan_in p before plan_file) plan before after (rw kept at plan_read) (rw (then_kept, kept) at left))

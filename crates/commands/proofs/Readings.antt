@@ -1,6 +1,11 @@
--- What the readings of an instance and of a plan answer.
+-- What the readings of an instance, of a plan and of a script answer.
 use Rattle.base.proofs.Public.{◌≡◌, ◌<◌, ◌≤◌, ℕ, List, Bool, length, nat_le, true, false, Option, Some, None, Ok, refl, ap, arith, nat_tests, Err, Result, if◌then◌else◌, codes}
-use Rattle.commands.specs.Prelude.{any_plan_lined, any_plan_reading_of, Choices, choices_handed, choices_of, Fails, Fault, input_line, Instance, instance_fault_of, instance_line, instance_of, InstanceFault, inventory_of, lined, MAX_TEXT_BYTES, needed, plan_fault_of, plan_line, plan_of, PlanChoices, reading_of, Reads, whole_of}
+use Rattle.catalogue.specs.Instance.{SoundInstance}
+use Rattle.rule_script.specs.Reads.{ReadsScript}
+use Rattle.rule_script.specs.Script.{at}
+use Rattle.rule_script.specs.declared.faults.{Mistake.Mistake, ScriptFault.ScriptFault}
+use Rattle.rule_script.proofs.Public.{scripts_add}
+use Rattle.commands.specs.Prelude.{AddsTo, any_plan_lined, any_plan_reading_of, Choices, choices_handed, choices_of, Fails, Fault, input_line, Instance, instance_fault_of, instance_line, instance_of, InstanceFault, inventory_of, lined, MAX_TEXT_BYTES, needed, plan_fault_of, plan_line, plan_of, PlanChoices, reading_of, Reads, script_line, script_lined, script_reading_of, whole_of, wrong_text}
 use Rattle.instance_json.specs.Texts.{fault_text as instance_fault_text}
 use Rattle.plan_json.specs.{Texts.fault_text as plan_fault_text, declared.fault.PlanFault.PlanFault}
 
@@ -100,3 +105,25 @@ refused_plan reading Fault.Memory h = tt
 -- the line that its bytes are too many refuses it
 pub long_plan : (p : Instance) (bytes line : List ℕ) → whole_of (codes "plan") bytes ≡ Err line → needed (any_plan_reading_of p bytes) ≡ Err line
 long_plan p bytes line h = ap needed (long_any_plan p bytes line h)
+
+-- ---- a script
+
+-- the problem that it makes
+pub the_script : (p : Instance) (bytes : List ℕ) (q : SoundInstance) → ReadsScript p bytes (Ok q) → script_reading_of p (Ok bytes) ≡ Ok q.given
+the_script p bytes q h = ap script_lined h.1
+
+-- what it adds stands after the constraints that were there
+pub adds_constraints : (p : Instance) (bytes : List ℕ) (q : SoundInstance) → ReadsScript p bytes (Ok q) → AddsTo p q.given
+adds_constraints p bytes q h = scripts_add p bytes (at q.given h.0) h.1
+
+-- the first line that is wrong
+pub first_wrong_line : (p : Instance) (bytes : List ℕ) (number : ℕ) (mistake : Mistake) → ReadsScript p bytes (Err (ScriptFault.Line number mistake)) → script_reading_of p (Ok bytes) ≡ Err (script_line (wrong_text number mistake))
+first_wrong_line p bytes number mistake h = ap script_lined h
+
+-- the line that its bytes are too many refuses it
+pub long_script : (p : Instance) (bytes line : List ℕ) → whole_of (codes "script") bytes ≡ Err line → script_reading_of p (whole_of (codes "script") bytes) ≡ Err line
+long_script p bytes line h = ap (script_reading_of p) h
+
+-- its bytes are not too many
+pub short_script : (p : Instance) (bytes text : List ℕ) → whole_of (codes "script") bytes ≡ Ok text → script_reading_of p (whole_of (codes "script") bytes) ≡ script_reading_of p (Ok text)
+short_script p bytes text h = ap (script_reading_of p) h

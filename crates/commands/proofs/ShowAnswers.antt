@@ -1,6 +1,6 @@
 -- What `show` answers, by the readings of its inputs.
-use Rattle.base.proofs.Public.{◌≡◌, ◌⊎◌, ℕ, List, ◌++◌, Option, Some, Ok, refl, inl, inr, StartsWith, Result, Err}
-use Rattle.show.specs.Prelude.{IsCutShort, listing_text}
+use Rattle.base.proofs.Public.{◌≡◌, ℕ, List, ◌++◌, Option, Some, Ok, refl, inl, inr, StartsWith, Result, Err}
+use Rattle.show.specs.Prelude.{listing_text}
 use Rattle.commands.specs.Prelude.{Choices, Ending, Ends, Fault, Files, Instance, instance_in, IsAnswer, IsListed, IsPartOfShown, Lists, Outside, outside, plan_in, PrintsPrefix, show, Status}
 use Rattle.commands.specs.Replaying.{verdict_status}
 use Rattle.commands.proofs.Ends.{says, answers_well, answers_refused, ends_more}

@@ -1,8 +1,8 @@
 -- What each command answers and leaves: a line for each command in each table, and a room for each below.
 use Rattle.std.specs.Prelude.{◌≡◌, Bool, ℕ, List, Option, Some, None, IsTrue, codes}
 use Rattle.plan_io.specs.Files.{Files}
-use Rattle.commands.specs.Words.{Command, plan, check, replay, show, picture, execute, generate, demo}
-use Rattle.commands.specs.{Inputs.Instance.instance_in, Inputs.Plan.plan_in, Answer.Outside, Answer.Says, Answer.AnswersBy, Answer.LeavesBy, Planning.IsPlanned, Planning.LeavesPlanned, Checking.IsChecked, Replaying.IsReplayed, Showing.IsListed, Picturing.IsPictured, Picturing.LeavesPictured}
+use Rattle.commands.specs.Words.{Command, plan, check, replay, show, picture, script, execute, generate, demo}
+use Rattle.commands.specs.{Inputs.Instance.instance_in, Inputs.Plan.plan_in, Answer.Outside, Answer.Says, Answer.AnswersBy, Answer.LeavesBy, Planning.IsPlanned, Planning.LeavesPlanned, Checking.IsChecked, Replaying.IsReplayed, Showing.IsListed, Picturing.IsPictured, Picturing.LeavesPictured, Scripting.IsScripted, Scripting.LeavesScripted}
 use Rattle.commands.specs.{Executing.IsExecuted, Executing.Starts, Executing.Taking, Executing.TakesRead, Generating.IsGenerated, Generating.LeavesGenerated, declared.status.Status.Status}
 use Rattle.commands.specs.Demonstrating.{IsDemonstrated, LeavesDemo, demo_certificate, demo_instance, demo_plan}
 
@@ -14,6 +14,7 @@ MayRun reads writes (Some (check instance plan_file certificate strict)) = IsTru
 MayRun reads writes (Some (replay instance plan_file)) = IsTrue (reads instance) × IsTrue (reads plan_file)
 MayRun reads writes (Some (show instance plan_file)) = IsTrue (reads instance) × IsTrue (reads plan_file)
 MayRun reads writes (Some (picture instance plan_file picture_file)) = IsTrue (reads instance) × IsTrue (reads plan_file) × IsTrue (writes picture_file)
+MayRun reads writes (Some (script instance script_file out_file)) = IsTrue (reads instance) × IsTrue (reads script_file) × IsTrue (writes out_file)
 MayRun reads writes (Some (execute instance plan_file)) = IsTrue (reads instance) × IsTrue (reads plan_file)
 MayRun reads writes (Some (generate seed instance)) = IsTrue (writes instance)
 MayRun reads writes (Some (demo seed)) = IsTrue (writes demo_instance) × IsTrue (reads demo_instance) × IsTrue (writes demo_plan) × IsTrue (reads demo_plan) × IsTrue (writes demo_certificate) × IsTrue (reads demo_certificate)
@@ -31,6 +32,8 @@ IsAnswer (Some (show instance plan_file)) source before after result =
     AnswersBy (IsListed plan_file) (instance_in before.files instance) before after result
 IsAnswer (Some (picture instance plan_file picture_file)) source before after result =
     AnswersBy (IsPictured plan_file picture_file) (instance_in before.files instance) before after result
+IsAnswer (Some (script instance script_file out_file)) source before after result =
+    AnswersBy (IsScripted script_file out_file) (instance_in before.files instance) before after result
 IsAnswer (Some (execute instance plan_file)) source before after result =
     AnswersBy (IsExecuted source plan_file) (instance_in before.files instance) before after result
 IsAnswer (Some (generate seed instance)) source before after result = IsGenerated seed instance before after result
@@ -45,6 +48,7 @@ Leaves (Some (replay instance plan_file)) before after = after ≡ before
 Leaves (Some (show instance plan_file)) before after = after ≡ before
 Leaves (Some (picture instance plan_file picture_file)) before after =
     LeavesBy (λ p start end. LeavesBy (LeavesPictured picture_file p) (plan_in p start plan_file) start end) (instance_in before instance) before after
+Leaves (Some (script instance script_file out_file)) before after = LeavesBy (LeavesScripted script_file out_file) (instance_in before instance) before after
 Leaves (Some (execute instance plan_file)) before after = after ≡ before
 Leaves (Some (generate seed instance)) before after = LeavesGenerated seed instance before after
 Leaves (Some (demo seed)) before after = LeavesDemo seed before after
@@ -57,6 +61,7 @@ LeavesAtFailedRead (Some (check instance plan_file certificate strict)) before a
 LeavesAtFailedRead (Some (replay instance plan_file)) before after = after ≡ before
 LeavesAtFailedRead (Some (show instance plan_file)) before after = after ≡ before
 LeavesAtFailedRead (Some (picture instance plan_file picture_file)) before after = after ≡ before
+LeavesAtFailedRead (Some (script instance script_file out_file)) before after = after ≡ before
 LeavesAtFailedRead (Some (execute instance plan_file)) before after = after ≡ before
 LeavesAtFailedRead (Some (generate seed instance)) before after = ⊥
 LeavesAtFailedRead (Some (demo seed)) before after = LeavesDemo seed before after
@@ -69,6 +74,7 @@ KeepsSource told files (Some (check instance plan_file certificate strict)) befo
 KeepsSource told files (Some (replay instance plan_file)) before after = after ≡ before
 KeepsSource told files (Some (show instance plan_file)) before after = after ≡ before
 KeepsSource told files (Some (picture instance plan_file picture_file)) before after = after ≡ before
+KeepsSource told files (Some (script instance script_file out_file)) before after = after ≡ before
 KeepsSource told files (Some (execute instance plan_file)) before after = IsTrue told → ¬ Starts files instance plan_file → after ≡ before
 KeepsSource told files (Some (generate seed instance)) before after = after ≡ before
 KeepsSource told files (Some (demo seed)) before after = after ≡ before
@@ -81,6 +87,7 @@ Takes (Some (check instance plan_file certificate strict)) taking before after r
 Takes (Some (replay instance plan_file)) taking before after result = Unit {0}
 Takes (Some (show instance plan_file)) taking before after result = Unit {0}
 Takes (Some (picture instance plan_file picture_file)) taking before after result = Unit {0}
+Takes (Some (script instance script_file out_file)) taking before after result = Unit {0}
 Takes (Some (execute instance plan_file)) taking before after result = TakesRead instance plan_file taking before after result
 Takes (Some (generate seed instance)) taking before after result = Unit {0}
 Takes (Some (demo seed)) taking before after result = Unit {0}
@@ -93,6 +100,7 @@ KeepsDeskWrites (Some (check instance plan_file certificate strict)) before afte
 KeepsDeskWrites (Some (replay instance plan_file)) before after = after ≡ before
 KeepsDeskWrites (Some (show instance plan_file)) before after = after ≡ before
 KeepsDeskWrites (Some (picture instance plan_file picture_file)) before after = Unit {0}
+KeepsDeskWrites (Some (script instance script_file out_file)) before after = Unit {0}
 KeepsDeskWrites (Some (execute instance plan_file)) before after = after ≡ before
 KeepsDeskWrites (Some (generate seed instance)) before after = Unit {0}
 KeepsDeskWrites (Some (demo seed)) before after = Unit {0}
@@ -105,6 +113,7 @@ KeepsDeskReads (Some (check instance plan_file certificate strict)) before after
 KeepsDeskReads (Some (replay instance plan_file)) before after = Unit {0}
 KeepsDeskReads (Some (show instance plan_file)) before after = Unit {0}
 KeepsDeskReads (Some (picture instance plan_file picture_file)) before after = Unit {0}
+KeepsDeskReads (Some (script instance script_file out_file)) before after = Unit {0}
 KeepsDeskReads (Some (execute instance plan_file)) before after = Unit {0}
 KeepsDeskReads (Some (generate seed instance)) before after = after ≡ before
 KeepsDeskReads (Some (demo seed)) before after = Unit {0}
@@ -117,6 +126,7 @@ ReadsInput (Some (check instance plan_file certificate strict)) = Unit {0}
 ReadsInput (Some (replay instance plan_file)) = Unit {0}
 ReadsInput (Some (show instance plan_file)) = Unit {0}
 ReadsInput (Some (picture instance plan_file picture_file)) = Unit {0}
+ReadsInput (Some (script instance script_file out_file)) = Unit {0}
 ReadsInput (Some (execute instance plan_file)) = Unit {0}
 ReadsInput (Some (generate seed instance)) = ⊥
 ReadsInput (Some (demo seed)) = Unit {0}

@@ -1,6 +1,7 @@
 -- What the inputs that commands read have in common.
 pub mod Instance
 pub mod Plan
+pub mod Script
 use Rattle.std.specs.Prelude.{ℕ, List, ◌++◌, length, nat_le, Result, Ok, Err, if◌then◌else◌, codes}
 use Rattle.json_walk.specs.declared.reading.TheConstants.{MAX_TEXT_BYTES}
 

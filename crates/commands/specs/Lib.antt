@@ -3,11 +3,13 @@ pub mod Words
 pub mod Meaning
 pub mod Answer
 pub mod Inputs
+pub mod Outputs
 pub mod Planning
 pub mod Checking
 pub mod Replaying
 pub mod Showing
 pub mod Picturing
+pub mod Scripting
 pub mod Executing
 pub mod Generating
 pub mod Demonstrating

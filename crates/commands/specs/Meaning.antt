@@ -1,7 +1,7 @@
 -- A command as the program holds it.
-use Rattle.commands.specs.Words.{Command, plan, check, replay, show, picture, execute, generate, demo}
+use Rattle.commands.specs.Words.{Command, plan, check, replay, show, picture, script, execute, generate, demo}
 use Rattle.commands.specs.declared.words.Command.{Command as Read}
-use Rattle.commands.specs.declared.words.Command.TheVariants.{Plan, Check, Replay, Show, Picture, Execute, Generate, Demo}
+use Rattle.commands.specs.declared.words.Command.TheVariants.{Plan, Check, Replay, Show, Picture, Script, Execute, Generate, Demo}
 use Rattle.std.specs.Prelude.{◌≢◌}
 
 abbrev pub meaning : Read → Command
@@ -10,6 +10,7 @@ meaning (Check instance plan_file certificate strict) = check instance.now plan_
 meaning (Replay instance plan_file) = replay instance.now plan_file.now
 meaning (Show instance plan_file) = show instance.now plan_file.now
 meaning (Picture instance plan_file picture_file) = picture instance.now plan_file.now picture_file.now
+meaning (Script instance script_file out_file) = script instance.now script_file.now out_file.now
 meaning (Execute instance plan_file) = execute instance.now plan_file.now
 meaning (Generate seed instance) = generate seed instance.now
 meaning (Demo seed) = demo seed
@@ -21,6 +22,7 @@ HasFilesApart (check instance plan_file certificate strict) = Unit {0}
 HasFilesApart (replay instance plan_file) = Unit {0}
 HasFilesApart (show instance plan_file) = Unit {0}
 HasFilesApart (picture instance plan_file picture_file) = Unit {0}
+HasFilesApart (script instance script_file out_file) = Unit {0}
 HasFilesApart (execute instance plan_file) = Unit {0}
 HasFilesApart (generate seed instance) = Unit {0}
 HasFilesApart (demo seed) = Unit {0}

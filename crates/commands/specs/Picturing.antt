@@ -1,17 +1,16 @@
 -- What `picture` answers, and what it leaves in the files.
-use Rattle.std.specs.Prelude.{◌≡◌, ◌⊎◌, ◌++◌, ℕ, List, Option, Some}
-use Rattle.plan_io.specs.Files.{Files, OthersStay, IsCut}
+use Rattle.std.specs.Prelude.{◌≡◌, ◌⊎◌, ◌++◌, ℕ, List, Option}
+use Rattle.plan_io.specs.Files.{Files}
 use Rattle.replay.specs.Prelude.{Choices, Instance, IsVerdict, verdict_line}
 use Rattle.picture.specs.Prelude.{IsDrawn}
 use Rattle.slices.specs.declared.rule.Broken.{Broken}
-use Rattle.commands.specs.{Answer.Outside, Answer.AnswersBy, Inputs.Plan.plan_in, Replaying.verdict_status, declared.status.Status.Status}
+use Rattle.commands.specs.{Answer.Outside, Answer.AnswersBy, Inputs.Plan.plan_in, Outputs.HasText, Outputs.IsTextCut, Replaying.verdict_status, declared.status.Status.Status}
 
 -- A picture of the plan is written, and no other file changes.
 pub record HasPicture (picture_file : List ℕ) (p : Instance) (plan : Choices) (before after : Files) : Type 0 where
   pub text : List ℕ
   pub drawn : IsDrawn p plan text
-  pub whole : after picture_file ≡ Some text
-  pub others : OthersStay picture_file before after
+  pub written : HasText picture_file text before after
 
 -- A picture of the plan is written, also of one that is not valid, and the line is that of the verdict.
 pub record Pictures (picture_file : List ℕ) (p : Instance) (plan : Choices) (before after : Outside) (result : Status) : Type 0 where
@@ -29,8 +28,7 @@ IsPictured plan_file picture_file p before after result = AnswersBy (Pictures pi
 pub record IsPictureCut (picture_file : List ℕ) (p : Instance) (plan : Choices) (before after : Files) : Type 0 where
   pub text : List ℕ
   pub drawn : IsDrawn p plan text
-  pub cut : IsCut (before picture_file) text (after picture_file)
-  pub others : OthersStay picture_file before after
+  pub cut : IsTextCut picture_file text before after
 
 -- However it ends, all is as before, or the file is cut.
 abbrev pub LeavesPictured : (picture_file : List ℕ) → Instance → Choices → Files → Files → Type 0

@@ -3,7 +3,9 @@ pub use Rattle.plan_io.specs.{Prelude.IsCut, Prelude.Rose, declared.faults.OutFa
 pub use Rattle.instance_json.specs.{Prelude.Fails, Prelude.instance_fault_of, declared.fault.InstanceFault.InstanceFault}
 pub use Rattle.plan_json.specs.Prelude.{plan_fault_of}
 unfoldable pub use Rattle.plan_json.specs.Prelude.{plan_of, plan_text}
-unfoldable pub use Rattle.instance_make.specs.Prelude.{generated, instance_of, instance_text}
+unfoldable pub use Rattle.instance_make.specs.Prelude.{instance_of, instance_text}
+pub use Rattle.rule_script.specs.{Laws.AddsTo, Texts.wrong_text}
+unfoldable pub use Rattle.rule_script.specs.Script.{script_done}
 pub use Rattle.replay.specs.Prelude.{InRange, IsPrefixOfReport, IsVerdict}
 unfoldable pub use Rattle.replay.specs.Prelude.{broken_line, report_text}
 pub use Rattle.show.specs.Prelude.{IsPartOfShown}
@@ -34,9 +36,10 @@ pub use Rattle.commands.specs.Demonstrating.{demo_certificate, demo_instance, de
 pub use Rattle.commands.specs.Endings.{fault_status, IsAnswered, IsLastLine, IsOfExecuting, IsOfReading, IsOfWriting, IsRefusal, LastEnds, line_of, LineEnds, out_fault, outcome_status, printed_with, Reads}
 pub use Rattle.commands.specs.Executing.{conclusion_status, events_line, IsExecuted, IsPartOfAnswer, TakesNothing, Taking, taking, Took, TookBy}
 pub use Rattle.commands.specs.{Generating.HasGenerated, Generating.LeavesGenerated, Inputs.input_line, Inputs.Instance.instance_in, Inputs.Instance.instance_line, Inputs.Instance.lined}
-unfoldable pub use Rattle.commands.specs.{Generating.generated_line, Inputs.whole_of, Inputs.Instance.reading_of, Inputs.Plan.any_plan_reading_of, Planning.found_line, Printed.PrintsPrefix, Words.number_of}
+unfoldable pub use Rattle.commands.specs.{Generating.generated_line, Inputs.whole_of, Inputs.Instance.reading_of, Inputs.Plan.any_plan_reading_of, Planning.found_line, Printed.PrintsPrefix, Scripting.scripted_line, Words.number_of}
 pub use Rattle.commands.specs.Inputs.Plan.{any_plan_in, any_plan_lined, needed, plan_in, plan_line}
-pub use Rattle.commands.specs.{Laws.AreAccepted, Laws.PlannedIsChecked, Laws.WrittenIsAccepted, Laws.yes_to, Meaning.HasFilesApart, Meaning.meaning, Picturing.HasPicture, Picturing.IsPictureCut, Picturing.IsPictured, Picturing.LeavesPictured, Picturing.Pictures, Replaying.IsReplayed, Replaying.Replays, Showing.IsListed, Showing.Lists, declared.demonstrating.TheConstants.DEMO_BUDGET}
+pub use Rattle.commands.specs.Inputs.Script.{script_in, script_line, script_lined, script_reading_of}
+pub use Rattle.commands.specs.{Laws.AreAccepted, Laws.PlannedIsChecked, Laws.WrittenIsAccepted, Laws.yes_to, Meaning.HasFilesApart, Meaning.meaning, Outputs.HasText, Outputs.IsTextCut, Picturing.HasPicture, Picturing.IsPictureCut, Picturing.IsPictured, Picturing.LeavesPictured, Picturing.Pictures, Replaying.IsReplayed, Replaying.Replays, Scripting.IsScripted, Scripting.LeavesScripted, Scripting.Scripts, Showing.IsListed, Showing.Lists, declared.demonstrating.TheConstants.DEMO_BUDGET}
 pub use Rattle.commands.specs.Planning.{Certifies, found_status, IsCertificateCut, IsCertified, IsPlanCut, IsPlanned, IsToStay, IsWritten, LeavesPlanned, plan_cost, RestStays}
-pub use Rattle.commands.specs.Words.{are_names, asked, check, Command, command_of, demo, execute, generate, is_name, is_plain, picture, plan, replay, show}
+pub use Rattle.commands.specs.Words.{are_names, asked, check, Command, command_of, demo, execute, generate, is_name, is_plain, picture, plan, replay, script, show}
 pub use Rattle.commands.specs.declared.{fault.Ending.Ending, fault.Fault.Fault, status.Status.Status}

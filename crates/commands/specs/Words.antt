@@ -10,6 +10,7 @@ pub data Command : Type 0 where
   replay : (instance plan_file : List ℕ) → Command
   show : (instance plan_file : List ℕ) → Command
   picture : (instance plan_file picture_file : List ℕ) → Command
+  script : (instance script_file out_file : List ℕ) → Command
   execute : (instance plan_file : List ℕ) → Command
   generate : (seed : ℕ) (instance : List ℕ) → Command
   demo : (seed : ℕ) → Command
@@ -35,10 +36,11 @@ is_plain (x ∷ y ∷ rest) = not (x == 43) && not (x == 48)
 
 -- The command that these words are, if any.
 abbrev pub command_of : List (List ℕ) → Option Command
-command_of (word ∷ instance ∷ plan_file ∷ certificate ∷ []) =
-    if bytes_eq word (codes "plan") && are_names (instance ∷ plan_file ∷ certificate ∷ []) then Some (plan instance plan_file certificate BUDGET) else
-    if bytes_eq word (codes "check") && are_names (instance ∷ plan_file ∷ certificate ∷ []) then Some (check instance plan_file certificate false) else
-    if bytes_eq word (codes "picture") && are_names (instance ∷ plan_file ∷ certificate ∷ []) then Some (picture instance plan_file certificate) else None
+command_of (word ∷ first ∷ second ∷ third ∷ []) =
+    if bytes_eq word (codes "plan") && are_names (first ∷ second ∷ third ∷ []) then Some (plan first second third BUDGET) else
+    if bytes_eq word (codes "check") && are_names (first ∷ second ∷ third ∷ []) then Some (check first second third false) else
+    if bytes_eq word (codes "picture") && are_names (first ∷ second ∷ third ∷ []) then Some (picture first second third) else
+    if bytes_eq word (codes "script") && are_names (first ∷ second ∷ third ∷ []) then Some (script first second third) else None
 command_of (word ∷ instance ∷ plan_file ∷ certificate ∷ last ∷ []) =
     if bytes_eq word (codes "check") && bytes_eq last (codes "strict") && are_names (instance ∷ plan_file ∷ certificate ∷ []) then Some (check instance plan_file certificate true) else None
 command_of (word ∷ instance ∷ plan_file ∷ certificate ∷ between ∷ number ∷ []) =

@@ -8,6 +8,7 @@ use crate::fault::{Ending, Fault, Outcome};
 use crate::inputs::instance::problem_at;
 use crate::inputs::plan::any_plan_at;
 use crate::inputs::refusal;
+use crate::solver::Solver;
 use base::Memory;
 use catalogue::Problem;
 use cert_check::{CheckFault, Verdict};
@@ -129,9 +130,10 @@ fn refusal_of(alloc: Global, fault: LineFault) -> Fault
 
 /// Checks the certificate in a file, for the plan that is handed in, or for none.
 #[tactic(auto, using(crate::proofs::CheckAnswers::verdict_ends, crate::proofs::CheckAnswers::verdict_causes, crate::proofs::CheckAnswers::verdict_kind, crate::proofs::CheckAnswers::line_ends, crate::proofs::CheckAnswers::line_causes, crate::proofs::CheckAnswers::line_kind), unfolding(crate::specs::Endings::Ends))]
-fn check_certificate<D: Desk>(
+fn check_certificate<D: Desk, S: Solver>(
     alloc: Global,
     desk: &mut D,
+    solver: &S,
     p: &Problem,
     plan: Option<&Plan>,
     certificate: &str,
@@ -144,7 +146,7 @@ fn check_certificate<D: Desk>(
         → Ends (checks (outside (D.files desk.old) printed)) (outside (D.files desk.new) printed) result }
     ensures desk { OnlyReads D.tells D.files D.read_faults D.write_faults desk.old desk.new result }
 {
-    match cert_check::check(alloc, p, plan, desk, certificate, strict) {
+    match solver.check(alloc, p, plan, desk, certificate, strict) {
         Ok(verdict) => say_verdict(alloc, verdict),
         Err(CheckFault::Line(fault)) => Err(refusal_of(alloc, fault)),
         Err(CheckFault::Memory) => Err(Fault::Memory),
@@ -154,9 +156,10 @@ fn check_certificate<D: Desk>(
 /// Checks the certificate of a plan of a problem, or of none, as a `null` in the plan's file says.
 /// It reads the plan, then the certificate line by line, each only where it is due.
 #[tactic(auto, using(crate::proofs::CheckAnswers::refused_plan), unfolding(crate::specs::Endings::Ends))]
-pub fn check_problem<D: Desk>(
+pub fn check_problem<D: Desk, S: Solver>(
     alloc: Global,
     desk: &mut D,
+    solver: &S,
     p: &Problem,
     plan_file: &str,
     certificate: &str,
@@ -170,15 +173,16 @@ pub fn check_problem<D: Desk>(
     ensures desk { OnlyReads D.tells D.files D.read_faults D.write_faults desk.old desk.new result }
 {
     let plan = any_plan_at(alloc, desk, p, plan_file)?;
-    check_certificate(alloc, desk, p, plan.as_ref(), certificate, strict)
+    check_certificate(alloc, desk, solver, p, plan.as_ref(), certificate, strict)
 }
 
 /// Checks the certificate of a plan of an instance, or of none. It reads the instance, and then as
 /// `check_problem` does.
 #[tactic(auto, using(crate::proofs::CheckAnswers::refused_instance), unfolding(crate::specs::Endings::Ends))]
-pub fn check<D: Desk>(
+pub fn check<D: Desk, S: Solver>(
     alloc: Global,
     desk: &mut D,
+    solver: &S,
     instance: &str,
     plan_file: &str,
     certificate: &str,
@@ -197,5 +201,13 @@ pub fn check<D: Desk>(
     ensures words { result ≢ Err Fault.Words }
 {
     let problem = problem_at(alloc, desk, instance)?;
-    check_problem(alloc, desk, &problem, plan_file, certificate, strict)
+    check_problem(
+        alloc,
+        desk,
+        solver,
+        &problem,
+        plan_file,
+        certificate,
+        strict,
+    )
 }

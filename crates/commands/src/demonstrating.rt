@@ -84,9 +84,10 @@ fn conclude(
 }
 
 /// Checks what was found, and says what follows.
-fn check_found<D: Desk>(
+fn check_found<D: Desk, S: Solver>(
     alloc: Global,
     desk: &mut D,
+    solver: &S,
     p: &Problem,
     found: &Found,
     seed: u64,
@@ -99,7 +100,7 @@ fn check_found<D: Desk>(
         (outside (D.files desk.new) printed) result }
     ensures desk { OnlyReads D.tells D.files D.read_faults D.write_faults desk.old desk.new result }
 {
-    let checked = check_problem(alloc, desk, p, DEMO_PLAN, DEMO_CERTIFICATE, false);
+    let checked = check_problem(alloc, desk, solver, p, DEMO_PLAN, DEMO_CERTIFICATE, false);
     conclude(alloc, p, found, seed, checked)
 }
 
@@ -149,7 +150,7 @@ fn plan_and_check<D: Desk, S: Solver>(
             outcome: outcome_of(&found),
         });
     }
-    check_found(alloc, desk, p, &found, seed)
+    check_found(alloc, desk, solver, p, &found, seed)
 }
 
 /// Generates the problem of a seed, plans it, and checks the certificate, over the three files of the

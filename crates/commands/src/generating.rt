@@ -1,12 +1,12 @@
 //! The command `generate`.
 
 ghost use Rattle.std.specs.Prelude.{◌≡◌, ◌≢◌, ℕ, List, Option, Some, Err, IsTrue, IfOk, OnOk, string_bytes};
-ghost use Rattle.commands.specs.Prelude.{CountsWrites, Ends, generate, generated, generated_line, HasGenerated, instance_text, IsAnswer, Leaves, LeavesGenerated, MayRun, outside, PartCauses};
+ghost use Rattle.commands.specs.Prelude.{CountsWrites, Ends, generate, generated_line, HasGenerated, IsAnswer, Leaves, LeavesGenerated, MayRun, outside, PartCauses};
 
 use crate::fault::{Ending, Fault, Outcome};
+use crate::outputs::write_problem;
 use base::Memory;
-use instance_make::print_instance;
-use plan_io::{Desk, OutFault, write_whole};
+use plan_io::{Desk, OutFault};
 use std::alloc::Global;
 
 /// The line that says what was generated.
@@ -17,16 +17,7 @@ fn generated_line(alloc: Global, seed: u64) -> Result<String, Memory>
     Ok(format!(in alloc; "generated {seed}\n")?)
 }
 
-/// The text of the generated problem of a seed.
-fn generated_text(alloc: Global, seed: u64) -> Result<Vec<u8>, Memory>
-    ensures { IfOk result (λ bytes. bytes.items ≡ instance_text (generated seed)) }
-{
-    let problem = instance_make::generate(alloc, seed)?;
-    Ok(print_instance(alloc, &problem)?)
-}
-
 /// Writes the text of the generated problem of a seed.
-#[tactic(auto, using(crate::proofs::GenerateAnswers::has_generated))]
 pub fn write_generated<D: Desk>(
     alloc: Global,
     desk: &mut D,
@@ -41,8 +32,8 @@ pub fn write_generated<D: Desk>(
     ensures cause { CountsWrites (D.write_faults desk.old) (D.write_faults desk.new) result }
     ensures reads_kept { D.read_faults desk.new ≡ D.read_faults desk.old }
 {
-    let text = generated_text(alloc, seed)?;
-    write_whole(desk, instance, &text)
+    let problem = instance_make::generate(alloc, seed)?;
+    write_problem(alloc, desk, &problem, instance)
 }
 
 /// Generates the problem of a seed, and writes it to a file.

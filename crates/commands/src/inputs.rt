@@ -10,6 +10,7 @@ use std::alloc::Global;
 
 pub mod instance;
 pub mod plan;
+pub mod script;
 
 /// The fault with the line `input INPUT TEXT`.
 pub fn refusal(alloc: Global, input: &str, text: &str) -> Fault

@@ -11,6 +11,7 @@ use crate::generating::generate;
 use crate::picturing::picture;
 use crate::planning::plan;
 use crate::replaying::replay;
+use crate::scripting::script;
 use crate::showing::show;
 use crate::solver::Solver;
 use crate::status::Status;
@@ -84,7 +85,15 @@ fn answer<D: Desk, I: Source, O: Sink, S: Solver>(
                 certificate,
                 strict,
             },
-        ) => check(alloc, desk, instance, plan_file, certificate, strict),
+        ) => check(
+            alloc,
+            desk,
+            solver,
+            instance,
+            plan_file,
+            certificate,
+            strict,
+        ),
         Some(
             Command::Replay {
                 instance,
@@ -104,6 +113,13 @@ fn answer<D: Desk, I: Source, O: Sink, S: Solver>(
                 picture_file,
             },
         ) => picture(alloc, desk, instance, plan_file, picture_file),
+        Some(
+            Command::Script {
+                instance,
+                script_file,
+                out_file,
+            },
+        ) => script(alloc, desk, instance, script_file, out_file),
         Some(
             Command::Execute {
                 instance,

@@ -36,6 +36,12 @@ pub enum Command<'a> {
         plan_file: &'a str,
         picture_file: &'a str,
     },
+    /// Adds the constraints of a script to the instance, and writes the whole into a file.
+    Script {
+        instance: &'a str,
+        script_file: &'a str,
+        out_file: &'a str,
+    },
     /// Executes a plan of the instance: prints starts, and reads event lines.
     Execute {
         instance: &'a str,
@@ -155,33 +161,39 @@ fn with_two<'a>(word: &str, first: &'a str, second: &'a str) -> Option<Command<'
 /// The command that this word is before the names of three files.
 fn with_three<'a>(
     word: &str,
-    instance: &'a str,
-    plan_file: &'a str,
+    first: &'a str,
+    second: &'a str,
     third: &'a str,
 ) -> Option<Command<'a>>
-    ensures meaning { let command = command_of (word.now ∷ instance.now ∷ plan_file.now ∷ third.now ∷ []) in
+    ensures meaning { let command = command_of (word.now ∷ first.now ∷ second.now ∷ third.now ∷ []) in
         option_map meaning result ≡ command }
     ensures apart { IfSome result (λ command. HasFilesApart (meaning command)) }
 {
-    if word == "plan" && are_three_names(instance, plan_file, third) {
+    if word == "plan" && are_three_names(first, second, third) {
         Some(Command::Plan {
-            instance,
-            plan_file,
+            instance: first,
+            plan_file: second,
             certificate: third,
             budget: BUDGET,
         })
-    } else if word == "check" && are_three_names(instance, plan_file, third) {
+    } else if word == "check" && are_three_names(first, second, third) {
         Some(Command::Check {
-            instance,
-            plan_file,
+            instance: first,
+            plan_file: second,
             certificate: third,
             strict: false,
         })
-    } else if word == "picture" && are_three_names(instance, plan_file, third) {
+    } else if word == "picture" && are_three_names(first, second, third) {
         Some(Command::Picture {
-            instance,
-            plan_file,
+            instance: first,
+            plan_file: second,
             picture_file: third,
+        })
+    } else if word == "script" && are_three_names(first, second, third) {
+        Some(Command::Script {
+            instance: first,
+            script_file: second,
+            out_file: third,
         })
     } else {
         None
@@ -263,11 +275,11 @@ pub fn read_words(words: &[String]) -> Option<Command<'_>>
     match words {
         [word, seed] => with_one(word.as_str(), seed.as_str()),
         [word, first, second] => with_two(word.as_str(), first.as_str(), second.as_str()),
-        [word, instance, plan_file, certificate] => with_three(
+        [word, first, second, third] => with_three(
             word.as_str(),
-            instance.as_str(),
-            plan_file.as_str(),
-            certificate.as_str(),
+            first.as_str(),
+            second.as_str(),
+            third.as_str(),
         ),
         [word, instance, plan_file, certificate, last] => with_last(
             word.as_str(),

@@ -18,12 +18,12 @@ use Rattle.rule_script.specs.declared.statement.Statement.{Statement}
 use Rattle.rule_script.specs.declared.statement.Statement.TheVariants.{Nothing, Let, Each, Once}
 
 adds_none : (p : Instance) → AddsTo p p
-adds_none p = ([], ap (λ (cs : List Constraint). record p { constraints = cs }) (sym (append-nil p.constraints)))
+adds_none p = record { more = []; whole = ap (λ (cs : List Constraint). record p { constraints = cs }) (sym (append-nil p.constraints)) }
 
 adds_both : (p q r : Instance) → AddsTo p q → AddsTo q r → AddsTo p r
 adds_both p q r first second =
-    let both : r ≡ record p { constraints = (p.constraints ++ first.0) ++ second.0 } = second.1 ∙ ap (λ (x : Instance). record x { constraints = x.constraints ++ second.0 }) first.1 in
-    (first.0 ++ second.0, both ∙ ap (λ (cs : List Constraint). record p { constraints = cs }) (append_assoc p.constraints first.0 second.0))
+    let both : r ≡ record p { constraints = (p.constraints ++ first.more) ++ second.more } = second.whole ∙ ap (λ (x : Instance). record x { constraints = x.constraints ++ second.more }) first.whole in
+    record { more = first.more ++ second.more; whole = both ∙ ap (λ (cs : List Constraint). record p { constraints = cs }) (append_assoc p.constraints first.more second.more) }
 
 -- of a result, where there is one
 abbrev Adds : Instance → Result Instance Mistake → Type 0
@@ -35,7 +35,7 @@ AddsIn p (Ok after) = AddsTo p after.given
 AddsIn p (Err m) = Unit {0}
 
 rule_adds : (p : Instance) (c : Constraint) (o : Option RuleFault) → Adds p (unless_faulty o (with_rule p c))
-rule_adds p c None = (c ∷ [], refl)
+rule_adds p c None = record { more = c ∷ []; whole = refl }
 rule_adds p c (Some f) = tt
 
 meant_adds : (p : Instance) (r : Result Constraint Mistake) → Adds p (and_then r (λ c. unless_faulty (rule_fault p c) (with_rule p c)))

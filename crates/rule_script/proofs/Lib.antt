@@ -1,3 +1,4 @@
+pub mod Public
 mod NumberLemmas
 mod PieceLemmas
 mod RangeLemmas

@@ -35,8 +35,9 @@ pub record SetsAreExact : Type 0 where
   pub spelled : (ts rest : List Token) (s : Set) → set_at ts ≡ Some (s, rest) → IsWritten s × Stops rest × (ts ≡ spelled s ++ rest)
 
 -- q is p with more constraints, which stand after those of p
-abbrev pub AddsTo : Instance → Instance → Type 0
-AddsTo p q = (more : List Constraint) × (q ≡ record p { constraints = p.constraints ++ more })
+pub record AddsTo (p q : Instance) : Type 0 where
+  pub more : List Constraint
+  pub whole : q ≡ record p { constraints = p.constraints ++ more }
 
 -- a script changes nothing of a problem, but adds constraints after its own
 abbrev pub ScriptsAdd : Type 0

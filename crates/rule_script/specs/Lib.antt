@@ -15,4 +15,5 @@ pub mod Calls
 pub mod Script
 pub mod LineRefusals
 pub mod Reads
+pub mod Texts
 pub mod Laws

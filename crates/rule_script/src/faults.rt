@@ -65,6 +65,25 @@ pub enum Mistake {
     TooMany,
 }
 
+impl Mistake {
+    ghost use Rattle.rule_script.specs.Texts.{mistake_text};
+
+    /// What is wrong, in the words that are printed after the number of the line.
+    pub fn text(self) -> &'static str
+        ensures { result.now ≡ mistake_text self }
+    {
+        match self {
+            Mistake::NotALine => "not a line",
+            Mistake::TooLong => "too long",
+            Mistake::NoSuch => "no such name",
+            Mistake::OutOfRange => "out of range",
+            Mistake::WrongSort => "wrong sort",
+            Mistake::Twice => "twice",
+            Mistake::TooMany => "over limit",
+        }
+    }
+}
+
 /// Why a line gave nothing.
 #[derive(Clone, Copy, Debug, PartialEq, Eq)]
 pub enum Refusal {

@@ -3,10 +3,13 @@
 use branching::brancher::Brancher;
 use branching::least_start::LeastStart;
 use catalogue::Problem;
+use cert_check::{CheckFault, Verdict};
 use commands::solver::Solver;
 use plan_io::{Desk, OutFault};
-use rule_solver::certify_by_rules;
+use prop_core::propagator::Propagator;
+use rule_solver::{RuleSolver, certify_by_rules};
 use search::Found;
+use slices::Plan;
 use std::alloc::Global;
 
 /// Searches by the rules of the program and the brancher that takes the least start.
@@ -25,9 +28,21 @@ impl Solver for ByLeastStart {
         let mut brancher: Box<dyn Brancher> = Box::new(alloc, LeastStart)?;
         certify_by_rules(alloc, desk, p, budget, &mut brancher, certificate)
     }
+
+    fn check<D: Desk>(
+        &self,
+        alloc: Global,
+        p: &Problem,
+        plan: Option<&Plan>,
+        desk: &mut D,
+        certificate: &str,
+        strict: bool,
+    ) -> Result<Verdict, CheckFault> {
+        RuleSolver.check(alloc, p, plan, desk, certificate, strict)
+    }
 }
 
-/// Has no memory for a search. A command that does not search ends with it as with any other solver.
+/// Has no memory for a search, nor for rules. A command that does not search ends with it as with any other solver.
 pub struct NoMemory;
 
 impl Solver for NoMemory {
@@ -41,5 +56,18 @@ impl Solver for NoMemory {
         _certificate: &str,
     ) -> Result<Found, OutFault> {
         Err(OutFault::Memory)
+    }
+
+    fn check<D: Desk>(
+        &self,
+        alloc: Global,
+        p: &Problem,
+        plan: Option<&Plan>,
+        desk: &mut D,
+        certificate: &str,
+        strict: bool,
+    ) -> Result<Verdict, CheckFault> {
+        let mut rules: Vec<Box<dyn Propagator>> = Vec::new(alloc);
+        cert_check::check(alloc, p, plan, desk, certificate, strict, &mut rules)
     }
 }

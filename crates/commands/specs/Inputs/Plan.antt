@@ -1,6 +1,6 @@
 -- What the bytes of a plan mean for a problem.
 use Rattle.std.specs.Prelude.{ℕ, List, Option, Some, None, Result, Ok, Err, codes}
-use Rattle.cert_write.specs.Prelude.{choices_of, Files, PlanChoices}
+use Rattle.cert_write.specs.Prelude.{Files, PlanChoices}
 use Rattle.cert_check.specs.Prelude.{bytes_of, Choices, choices_handed, Instance, inventory_of}
 use Rattle.plan_json.specs.{Plans.plan_of, Texts.fault_text, declared.fault.PlanFault.PlanFault}
 use Rattle.commands.specs.Inputs.{input_line}
