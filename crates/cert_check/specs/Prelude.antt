@@ -11,7 +11,7 @@ pub use Rattle.trees.specs.declared.steps.Step.TheVariants.{Cut, Decide, Fail, L
 pub use Rattle.cert_text.specs.declared.text.{LineText.LineText, StepText.StepText}
 pub use Rattle.cert_read.specs.Reader.{IsMoved, StandsIn}
 pub use Rattle.cert_read.specs.declared.{line.Line.TheVariants.End, line.Line.TheVariants.Over, line.Line.TheVariants.Step, line.LineFault.LineFault, line.LineFault.TheVariants.NotALine, line.LineFault.TheVariants.ReadFault, line.LineFault.TheVariants.Short, line.LineFault.TheVariants.TooLong, position.Position.Position}
-pub use Rattle.cert_model.specs.Walks.{choices_handed, Ends, IsLeast, IsStanding, IsUnchanged, IsWrong}
+pub use Rattle.cert_model.specs.Walks.{choices_handed, Ends, FollowWalk, IsLeast, IsStanding, IsUnchanged, IsWrong}
 pub use Rattle.cert_model.specs.declared.why.Why.{Why, TheVariants.Goal, TheVariants.Lean, TheVariants.Name, TheVariants.Part, TheVariants.Plan, TheVariants.Reason, TheVariants.Structure}
 pub use Rattle.cert_check.specs.{Laws.CertificateIsAccepted, Laws.HasWritablePart, Laws.IsWritable, Laws.IsYesUnlessOutside, Turns.Concludes, Turns.IsGoing, Turns.IsTaken, Turns.IsUnderway, Turns.TextAnswers, Turns.TurnGives, Verdicts.AreSteps, Verdicts.AreTaken, Verdicts.CheckGives, Verdicts.CountsCheck, Verdicts.IsFit, Verdicts.IsGoalRefused, Verdicts.IsShown, Verdicts.IsSound, Verdicts.IsStepRefused, Verdicts.IsTextWhy, Verdicts.IsYes, Verdicts.LinesGive}
 unfoldable pub use Rattle.cert_check.specs.Names.{as_instant, first_nodes, named_constraint, named_element, named_hall, named_load, named_machine, named_node, named_nodes, named_pair, named_part, named_place, named_reason, named_resource, named_stay, named_step, named_use, node_added, nodes_added}

@@ -9,11 +9,15 @@ use catalogue::Problem;
 use cert_model::why::Why;
 use judge::judge;
 use plan_io::Desk;
+use prop_core::propagator::Propagator;
 use slices::Plan;
 use std::alloc::Global;
 
 /// The verdict on the certificate of this name, for the plan that is handed in, or for none. `strict`
 /// asks for a lean tree.
+///
+/// Where it is strict, the propagators, of which there may be none, are asked first whether a region is
+/// closed. No clause speaks of them: what is promised is the same whichever they are.
 ///
 /// A plan that is not valid is refused at line 0. Else the lines are taken in order, and the first that
 /// cannot be read or does not hold decides. A yes says that the goal is so, whatever the desk tells of
@@ -26,6 +30,7 @@ pub fn check<D: Desk>(
     desk: &mut D,
     name: &str,
     strict: bool,
+    rules: &mut Vec<Box<dyn Propagator>>,
 ) -> Result<Verdict, CheckFault>
     requires plan { IfSome plan (λ a. IsPlanOf p.now.given a.now) }
     requires reads { IsTrue (D.reads name.now) }
@@ -42,7 +47,7 @@ pub fn check<D: Desk>(
             why: Why::Plan,
         });
     }
-    check_lines(alloc, p, plan, desk, name, strict)
+    check_lines(alloc, p, plan, desk, name, strict, rules)
 }
 
 // whether the plan that is handed in, if one is, is valid

@@ -1,6 +1,6 @@
 //! One step of a certificate, taken by its names.
 ghost use Rattle.std.specs.Prelude.{◌≡◌, IfOk, OnErr};
-ghost use Rattle.cert_check.specs.Prelude.{IsStanding, IsUnchanged, named_step, TextAnswers};
+ghost use Rattle.cert_check.specs.Prelude.{FollowWalk, IsStanding, IsUnchanged, named_step, TextAnswers};
 
 use crate::named::step_of;
 use base::Memory;
@@ -8,14 +8,22 @@ use catalogue::Problem;
 use cert_model::walk::Walk;
 use cert_model::why::Why;
 use cert_text::text::StepText;
+use prop_core::propagator::Propagator;
 use trees::Step;
 
 /// Takes the step of a text where it is due, its names are the problem's, and it holds; else says the
 /// first of these that is not so.
-pub fn take(p: &Problem, walk: &mut Walk, text: StepText) -> Result<Option<Why>, Memory>
-    requires { IsStanding p.now.given walk.old }
+pub fn take(
+    p: &Problem,
+    walk: &mut Walk,
+    rules: &mut Vec<Box<dyn Propagator>>,
+    text: StepText,
+) -> Result<Option<Why>, Memory>
+    requires stands { IsStanding p.now.given walk.old }
+    requires follow { FollowWalk (λ b. meaning b) p.now.given walk.old rules.old.items }
     ensures ok { IfOk result (TextAnswers p.now.given walk.old walk.new text) }
     ensures err { OnErr result (IsUnchanged walk.old walk.new) }
+    ensures follow { FollowWalk (λ b. meaning b) p.now.given walk.new rules.new.items }
 {
     let named = step_in(p, text);
     if walk.is_whole() {
@@ -24,7 +32,7 @@ pub fn take(p: &Problem, walk: &mut Walk, text: StepText) -> Result<Option<Why>,
     let Some(step) = named else {
         return Ok(Some(Why::Name));
     };
-    walk.step(p, &step)
+    walk.step(p, &step, rules)
 }
 
 // the step of a text, which is dropped

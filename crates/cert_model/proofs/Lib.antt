@@ -7,4 +7,5 @@ pub mod LeanLemmas
 pub mod PlanLemmas
 pub mod WholeLemmas
 pub mod StandLemmas
+pub mod FollowLemmas
 pub mod WeighedLemmas

@@ -1,7 +1,8 @@
 -- Helping only: what the code keeps of the regions that are open.
 use Rattle.std.specs.Prelude.{◌≡◌, ℕ, List, [], ◌∷◌, ◌++◌, length, map, reverse}
 use Rattle.bound.specs.Prelude.{IsOneOf, RegionView, Sets, sets}
-use Rattle.cert_model.specs.{declared.frontier.Due.Due, declared.frontier.Due.TheVariants.Nothing, declared.frontier.Due.TheVariants.Whole, declared.frontier.Due.TheVariants.Outside, declared.frontier.Frontier.Frontier, declared.frontier.Outer.Outer, Open.due_sets, Open.due_sums, Open.outer_sets}
+use Rattle.prop_core.specs.Prelude.{Instance, Meaning}
+use Rattle.cert_model.specs.{declared.frontier.Due.Due, declared.frontier.Due.TheVariants.Nothing, declared.frontier.Due.TheVariants.Whole, declared.frontier.Due.TheVariants.Outside, declared.frontier.Frontier.Frontier, declared.frontier.Outer.Outer, Following.FollowWhile, Open.due_sets, Open.due_sums, Open.outer_sets}
 
 -- what comes after what is due
 abbrev pub later_sets : Frontier → List Sets
@@ -53,6 +54,10 @@ pub record AreSame (f g : Frontier) : Type 0 where
   pub due : f.due ≡ g.due
   pub sum : f.sum ≡ g.sum
   pub outers : f.outers.items ≡ g.outers.items
+
+-- while it says so, the propagators that are handed in follow its trail
+abbrev pub FollowFrontier : {B : Type 0} → (B → Meaning) → Instance → Frontier → List B → Type 0
+FollowFrontier m p f xs = FollowWhile m p f.trail f.followers.follow xs
 
 -- nothing is kept back: what is due is the region as it is, or there is nothing
 abbrev pub IsEntered : Due → Type 0

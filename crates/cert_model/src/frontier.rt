@@ -1,11 +1,14 @@
 //! What is open: one region that is changed and undone, and the outer sides of the decisions in it.
 ghost use Rattle.std.specs.Prelude.{◌≡◌, ◌∷◌, [], OnOk, OnErr, length};
-ghost use Rattle.cert_model.specs.Prelude.{AreSame, AreSameSize, HasElement, inside, IsEntered, IsKept, later_sets, later_sums, open_sets, open_sums, outside, sets};
+ghost use Rattle.cert_model.specs.Prelude.{AreSame, AreSameSize, FollowFrontier, HasElement, inside, IsEntered, IsKept, later_sets, later_sums, open_sets, open_sums, outside, sets};
 
+use crate::followers::Followers;
 use crate::nearby::Nearby;
 use base::Memory;
+use catalogue::Problem;
 use cluster::Element;
 use domains::{Change, Part, Region, Side};
+use prop_core::propagator::Propagator;
 use std::alloc::Global;
 use trail::Trail;
 
@@ -32,7 +35,7 @@ pub enum Due {
 /// One region, with a mark at each decision whose outer side is open.
 ///
 /// An outer side that becomes due is cut out only when it is entered: the cut may find no memory, and
-/// then nothing else has changed.
+/// then nothing else has changed. The propagators that are handed in may follow the region.
 #[derive(Drop)]
 pub struct Frontier {
     pub trail: Trail,
@@ -43,15 +46,24 @@ pub struct Frontier {
     pub outers: Vec<Outer>,
     /// Which machines to look at first where a load is asked for.
     pub nearby: Nearby,
+    /// Whether the propagators that are handed in follow the trail.
+    pub followers: Followers,
 }
 
 impl Frontier {
     /// The region is due, and nothing else is open.
-    pub fn new(alloc: Global, region: Region, sum: u64, nearby: Nearby) -> Frontier
+    pub fn new(
+        alloc: Global,
+        region: Region,
+        sum: u64,
+        nearby: Nearby,
+        followers: Followers,
+    ) -> Frontier
         ensures trail { result.trail ≡ record { region = region; marks = [] } }
         ensures due { result.due ≡ Due.Whole }
         ensures sum { result.sum ≡ sum }
         ensures outers { result.outers.items ≡ [] }
+        ensures followers { result.followers ≡ followers }
     {
         Frontier {
             trail: Trail::new(alloc, region),
@@ -59,20 +71,24 @@ impl Frontier {
             sum,
             outers: Vec::new(alloc),
             nearby,
+            followers,
         }
     }
 
     /// Makes the region be what is due, where anything is.
-    pub fn enter(&mut self) -> Result<(), Memory>
-        requires { IsKept self.old }
+    pub fn enter(&mut self, p: &Problem, rules: &mut Vec<Box<dyn Propagator>>) -> Result<(), Memory>
+        requires kept { IsKept self.old }
+        requires follow { FollowFrontier (λ b. meaning b) p.now.given self.old rules.old.items }
         ensures kept { IsKept self.new }
         ensures size { AreSameSize self.old self.new }
         ensures sets { open_sets self.new ≡ open_sets self.old }
         ensures sums { open_sums self.new ≡ open_sums self.old }
         ensures entered { OnOk result (IsEntered self.new.due) }
+        ensures follow { FollowFrontier (λ b. meaning b) p.now.given self.new rules.new.items }
     {
         if let Due::Outside(x, part) = self.due {
-            self.trail.apply(to_side(x, part, Side::Outside))?;
+            let outer = to_side(x, part, Side::Outside);
+            self.followers.narrow(p, &mut self.trail, rules, outer)?;
             self.nearby.tell(x, self.trail.region().domain(x));
             self.due = Due::Whole;
         }
@@ -80,17 +96,19 @@ impl Frontier {
     }
 
     /// Closes what is due; the outer side of the newest decision comes next.
-    pub fn close(&mut self)
-        requires { IsKept self.old }
+    pub fn close(&mut self, p: &Problem, rules: &mut Vec<Box<dyn Propagator>>)
+        requires kept { IsKept self.old }
+        requires follow { FollowFrontier (λ b. meaning b) p.now.given self.old rules.old.items }
         ensures kept { IsKept self.new }
         ensures size { AreSameSize self.old self.new }
         ensures sets { open_sets self.new ≡ later_sets self.old }
         ensures sums { open_sums self.new ≡ later_sums self.old }
+        ensures follow { FollowFrontier (λ b. meaning b) p.now.given self.new rules.new.items }
     {
         match self.outers.pop() {
             None => self.due = Due::Nothing,
             Some(outer) => {
-                self.trail.back();
+                self.followers.back(p, &mut self.trail, rules);
                 self.due = Due::Outside(outer.element, outer.part);
                 self.sum = outer.sum;
             }
@@ -98,8 +116,16 @@ impl Frontier {
     }
 
     /// Takes what is inside of a part away; what is outside has that sum.
-    pub fn cut(&mut self, element: Element, part: Part, sum: u64) -> Result<(), Memory>
+    pub fn cut(
+        &mut self,
+        p: &Problem,
+        rules: &mut Vec<Box<dyn Propagator>>,
+        element: Element,
+        part: Part,
+        sum: u64,
+    ) -> Result<(), Memory>
         requires kept { IsKept self.old }
+        requires follow { FollowFrontier (λ b. meaning b) p.now.given self.old rules.old.items }
         requires due { self.old.due ≡ Due.Whole }
         requires element { HasElement self.old.trail.region element }
         ensures kept { IsKept self.new }
@@ -107,8 +133,10 @@ impl Frontier {
         ensures sets { OnOk result (open_sets self.new ≡ outside element part (sets self.old.trail.region) ∷ later_sets self.old) }
         ensures sums { OnOk result (open_sums self.new ≡ sum ∷ later_sums self.old) }
         ensures err { OnErr result (AreSame self.old self.new) }
+        ensures follow { FollowFrontier (λ b. meaning b) p.now.given self.new rules.new.items }
     {
-        self.trail.apply(to_side(element, part, Side::Outside))?;
+        let rest = to_side(element, part, Side::Outside);
+        self.followers.narrow(p, &mut self.trail, rules, rest)?;
         self.nearby
             .tell(element, self.trail.region().domain(element));
         self.sum = sum;
@@ -116,8 +144,15 @@ impl Frontier {
     }
 
     /// Parts what is due: the inside comes first, and has that sum, and the outer side later.
-    pub fn decide(&mut self, inner_sum: u64, outer: Outer) -> Result<(), Memory>
+    pub fn decide(
+        &mut self,
+        p: &Problem,
+        rules: &mut Vec<Box<dyn Propagator>>,
+        inner_sum: u64,
+        outer: Outer,
+    ) -> Result<(), Memory>
         requires kept { IsKept self.old }
+        requires follow { FollowFrontier (λ b. meaning b) p.now.given self.old rules.old.items }
         requires due { self.old.due ≡ Due.Whole }
         requires element { HasElement self.old.trail.region outer.element }
         ensures kept { IsKept self.new }
@@ -125,15 +160,16 @@ impl Frontier {
         ensures sets { OnOk result (open_sets self.new ≡ inside outer.element outer.part (sets self.old.trail.region) ∷ outside outer.element outer.part (sets self.old.trail.region) ∷ later_sets self.old) }
         ensures sums { OnOk result (open_sums self.new ≡ inner_sum ∷ outer.sum ∷ later_sums self.old) }
         ensures err { OnErr result (AreSame self.old self.new) }
+        ensures follow { FollowFrontier (λ b. meaning b) p.now.given self.new rules.new.items }
     {
-        self.trail.mark()?;
+        self.followers.mark(p, &mut self.trail, rules)?;
         let inner = to_side(outer.element, outer.part, Side::Inside);
-        if let Err(failed) = self.trail.apply(inner) {
-            self.trail.back();
+        if let Err(failed) = self.followers.narrow(p, &mut self.trail, rules, inner) {
+            self.followers.back(p, &mut self.trail, rules);
             return Err(failed);
         }
         if self.outers.push(outer).is_err() {
-            self.trail.back();
+            self.followers.back(p, &mut self.trail, rules);
             return Err(Memory);
         }
         self.nearby

@@ -4,6 +4,7 @@
 mod claims;
 mod counts;
 mod ends;
+mod followers;
 mod frontier;
 pub mod laws;
 mod lean;

@@ -5,11 +5,12 @@ ghost use Rattle.base.specs.Least.{lowest};
 ghost use Rattle.trees.specs.Prelude.{bound_of, children, Instance, IsPlanOf, least_cost, plan_costs, sets};
 ghost use Rattle.trees.specs.declared.steps.Step.{Step as AnyStep};
 ghost use Rattle.relax.specs.Areas.{AreLegal, IsSized};
-ghost use Rattle.cert_model.specs.{Frontiers.AreSame, Frontiers.AreSameSize, Frontiers.IsKept, Frontiers.later_sets, Frontiers.later_sums, Frontiers.open_sets, Frontiers.open_sums, Walks.Answers, Walks.Ends, Walks.IsLeast, Walks.IsStanding, Walks.IsUnchanged, Walks.IsWholeAt, Walks.IsWrong, Walks.PartHolds, Walks.Stands, Walks.WalkAt, Walks.choices_handed};
+ghost use Rattle.cert_model.specs.{Frontiers.AreSame, Frontiers.AreSameSize, Frontiers.FollowFrontier, Frontiers.IsKept, Frontiers.later_sets, Frontiers.later_sums, Frontiers.open_sets, Frontiers.open_sums, Walks.Answers, Walks.Ends, Walks.FollowWalk, Walks.IsLeast, Walks.IsStanding, Walks.IsUnchanged, Walks.IsWholeAt, Walks.IsWrong, Walks.PartHolds, Walks.Stands, Walks.WalkAt, Walks.choices_handed};
 
 use crate::claims::fault;
 use crate::counts::{cheaper, counted, goal_shown, is_same_goal, least_with, lower};
 use crate::ends::sum_seen;
+use crate::followers::Followers;
 use crate::frontier::{Due, Frontier, Outer};
 use crate::lean::is_lean;
 use crate::nearby::Nearby;
@@ -18,6 +19,7 @@ use base::Memory;
 use bound::lower_bound::sum_of;
 use catalogue::Problem;
 use domains::Side;
+use prop_core::propagator::Propagator;
 use relax::start::start_region;
 use slices::Plan;
 use slices::plan::cost;
@@ -28,7 +30,8 @@ use trees::{Goal, Step};
 /// A walk over the steps of a certificate, in their order.
 ///
 /// It keeps one region and what undoes the changes since each open decision, so a step costs what its
-/// change and its reason cost.
+/// change and its reason cost. Where the walk is strict, propagators that are handed in follow that region,
+/// and are asked first whether it is closed; what is promised of an answer is the same whichever they are.
 #[derive(Drop)]
 pub struct Walk {
     frontier: Frontier,
@@ -56,6 +59,7 @@ impl Model for Walk {
       least_left = w.least_left;
       bound = w.bound;
       strict = w.strict;
+      follow = w.frontier.followers.follow;
     } };
 
     ghost invariant = { λ w. IsKept w.frontier };
@@ -63,15 +67,18 @@ impl Model for Walk {
 
 impl Walk {
     /// A walk that has taken no step, for the plan that is handed in, or for none. `strict` asks for a
-    /// lean tree. The only error is want of memory.
+    /// lean tree, and posts the propagators, which are then handed in with each step. The only error is
+    /// want of memory.
     pub fn new(
         alloc: Global,
         p: &Problem,
         plan: Option<&Plan>,
         strict: bool,
+        rules: &mut Vec<Box<dyn Propagator>>,
     ) -> Result<Walk, Memory>
         requires { IfSome plan (λ a. IsPlanOf p.now.given a.now) }
-        ensures { IfOk result (Stands p.now.given (bound_of p.now.given (choices_handed (option_copied plan.entry))) strict []) }
+        ensures stands { IfOk result (Stands p.now.given (bound_of p.now.given (choices_handed (option_copied plan.entry))) strict []) }
+        ensures follow { IfOk result (λ w. FollowWalk (λ b. meaning b) p.now.given w rules.new.items) }
     {
         let bound = match plan {
             None => None,
@@ -80,8 +87,9 @@ impl Walk {
         let region = start_region(alloc, p)?;
         let sum = sum_of(p, &region);
         let nearby = Nearby::of(alloc, p)?;
+        let followers = Followers::new(alloc, p, &region, strict, rules);
         Ok(Walk {
-            frontier: Frontier::new(alloc, region, sum, nearby),
+            frontier: Frontier::new(alloc, region, sum, nearby, followers),
             decisions: 0,
             cheapest: None,
             least_left: None,
@@ -92,13 +100,20 @@ impl Walk {
 
     /// Takes a step, where it is due and holds; else says why not: the first of structure, part,
     /// reason or plan, and leanness where that is asked. Where it is not taken the walk is as it was,
-    /// also after want of memory.
-    pub fn step(&mut self, p: &Problem, step: &Step) -> Result<Option<Why>, Memory>
-        requires { IsStanding p.now.given self.old }
+    /// also after want of memory. The propagators are those that were handed in before.
+    pub fn step(
+        &mut self,
+        p: &Problem,
+        step: &Step,
+        rules: &mut Vec<Box<dyn Propagator>>,
+    ) -> Result<Option<Why>, Memory>
+        requires stands { IsStanding p.now.given self.old }
+        requires follow { FollowWalk (λ b. meaning b) p.now.given self.old rules.old.items }
         ensures ok { IfOk result (Answers p.now.given self.old self.new step.now) }
         ensures err { OnErr result (IsUnchanged self.old self.new) }
+        ensures follow { FollowWalk (λ b. meaning b) p.now.given self.new rules.new.items }
     {
-        self.frontier.enter()?;
+        self.frontier.enter(p, rules)?;
         let Due::Whole = self.frontier.due else {
             return Ok(Some(Why::Structure));
         };
@@ -106,6 +121,7 @@ impl Walk {
         if let Some(why) = refusal(
             p,
             &self.frontier,
+            rules,
             self.bound,
             self.strict,
             self.cheapest,
@@ -113,7 +129,7 @@ impl Walk {
         )? {
             return Ok(Some(why));
         }
-        advance(p, &mut self.frontier, step)?;
+        advance(p, &mut self.frontier, rules, step)?;
         self.decisions = counted(self.decisions, step);
         self.cheapest = cheaper(self.cheapest, step);
         self.least_left = least_with(self.least_left, sum, step);
@@ -160,6 +176,7 @@ impl Walk {
 fn refusal(
     p: &Problem,
     frontier: &Frontier,
+    rules: &mut Vec<Box<dyn Propagator>>,
     bound: Option<u64>,
     strict: bool,
     cheapest: Option<u64>,
@@ -168,10 +185,12 @@ fn refusal(
     requires region { IsSized p.now.given frontier.now.trail.region }
     requires legal { AreLegal p.now.given (sets frontier.now.trail.region) }
     requires sum { frontier.now.sum ≡ least_cost p.now.given (sets frontier.now.trail.region) }
+    requires follow { FollowFrontier (λ b. meaning b) p.now.given frontier.now rules.old.items }
     ensures holds { IfOk result (λ why. why ≡ None → (e : List AnyStep) → cheapest ≡ lowest (λ c. c) (plan_costs e)
         → WalkAt p.now.given bound strict e (sets frontier.now.trail.region) step.now) }
     ensures refused { IfOk result (λ why. (e : List AnyStep) → cheapest ≡ lowest (λ c. c) (plan_costs e)
         → IfSome why (IsWrong p.now.given bound strict e (sets frontier.now.trail.region) step.now)) }
+    ensures follow { FollowFrontier (λ b. meaning b) p.now.given frontier.now rules.new.items }
 {
     let alloc = *frontier.outers.allocator();
     let region = frontier.trail.region();
@@ -189,25 +208,32 @@ fn refusal(
     if !strict {
         return Ok(None);
     }
-    if !is_lean(p, cheapest, region, frontier.sum, step) {
+    if !is_lean(p, cheapest, frontier, rules, step) {
         return Ok(Some(Why::Lean));
     }
     Ok(None)
 }
 
 // puts in the place of what is due what a step that holds leaves open there
-fn advance(p: &Problem, frontier: &mut Frontier, step: &Step) -> Result<(), Memory>
+fn advance(
+    p: &Problem,
+    frontier: &mut Frontier,
+    rules: &mut Vec<Box<dyn Propagator>>,
+    step: &Step,
+) -> Result<(), Memory>
     requires kept { IsKept frontier.old }
     requires due { frontier.old.due ≡ Due.Whole }
     requires region { IsSized p.now.given frontier.old.trail.region }
     requires legal { AreLegal p.now.given (sets frontier.old.trail.region) }
     requires sum { frontier.old.sum ≡ least_cost p.now.given (sets frontier.old.trail.region) }
     requires part { PartHolds p.now.given (sets frontier.old.trail.region) step.now }
+    requires follow { FollowFrontier (λ b. meaning b) p.now.given frontier.old rules.old.items }
     ensures kept { IsKept frontier.new }
     ensures size { AreSameSize frontier.old frontier.new }
     ensures sets { OnOk result (open_sets frontier.new ≡ children (sets frontier.old.trail.region) step.now ++ later_sets frontier.old) }
     ensures sums { OnOk result (open_sums frontier.new ≡ map (least_cost p.now.given) (children (sets frontier.old.trail.region) step.now) ++ later_sums frontier.old) }
     ensures err { OnErr result (AreSame frontier.old frontier.new) }
+    ensures follow { FollowFrontier (λ b. meaning b) p.now.given frontier.new rules.new.items }
 {
     let sum = frontier.sum;
     match step {
@@ -220,14 +246,14 @@ fn advance(p: &Problem, frontier: &mut Frontier, step: &Step) -> Result<(), Memo
                 part: *part,
                 sum: outer_sum,
             };
-            frontier.decide(inner_sum, outer)
+            frontier.decide(p, rules, inner_sum, outer)
         }
         Step::Cut(x, part, _) => {
             let left = sum_seen(p, frontier.trail.region(), sum, *x, *part, Side::Outside);
-            frontier.cut(*x, *part, left)
+            frontier.cut(p, rules, *x, *part, left)
         }
         Step::Fail(_) | Step::Plan(_) | Step::Left => {
-            frontier.close();
+            frontier.close(p, rules);
             Ok(())
         }
     }

@@ -1,5 +1,5 @@
 -- Which constraints are dirty.
-use Rattle.rule_constraint.proofs.Prelude.{◌≡◌, inl, inr, ℕ, Bool, true, false, List, Option, Some, None, refl, slice_get, AreLooking, Choice, choose, Constraint, constraint_watch, Element, Instance, IsClean, IsDisturbed, IsSpared, IsUnseen, kept_watch, Levels, no_watch, TheNode, nothing, passes, reason_kind, ReasonKind, rule_watch, Sets, StaysClean, Vm, watch_at, watch_of, unseen_still}
+use Rattle.rule_constraint.proofs.Prelude.{◌≡◌, inl, inr, ℕ, Bool, true, false, List, Option, Some, None, refl, slice_get, AreFewer, AreLooking, Choice, choose, Constraint, constraint_watch, Element, Instance, IsClean, IsDisturbed, IsHarmless, IsSpared, IsUnseen, kept_watch, Levels, no_watch, TheNode, nothing, passes, reason_kind, ReasonKind, rule_watch, Sets, Vm, watch_at, watch_of, unseen_still}
 
 -- what does not look at an element does not look at it where it is left out
 unseen-kept : (kinds : ReasonKind → Bool) (p : Instance) (x : Element) (o : Option Constraint) → IsUnseen (watch_of p o).scope x → IsUnseen (kept_watch kinds p o).scope x
@@ -14,14 +14,14 @@ unseen-kept kinds p x (Some k) h = at (passes kinds (reason_kind k))
     at true = h
     at false = by x
 
-pub kept_disturbed : (kinds : ReasonKind → Bool) (p : Instance) (x : Element) (old now : List Choice) (m n : Levels) → AreLooking (IsSpared kinds p x now) p x m n → IsDisturbed (watch_at kinds p) p x old now m n
-kept_disturbed kinds p x old now m n looking = record {
+pub kept_disturbed : (kinds : ReasonKind → Bool) (p : Instance) (x : Element) (old now : List Choice) (m n : Levels) → AreFewer now old → AreLooking (IsSpared kinds p x now) p x m n → IsDisturbed (watch_at kinds p) p x old now m n
+kept_disturbed kinds p x old now m n fewer looking = record {
   older = looking.older;
   count = looking.count;
   kept = looking.kept;
   still = λ c h e. elim (looking.unseen c h e) [
     | inl unseen ↦ inl (unseen_still p (watch_at kinds p c).scope x old now (unseen-kept kinds p x (slice_get p.constraints c) unseen))
-    | inr spared ↦ inr (spared old)
+    | inr spared ↦ spared old fewer
   ];
 }
 
@@ -32,14 +32,14 @@ none-clean : (p : Instance) (s : Sets) → IsClean no_watch p s
 none-clean p s t l = record { base = λ broken. broken; ends = λ e c element end broken. broken }
 
 spared-none : (kinds : ReasonKind → Bool) (p : Instance) (x : Element) (now : List Choice) (c : ℕ) (k : Constraint) → slice_get p.constraints c ≡ Some k → passes kinds (reason_kind k) ≡ false → IsSpared kinds p x now c
-spared-none kinds p x now c k is none old s same clean = rw (is, none) (none-clean p s)
+spared-none kinds p x now c k is none old fewer = inr (λ s same clean. rw (is, none) (none-clean p s))
 
 pub spared_settled : (kinds : ReasonKind → Bool) (p : Instance) (x : Element) (now : List Choice) (c : ℕ) (k : Constraint) → slice_get p.constraints c ≡ Some k → reason_kind k ≡ None → IsSpared kinds p x now c
 spared_settled kinds p x now c k is settled = spared-none kinds p x now c k is (rw settled refl)
 
 pub spared_covered : (kinds : ReasonKind → Bool) (p : Instance) (x : Element) (now : List Choice) (c : ℕ) (k : Constraint) (kind : ReasonKind) → slice_get p.constraints c ≡ Some k → reason_kind k ≡ Some kind → kinds kind ≡ true →
-    ((old : List Choice) → StaysClean (constraint_watch p c) p x old now) → IsSpared kinds p x now c
-spared_covered kinds p x now c k kind is of covered stays old = rw (is, of, covered) (rw is at (stays old))
+    IsHarmless (constraint_watch p c) p x now → IsSpared kinds p x now c
+spared_covered kinds p x now c k kind is of covered harmless old fewer = rw (is, of, covered) (rw is at (harmless old fewer))
 
 pub spared_of_others : (kinds : ReasonKind → Bool) (p : Instance) (x : Element) (now : List Choice) (c : ℕ) (k : Constraint) (kind : ReasonKind) → slice_get p.constraints c ≡ Some k → reason_kind k ≡ Some kind → kinds kind ≡ false → IsSpared kinds p x now c
 spared_of_others kinds p x now c k kind is of other = spared-none kinds p x now c k is (rw of other)

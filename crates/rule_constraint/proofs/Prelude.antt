@@ -5,5 +5,5 @@ pub use Rattle.closing.specs.Watches.{IsMachineUnseen, IsNodeUnseen}
 pub use Rattle.cluster.specs.declared.choices.Choice.TheVariants.{Idle}
 pub use Rattle.domains.proofs.Public.{contains_filter}
 pub use Rattle.reasons.proofs.Public.{ends_of_rows, setting_sets}
-pub use Rattle.rule_frame.proofs.Public.{unseen_still}
-pub use Rattle.rule_constraint.specs.Prelude.{Act, Apart, AreDirty, AreLooking, Arrival, At, Between, Choice, Climbs, Constraint, DomainView, Each, Element, HasList, Instance, IsAdded, IsBrokenBy, IsClean, IsDisturbed, IsElement, IsEnd, IsInPart, IsIndexOf, IsListed, IsMember, IsPut, IsSpared, IsStanding, IsUnseen, Levels, Lists, Node as TheNode, NodeId, NodeSet, Nowhere, Ordered, Powered, ReasonKind, Row, Scope, Sets, Snapshot, Standing, StaysClean, Upto, Vm, VmId, actions_of, broken_at, broken_by, choices, choose, comes_by, constraint_watch, form_of, form_seen, has_come, has_node, in_part, is_continuous, is_member, kept_watch, leave_of, no_row, no_watch, nothing, one, passes, presences_of, present_at, reason_kind, row_at, rule_watch, scope_of, sets, setting, sure, vm, watch_at, watch_of}
+pub use Rattle.rule_frame.proofs.Public.{narrowed_is_fewer, unseen_still}
+pub use Rattle.rule_constraint.specs.Prelude.{Act, Apart, AreDirty, AreFewer, AreLooking, Arrival, At, Between, Choice, Climbs, Constraint, DomainView, Each, Element, HasList, Instance, IsAdded, IsBrokenBy, IsClean, IsDisturbed, IsElement, IsEnd, IsHarmless, IsInPart, IsIndexOf, IsListed, IsMember, IsPut, IsSpared, IsStanding, IsUnseen, Levels, Lists, Node as TheNode, NodeId, NodeSet, Nowhere, Ordered, Powered, ReasonKind, Row, Scope, Sets, Snapshot, Standing, StaysClean, Upto, Vm, VmId, actions_of, broken_at, broken_by, choices, choose, comes_by, constraint_watch, form_of, form_seen, has_come, has_node, in_part, is_continuous, is_member, kept_watch, leave_of, no_row, no_watch, nothing, one, passes, presences_of, present_at, reason_kind, row_at, rule_watch, scope_of, sets, setting, sure, vm, watch_at, watch_of}

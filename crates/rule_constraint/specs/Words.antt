@@ -4,6 +4,7 @@ pub use Rattle.profiles.specs.Prelude.{AreLeaves, AreMovers, base, comes_by, goe
 unfoldable pub use Rattle.profiles.specs.Prelude.{held_at, usable_at}
 pub use Rattle.rule_frame.specs.Prelude.{AllClean, Allowed, Apart, Bounded, BreaksGroup, broken_at, choices, Climbs, constraint_watch, DomainView, ExceedsAmount, ExceedsPower, FailHolds, Form, form_of, FormForbidsPair, FormForbidsPlace, HasPair, HasPlace, in_part, Instance, InTurn, IsBroken, IsCacheFor, IsClean, IsDisturbed, IsElement, IsEnd, IsFree, IsGroup, IsInPart, IsLocal, IsLook, IsMember, IsPower, IsQuietKind, IsSetLoad, IsSized, IsStill, IsUnseen, Levels, machine_count, MayAnswer, no_row, node, node_count, Nodes, NoneBroken, nothing, one, Ordered, Powered, rule_watch, Scope, scope_of, Sets, sets, setting, Settled, Snapshot, StaysClean, Together, vm, Watch, watch_of}
 unfoldable pub use Rattle.rule_frame.specs.Prelude.{has_node, sure}
+pub use Rattle.domains.specs.Prelude.{AreFewer}
 pub use Rattle.slices.specs.Holds.{ForbidsPlace}
 pub use Rattle.closing.proofs.Public.{constraint_is_local}
 pub use Rattle.cluster.specs.declared.choices.Choice.{Choice}

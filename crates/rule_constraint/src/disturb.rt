@@ -1,7 +1,7 @@
 //! Which constraints are dirty after a change: those that look at its element, but for those that are seen to stay clean.
 ghost use Rattle.std.specs.Prelude.{◌≡◌, ◌<◌, ◌≤◌, ℕ, IsTrue, List, length};
 ghost use Rattle.std.specs.List.{Contains};
-ghost use Rattle.rule_constraint.specs.Prelude.{AreDirty, Choice as AnyChoice, IsDisturbed, IsElement, IsIndexOf, IsSized, IsSpared, machine_count, sets, watch_at};
+ghost use Rattle.rule_constraint.specs.Prelude.{AreDirty, AreFewer, Choice as AnyChoice, IsDisturbed, IsElement, IsIndexOf, IsSized, IsSpared, machine_count, sets, watch_at};
 ghost use Rattle.cluster.specs.declared.ids.Element.TheVariants.{Vm};
 
 use crate::kinds::reason_kind;
@@ -54,8 +54,8 @@ fn set_each_dirty(numbers: &[u32], dirty: &mut DirtySet)
     }
 }
 
-/// Sets dirty each constraint that looks at an element, by its number, but for those that stay clean: so each on which a
-/// change of the element weighs. No other constraint is looked for.
+/// Sets dirty each constraint that looks at an element, by its number, but for those that stay clean: so each on which it
+/// weighs that the element has lost choices. No other constraint is looked for.
 pub fn set_looking_dirty<S: Kinds>(
     kinds: &S,
     index: &ConstraintIndex,
@@ -68,7 +68,7 @@ pub fn set_looking_dirty<S: Kinds>(
     requires right { IsIndexOf p.now.given (length p.now.given.constraints) index.now.lists }
     requires element { IsElement p.now.given e }
     requires count { length p.now.given.constraints ≤ length dirty.old.top }
-    ensures { (old : List AnyChoice) → IsDisturbed (watch_at (S.kinds kinds.now) p.now.given) p.now.given e old (sets g.now e) dirty.old dirty.new }
+    ensures { (old : List AnyChoice) → AreFewer (sets g.now e) old → IsDisturbed (watch_at (S.kinds kinds.now) p.now.given) p.now.given e old (sets g.now e) dirty.old dirty.new }
 {
     match e {
         Element::Vm(v) => {

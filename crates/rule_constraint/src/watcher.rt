@@ -16,12 +16,12 @@ use rule_frame::{
 
 /// The kinds of reasons that a rule covers, of those that constraints give, and how it looks at a constraint.
 pub trait Kinds: Drop {
-    ghost use Rattle.std.specs.Prelude.{◌≡◌, ◌<◌, ◌≤◌, Bool, IfSome, IsTrue, List, None, false, length, slice_get};
-    ghost use Rattle.rule_frame.specs.Prelude.{broken_at, Choice, constraint_watch, in_part, IsElement, IsLook, IsSized, keeping, machine_count, seen, sets, StaysClean, sure, Vm};
+    ghost use Rattle.std.specs.Prelude.{◌≡◌, ◌<◌, ◌≤◌, Bool, IfSome, IsTrue, None, false, length, slice_get};
+    ghost use Rattle.rule_frame.specs.Prelude.{broken_at, constraint_watch, in_part, IsElement, IsLook, IsSized, keeping, machine_count, seen, sets, sure, Vm};
     ghost use Rattle.reasons.specs.declared.reason.ReasonKind.{ReasonKind as AnyKind};
     ghost use Rattle.reasons.specs.declared.reason.ReasonKind.TheVariants.{Load, Usable};
     ghost use Rattle.prop_core.specs.Propagators.{FailHolds, MayAnswer};
-    ghost use Rattle.rule_constraint.specs.Watches.{kept_watch};
+    ghost use Rattle.rule_constraint.specs.Watches.{IsHarmless, kept_watch};
 
     ghost kinds: { Self → AnyKind → Bool };
 
@@ -55,13 +55,13 @@ pub trait Kinds: Drop {
         None
     }
 
-    /// Whether it is seen that a constraint, where it was clean before a change of a machine, is clean after it. It need not be
-    /// seen, and then it is looked at again.
+    /// Whether it is seen that a constraint, where it was clean before a machine lost choices, is clean with those that it has
+    /// now. It need not be seen, and then it is looked at again.
     fn spares(&self, p: &Problem, g: &Region, c: u32, v: VmId) -> bool
         requires region { IsSized p.now.given g.now }
         requires constraint { c < length p.now.given.constraints }
         requires machine { v.0 < machine_count p.now.given }
-        ensures { IsTrue result → (old : List Choice) → StaysClean (constraint_watch p.now.given c) p.now.given (Vm v) old (sets g.now (Vm v)) }
+        ensures { IsTrue result → IsHarmless (constraint_watch p.now.given c) p.now.given (Vm v) (sets g.now (Vm v)) }
     {
         false
     }

@@ -3,5 +3,6 @@ pub mod Public
 mod AskLemmas
 mod ChangeLemmas
 mod EndLemmas
+mod StartLemmas
 mod TellLemmas
 mod WidenLemmas

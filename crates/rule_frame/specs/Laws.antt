@@ -1,8 +1,7 @@
 -- Helping only: what a change leaves clean.
-use Rattle.std.specs.Prelude.{ℕ, List}
+use Rattle.std.specs.Prelude.{List}
 use Rattle.rule_frame.specs.Words.{Instance, IsClean, IsElement, IsLocal, IsUnseen, Scope, Sets, Watch, Choice, Element, putting}
-use Rattle.rule_frame.specs.Changes.{IsDisturbed, IsStill}
-use Rattle.rule_frame.specs.Levels.{Levels}
+use Rattle.rule_frame.specs.Changes.{IsStill}
 
 -- a clean watch stays clean where a change does not weigh on it
 abbrev pub StillClean : Type 1

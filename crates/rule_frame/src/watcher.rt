@@ -77,6 +77,16 @@ pub trait Watcher<K: Keeper> {
         None
     }
 
+    /// Whether it is seen at once that a watch is clean. It need not be seen, and then cuts are proposed, and it is looked at.
+    fn is_clean(&self, k: &K, p: &Problem, g: &Region, i: usize) -> bool
+        requires region { IsRegionOf p.now.given g.now }
+        requires right { IsCacheFor (K.cache k.now) p.now.given (sets g.now) }
+        requires watch { i < count_of self.now p.now.given }
+        ensures { IsTrue result → IsClean (watch self.now p.now.given i) p.now.given (sets g.now) }
+    {
+        false
+    }
+
     /// Puts cuts into a list that are worth a try before a look at a watch, which may take far longer: as those that are
     /// suggested they are looked at exactly, and the watch is looked at where none of them holds. None need be put.
     fn propose(
@@ -193,6 +203,9 @@ fn ask_one<K: Keeper, W: Watcher<K>>(
 {
     if let Some(reason) = w.refuted(k, p, g, i) {
         return Ok(Some(Asked::Refuted(reason)));
+    }
+    if w.is_clean(k, p, g, i) {
+        return Ok(None);
     }
     w.propose(k, p, g, i, proposed)?;
     if let Some(it) = take_one(proposed, w, k, p, g) {

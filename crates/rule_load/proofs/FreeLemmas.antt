@@ -28,7 +28,7 @@ module _ (p : Instance) (s : Sets) (r : ℕ) (set : Nodes) (x : Period) (most : 
   machine-free : MachinesFit p s r set x most spare → (v : ℕ) (c : Choice) (t : ℕ) → v < machine_count p → IsEnd (s (vm v)) c → IsDuring x t → ¬ IsOverload p (sure p (setting (vm v) c s) t) r set
   machine-free machines v c t l end h over =
       let others = left-out (machine_count p) (sure-use t) most v l (λ k b. are.each k t b h) in
-      let fits = (machines.each v l).each c t (end_is_choice (s (vm v)) c end) h in
+      let fits = (machines.each v l).each c t end h in
       let changed = setting_total p s v c t (Amount r) set l in
       let same = (machine_change p (setting (vm v) c s) s v t l (setting_agrees s (vm v) c)).of_room r set in
       let had = has.at t h in

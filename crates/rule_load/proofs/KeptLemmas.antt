@@ -1,5 +1,5 @@
 -- The machines near each node, told of one more.
-use Rattle.rule_load.proofs.Prelude.{◌≡◌, inl, inr, ℕ, ◌-◌, ◌<◌, Bool, true, false, cond, nat_le, List, length, Some, None, refl, sym, ap, subst, ◌∙◌, arith, slice_index_or, Contains, and_parts, cases_eq, false≢true, ne_eqb, nat_tests, AreFirstAt, AreFirsts, AreKept, AreKeptAt, AreMovers, AreStanding, Arrival, Before, cache_of, Change, Choice, choices, comes_by, domain_at, domain_before, DomainView, Element, FixedView, Grows, HaveCome, Instance, IsCacheTold, IsGrown, IsListedBy, IsListedFor, IsNarrowed, IsNear, IsPut, level_at, list_at, machine_count, no_standing, TheNode, node_count, on_side, one, RegionView, same_element, Sets, sets, Standing, Tables, Vm, vm, sets_before, filter_is_fewer, same_is, level_below, level_top, near_put, movers_grown, firsts_fewer}
+use Rattle.rule_load.proofs.Prelude.{narrowed_is_fewer, ◌≡◌, inl, inr, ℕ, ◌<◌, Bool, true, false, cond, nat_le, List, length, Some, None, refl, sym, ap, subst, ◌∙◌, arith, slice_index_or, Contains, and_parts, cases_eq, false≢true, ne_eqb, nat_tests, AreFirstAt, AreFirsts, AreKept, AreKeptAt, AreMovers, AreStanding, Arrival, Before, cache_of, Change, Choice, choices, comes_by, domain_at, domain_before, DomainView, Element, FixedView, Grows, HaveCome, Instance, IsCacheTold, IsGrown, IsListedBy, IsListedFor, IsNarrowed, IsNear, IsPut, level_at, list_at, machine_count, no_standing, TheNode, node_count, one, RegionView, same_element, Sets, sets, Standing, Tables, Vm, vm, sets_before, same_is, level_below, level_top, near_put, movers_grown, firsts_fewer}
 use Rattle.profiles.specs.Levels.{Levels}
 
 -- ---- one machine more
@@ -56,7 +56,7 @@ pub kept_fewer : (p : Instance) (g : RegionView) (change : Change) (before : Bef
 kept_fewer p g change before kept m x xs f ws narrowed was = firsts_fewer p (sets g) (sets_before g change.element before kept) f.top (kept_firsts p (sets_before g change.element before kept) m x xs f ws was) (λ v c low h. at v c (same_element (vm v) change.element) refl h)
   where
     at : (v : ℕ) (c : Choice) (b : Bool) → same_element (vm v) change.element ≡ b → Contains (sets g (vm v)) c → Contains (cond b (choices (domain_before before kept (domain_at g change.element))) (sets g (vm v))) c
-    at v c true same h = filter_is_fewer (on_side change.side change.part) (choices (domain_before before kept (domain_at g change.element))) c (subst (λ cs. Contains cs c) narrowed.left (subst (λ e. Contains (sets g e) c) (same_is (vm v) change.element same) h))
+    at v c true same h = narrowed_is_fewer p g change before kept narrowed c (subst (λ e. Contains (sets g e) c) (same_is (vm v) change.element same) h)
     at v c false other h = h
 
 pub cache_told : (p : Instance) (s old : Sets) (m now : Tables) (x : FixedView) (xs ys : List (List ℕ)) (f h : Levels ℕ) (ws vs : List ℕ) → now.older ≡ m.older → h.older ≡ f.older → AreStanding p s now.top → AreFirsts p s h.top → AreKept p old m x xs f ws (length m.older) → Grows (machine_count p) xs ys → HaveCome p s ys →

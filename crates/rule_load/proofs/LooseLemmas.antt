@@ -1,6 +1,6 @@
 -- Which room all nodes have where some of them may be usable or not.
-use Rattle.rule_load.proofs.Prelude.{◌≡◌, inl, inr, ℕ, ◌+◌, ◌<◌, ◌≤◌, Bool, true, false, cond, nat_lt, refl, sym, ◌∙◌, arith, Contains, cases_eq, false≢true, lt-ltb, sum_to-le, setting_room}
-use Rattle.rule_load.specs.Prelude.{all_nodes, capacity_of, Choice, HasRoom, Instance, is_online, is_steady, IsAtStake, IsDuring, may, node, node_count, NodesFit, Period, Sets, sum_to, sure, usable_at}
+use Rattle.rule_load.proofs.Prelude.{◌≡◌, ℕ, ◌+◌, ◌<◌, ◌≤◌, Bool, true, false, cond, nat_lt, refl, sym, ◌∙◌, arith, false≢true, lt-ltb, sum_to-le, setting_room}
+use Rattle.rule_load.specs.Prelude.{all_nodes, capacity_of, HasRoom, Instance, is_online, is_steady, IsAtStake, IsDuring, may, node, node_count, NodesFit, Period, Sets, sum_to, sure, usable_at}
 use Rattle.rule_load.proofs.RoomLemmas.{each-steady, may-between, may-more, offline-after, online-before}
 
 part : (b : Bool) (k : ℕ) → cond b k 0 ≤ k

@@ -1,6 +1,6 @@
 -- A change of a machine does not weigh on its host, where it surely keeps that as long as before; and where all its choices came before.
-use Rattle.rule_load.proofs.Prelude.{min, ◌≡◌, ◌≢◌, ◌⊎◌, inl, inr, ℕ, zero, suc, ◌+◌, ◌-◌, ◌<◌, ◌≤◌, ◌&&◌, Bool, true, false, nat_le, nat_lt, cond, Option, Some, None, unwrap_or, List, [], ◌∷◌, refl, sym, ap, subst, ◌∙◌, arith, cases_lt, false≢true, Decides-eqb, nat_tests, Contains, filter, Act, Amount, AreFewer, Arrival, At, base, CameBefore, Choice, choices, comes_by, DomainView, From, gain, goes_in, has_come, have_come, held_at, hosted_in, Idle, in_part, Instance, IsEnd, IsMachineLess, IsStill, KeepsHost, least, leave_climbs, leave_of, load_scope, Lost, lost_choices, lower_option, lowest, never, NodeId, Nowhere, one, restored, Row, starts_from, state_of, vm, LostRow, contains_filter, least_of_each, lowest_before, restored_is_both, surely_each}
-use Rattle.rule_load.proofs.StillLemmas.{cases_in, held_parts, last_of, least_above, least_attained}
+use Rattle.rule_load.proofs.Prelude.{min, ◌≡◌, ◌≢◌, ◌⊎◌, inl, inr, ℕ, zero, suc, ◌+◌, ◌-◌, ◌<◌, ◌≤◌, ◌&&◌, Bool, true, false, nat_le, nat_lt, cond, Option, Some, None, unwrap_or, List, [], ◌∷◌, refl, sym, ap, subst, ◌∙◌, arith, cases_lt, false≢true, Decides-eqb, nat_tests, Contains, filter, Act, Amount, AreFewer, Arrival, At, base, CameBefore, Choice, choices, comes_by, DomainView, From, gain, goes_in, has_come, have_come, held_at, hosted_in, Idle, in_part, Instance, IsEnd, IsMachineLess, IsStill, KeepsHost, least, leave_climbs, leave_of, load_scope, Lost, lost_choices, lower_option, lowest, never, NodeId, Nowhere, one, restored, Row, starts_from, state_of, vm, LostRow, contains_filter, least_of_each, lowest_before, restored_is_both, surely_each, cases_in, last_of}
+use Rattle.rule_load.proofs.StillLemmas.{held_parts, least_above, least_attained}
 
 -- ---- until when the host is kept
 

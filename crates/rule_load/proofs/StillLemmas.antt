@@ -1,5 +1,5 @@
 -- A change of a machine does not weigh on the load of a node that is not its host, unless all its choices come there sooner now.
-use Rattle.rule_load.proofs.Prelude.{◌≡◌, ◌≢◌, ◌⊎◌, inl, inr, ℕ, zero, suc, ◌+◌, ◌<◌, ◌≤◌, Bool, true, false, ◌&&◌, nat_le, nat_lt, cond, Option, Some, None, List, [], ◌∷◌, refl, sym, ap, subst, ◌∙◌, arith, cases_eq, cases_lt, false≢true, nat_tests, Contains, Act, Amount, AreFewer, Arrival, At, base, Choice, comes_by, gain, has_come, have_come, held_at, hosted_in, Idle, Instance, IsEnd, IsLess, IsMachineLess, IsStanding, IsStill, kept_use, least, leave_of, load_scope, never, node, NodeId, Nowhere, one, Standing, state_of, surely, vm, Weight, Place, contains_here, unseen_still, kept_law}
+use Rattle.rule_load.proofs.Prelude.{◌≡◌, ◌≢◌, ◌⊎◌, inl, inr, ℕ, ◌+◌, ◌<◌, ◌≤◌, Bool, true, false, ◌&&◌, nat_le, nat_lt, cond, Option, Some, None, List, [], ◌∷◌, refl, sym, ap, ◌∙◌, arith, cases_lt, false≢true, nat_tests, Contains, Act, Amount, AreFewer, Arrival, At, base, Choice, comes_by, gain, has_come, have_come, held_at, hosted_in, Idle, Instance, IsEnd, IsLess, IsMachineLess, IsStanding, IsStill, kept_use, least, leave_of, load_scope, never, node, Nowhere, one, Standing, state_of, surely, vm, Weight, contains_here, first_of, later_in, no_less, unseen_still, kept_law}
 
 -- ---- one choice, away from the host
 
@@ -27,15 +27,6 @@ brought_alone p v w n t k off = rw off (omega arith)
 held_alone : (p : Instance) (v : ℕ) (w : Weight) (n t : ℕ) (c : Choice) → t < never → hosted_in (state_of p v) (one n) ≡ false → held_at p v w (one n) t c ≡ cond (comes_by n t (arrival_of c)) (gain p v w n) 0
 held_alone p v w n t c h off = kept_law p v w n t (c ∷ []) (record { leave = leave_of p v c; come = arrival_of c }) h (choice_stands p v c) ∙ brought_alone p v w n t (record { leave = leave_of p v c; come = arrival_of c }) off
 
--- a sooner start holds no less
-no_less : (there : Bool) (u s t k : ℕ) → u ≤ s → cond (there && nat_le s t) k 0 ≤ cond (there && nat_le u t) k 0
-no_less false u s t k l = omega arith
-no_less true u s t k l = by (cases_lt t s)
-  where
-    by : (t < s) ⊎ (s ≤ t) → cond (nat_le s t) k 0 ≤ cond (nat_le u t) k 0
-    by (inl early) = let off : nat_le s t ≡ false = grind (arith, nat_tests, early) in rw off (omega arith)
-    by (inr late) = let on : nat_le s t ≡ true = grind (arith, nat_tests, late) in let too : nat_le u t ≡ true = grind (arith, nat_tests, late, l) in rw (on, too) (omega arith)
-
 pub come_is : (c : Choice) (n t : ℕ) → comes_by n t (arrival_of c) ≡ has_come n t c
 come_is Idle n t = refl
 come_is (Act Nowhere s) n t = refl
@@ -46,73 +37,6 @@ held_parts p v w n t c h =
     kept_law p v w n t (c ∷ []) (record { leave = leave_of p v c; come = arrival_of c }) h (choice_stands p v c)
     ∙ ap (λ b. cond (hosted_in (state_of p v) (one n) && nat_lt t (leave_of p v c)) (base p v w) 0 + cond b (gain p v w n) 0) (come_is c n t)
 
--- ---- the first and the last start at a place
-
-starts_at : (c : Choice) (q : Place) → ((s : ℕ) × (c ≡ Act q s)) ⊎ ((u : ℕ) → c ≢ Act q u)
-starts_at Idle q = inr (λ u e. cc)
-starts_at (Act Nowhere s) Nowhere = inl (s, refl)
-starts_at (Act Nowhere s) (At m) = inr (λ u e. cc)
-starts_at (Act (At k) s) Nowhere = inr (λ u e. cc)
-starts_at (Act (At k) s) (At m) = by (cases_eq k.0 m.0)
-  where
-    number : (k m : NodeId) (s u : ℕ) → Act (At k) s ≡ Act (At m) u → k ≡ m
-    number k m s u e = cc
-
-    by : (k.0 ≡ m.0) ⊎ (k.0 ≢ m.0) → ((u : ℕ) × (Act (At k) s ≡ Act (At m) u)) ⊎ ((u : ℕ) → Act (At k) s ≢ Act (At m) u)
-    by (inl same) = inl (s, ap (λ (i : ℕ). let c : Choice = Act (At (record { 0 = i })) s in c) same)
-    by (inr other) = inr (λ u e. other (ap (λ (i : NodeId). i.0) (number k m s u e)))
-
-start_is : (q : Place) (s u : ℕ) → Act q s ≡ Act q u → s ≡ u
-start_is q s u e = cc
-
-pub cases_in : (c d : Choice) (cs : List Choice) → Contains (c ∷ cs) d → (c ≡ d) ⊎ Contains cs d
-cases_in c d cs (zero, h, e) = inl e
-cases_in c d cs (suc k, h, e) = inr (k, omega arith, e)
-
-later-in : (c d : Choice) (cs : List Choice) → Contains cs d → Contains (c ∷ cs) d
-later-in c d cs (k, h, e) = (suc k, omega arith, e)
-
--- by an order of instants: the start at a place that comes before all others there
-module _ (before : ℕ → ℕ → Type 0) (total : (a b : ℕ) → before a b ⊎ before b a) (trans : (a b c : ℕ) → before a b → before b c → before a c) where
-  abbrev IsOutermost : List Choice → Place → ℕ → Type 0
-  IsOutermost cs q b = Contains cs (Act q b) × ((u : ℕ) → Contains cs (Act q u) → before b u)
-
-  self : (a : ℕ) → before a a
-  self a = elim (total a a) [ inl x ↦ x | inr x ↦ x ]
-
-  outermost_or_none : (cs : List Choice) (q : Place) → ((b : ℕ) × IsOutermost cs q b) ⊎ ((u : ℕ) → ¬ Contains cs (Act q u))
-  outermost_or_none [] q = inr (λ u h. omega (arith, h.1))
-  outermost_or_none (c ∷ cs) q = by (starts_at c q) (outermost_or_none cs q)
-    where
-      among : (s b : ℕ) → c ≡ Act q s → before b s → ((u : ℕ) → Contains cs (Act q u) → before b u) → (u : ℕ) → Contains (c ∷ cs) (Act q u) → before b u
-      among s b is first rest u h = elim (cases_in c (Act q u) cs h) [ inl here ↦ subst (λ u. before b u) (start_is q s u (sym is ∙ here)) first | inr later ↦ rest u later ]
-
-      head : (s : ℕ) → c ≡ Act q s → Contains (c ∷ cs) (Act q s)
-      head s is = (0, omega arith, is)
-
-      by : ((s : ℕ) × (c ≡ Act q s)) ⊎ ((u : ℕ) → c ≢ Act q u) → ((b : ℕ) × IsOutermost cs q b) ⊎ ((u : ℕ) → ¬ Contains cs (Act q u)) → ((b : ℕ) × IsOutermost (c ∷ cs) q b) ⊎ ((u : ℕ) → ¬ Contains (c ∷ cs) (Act q u))
-      by (inl here) (inl rest) =
-          elim (total rest.0 here.0) [
-            | inl l ↦ inl (rest.0, (later-in c (Act q rest.0) cs rest.1.0, among here.0 rest.0 here.1 l rest.1.1))
-            | inr l ↦ inl (here.0, (head here.0 here.1, among here.0 here.0 here.1 (self here.0) (λ u h. trans here.0 rest.0 u l (rest.1.1 u h))))
-          ]
-      by (inl here) (inr none) = inl (here.0, (head here.0 here.1, among here.0 here.0 here.1 (self here.0) (λ u h. absurd (none u h))))
-      by (inr other) (inl rest) = inl (rest.0, (later-in c (Act q rest.0) cs rest.1.0, λ u h. elim (cases_in c (Act q u) cs h) [ inl here ↦ absurd (other u here) | inr later ↦ rest.1.1 u later ]))
-      by (inr other) (inr none) = inr (λ u h. elim (cases_in c (Act q u) cs h) [ inl here ↦ other u here | inr later ↦ none u later ])
-
-  outermost_of : (cs : List Choice) (q : Place) (s : ℕ) → Contains cs (Act q s) → (b : ℕ) × IsOutermost cs q b
-  outermost_of cs q s h = elim (outermost_or_none cs q) [ inl x ↦ x | inr none ↦ absurd (none s h) ]
-
-pub first_of : (cs : List Choice) (q : Place) (s : ℕ) → Contains cs (Act q s) → (b : ℕ) × Contains cs (Act q b) × ((u : ℕ) → Contains cs (Act q u) → b ≤ u)
-first_of cs q s h =
-    let x = outermost_of (λ a b. a ≤ b) (λ a b. elim (cases_lt a b) [ inl l ↦ inl (omega (arith, l)) | inr l ↦ inr l ]) (λ a b c l u. omega (arith, l, u)) cs q s h in
-    (x.0, x.1.0, x.1.1)
-
-pub last_of : (cs : List Choice) (q : Place) (s : ℕ) → Contains cs (Act q s) → (b : ℕ) × Contains cs (Act q b) × ((u : ℕ) → Contains cs (Act q u) → u ≤ b)
-last_of cs q s h =
-    let x = outermost_of (λ a b. b ≤ a) (λ a b. elim (cases_lt a b) [ inl l ↦ inr (omega (arith, l)) | inr l ↦ inl l ]) (λ a b c l u. omega (arith, l, u)) cs q s h in
-    (x.0, x.1.0, x.1.1)
-
 -- ---- the least of some choices
 
 -- some choice has it
@@ -122,7 +46,7 @@ least_attained f c (d ∷ ds) =
     let rest = least_attained f d ds in
     elim (cases_lt (f c) (least f (d ∷ ds))) [
       | inl l ↦ (c, contains_here c (d ∷ ds), omega (arith, l))
-      | inr l ↦ (rest.0, later-in c rest.0 (d ∷ ds) rest.1, omega (arith, l, rest.2))
+      | inr l ↦ (rest.0, later_in c rest.0 (d ∷ ds) rest.1, omega (arith, l, rest.2))
     ]
 
 -- a number that no choice is below is no more than the least, where there is a choice

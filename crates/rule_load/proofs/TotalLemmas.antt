@@ -1,6 +1,6 @@
 -- What one machine uses at the most on the nodes of any set.
-use Rattle.rule_load.proofs.Prelude.{slice_index_or, Contains, sum_by, nat_lt, ◌≡◌, inl, inr, ℕ, suc, ◌+◌, ◌-◌, ◌<◌, ◌≤◌, Bool, true, false, not, ◌&&◌, nat_le, cond, Option, Some, None, List, [], ◌∷◌, refl, sym, ◌∙◌, arith, cases_lt, false≢true, nat_tests, Place, ends_by_duration, contains_here, least_of_each, may_each, sum_but_for}
-use Rattle.rule_load.specs.Prelude.{Act, acting_slices, action_duration, Allocate, Amount, AreMost, AreMovers, AreStanding, At, base, Boot, Choice, demand_of, end_of, Gone, had_there, HasLeft, held_at, held_by, Idle, idle_slices, Init, Instance, IsDuring, IsMost, IsStanding, kept_until, Kill, Kind, kind_of, least, leave_of, machine_count, may, may_wait, Migrate, most_anywhere, never, no_standing, Nodes, Period, Ready, RegionView, Resume, Running, sets, Shutdown, Sleeping, Slices, slices_by, slices_of, Stage, stage_at, stage_from, Standing, start_count, StartsAfter, State, state_of, sum_to, sure, Suspend, use_of, vm, waits, weigh, weight_if}
+use Rattle.rule_load.proofs.Prelude.{slice_index_or, Contains, sum_by, nat_lt, ◌≡◌, inl, inr, ℕ, suc, ◌+◌, ◌-◌, ◌<◌, ◌≤◌, Bool, true, false, not, ◌&&◌, nat_le, cond, Option, Some, None, List, [], ◌∷◌, length, refl, sym, ◌∙◌, arith, cases_lt, false≢true, nat_tests, Place, ends_by_duration, contains_here, ends_of_rows, least_of_each, may_each, sum_but_for}
+use Rattle.rule_load.specs.Prelude.{Act, acting_slices, action_duration, Allocate, Amount, AreMost, AreMovers, AreStanding, At, base, Boot, Choice, choices, Climbs, demand_of, DomainView, end_of, Gone, had_there, held_at, held_by, Idle, idle_slices, Init, Instance, IsDuring, IsMost, IsMostUnder, IsRowEnd, IsStanding, kept_until, Kill, Kind, kind_of, least, leave_of, machine_count, may, may_wait, Migrate, most_anywhere, never, no_row, no_standing, Nodes, Period, Ready, RegionView, Resume, Row, Running, sets, Shutdown, Sleeping, Slices, slices_by, slices_of, Stage, stage_at, stage_from, Standing, State, state_of, sum_to, sure, Suspend, use_of, vm, waits, weigh, weight_if}
 use Rattle.rule_load.proofs.StillLemmas.{least_attained}
 
 -- ---- what slices weigh
@@ -172,22 +172,33 @@ base_but_for p g ks r x xs are =
     sum_but_for (machine_count p) (λ v. most_anywhere p v r x (may_wait p (sets g) x v) (slice_index_or ks v no_standing)) (λ v. base p v (Amount r)) xs are.machines.once are.machines.each
     (λ v low out. let stays : may_wait p (sets g) x v ≡ true = may_each (waits p.horizon x.to) (sets g (vm v)) Idle (are.others v low out) refl in rw stays refl)
 
--- ---- under each of its choices
+-- ---- under its choices
 
 pub ever_most : (p : Instance) (v : ℕ) (cs : List Choice) (r : ℕ) (set : Nodes) (x : Period) (had demand bound : ℕ) → had ≡ base p v (Amount r) → demand ≡ demand_of p v r → had + demand ≤ bound → IsMost p v cs r set x bound
 ever_most p v cs r set x had demand bound a b fits = record { each = λ c t i h. omega (arith, a, b, fits, held-ever p v r set t c) }
 
-pub left_most : (p : Instance) (v : ℕ) (cs : List Choice) (r : ℕ) (set : Nodes) (x : Period) (demand bound : ℕ) → x.to < never → demand ≡ demand_of p v r → HasLeft p v cs x.from → demand ≤ bound → IsMost p v cs r set x bound
-left_most p v cs r set x demand bound short is left fits = record {
-  each = λ c t i h. omega (arith, is, fits, held-after p v r set t c (omega (arith, short, h.1)) (omega (arith, left.each c i, h.0)));
-}
+pub ever_under : (p : Instance) (v : ℕ) (c : Choice) (r : ℕ) (set : Nodes) (x : Period) (had demand bound : ℕ) → had ≡ base p v (Amount r) → demand ≡ demand_of p v r → had + demand ≤ bound → IsMostUnder p v c r set x bound
+ever_under p v c r set x had demand bound a b fits = record { each = λ t h. omega (arith, a, b, fits, held-ever p v r set t c) }
 
-pub later_most : (p : Instance) (v : ℕ) (cs : List Choice) (r : ℕ) (set : Nodes) (x : Period) (had bound : ℕ) → had ≡ base p v (Amount r) → StartsAfter cs x.to → had ≤ bound → IsMost p v cs r set x bound
-later_most p v cs r set x had bound is after fits = record { each = λ c t i h. omega (arith, is, fits, at c t h (after.each c i)) }
-  where
-    at : (c : Choice) (t : ℕ) → IsDuring x t → x.to < start_count c → held_at p v (Amount r) set t c ≤ base p v (Amount r)
-    at Idle t h l = absurd (omega (arith, l))
-    at (Act place s) t h l = held-before p v r set t place s (omega (arith, h.1, l))
+pub left_under : (p : Instance) (v : ℕ) (c : Choice) (r : ℕ) (set : Nodes) (x : Period) (demand bound : ℕ) → x.to < never → demand ≡ demand_of p v r → demand ≤ bound → leave_of p v c ≤ x.from → IsMostUnder p v c r set x bound
+left_under p v c r set x demand bound short is fits left = record { each = λ t h. omega (arith, is, fits, held-after p v r set t c (omega (arith, short, h.1)) (omega (arith, left, h.0))) }
 
-pub all_after : (cs : List Choice) (t x : ℕ) → x ≡ least start_count cs → t < x → StartsAfter cs t
-all_after cs t x is l = record { each = λ c i. omega (arith, is, l, least_of_each start_count cs c i) }
+pub later_under : (p : Instance) (v : ℕ) (place : Place) (start r : ℕ) (set : Nodes) (x : Period) (had bound : ℕ) → had ≡ base p v (Amount r) → had ≤ bound → x.to < start → IsMostUnder p v (Act place start) r set x bound
+later_under p v place start r set x had bound is fits late = record { each = λ t h. omega (arith, is, fits, held-before p v r set t place start (omega (arith, h.1, late))) }
+
+idle-under : (p : Instance) (v r : ℕ) (set : Nodes) (x : Period) (had bound : ℕ) → had ≡ base p v (Amount r) → had ≤ bound → IsMostUnder p v Idle r set x bound
+idle-under p v r set x had bound is fits = record { each = λ t h. omega (arith, is, fits, held-idle p v r set t) }
+
+-- both ends of the first rows
+module _ (p : Instance) (v r : ℕ) (set : Nodes) (x : Period) (bound : ℕ) where
+  abbrev pub RowsUnder : List Row → ℕ → Type 0
+  RowsUnder rows count = (i : ℕ) → i < count → IsMostUnder p v (Act (slice_index_or rows i no_row).place (slice_index_or rows i no_row).lo) r set x bound × IsMostUnder p v (Act (slice_index_or rows i no_row).place (slice_index_or rows i no_row).hi) r set x bound
+
+  pub ends_under : (cs : List Choice) (d : DomainView) (rows : List Row) (count had : ℕ) → cs ≡ choices d → rows ≡ d.rows → Climbs 0 rows → length rows ≤ count → had ≡ base p v (Amount r) → (d.idle ≡ true → had ≤ bound) → RowsUnder rows count → IsMost p v cs r set x bound
+  ends_under cs d rows count had seen same climbs past is idle under = record { each = λ c t end h. (at c ((ends_of_rows d (rw same at climbs) c).0 (rw seen at end))).each t h }
+    where
+      at : (c : Choice) → IsRowEnd d c → IsMostUnder p v c r set x bound
+      at Idle e = idle-under p v r set x had bound is (idle e)
+      at (Act place start) e =
+          let both = under e.0 (let low : e.0 < length rows = rw same e.1 in omega (arith, past, low)) in
+          elim e.3 [ inl lo ↦ rw (← e.2, ← lo) (rw same at both.0) | inr hi ↦ rw (← e.2, ← hi) (rw same at both.1) ]

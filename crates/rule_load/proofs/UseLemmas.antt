@@ -1,5 +1,5 @@
 -- What one machine uses of a node at the most during a period.
-use Rattle.rule_load.proofs.Prelude.{◌≡◌, ◌≢◌, ℕ, ◌+◌, ◌-◌, ◌<◌, ◌≤◌, ◌==◌, Bool, true, false, ◌&&◌, nat_lt, nat_le, cond, Option, Some, None, List, [], ◌∷◌, ◌++◌, length, refl, sym, ap, subst, ◌∙◌, arith, IfSome, slice_index_or, Contains, filter, false≢true, get_or_default, Decides-eqb, nat_tests, contains_filter, least_of_each, surely_each, kept_law}
+use Rattle.rule_load.proofs.Prelude.{end_is_choice, ◌≡◌, ◌≢◌, ℕ, ◌+◌, ◌-◌, ◌<◌, ◌≤◌, ◌==◌, Bool, true, false, ◌&&◌, nat_lt, nat_le, cond, Option, Some, None, List, [], ◌∷◌, ◌++◌, length, refl, sym, ap, subst, ◌∙◌, arith, IfSome, slice_index_or, Contains, filter, false≢true, get_or_default, Decides-eqb, nat_tests, contains_filter, least_of_each, surely_each, kept_law}
 use Rattle.rule_load.specs.Prelude.{Act, Allocate, Amount, AreFirstAt, AreMost, AreStanding, Arrival, At, base, Boot, brought, Choice, choices, comes_by, demand_of, DomainView, Forge, gain, has_come, HasLeft, have_come, hosted_in, Idle, in_part, Inside, Instance, IsDuring, IsMost, IsMostBrought, IsMostLeft, IsStanding, kept_use, Kill, Kind, kind_of, least, leave_of, left_over, machine_count, Migrate, most_kept, never, no_standing, NodeBoot, NodeId, NodeShutdown, Nowhere, on_side, one, Period, Resume, Row, Sets, Shutdown, Standing, StartsPast, state_of, sure, Suspend, Upto, vm, Weight, weight_if}
 use Rattle.rule_load.proofs.StillLemmas.{held_parts}
 
@@ -48,8 +48,8 @@ pub fits_now : (p : Instance) (v : ℕ) (cs : List Choice) (r n : ℕ) (x : Peri
 fits_now p v cs r n x left come bound short a b fits = record {
   each = λ c t i h.
       let parts = held_parts p v (Amount r) n t c (omega (arith, short, h.1)) in
-      let first = a.each c t i h.0 in
-      let second = b.each c t i h.1 in
+      let first = a.each c t (end_is_choice cs c i) h.0 in
+      let second = b.each c t (end_is_choice cs c i) h.1 in
       omega (arith, parts, first, second, fits);
 }
 

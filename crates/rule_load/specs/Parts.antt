@@ -1,7 +1,7 @@
 -- What the code says of single machines and nodes.
 use Rattle.std.specs.Prelude.{ℕ, ◌-◌, ◌<◌, ◌≤◌, ◌&&◌, List, nat_lt, if◌then◌else◌}
 use Rattle.std.specs.List.{Contains}
-use Rattle.rule_load.specs.Words.{base, gain, has_come, hosted_in, Instance, leave_of, never, one, start_count, state_of, usable_at, Choice, Act, At, Amount}
+use Rattle.rule_load.specs.Words.{base, gain, has_come, hosted_in, Instance, leave_of, never, one, state_of, usable_at, Choice, Act, At, Amount}
 
 -- under each of these choices machine v gives its host up by the instant
 pub record HasLeft (p : Instance) (v : ℕ) (cs : List Choice) (by : ℕ) : Type 0 where
@@ -18,10 +18,6 @@ pub record IsMostBrought (p : Instance) (v : ℕ) (cs : List Choice) (n r by m :
 -- none of these choices starts at node n up to an instant
 pub record StartsPast (cs : List Choice) (n by : ℕ) : Type 0 where
   pub after : (start : ℕ) → Contains cs (Act (At (record { 0 = n })) start) → by < start
-
--- each of these choices starts after the instant; Idle does not
-pub record StartsAfter (cs : List Choice) (t : ℕ) : Type 0 where
-  pub each : (c : Choice) → Contains cs c → t < start_count c
 
 -- how long before the end of time machine v gives its host up, 0 where it never does
 abbrev pub left_over : Instance → ℕ → Choice → ℕ

@@ -1,7 +1,7 @@
 -- What is so at each instant of a period.
 use Rattle.std.specs.Prelude.{ℕ, ◌+◌, ◌<◌, ◌≤◌, ◌&&◌, List, nat_lt, if◌then◌else◌}
 use Rattle.std.specs.List.{Contains}
-use Rattle.rule_load.specs.Words.{base, capacity_of, comes_by, gain, held_at, hosted_in, Instance, machine_count, node, node_count, Nodes, one, room, Sets, setting, Snapshot, state_of, sure, usable_at, vm, IsFreeOf, IsOverloaded, Choice, Weight, Amount, Standing}
+use Rattle.rule_load.specs.Words.{base, capacity_of, comes_by, gain, held_at, hosted_in, Instance, machine_count, node, node_count, Nodes, one, room, Sets, setting, Snapshot, state_of, sure, usable_at, vm, IsEnd, IsFreeOf, IsOverloaded, Choice, Weight, Amount, Standing}
 use Rattle.rule_load.specs.declared.period.Period.{Period}
 
 -- the instant is one of the period
@@ -30,11 +30,15 @@ most_kept p v w n x k =
 pub record AreMost (p : Instance) (s : Sets) (r : ℕ) (set : Nodes) (x : Period) (most : ℕ → ℕ) : Type 0 where
   pub each : (v t : ℕ) → v < machine_count p → IsDuring x t → (sure p s t).held v (Amount r) set ≤ most v
 
--- under none of these choices does machine v use more than m
-pub record IsMost (p : Instance) (v : ℕ) (cs : List Choice) (r : ℕ) (set : Nodes) (x : Period) (m : ℕ) : Type 0 where
-  pub each : (c : Choice) (t : ℕ) → Contains cs c → IsDuring x t → held_at p v (Amount r) set t c ≤ m
+-- under a choice machine v uses no more than m
+pub record IsMostUnder (p : Instance) (v : ℕ) (c : Choice) (r : ℕ) (set : Nodes) (x : Period) (m : ℕ) : Type 0 where
+  pub each : (t : ℕ) → IsDuring x t → held_at p v (Amount r) set t c ≤ m
 
--- where so much is spare, no machine uses more under any of its choices than that and `most` of it
+-- nor under any end of these choices
+pub record IsMost (p : Instance) (v : ℕ) (cs : List Choice) (r : ℕ) (set : Nodes) (x : Period) (m : ℕ) : Type 0 where
+  pub each : (c : Choice) (t : ℕ) → IsEnd cs c → IsDuring x t → held_at p v (Amount r) set t c ≤ m
+
+-- where so much is spare, no machine uses more under any end of its choices than that and `most` of it
 pub record MachinesFit (p : Instance) (s : Sets) (r : ℕ) (set : Nodes) (x : Period) (most : ℕ → ℕ) (spare : ℕ) : Type 0 where
   pub each : (v : ℕ) → v < machine_count p → IsMost p v (s (vm v)) r set x (spare + most v)
 

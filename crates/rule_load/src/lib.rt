@@ -19,6 +19,7 @@ mod room;
 pub mod rule;
 pub mod standings;
 mod suggest;
+mod total_fit;
 mod total_look;
 mod total_suggest;
 mod total_uses;

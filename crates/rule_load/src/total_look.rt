@@ -5,7 +5,8 @@ ghost use Rattle.rule_load.specs.Prelude.{all_nodes, AreMovers, AreStanding, IsF
 use crate::change_instants::next_change_anywhere;
 use crate::loose_room::loose_room;
 use crate::room::steady_room;
-use crate::total_uses::{machines_fit, most_total};
+use crate::total_fit::machines_fit;
+use crate::total_uses::most_total;
 use crate::{Fixed, Period, Standing, resource_total};
 use closing::watch::look_at_total_load;
 use rule_frame::{Look, Problem, Region};

@@ -10,4 +10,4 @@ pub use Rattle.rule_constraint.proofs.Public.{arrival, arrived, each_member, kep
 pub use Rattle.rule_frame.proofs.Public.{unseen_still}
 pub use Rattle.rule_frame.specs.Changes.{IsMachineLess}
 pub use Rattle.slices.proofs.Public.{sound_form}
-pub use Rattle.rule_place.specs.Prelude.{Act, AreDirtyUpTo, AreNodesDirty, Choice, Element, Instance, IsAllowed, IsDisturbed, IsLook, IsPlace, IsStill, IsUnusable, LetsGo, Levels, Look, MayGo, Node as TheNode, NodeId, Sets, Snapshot, StaysClean, Vm, VmId, broken_at, choices, forbidden_kinds, leave_of, no_row, node_count, one, needed_watch, seen, sets, sure, usable_watch, watch_at}
+pub use Rattle.rule_place.specs.Prelude.{Act, AreDirtyUpTo, AreNodesDirty, Choice, Element, Instance, IsAllowed, IsDisturbed, IsLook, IsPlace, IsStill, IsUnusable, LetsGo, Levels, Look, MayGo, Node as TheNode, NodeId, Sets, Snapshot, Vm, VmId, broken_at, choices, forbidden_kinds, leave_of, no_row, node_count, one, needed_watch, seen, sets, sure, usable_watch, watch_at}

@@ -1,6 +1,6 @@
 -- A constraint on places stays clean where a machine that changes is only where it may be.
 use Rattle.rule_place.proofs.Prelude.{IsTrue, slice_get, ◌≡◌, ◌≢◌, inl, inr, ℕ, ◌<◌, ◌≤◌, ◌||◌, ◌==◌, List, Some, refl, sym, ◌∙◌, cases_eq, ne_eqb, own_present, same_present, vm_or}
-use Rattle.rule_place.specs.Prelude.{Allowed, Choice, Constraint, constraint_watch, Element, ForbidsPlace, form_of, Instance, is_continuous, IsAllowed, IsClean, IsElement, IsEnd, machine_count, node_count, of_kind, one, Place as PlaceKind, Places, putting, reason_kind, rule_watch, Sets, setting, StaysClean, sure, vm, VmId, Vm}
+use Rattle.rule_place.specs.Prelude.{Allowed, Choice, Constraint, constraint_watch, Element, ForbidsPlace, form_of, Instance, is_continuous, IsAllowed, IsClean, IsElement, IsEnd, IsHarmless, machine_count, node_count, of_kind, one, Place as PlaceKind, Places, putting, reason_kind, rule_watch, Sets, setting, sure, vm, VmId, Vm}
 use Rattle.rule_place.proofs.AllowedLemmas.{off-with, surely-off}
 
 module _ (p : Instance) (k : Constraint) (v : ℕ) (old : List Choice) (s : Sets) (is : reason_kind k ≡ Some PlaceKind) (allowed : IsAllowed p s k v) (clean : IsClean (rule_watch p k) p (putting (vm v) old s)) where
@@ -41,5 +41,5 @@ module _ (p : Instance) (k : Constraint) (v : ℕ) (old : List Choice) (s : Sets
 allowed-at : (p : Instance) (k : Constraint) (v : ℕ) (s r : Sets) → s (vm v) ≡ r (vm v) → IsAllowed p r k v → IsAllowed p s k v
 allowed-at p k v s r same allowed = record { some = rw same allowed.some; off = λ n t c due not_there end. allowed.off n t c due not_there (rw same at end) }
 
-pub allowed_spared : (p : Instance) (c : ℕ) (k : Constraint) (vs : List VmId) (places : Places) (v : VmId) (r : Sets) → slice_get p.constraints c ≡ Some k → form_of k ≡ Allowed vs places → IsAllowed p r k v.0 → (old : List Choice) → StaysClean (constraint_watch p c) p (Vm v) old (r (Vm v))
-allowed_spared p c k vs places v r at is allowed old s same clean = rw at (stays p k v.0 old s (rw is refl) (allowed-at p k v.0 s r same allowed) (rw at at clean))
+pub allowed_spared : (p : Instance) (c : ℕ) (k : Constraint) (vs : List VmId) (places : Places) (v : VmId) (r : Sets) → slice_get p.constraints c ≡ Some k → form_of k ≡ Allowed vs places → IsAllowed p r k v.0 → IsHarmless (constraint_watch p c) p (Vm v) (r (Vm v))
+allowed_spared p c k vs places v r at is allowed old fewer = inr (λ s same clean. rw at (stays p k v.0 old s (rw is refl) (allowed-at p k v.0 s r same allowed) (rw at at clean)))

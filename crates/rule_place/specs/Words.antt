@@ -3,7 +3,7 @@ pub use Rattle.closing.specs.Prelude.{are_below, inventory_of, is_rule, IsMachin
 pub use Rattle.profiles.specs.Prelude.{kept_use, never}
 unfoldable pub use Rattle.profiles.specs.Prelude.{stage_at}
 pub use Rattle.rule_frame.specs.Prelude.{HasPlace, IsLess, IsRegionOf, seen}
-pub use Rattle.rule_constraint.specs.Prelude.{AllClean, Allowed, AreLeaves, broken_at, choices, choose, Climbs, constraint_watch, comes_by, DomainView, FailHolds, ForbidsPlace, form_of, goes_in, has_come, hosted_in, in_part, Instance, is_continuous, IsBrokenBy, IsClean, IsDisturbed, IsElement, IsEnd, IsLocal, IsLook, IsMember, IsQuietKind, IsSized, IsStill, kinds_are_quiet, leave_of, Levels, machine_count, MayAnswer, no_row, node, node_count, Nodes, one, present_at, reason_kind, row_at, rule_watch, Sets, sets, setting, Snapshot, stands_on, StaysClean, StandsUnder, state_of, usable_watch, vm, Watch, watch_at, watch_count, watches_are_local}
+pub use Rattle.rule_constraint.specs.Prelude.{AllClean, Allowed, AreLeaves, broken_at, choices, choose, Climbs, constraint_watch, comes_by, DomainView, FailHolds, ForbidsPlace, form_of, goes_in, has_come, hosted_in, in_part, Instance, is_continuous, IsBrokenBy, IsClean, IsDisturbed, IsElement, IsEnd, IsHarmless, IsLocal, IsLook, IsMember, IsQuietKind, IsSized, IsStill, kinds_are_quiet, leave_of, Levels, machine_count, MayAnswer, no_row, node, node_count, Nodes, one, present_at, reason_kind, row_at, rule_watch, Sets, sets, setting, Snapshot, stands_on, StandsUnder, state_of, usable_watch, vm, Watch, watch_at, watch_count, watches_are_local}
 unfoldable pub use Rattle.rule_constraint.specs.Prelude.{held_at, sure, usable_at}
 pub use Rattle.domains.specs.Parts.{on_side}
 pub use Rattle.domains.specs.SetsBefore.{putting}

@@ -1,7 +1,7 @@
 //! Whether machines are only where a constraint lets them be, told for all instants up to the horizon at once.
-ghost use Rattle.std.specs.Prelude.{◌≡◌, ℕ, ◌<◌, ◌≤◌, ◌&&◌, ◌||◌, ◌==◌, false, length, nat_lt, true, slice_index_or, IsTrue, List};
+ghost use Rattle.std.specs.Prelude.{◌≡◌, ℕ, ◌<◌, ◌≤◌, ◌&&◌, ◌||◌, ◌==◌, false, length, nat_lt, true, slice_index_or, IsTrue};
 ghost use Rattle.std.specs.List.{list_all};
-ghost use Rattle.rule_place.specs.Prelude.{Allowed, Choice as AnyChoice, choices, constraint_watch, ForbidsPlace, form_of as the_form_of, inventory_of, is_rule, IsAllowed, IsClean, IsMember, IsOffHost, IsSized, machine_count, MayGo, no_row, places_seen, rule_watch, sets, StaysClean, Vm};
+ghost use Rattle.rule_place.specs.Prelude.{Allowed, choices, constraint_watch, ForbidsPlace, form_of as the_form_of, inventory_of, is_rule, IsAllowed, IsClean, IsHarmless, IsMember, IsOffHost, IsSized, machine_count, MayGo, no_row, places_seen, rule_watch, sets, Vm};
 
 use crate::leaving::leaves_by;
 use crate::places::limits_of;
@@ -112,7 +112,7 @@ pub fn is_spared(p: &Problem, g: &Region, c: u32, v: VmId) -> bool
     requires region { IsSized p.now.given g.now }
     requires constraint { c < length p.now.given.constraints }
     requires machine { v.0 < machine_count p.now.given }
-    ensures { IsTrue result → (old : List AnyChoice) → StaysClean (constraint_watch p.now.given c) p.now.given (Vm v) old (sets g.now (Vm v)) }
+    ensures { IsTrue result → IsHarmless (constraint_watch p.now.given c) p.now.given (Vm v) (sets g.now (Vm v)) }
 {
     let constraint = &p.constraints()[c as usize];
     match limits_of(constraint) {

@@ -103,11 +103,11 @@ module _ (p : Instance) (sound : IsInstance p) (w : Weight) (set : Nodes) where
   so-so false b n = omega arith
 
   -- so it holds no more than what it has at present, and what it brings where it goes to the set
-  held-most : (v t : ℕ) (c : Choice) → t ≤ p.horizon → held_at p v w set t c ≤ stay_of p w set v + if_so (goes_in c set) (unit_of p v w)
-  held-most v t c l = omega (arith, held_parts v t c l, so_most (nat_lt t (leave_of p v c)) (stay_of p w set v), so-so (goes_in c set) (has_started t c) (unit_of p v w))
+  pub held_most : (v t : ℕ) (c : Choice) → t ≤ p.horizon → held_at p v w set t c ≤ stay_of p w set v + if_so (goes_in c set) (unit_of p v w)
+  held_most v t c l = omega (arith, held_parts v t c l, so_most (nat_lt t (leave_of p v c)) (stay_of p w set v), so-so (goes_in c set) (has_started t c) (unit_of p v w))
 
   pub held_ever : (v t : ℕ) (c : Choice) → t ≤ p.horizon → held_at p v w set t c ≤ stay_of p w set v + unit_of p v w
-  held_ever v t c l = omega (arith, held-most v t c l, so_most (goes_in c set) (unit_of p v w))
+  held_ever v t c l = omega (arith, held_most v t c l, so_most (goes_in c set) (unit_of p v w))
 
   module _ (s : Sets) (v : ℕ) where
     -- by one choice
@@ -116,7 +116,7 @@ module _ (p : Instance) (sound : IsInstance p) (w : Weight) (set : Nodes) where
     by-choice c extra there most = record { each = λ t l. omega (arith, least_of_each (held_at p v w set t) (s (vm v)) c there, most t l) }
 
     by-outer : (c : Choice) → goes_in c set ≡ false → Contains (s (vm v)) c → IsExtra p s w set v 0
-    by-outer c out there = by-choice c 0 there (λ t l. let h : held_at p v w set t c ≤ stay_of p w set v + if_so false (unit_of p v w) = rw out at (held-most v t c l) in omega (arith, h))
+    by-outer c out there = by-choice c 0 there (λ t l. let h : held_at p v w set t c ≤ stay_of p w set v + if_so false (unit_of p v w) = rw out at (held_most v t c l) in omega (arith, h))
 
     -- one that may stay
     pub idle_extra : (d : DomainView) → s (vm v) ≡ choices d → d.idle ≡ true → IsExtra p s w set v 0

@@ -1,5 +1,5 @@
 -- A constraint whose bound is kept at every instant is broken at none; and what is kept beside its rule stays right.
-use Rattle.rule_setload.proofs.Prelude.{◌≡◌, inl, inr, ℕ, ◌+◌, ◌<◌, ◌≤◌, Bool, true, false, List, [], ◌∷◌, ◌++◌, Some, refl, sym, ap, ◌∙◌, arith, slice_get, length-append, Allowed, Apart, AreAllStayers, AreAmountsKept, AreStayersOf, Before, Bound, bound_in, bound_of, Bounded, cache_of, Choice, choices, choose, Constraint, domain_at, domain_before, DomainView, Element, Form, form_of, has_node, Instance, InTurn, IsBroken, IsClean, IsElement, IsEnd, IsFreeOf, IsGrown, IsToldOf, Lists, machine_count, no_stayers, no_watch, node, TheNode, Nodes, NodeSet, of_kind, Ordered, passes, Powered, reason_kind, RegionView, rule_watch, set_kinds, SetLoad, Sets, sets, setting, Settled, Snapshot, Stayers, StaysAt, StaysWhenDue, is_continuous, sure, Together, total, Vm, Watch, watch_at, Weight, sets_before, IsCacheTold, node_change, setting_agrees, setting_total, movers_grown, movers_told, each_push}
+use Rattle.rule_setload.proofs.Prelude.{◌≡◌, ℕ, ◌+◌, ◌<◌, Bool, true, false, List, [], ◌∷◌, ◌++◌, Some, refl, ap, arith, slice_get, length-append, Allowed, Apart, AreAllStayers, AreStayersOf, Bound, bound_in, bound_of, Bounded, Choice, choose, Constraint, Element, Form, form_of, has_node, Instance, InTurn, IsBroken, IsClean, IsElement, IsEnd, IsFreeOf, no_stayers, no_watch, node, TheNode, Nodes, of_kind, Ordered, passes, Powered, reason_kind, rule_watch, set_kinds, SetLoad, Sets, setting, Settled, Snapshot, Stayers, StaysAt, StaysWhenDue, is_continuous, sure, Together, total, Vm, Watch, watch_at, Weight, node_change, setting_agrees, setting_total, each_push}
 
 -- ---- the bound of a constraint
 

@@ -1,5 +1,5 @@
 -- Why a constraint is broken that the rule watches.
-use Rattle.rule_setload.proofs.Prelude.{◌≡◌, ℕ, true, Option, Some, None, subst, slice_get, Applies, broken_at, Constraint, Instance, IsBrokenBy, IsPower, IsSetLoad, passes, Power, reason_kind, ReasonKind, set_kinds, SetLoad, Snapshot, watch_at, kept_applies}
+use Rattle.rule_setload.proofs.Prelude.{◌≡◌, ℕ, true, Option, Some, subst, slice_get, Applies, broken_at, Constraint, Instance, IsBrokenBy, IsPower, IsSetLoad, passes, Power, reason_kind, ReasonKind, set_kinds, SetLoad, Snapshot, watch_at, kept_applies}
 
 -- the constraint gives reasons of a kind that the rule covers, and is broken by what they say
 abbrev IsKnown : Instance → Snapshot → Constraint → Type 0

@@ -1,6 +1,6 @@
 -- Where each machine fits in what is spare, what all hold stays within the amount.
-use Rattle.rule_setload.proofs.Prelude.{◌≡◌, ◌⊎◌, inl, inr, ℕ, suc, zero, ◌+◌, ◌-◌, ◌<◌, ◌≤◌, ◌==◌, ◌||◌, Bool, true, false, List, [], ◌∷◌, length, slice_index_or, refl, sym, subst, ◌∙◌, arith, IsTrue, Contains, cases_eq, cases_lt, nat_tests, contains_here, end_is_choice, ends_of_rows}
-use Rattle.rule_setload.specs.Prelude.{Act, AreWithin, Choice, choices, Climbs, DomainView, held_at, HoldsLeast, Idle, Instance, IsDuring, IsEnd, IsFit, IsInstance, IsRowEnd, IsShare, machine_count, no_row, Nodes, Period, Row, Sets, StaysAt, StaysDuring, StaysIn, StaysWhenDue, stay_of, sum_to, sure, unit_of, vm, Weight}
+use Rattle.rule_setload.proofs.Prelude.{◌≡◌, inl, inr, ℕ, suc, zero, ◌+◌, ◌<◌, ◌≤◌, ◌==◌, ◌||◌, Bool, true, false, List, [], ◌∷◌, length, slice_index_or, refl, subst, ◌∙◌, arith, IsTrue, Contains, cases_eq, nat_tests, end_is_choice, ends_of_rows}
+use Rattle.rule_setload.specs.Prelude.{Act, AreWithin, Choice, choices, Climbs, DomainView, HoldsLeast, Idle, Instance, IsEnd, IsFit, IsInstance, IsRowEnd, IsShare, machine_count, no_row, Nodes, Period, Row, Sets, StaysAt, StaysDuring, StaysIn, StaysWhenDue, stay_of, sum_to, sure, unit_of, vm, Weight}
 use Rattle.rule_setload.proofs.AmountLemmas.{held_ever}
 
 module _ (p : Instance) (s : Sets) (w : Weight) (set : Nodes) (x : Period) where

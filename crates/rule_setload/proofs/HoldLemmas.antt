@@ -1,6 +1,6 @@
 -- What one machine holds on a set of nodes during a period.
-use Rattle.rule_setload.proofs.Prelude.{◌≡◌, ◌⊎◌, ℕ, ◌+◌, ◌<◌, ◌≤◌, Decides-eqb, Option, Some, nat_le, Bool, true, false, cond, nat_lt, List, [], ◌∷◌, length, slice_index_or, refl, sym, ◌∙◌, arith, inl, inr, Contains, sum_to-term, held_by_node, contains_here, least_of_each, end_is_choice, ends_of_rows, kept_law, nat_tests, flat_map}
-use Rattle.rule_setload.specs.Prelude.{Act, Arrival, base, Choice, choices, Climbs, comes_by, DomainView, gain, goes_in, has_started, held_at, HoldsLeast, HoldsMost, hosted_in, Idle, if_so, Instance, IsDuring, IsEnd, IsInstance, IsShare, IsStanding, kept_use, least, leave_of, machine_count, never, no_row, node_count, Nodes, one, Period, Row, row_choices, Sets, Standing, state_of, stay_of, sum_to, sure, unit_of, vm, Weight}
+use Rattle.rule_setload.proofs.Prelude.{◌≡◌, ◌⊎◌, ℕ, ◌+◌, ◌<◌, ◌≤◌, Decides-eqb, Option, Some, nat_le, true, cond, nat_lt, List, [], ◌∷◌, length, slice_index_or, refl, ◌∙◌, arith, inl, inr, Contains, sum_to-term, held_by_node, contains_here, least_of_each, end_is_choice, ends_of_rows, kept_law, nat_tests, flat_map}
+use Rattle.rule_setload.specs.Prelude.{Act, Arrival, base, Choice, choices, Climbs, comes_by, DomainView, gain, goes_in, has_started, held_at, HoldsLeast, HoldsMost, hosted_in, Idle, if_so, Instance, IsInstance, IsShare, IsStanding, kept_use, least, leave_of, no_row, node_count, Nodes, one, Period, Row, row_choices, Sets, Standing, state_of, stay_of, sure, unit_of, vm, Weight}
 use Rattle.rule_setload.proofs.AmountLemmas.{held_ever, held_parts, so_most}
 
 pub one_self : (n : ℕ) → one n n ≡ true

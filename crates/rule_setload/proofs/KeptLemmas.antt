@@ -1,5 +1,5 @@
 -- What is kept beside the rule stays right.
-use Rattle.rule_setload.proofs.Prelude.{◌≡◌, ℕ, ◌<◌, List, length, refl, sym, ◌∙◌, subst, AreAmountsKept, AreStanding, Before, cache_of, choices, domain_at, domain_before, DomainView, Element, Instance, IsCacheTold, IsGrown, IsToldOf, level_at, level_below, level_top, Lists, machine_count, movers_grown, movers_told, RegionView, Sets, sets, sets_before, Stayers, Tables}
+use Rattle.rule_setload.proofs.Prelude.{◌≡◌, ℕ, List, length, refl, sym, ◌∙◌, subst, AreAmountsKept, AreStanding, Before, cache_of, choices, domain_at, domain_before, DomainView, Element, Instance, IsCacheTold, IsGrown, IsToldOf, level_below, level_top, Lists, machine_count, movers_grown, movers_told, RegionView, Sets, sets, sets_before, Stayers, Tables}
 
 pub kept_standings : (p : Instance) (s : Sets) (l : Lists) (m : Tables) (xs : List ℕ) (ys : List Stayers) → AreAmountsKept p s l m xs ys (length m.older) → AreStanding p s m.top
 kept_standings p s l m xs ys kept = subst (λ ks. AreStanding p s ks) (level_top m) kept.standing

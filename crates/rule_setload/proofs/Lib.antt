@@ -1,5 +1,6 @@
 mod Prelude
 mod AmountLemmas
+mod AsideLemmas
 mod HoldLemmas
 mod FitLemmas
 mod BoundLemmas
@@ -7,3 +8,4 @@ mod OverLemmas
 mod PowerLemmas
 mod KeptLemmas
 mod BrokenLemmas
+mod SparedLemmas

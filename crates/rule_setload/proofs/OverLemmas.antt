@@ -1,5 +1,5 @@
 -- Where what is surely held is more than an amount.
-use Rattle.rule_setload.proofs.Prelude.{◌≡◌, inl, inr, ℕ, zero, suc, ◌+◌, ◌<◌, ◌≤◌, ◌||◌, ◌==◌, IsTrue, Some, refl, sym, arith, slice_get, cases_eq}
+use Rattle.rule_setload.proofs.Prelude.{◌≡◌, inl, inr, ℕ, zero, suc, ◌<◌, ◌≤◌, ◌||◌, ◌==◌, IsTrue, Some, arith, slice_get, cases_eq}
 use Rattle.rule_setload.specs.Prelude.{Applies, Bound, bound_of, Constraint, ExceedsAmount, form_of, has_node, Instance, is_continuous, IsSetLoad, Nodes, Sets, Snapshot, sum_to, sure, total, vm, Weight}
 use Rattle.rule_setload.proofs.BoundLemmas.{bounded}
 

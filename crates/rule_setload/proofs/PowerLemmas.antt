@@ -1,9 +1,8 @@
 -- Where the nodes that are surely powered at the ends of a period are no more than the amount, so it is during it.
-use Rattle.rule_setload.proofs.Prelude.{◌≡◌, ◌⊎◌, inl, inr, ℕ, ◌+◌, ◌<◌, ◌≤◌, ◌==◌, ◌||◌, ◌&&◌, Bool, true, false, cond, List, [], ◌∷◌, length, slice_index_or, refl, sym, ◌∙◌, arith, Contains, IsTrue, cases_lt, nat_tests, nat_le, sum_to-le, end_is_choice, ends_of_rows, machine_change, setting_agrees, setting_powered}
-use Rattle.rule_setload.specs.Prelude.{Act, AreNotPowered, Choice, choices, Climbs, DomainView, Element, Idle, Instance, is_online, IsDuring, IsElement, IsEnd, IsFreeOf, IsPoweredFit, IsRowEnd, no_row, Node as TheNode, node, node_count, Nodes, Period, power_most, powered_at, powered_most, powered_nodes, PowerStaysAt, PowerStaysDuring, PowerStaysWhenDue, Row, Sets, setting, sum_to, sure, surely, Vm, vm}
+use Rattle.rule_setload.proofs.Prelude.{◌≡◌, inl, inr, ℕ, ◌<◌, ◌≤◌, ◌==◌, ◌||◌, ◌&&◌, Bool, true, false, cond, List, [], ◌∷◌, length, slice_index_or, refl, sym, ◌∙◌, arith, IsTrue, nat_tests, sum_to-le, ends_of_rows, machine_change, setting_agrees, setting_powered}
+use Rattle.rule_setload.specs.Prelude.{Act, AreNotPowered, Choice, choices, Climbs, DomainView, Element, Idle, Instance, is_online, IsDuring, IsElement, IsEnd, IsFreeOf, IsPoweredFit, IsRowEnd, no_row, Node as TheNode, node, node_count, Nodes, Period, power_most, powered_at, powered_nodes, PowerStaysAt, PowerStaysDuring, PowerStaysWhenDue, Row, Sets, setting, sum_to, sure, surely, Vm, vm}
 use Rattle.slices.specs.Prelude.{action_duration, powered_of, stage_at, stage_of}
-use Rattle.cluster.specs.declared.choices.Place.{Place}
-use Rattle.rule_setload.proofs.Prelude.{None, Option, Some, ap, slice_get, Allowed, Apart, Bounded, Constraint, Form, form_of, has_node, InTurn, IsBroken, IsClean, is_continuous, of_kind, Ordered, passes, Power, Powered, reason_kind, rule_watch, set_kinds, Settled, Snapshot, Together, watch_at}
+use Rattle.rule_setload.proofs.Prelude.{Some, ap, slice_get, Allowed, Apart, Bounded, Constraint, Form, form_of, has_node, InTurn, IsBroken, IsClean, is_continuous, of_kind, Ordered, passes, Power, Powered, reason_kind, rule_watch, set_kinds, Settled, Snapshot, Together, watch_at}
 use Rattle.rule_setload.specs.Prelude.{power_of, PowerBound}
 use Rattle.rule_setload.proofs.BoundLemmas.{chosen_clean}
 

@@ -1,9 +1,11 @@
 -- Helping only: what machines hold on the nodes of a constraint while they stay as they are, and what they may hold more.
-use Rattle.std.specs.Prelude.{◌≡◌, ℕ, ◌+◌, ◌-◌, ◌*◌, ◌<◌, ◌≤◌, List, length, Option, Some, None, slice_get, slice_index_or}
+use Rattle.std.specs.Prelude.{◌≡◌, ℕ, ◌+◌, ◌-◌, ◌*◌, ◌/◌, ◌<◌, ◌≤◌, List, length, Option, Some, None, replicate, slice_get, slice_index_or}
 use Rattle.std.specs.List.{sum_by}
-use Rattle.rule_constraint.specs.Prelude.{Allowed, Apart, AreMovers, base, Bounded, Form, form_of, has_node, held_at, hosted_in, if_so, Instance, InTurn, IsEnd, IsIndexOf, Lists, machine_count, max_amount, Nodes, Ordered, Powered, Sets, Settled, state_of, sum_to, sure, Together, unit_of, vm}
+use Rattle.rule_constraint.specs.Prelude.{Allowed, Apart, AreMovers, base, Bounded, Form, form_of, has_node, hosted_in, if_so, Instance, InTurn, IsIndexOf, Lists, machine_count, max_amount, Nodes, Ordered, Powered, Sets, Settled, state_of, sum_to, sure, Together, unit_of}
 use Rattle.profiles.specs.Prelude.{AreStanding, level_at, Tables}
-use Rattle.cluster.specs.declared.choices.Choice.{Choice}
+use Rattle.cluster.specs.Bits.{IsBits-zero}
+use Rattle.cluster.specs.Limits.{max_machines}
+use Rattle.cluster.specs.declared.sets.MachineSet.{MachineSet}
 use Rattle.catalogue.specs.declared.constraint.Constraint.{Constraint}
 use Rattle.slices.specs.declared.slice.Weight.{Weight}
 use Rattle.rule_frame.specs.Caches.{Cache}
@@ -43,8 +45,11 @@ abbrev pub AreStayersOf : Instance → Option Bound → Stayers → Type 0
 AreStayersOf p None x = Unit {0}
 AreStayersOf p (Some b) x = AreStayersTo p b.weight (has_node b.nodes) (machine_count p) x
 
+abbrev pub no_machines : MachineSet
+no_machines = record { words = replicate (max_machines / 64) 0; bits = IsBits-zero (max_machines / 64) }
+
 abbrev pub no_stayers : Stayers
-no_stayers = record { total = 0; most = 0 }
+no_stayers = record { total = 0; most = 0; machines = no_machines }
 
 -- and for each of the first constraints
 pub record AreAllStayers (p : Instance) (many : ℕ) (xs : List Stayers) : Type 0 where

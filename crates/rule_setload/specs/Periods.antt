@@ -1,9 +1,12 @@
 -- Helping only: what machines hold on a set of nodes during a period, at the most and surely.
 use Rattle.std.specs.Prelude.{◌≡◌, ℕ, ◌+◌, ◌<◌, ◌≤◌, ◌||◌, ◌==◌, Bool, false, nat_le, IsTrue}
-use Rattle.rule_constraint.specs.Prelude.{held_at, Instance, IsEnd, machine_count, Nodes, Sets, sum_to, sure, vm}
+use Rattle.rule_constraint.specs.Prelude.{goes_in, held_at, Instance, IsEnd, machine_count, Nodes, Sets, sum_to, sure, vm}
+use Rattle.cluster.specs.Sets.{has_machine}
 use Rattle.cluster.specs.declared.choices.Choice.{Choice}
 use Rattle.cluster.specs.declared.choices.Choice.TheVariants.{Act, Idle}
+use Rattle.cluster.specs.declared.sets.MachineSet.{MachineSet}
 use Rattle.slices.specs.declared.slice.Weight.{Weight}
+use Rattle.rule_setload.specs.Amounts.{stay_of}
 use Rattle.rule_setload.specs.declared.period.Period.{Period}
 
 -- more than can be spare anywhere
@@ -36,7 +39,16 @@ pub record HoldsLeast (p : Instance) (s : Sets) (w : Weight) (set : Nodes) (v : 
 pub record IsFit (p : Instance) (s : Sets) (w : Weight) (set : Nodes) (v : ℕ) (x : Period) (spare : ℕ) : Type 0 where
   pub each : (t : ℕ) (c : Choice) → IsDuring x t → IsEnd (s (vm v)) c → held_at p v w set t c ≤ spare + (sure p s t).held v w set
 
+-- it has nothing on the nodes at present, and no end of its choices goes there
+pub record IsAside (p : Instance) (s : Sets) (w : Weight) (set : Nodes) (v : ℕ) : Type 0 where
+  pub stays : stay_of p w set v ≡ 0
+  pub away : (c : Choice) → IsEnd (s (vm v)) c → goes_in c set ≡ false
+
 -- ---- all machines
+
+-- whoever is none of these is aside
+pub record AreConcerned (p : Instance) (s : Sets) (w : Weight) (set : Nodes) (members : MachineSet) : Type 0 where
+  pub others : (v : ℕ) → v < machine_count p → has_machine members v ≡ false → IsAside p s w set v
 
 -- together they surely hold no more than this
 pub record AreWithin (p : Instance) (s : Sets) (w : Weight) (set : Nodes) (x : Period) (total : ℕ) : Type 0 where

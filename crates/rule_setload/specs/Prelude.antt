@@ -5,14 +5,19 @@ pub use Rattle.reasons.specs.Prelude.{IsRowEnd}
 pub use Rattle.closing.specs.Prelude.{inventory_of, is_rule, max_machines, total}
 pub use Rattle.profiles.specs.Prelude.{AreMachines, AreStanding, IsStanding, kept_use, least, no_standing, had_there, brought, gain, IsGrown, IsToldOf, IsWeight, never, weight_if}
 unfoldable pub use Rattle.profiles.specs.Prelude.{kind_of}
-pub use Rattle.rule_frame.specs.Prelude.{domain_at, ExceedsAmount, seen, IsBroken, IsFreeOf, IsPower, IsSetLoad, RegionView, row_choices}
-pub use Rattle.rule_constraint.specs.Prelude.{Allowed, Apart, AreMovers, base, Bounded, broken_at, choices, choose, Climbs, comes_by, is_continuous, DomainView, Form, form_of, goes_in, hosted_in, if_so, Instance, InTurn, IsBrokenBy, IsClean, IsElement, IsEnd, IsSized, leave_of, Lists, machine_count, max_amount, no_row, no_watch, node, node_count, Nodes, one, Ordered, passes, Powered, reason_kind, rule_watch, Sets, sets, setting, Settled, Snapshot, state_of, sum_to, Together, unit_of, vm, Watch, watch_at}
+pub use Rattle.rule_frame.specs.Prelude.{constraint_watch, domain_at, ExceedsAmount, seen, IsBroken, IsFreeOf, IsLess, IsPower, IsSetLoad, IsStill, RegionView, row_choices}
+pub use Rattle.rule_frame.specs.Changes.{IsMachineLess}
+pub use Rattle.closing.specs.Kinds.{weights_on}
+pub use Rattle.rule_constraint.specs.Prelude.{Allowed, Apart, AreFewer, AreMovers, base, Bounded, broken_at, choices, choose, Climbs, comes_by, is_continuous, DomainView, Form, form_of, goes_in, hosted_in, if_so, Instance, InTurn, IsBrokenBy, IsClean, IsElement, IsEnd, IsHarmless, IsSized, leave_of, Lists, machine_count, max_amount, no_row, no_watch, node, node_count, Nodes, one, Ordered, passes, Powered, reason_kind, rule_watch, Sets, sets, setting, Settled, Snapshot, state_of, sum_to, Together, unit_of, vm, Watch, watch_at}
 unfoldable pub use Rattle.rule_constraint.specs.Prelude.{has_node, held_at, sure}
 pub use Rattle.cluster.specs.declared.choices.Choice.{Choice}
 pub use Rattle.cluster.specs.declared.choices.Choice.TheVariants.{Act, Idle}
 pub use Rattle.cluster.specs.declared.choices.Place.TheVariants.{At, Nowhere}
 pub use Rattle.cluster.specs.declared.ids.Element.{Element}
 pub use Rattle.cluster.specs.declared.ids.Element.TheVariants.{Node, Vm}
+pub use Rattle.cluster.specs.declared.ids.VmId.{VmId}
+unfoldable pub use Rattle.cluster.specs.Sets.{has_machine}
+pub use Rattle.cluster.specs.declared.sets.MachineSet.{MachineSet}
 pub use Rattle.cluster.specs.declared.sets.NodeSet.{NodeSet}
 pub use Rattle.cluster.specs.declared.states.State.{State}
 pub use Rattle.cluster.specs.declared.states.State.TheVariants.{Gone, Init, Ready, Running, Sleeping}
@@ -28,7 +33,7 @@ pub use Rattle.reasons.specs.declared.reason.ReasonKind.{ReasonKind}
 pub use Rattle.reasons.specs.declared.reason.ReasonKind.TheVariants.{Power, SetLoad}
 pub use Rattle.rule_constraint.specs.Broken.{of_kind}
 pub use Rattle.rule_setload.specs.Amounts.{AreAllStayers, AreAmountsKept, AreExtra, AreStayersOf, AreStayersTo, bound_in, bound_of, cache_of, IsExtra, no_stayers, stay_of}
-pub use Rattle.rule_setload.specs.Periods.{AreWithin, has_started, HoldsLeast, HoldsMost, IsDuring, IsFit, IsShare, max_spare, StaysAt, StaysBefore, StaysDuring, StaysIn, StaysPast, StaysWhenDue}
+pub use Rattle.rule_setload.specs.Periods.{AreConcerned, AreWithin, has_started, HoldsLeast, HoldsMost, IsAside, IsDuring, IsFit, IsShare, max_spare, StaysAt, StaysBefore, StaysDuring, StaysIn, StaysPast, StaysWhenDue}
 pub use Rattle.rule_setload.specs.Powers.{AreNotPowered, IsPoweredFit, power_most, power_of, powered_most, PowerStaysAt, PowerStaysDuring, PowerStaysPast, PowerStaysWhenDue}
 pub use Rattle.rule_setload.specs.declared.power.PowerBound.{PowerBound}
 pub use Rattle.rule_setload.specs.Covers.{set_kinds}

@@ -163,7 +163,10 @@ impl AmountKeeper {
             lens: Lens::Inside(e, part),
         };
         match reason {
-            Reason::SetLoad(c, t) => exceeds(p, &view, self.standings(p, g), *c, *t),
+            Reason::SetLoad(c, t) => match self.stayers.get(*c as usize) {
+                None => false,
+                Some(stayers) => exceeds(p, &view, &stayers.machines, self.standings(p, g), *c, *t),
+            },
             Reason::Empty(_)
             | Reason::Bound
             | Reason::Load(..)
@@ -267,6 +270,10 @@ impl Watcher<AmountKeeper> for AmountWatcher {
             .disturb(&k.index, p, g, change, before, kept, dirty);
     }
 
+    fn is_clean(&self, k: &AmountKeeper, p: &Problem, g: &Region, i: usize) -> bool {
+        k.is_clean(p, g, i)
+    }
+
     fn propose(
         &self,
         k: &AmountKeeper,
@@ -279,9 +286,6 @@ impl Watcher<AmountKeeper> for AmountWatcher {
     }
 
     fn look(&self, k: &AmountKeeper, p: &Problem, g: &Region, i: usize) -> Look {
-        if k.is_clean(p, g, i) {
-            return Look::Clean;
-        }
         self.watches.look(&k.index, p, g, i)
     }
 

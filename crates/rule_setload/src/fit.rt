@@ -1,12 +1,13 @@
 //! Whether each machine fits in what is spare on the nodes of a bound during a period, under any of its choices.
 ghost use Rattle.std.specs.Prelude.{◌≡◌, ◌+◌, ◌<◌, ◌≤◌, ℕ, IsTrue, true};
-ghost use Rattle.rule_setload.specs.Prelude.{AreStanding, Choice as AnyChoice, has_node, IsEnd, IsFit, IsShare, IsSized, IsStanding, IsWeight, machine_count, max_amount, max_spare, sets, StaysDuring, stay_of, vm};
+ghost use Rattle.rule_setload.specs.Prelude.{AreConcerned, AreStanding, Choice as AnyChoice, has_node, IsEnd, IsFit, IsShare, IsSized, IsStanding, IsWeight, machine_count, max_amount, max_spare, sets, StaysDuring, stay_of, vm};
 
 use crate::bounds::Bound;
 use crate::holding::{act, brought, kept, surely_held};
 use crate::most::most_total;
 use crate::period::Period;
 use crate::stayers::{stay, unit};
+use cluster::MachineSet;
 use profiles::standing::numbers::Standing;
 use rule_frame::{Choice, Element, Problem, Region, VmId};
 
@@ -108,24 +109,53 @@ fn machine_fits(
     ends_fit(p, g, v, bound, stays, x, limit)
 }
 
+// whether one of all machines does: one that holds nothing does
+#[tactic(auto, using(crate::proofs::AsideLemmas::aside_fits))]
+fn fits_among(
+    p: &Problem,
+    g: &Region,
+    k: Standing,
+    v: VmId,
+    bound: &Bound,
+    machines: &MachineSet,
+    x: Period,
+    spare: u64,
+) -> bool
+    requires region { IsSized p.now.given g.now }
+    requires machine { v.0 < machine_count p.now.given }
+    requires standing { IsStanding p.now.given v.0 (sets g.now (vm v.0)) k }
+    requires weight { IsWeight p.now.given bound.now.weight }
+    requires machines { AreConcerned p.now.given (sets g.now) bound.now.weight (has_node bound.now.nodes) machines.now }
+    requires period { x.to ≤ p.now.given.horizon }
+    requires small { spare ≤ max_spare }
+    ensures { IsTrue result → IsFit p.now.given (sets g.now) bound.now.weight (has_node bound.now.nodes) v.0 x spare }
+{
+    if machines.has(v) {
+        return machine_fits(p, g, k, v, bound, x, spare);
+    }
+    true
+}
+
 // whether each does
 fn machines_fit(
     p: &Problem,
     g: &Region,
     ks: &[Standing],
     bound: &Bound,
+    machines: &MachineSet,
     x: Period,
     spare: u64,
 ) -> bool
     requires region { IsSized p.now.given g.now }
     requires standings { AreStanding p.now.given (sets g.now) ks.now }
     requires weight { IsWeight p.now.given bound.now.weight }
+    requires machines { AreConcerned p.now.given (sets g.now) bound.now.weight (has_node bound.now.nodes) machines.now }
     requires period { x.to ≤ p.now.given.horizon }
     requires small { spare ≤ max_spare }
     ensures { IsTrue result → (v : ℕ) → v < machine_count p.now.given → IsFit p.now.given (sets g.now) bound.now.weight (has_node bound.now.nodes) v x spare }
 {
     for i in 0..p.cluster().machines().len() {
-        if !machine_fits(p, g, ks[i], VmId(i as u32), bound, x, spare) {
+        if !fits_among(p, g, ks[i], VmId(i as u32), bound, machines, x, spare) {
             return false;
         }
     }
@@ -149,17 +179,20 @@ pub(crate) fn stays_during(
     g: &Region,
     ks: &[Standing],
     bound: &Bound,
+    machines: &MachineSet,
     x: Period,
 ) -> bool
     requires region { IsSized p.now.given g.now }
     requires standings { AreStanding p.now.given (sets g.now) ks.now }
     requires weight { IsWeight p.now.given bound.now.weight }
+    requires machines { AreConcerned p.now.given (sets g.now) bound.now.weight (has_node bound.now.nodes) machines.now }
     requires period { x.to ≤ p.now.given.horizon }
     ensures { IsTrue result → StaysDuring p.now.given (sets g.now) bound.now.weight (has_node bound.now.nodes) bound.now.amount x }
 {
-    let total = most_total(p, g, ks, bound, x);
+    let total = most_total(p, g, ks, bound, machines, x);
     if total > bound.amount {
         return false;
     }
-    machines_fit(p, g, ks, bound, x, spare_of(bound.amount, total))
+    let spare = spare_of(bound.amount, total);
+    machines_fit(p, g, ks, bound, machines, x, spare)
 }

@@ -3,6 +3,7 @@
 
 pub mod amounts;
 mod bounds;
+mod concerned;
 mod fit;
 mod holding;
 mod most;
@@ -12,5 +13,6 @@ mod power;
 mod propose;
 mod refuting;
 pub mod rule;
+mod spared;
 mod stayers;
 mod walk;

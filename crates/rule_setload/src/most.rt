@@ -1,11 +1,12 @@
 //! What all machines surely hold at the most on the nodes of a bound during a period.
 ghost use Rattle.std.specs.Prelude.{◌≡◌, ◌+◌, ◌*◌, ◌<◌, ◌≤◌, length, slice_index_or};
-ghost use Rattle.rule_setload.specs.Prelude.{AreWithin, domain_at, has_node, HoldsMost, IsSized, IsWeight, machine_count, max_amount, max_machines, no_row, sets, stay_of, vm};
+ghost use Rattle.rule_setload.specs.Prelude.{AreConcerned, AreWithin, domain_at, has_node, HoldsMost, IsSized, IsWeight, machine_count, max_amount, max_machines, no_row, sets, stay_of, vm};
 
 use crate::bounds::Bound;
 use crate::holding::{act, share};
 use crate::period::Period;
 use crate::stayers::{stay, unit};
+use cluster::MachineSet;
 use profiles::standing::numbers::Standing;
 use rule_frame::{Domain, Element, Problem, Region, Row, VmId};
 
@@ -112,18 +113,51 @@ pub(crate) fn most_held(
     least_share(p, g, v, bound, stays, x, stays)
 }
 
-/// What all machines together do.
-pub(crate) fn most_total(p: &Problem, g: &Region, ks: &[Standing], bound: &Bound, x: Period) -> u64
+// what one of all machines does: nothing, where it is none of those that may hold something
+#[tactic(auto, using(crate::proofs::AsideLemmas::aside_holds))]
+fn most_of(
+    p: &Problem,
+    g: &Region,
+    k: Standing,
+    v: VmId,
+    bound: &Bound,
+    machines: &MachineSet,
+    x: Period,
+) -> u64
+    requires region { IsSized p.now.given g.now }
+    requires machine { v.0 < machine_count p.now.given }
+    requires weight { IsWeight p.now.given bound.now.weight }
+    requires machines { AreConcerned p.now.given (sets g.now) bound.now.weight (has_node bound.now.nodes) machines.now }
+    requires period { x.to ≤ p.now.given.horizon }
+    ensures most { HoldsMost p.now.given (sets g.now) bound.now.weight (has_node bound.now.nodes) v.0 x result }
+    ensures small { result ≤ 2 * max_amount }
+{
+    if machines.has(v) {
+        return most_held(p, g, k, v, bound, x);
+    }
+    0
+}
+
+/// What all machines together do, told by those that may hold something.
+pub(crate) fn most_total(
+    p: &Problem,
+    g: &Region,
+    ks: &[Standing],
+    bound: &Bound,
+    machines: &MachineSet,
+    x: Period,
+) -> u64
     requires region { IsSized p.now.given g.now }
     requires count { length ks.now ≡ machine_count p.now.given }
     requires weight { IsWeight p.now.given bound.now.weight }
+    requires machines { AreConcerned p.now.given (sets g.now) bound.now.weight (has_node bound.now.nodes) machines.now }
     requires period { x.to ≤ p.now.given.horizon }
     ensures within { AreWithin p.now.given (sets g.now) bound.now.weight (has_node bound.now.nodes) x result }
     ensures small { result ≤ max_machines * (2 * max_amount) }
 {
     let mut total = 0;
     for i in 0..p.cluster().machines().len() {
-        total += most_held(p, g, ks[i], VmId(i as u32), bound, x);
+        total += most_of(p, g, ks[i], VmId(i as u32), bound, machines, x);
     }
     total
 }

@@ -6,8 +6,8 @@ use crate::bounds::Bound;
 use crate::stayers::{Stayers, unit};
 use rule_frame::{Element, NodeSet, Place, Problem, Region, Row, VmId};
 
-// whether a place is none of the nodes of a set
-fn is_outside(place: Place, nodes: &NodeSet) -> bool
+/// Whether a place is none of the nodes of a set.
+pub(crate) fn is_outside(place: Place, nodes: &NodeSet) -> bool
     ensures { IsTrue result → goes_in (AnyChoice.Act place 0) (has_node nodes.now) ≡ false }
 {
     match place {
@@ -33,9 +33,9 @@ fn outer_row(rows: &[Row], nodes: &NodeSet) -> Option<usize>
     None
 }
 
-// what a machine surely holds more than what it has at present, at the most: nothing where it may stay, or go elsewhere
+/// What a machine surely holds more than what it has at present, at the most: nothing where it may stay, or go elsewhere.
 #[tactic(auto, using(crate::proofs::AmountLemmas::none_extra, crate::proofs::AmountLemmas::row_extra, crate::proofs::AmountLemmas::unit_extra))]
-fn extra(p: &Problem, g: &Region, v: VmId, bound: &Bound) -> u64
+pub(crate) fn extra(p: &Problem, g: &Region, v: VmId, bound: &Bound) -> u64
     requires region { IsSized p.now.given g.now }
     requires machine { v.0 < machine_count p.now.given }
     requires weight { IsWeight p.now.given bound.now.weight }

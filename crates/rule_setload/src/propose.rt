@@ -1,13 +1,15 @@
 //! Cuts that are worth a try where an amount is nearly reached: what is asked of them is left to the caller.
 ghost use Rattle.std.specs.Prelude.{◌≡◌, ◌<◌, ◌≤◌, length};
-ghost use Rattle.rule_setload.specs.Prelude.{IsSized, IsWeight, machine_count};
+ghost use Rattle.rule_setload.specs.Prelude.{AreConcerned, has_node, IsSized, IsWeight, machine_count, sets};
 
 use crate::bounds::Bound;
+use crate::concerned::concerned;
 use crate::holding::{act, goes_in, left_at};
 use crate::most::{most_held, most_total};
 use crate::period::Period;
 use crate::stayers::{stay, unit};
 use crate::walk::next_change;
+use cluster::MachineSet;
 use profiles::standing::numbers::Standing;
 use rule_frame::{Element, Instant, Memory, Part, Problem, Reason, Region, Row, Suggestion, VmId};
 use std::alloc::Global;
@@ -26,22 +28,24 @@ fn spares(
     g: &Region,
     ks: &[Standing],
     bound: &Bound,
+    machines: &MachineSet,
     always: bool,
 ) -> Result<Vec<Spare>, Memory>
     requires region { IsSized p.now.given g.now }
     requires count { length ks.now ≡ machine_count p.now.given }
     requires weight { IsWeight p.now.given bound.now.weight }
+    requires machines { AreConcerned p.now.given (sets g.now) bound.now.weight (has_node bound.now.nodes) machines.now }
 {
     let mut spares = Vec::new(alloc);
     let end = u64::from(p.horizon()) + 1;
     let mut from = if always { 0 } else { u64::from(p.horizon()) };
     'periods: while from < end {
-        let next = next_change(p, g, ks, bound, from);
+        let next = next_change(p, g, ks, bound, machines, from);
         let period = Period {
             from: from as u32,
             to: (next - 1) as u32,
         };
-        let total = most_total(p, g, ks, bound, period);
+        let total = most_total(p, g, ks, bound, machines, period);
         spares.push(Spare {
             period,
             amount: bound.amount.saturating_sub(total),
@@ -286,9 +290,13 @@ pub(crate) fn propose_amount(
     requires count { length ks.now ≡ machine_count p.now.given }
     requires weight { IsWeight p.now.given bound.now.weight }
 {
-    let spares = spares(*them.allocator(), p, g, ks, bound, always)?;
+    let machines = concerned(p, g, bound);
+    let spares = spares(*them.allocator(), p, g, ks, bound, &machines, always)?;
     for i in 0..p.cluster().machines().len() {
-        propose_machine(p, g, ks[i], VmId(i as u32), bound, c, &spares, them)?;
+        let v = VmId(i as u32);
+        if machines.has(v) {
+            propose_machine(p, g, ks[i], v, bound, c, &spares, them)?;
+        }
     }
     Ok(())
 }

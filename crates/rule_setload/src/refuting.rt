@@ -5,6 +5,7 @@ ghost use Rattle.rule_setload.specs.Prelude.{Applies, AreStanding, has_node, IsS
 use crate::bounds::{Bound, bound_of};
 use crate::holding::surely_held;
 use crate::period::Period;
+use cluster::MachineSet;
 use profiles::seen::is_narrowed;
 use profiles::standing::numbers::Standing;
 use relax::sure::least_held;
@@ -26,8 +27,39 @@ fn held_seen(p: &Problem, view: &View, v: VmId, k: Standing, bound: &Bound, t: I
     surely_held(p, view.region, v, k, bound, Period { from: t, to: t })
 }
 
+// what is counted of that: nothing for a machine that has nothing there at present and has not surely come somewhere
+fn held_counted(
+    p: &Problem,
+    view: &View,
+    stayers: &MachineSet,
+    v: VmId,
+    k: Standing,
+    bound: &Bound,
+    t: Instant,
+) -> u64
+    requires region { IsSized p.now.given view.now.region.now }
+    requires machine { v.0 < machine_count p.now.given }
+    requires standing { IsStanding p.now.given v.0 (sets view.now.region.now (vm v.0)) k }
+    requires weight { IsWeight p.now.given bound.now.weight }
+    requires within { t ≤ p.now.given.horizon }
+    ensures held { result ≤ (sure p.now.given (seen view.now.region.now view.now.lens) t).held v.0 bound.now.weight (has_node bound.now.nodes) }
+    ensures small { result ≤ max_held }
+{
+    if stayers.has(v) || k.come.is_some() || is_narrowed(view.lens, v) {
+        return held_seen(p, view, v, k, bound, t);
+    }
+    0
+}
+
 // whether what machines surely hold in what is seen is more than the amount
-fn is_over(p: &Problem, view: &View, ks: &[Standing], bound: &Bound, t: Instant) -> bool
+fn is_over(
+    p: &Problem,
+    view: &View,
+    stayers: &MachineSet,
+    ks: &[Standing],
+    bound: &Bound,
+    t: Instant,
+) -> bool
     requires region { IsSized p.now.given view.now.region.now }
     requires standings { AreStanding p.now.given (sets view.now.region.now) ks.now }
     requires weight { IsWeight p.now.given bound.now.weight }
@@ -36,7 +68,7 @@ fn is_over(p: &Problem, view: &View, ks: &[Standing], bound: &Bound, t: Instant)
 {
     let mut total = 0;
     for i in 0..p.cluster().machines().len() {
-        total += held_seen(p, view, VmId(i as u32), ks[i], bound, t);
+        total += held_counted(p, view, stayers, VmId(i as u32), ks[i], bound, t);
         if total > bound.amount {
             return true;
         }
@@ -44,9 +76,17 @@ fn is_over(p: &Problem, view: &View, ks: &[Standing], bound: &Bound, t: Instant)
     false
 }
 
-/// Whether a constraint on what machines hold is seen to be broken at an instant in what is seen of a region.
+/// Whether a constraint on what machines hold is seen to be broken at an instant in what is seen of a region. Those that have
+/// something there at present are handed in; whoever else has not surely come somewhere is left out, so less is counted.
 #[tactic(auto, using(crate::proofs::OverLemmas::over_applies))]
-pub(crate) fn exceeds(p: &Problem, view: &View, ks: &[Standing], c: u32, t: Instant) -> bool
+pub(crate) fn exceeds(
+    p: &Problem,
+    view: &View,
+    stayers: &MachineSet,
+    ks: &[Standing],
+    c: u32,
+    t: Instant,
+) -> bool
     requires region { IsSized p.now.given view.now.region.now }
     requires standings { AreStanding p.now.given (sets view.now.region.now) ks.now }
     ensures { IsTrue result → (c < length p.now.given.constraints) × (t ≤ p.now.given.horizon) × Applies p.now.given c t (IsSetLoad p.now.given (sure p.now.given (seen view.now.region.now view.now.lens) t)) }
@@ -56,6 +96,6 @@ pub(crate) fn exceeds(p: &Problem, view: &View, ks: &[Standing], c: u32, t: Inst
     }
     match bound_of(p, &p.constraints()[c as usize]) {
         None => false,
-        Some(bound) => is_over(p, view, ks, &bound, t),
+        Some(bound) => is_over(p, view, stayers, ks, &bound, t),
     }
 }

@@ -3,8 +3,9 @@ ghost use Rattle.std.specs.Prelude.{refl};
 ghost use Rattle.rule_setload.specs.Covers.{set_kinds};
 
 use crate::amounts::{AmountKeeper, AmountWatcher};
+use crate::spared::is_spared;
 use rule_constraint::Kinds;
-use rule_frame::{Form, Instant, Problem, Reason, ReasonKind, Rule, View, form_of};
+use rule_frame::{Form, Instant, Problem, Reason, ReasonKind, Region, Rule, View, VmId, form_of};
 
 /// Amounts on the nodes of a set: `resourceCapacity`, `runningCapacity`, `maxOnline`.
 #[derive(Clone, Copy, Default)]
@@ -15,6 +16,10 @@ impl Kinds for Sets {
 
     fn covers(&self, kind: ReasonKind) -> bool {
         matches!(kind, ReasonKind::SetLoad | ReasonKind::Power)
+    }
+
+    fn spares(&self, p: &Problem, g: &Region, c: u32, v: VmId) -> bool {
+        is_spared(p, g, c, v)
     }
 
     // it is broken by an amount, and has no witness

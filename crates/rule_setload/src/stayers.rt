@@ -3,6 +3,7 @@ ghost use Rattle.std.specs.Prelude.{◌≡◌, ◌+◌, ◌*◌, ◌<◌, ◌≤
 ghost use Rattle.rule_setload.specs.Prelude.{AreAllStayers, AreStayersOf, AreStayersTo, bound_of as the_bound_of, form_of, has_node, inventory_of, is_rule, IsWeight, machine_count, max_amount, stay_of, unit_of};
 
 use crate::bounds::{Bound, bound_of};
+use cluster::MachineSet;
 use profiles::standing::uses::base;
 use rule_constraint::host;
 use rule_frame::{Constraint, Memory, Problem, VmId, Weight};
@@ -13,6 +14,22 @@ use std::alloc::Global;
 pub struct Stayers {
     pub total: u64,
     pub most: u64,
+    /// Those that have something there.
+    pub machines: MachineSet,
+}
+
+impl Stayers {
+    // of no machine
+    fn none() -> Stayers
+        ensures total { result.total ≡ 0 }
+        ensures most { result.most ≡ 0 }
+    {
+        Stayers {
+            total: 0,
+            most: 0,
+            machines: MachineSet::new(),
+        }
+    }
 }
 
 /// The most that a machine brings to a node.
@@ -53,9 +70,15 @@ fn with_one(p: &Problem, bound: &Bound, x: Stayers, v: VmId) -> Stayers
     requires before { AreStayersTo p.now.given bound.now.weight (has_node bound.now.nodes) v.0 x }
     ensures { AreStayersTo p.now.given bound.now.weight (has_node bound.now.nodes) (v.0 + 1) result }
 {
+    let stays = stay(p, v, bound);
+    let mut machines = x.machines;
+    if stays > 0 {
+        machines.insert(v);
+    }
     Stayers {
-        total: x.total + stay(p, v, bound),
+        total: x.total + stays,
         most: x.most.max(unit(p, v, bound.weight)),
+        machines,
     }
 }
 
@@ -65,7 +88,7 @@ fn all_of(p: &Problem, bound: &Bound) -> Stayers
     requires weight { IsWeight p.now.given bound.now.weight }
     ensures { AreStayersTo p.now.given bound.now.weight (has_node bound.now.nodes) (machine_count p.now.given) result }
 {
-    let mut x = Stayers { total: 0, most: 0 };
+    let mut x = Stayers::none();
     for i in 0..p.cluster().machines().len() {
         x = with_one(p, bound, x, VmId(i as u32));
     }
@@ -78,7 +101,7 @@ fn stayers_of(p: &Problem, constraint: &Constraint) -> Stayers
     ensures { AreStayersOf p.now.given (the_bound_of (form_of constraint.now)) result }
 {
     match bound_of(p, constraint) {
-        None => Stayers { total: 0, most: 0 },
+        None => Stayers::none(),
         Some(bound) => all_of(p, &bound),
     }
 }

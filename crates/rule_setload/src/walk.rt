@@ -1,13 +1,16 @@
 //! Periods one after the other, from one change of what machines hold on the nodes of a bound to the next.
 ghost use Rattle.std.specs.Prelude.{◌≡◌, ◌+◌, ◌<◌, ◌≤◌, IfSome, IsTrue, length};
-ghost use Rattle.rule_setload.specs.Prelude.{AreStanding, has_node, IsSized, IsWeight, machine_count, sets, StaysAt, StaysIn, StaysPast, StaysWhenDue};
+ghost use Rattle.rule_setload.specs.Prelude.{AreConcerned, AreStanding, has_node, IsSized, IsWeight, machine_count, sets, StaysAt, StaysIn, StaysPast, StaysWhenDue};
 
 use crate::bounds::Bound;
+use crate::concerned::concerned;
 use crate::fit::stays_during;
+use crate::movers_hold::is_outside;
 use crate::period::Period;
+use cluster::MachineSet;
 use profiles::standing::numbers::Standing;
 use rule_constraint::host;
-use rule_frame::{Element, Problem, Region, Row, VmId};
+use rule_frame::{Element, NodeSet, Problem, Region, Row, VmId};
 
 /// The sooner of what is found and an instant, if that is later than `after`.
 pub(crate) fn sooner(after: u64, best: u64, at: u64) -> u64
@@ -18,16 +21,18 @@ pub(crate) fn sooner(after: u64, best: u64, at: u64) -> u64
     if at > after && at < best { at } else { best }
 }
 
-// the first instant of these at which a row starts or ends
-fn next_of_rows(rows: &[Row], after: u64, best: u64) -> u64
+// the first instant of these at which a row at the nodes starts or ends
+fn next_of_rows(rows: &[Row], nodes: &NodeSet, after: u64, best: u64) -> u64
     requires { after < best }
     ensures later { after < result }
     ensures less { result ≤ best }
 {
     let mut next = best;
     for row in rows {
-        next = sooner(after, next, u64::from(row.lo));
-        next = sooner(after, next, u64::from(row.hi));
+        if !is_outside(row.place, nodes) {
+            next = sooner(after, next, u64::from(row.lo));
+            next = sooner(after, next, u64::from(row.hi));
+        }
     }
     next
 }
@@ -66,16 +71,17 @@ fn next_of_machine(
     if domain.idle() {
         next
     } else {
-        next_of_rows(domain.rows(), after, next)
+        next_of_rows(domain.rows(), &bound.nodes, after, next)
     }
 }
 
-/// The first instant after one at which what machines hold may change, or the one after the horizon.
+/// The first instant after one at which what these machines hold may change, or the one after the horizon.
 pub(crate) fn next_change(
     p: &Problem,
     g: &Region,
     ks: &[Standing],
     bound: &Bound,
+    machines: &MachineSet,
     after: u64,
 ) -> u64
     requires region { IsSized p.now.given g.now }
@@ -86,41 +92,59 @@ pub(crate) fn next_change(
 {
     let mut next = u64::from(p.horizon()) + 1;
     for i in 0..p.cluster().machines().len() {
-        next = next_of_machine(p, g, ks[i], VmId(i as u32), bound, after, next);
+        let v = VmId(i as u32);
+        if machines.has(v) {
+            next = next_of_machine(p, g, ks[i], v, bound, after, next);
+        }
     }
     next
 }
 
 // the end of a period from an instant on in which it is seen that what machines hold stays within an amount, if it is
-fn stays_until(p: &Problem, g: &Region, ks: &[Standing], bound: &Bound, from: u64) -> Option<u64>
+fn stays_until(
+    p: &Problem,
+    g: &Region,
+    ks: &[Standing],
+    bound: &Bound,
+    machines: &MachineSet,
+    from: u64,
+) -> Option<u64>
     requires region { IsSized p.now.given g.now }
     requires standings { AreStanding p.now.given (sets g.now) ks.now }
     requires weight { IsWeight p.now.given bound.now.weight }
+    requires machines { AreConcerned p.now.given (sets g.now) bound.now.weight (has_node bound.now.nodes) machines.now }
     requires within { from ≤ p.now.given.horizon }
     ensures { IfSome result (StaysPast p.now.given (sets g.now) bound.now.weight (has_node bound.now.nodes) bound.now.amount from) }
 {
-    let next = next_change(p, g, ks, bound, from);
+    let next = next_change(p, g, ks, bound, machines, from);
     let x = Period {
         from: from as u32,
         to: (next - 1) as u32,
     };
-    if stays_during(p, g, ks, bound, x) {
+    if stays_during(p, g, ks, bound, machines, x) {
         return Some(next);
     }
     None
 }
 
-// whether it is seen at all instants
-fn stays_always(p: &Problem, g: &Region, ks: &[Standing], bound: &Bound) -> bool
+// whether it is seen at all instants, period by period
+fn stays_by_periods(
+    p: &Problem,
+    g: &Region,
+    ks: &[Standing],
+    bound: &Bound,
+    machines: &MachineSet,
+) -> bool
     requires region { IsSized p.now.given g.now }
     requires standings { AreStanding p.now.given (sets g.now) ks.now }
     requires weight { IsWeight p.now.given bound.now.weight }
+    requires machines { AreConcerned p.now.given (sets g.now) bound.now.weight (has_node bound.now.nodes) machines.now }
     ensures { IsTrue result → StaysIn p.now.given (sets g.now) bound.now.weight (has_node bound.now.nodes) bound.now.amount }
 {
     let end = u64::from(p.horizon()) + 1;
     let mut from = 0u64;
     'periods: while from < end {
-        let Some(until) = stays_until(p, g, ks, bound, from) else {
+        let Some(until) = stays_until(p, g, ks, bound, machines, from) else {
             return false;
         };
         from = until;
@@ -128,18 +152,46 @@ fn stays_always(p: &Problem, g: &Region, ks: &[Standing], bound: &Bound) -> bool
     true
 }
 
-// whether it is seen at the horizon
-fn stays_last(p: &Problem, g: &Region, ks: &[Standing], bound: &Bound) -> bool
+// whether it is seen at all instants: of all at once, or else period by period
+fn stays_always(
+    p: &Problem,
+    g: &Region,
+    ks: &[Standing],
+    bound: &Bound,
+    machines: &MachineSet,
+) -> bool
     requires region { IsSized p.now.given g.now }
     requires standings { AreStanding p.now.given (sets g.now) ks.now }
     requires weight { IsWeight p.now.given bound.now.weight }
+    requires machines { AreConcerned p.now.given (sets g.now) bound.now.weight (has_node bound.now.nodes) machines.now }
+    ensures { IsTrue result → StaysIn p.now.given (sets g.now) bound.now.weight (has_node bound.now.nodes) bound.now.amount }
+{
+    let whole = Period {
+        from: 0,
+        to: p.horizon(),
+    };
+    stays_during(p, g, ks, bound, machines, whole) || stays_by_periods(p, g, ks, bound, machines)
+}
+
+// whether it is seen at the horizon
+fn stays_last(
+    p: &Problem,
+    g: &Region,
+    ks: &[Standing],
+    bound: &Bound,
+    machines: &MachineSet,
+) -> bool
+    requires region { IsSized p.now.given g.now }
+    requires standings { AreStanding p.now.given (sets g.now) ks.now }
+    requires weight { IsWeight p.now.given bound.now.weight }
+    requires machines { AreConcerned p.now.given (sets g.now) bound.now.weight (has_node bound.now.nodes) machines.now }
     ensures { IsTrue result → StaysAt p.now.given (sets g.now) bound.now.weight (has_node bound.now.nodes) bound.now.amount p.now.given.horizon }
 {
     let last = Period {
         from: p.horizon(),
         to: p.horizon(),
     };
-    stays_during(p, g, ks, bound, last)
+    stays_during(p, g, ks, bound, machines, last)
 }
 
 /// Whether it is seen whenever it has to be so: always, or at the horizon alone.
@@ -155,8 +207,9 @@ pub(crate) fn stays_when_due(
     requires weight { IsWeight p.now.given bound.now.weight }
     ensures { IsTrue result → StaysWhenDue p.now.given (sets g.now) bound.now.weight (has_node bound.now.nodes) bound.now.amount always }
 {
+    let machines = concerned(p, g, bound);
     if always {
-        return stays_always(p, g, ks, bound);
+        return stays_always(p, g, ks, bound, &machines);
     }
-    stays_last(p, g, ks, bound)
+    stays_last(p, g, ks, bound, &machines)
 }

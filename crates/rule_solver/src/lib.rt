@@ -6,6 +6,7 @@ ghost use Rattle.rule_solver.specs.Prelude.{Certifies};
 
 use branching::brancher::Brancher;
 use catalogue::Problem;
+use cert_check::{CheckFault, Verdict};
 use commands::solver::{Solver, certify};
 use guided::guided::Guided;
 use plan_io::{Desk, OutFault};
@@ -16,6 +17,7 @@ use rule_pair::rule::PairRule;
 use rule_place::rule::{ForbiddenRule, NeededRule};
 use rule_setload::rule::SetRule;
 use search::Found;
+use slices::Plan;
 use std::alloc::Global;
 
 /// Searches as a solver does, by the six rules and the brancher that is handed in. `Memory` also where there is no
@@ -60,5 +62,39 @@ impl Solver for RuleSolver {
     ) -> Result<Found, OutFault> {
         let mut brancher: Box<dyn Brancher> = Box::new(alloc, Guided::new(alloc))?;
         certify_by_rules(alloc, desk, p, budget, &mut brancher, certificate)
+    }
+
+    fn check<D: Desk>(
+        &self,
+        alloc: Global,
+        p: &Problem,
+        plan: Option<&Plan>,
+        desk: &mut D,
+        certificate: &str,
+        strict: bool,
+    ) -> Result<Verdict, CheckFault> {
+        let mut rules: Vec<Box<dyn Propagator>> = Vec::new(alloc);
+        // where there is no memory for one, they do not cover all kinds, and are not asked
+        if strict {
+            if let Ok(rule) = Box::new(alloc, ForbiddenRule::new(alloc)) {
+                let _ = rules.push(rule);
+            }
+            if let Ok(rule) = Box::new(alloc, load_rule(alloc)) {
+                let _ = rules.push(rule);
+            }
+            if let Ok(rule) = Box::new(alloc, NeededRule::new(alloc)) {
+                let _ = rules.push(rule);
+            }
+            if let Ok(rule) = Box::new(alloc, PairRule::new(alloc)) {
+                let _ = rules.push(rule);
+            }
+            if let Ok(rule) = Box::new(alloc, SetRule::new(alloc)) {
+                let _ = rules.push(rule);
+            }
+            if let Ok(rule) = Box::new(alloc, GroupRule::new(alloc)) {
+                let _ = rules.push(rule);
+            }
+        }
+        cert_check::check(alloc, p, plan, desk, certificate, strict, &mut rules)
     }
 }

@@ -9,6 +9,12 @@ use cert_read::LineFault;
 use cluster::{Choice, NodeId, Place};
 use fixtures::problem;
 use plan_io::DeskSure;
+use prop_core::propagator::Propagator;
+use rule_group::rule::GroupRule;
+use rule_load::rule::load_rule;
+use rule_pair::rule::PairRule;
+use rule_place::rule::{ForbiddenRule, NeededRule};
+use rule_setload::rule::SetRule;
 use slices::Plan;
 use slices::plan::is_plan;
 use std::alloc::Global;
@@ -34,6 +40,7 @@ fn answered(
     alloc: Global,
     p: &Problem,
     plan: Option<&Plan>,
+    rules: &mut Vec<Box<dyn Propagator>>,
     case: &Case,
 ) -> Result<Result<Verdict, CheckFault>, Fail>
     requires { IfSome plan (λ a. IsPlanOf p.now.given a.now) }
@@ -42,11 +49,16 @@ fn answered(
     text.push_str(case.lines)?;
     let mut desk = DeskSure::new(alloc);
     desk.put("c", text.as_bytes())?;
-    Ok(check(alloc, p, plan, &mut desk, "c", case.strict))
+    Ok(check(alloc, p, plan, &mut desk, "c", case.strict, rules))
 }
 
 /// Whether a case holds for the problem. The plan that is handed in boots the machine at once.
-fn holds(alloc: Global, p: &Problem, case: &Case) -> Result<bool, Fail> {
+fn holds(
+    alloc: Global,
+    p: &Problem,
+    rules: &mut Vec<Box<dyn Propagator>>,
+    case: &Case,
+) -> Result<bool, Fail> {
     let boot = Choice::Act {
         place: Place::At(NodeId(0)),
         start: 0,
@@ -57,12 +69,26 @@ fn holds(alloc: Global, p: &Problem, case: &Case) -> Result<bool, Fail> {
     }
     let plan = Plan::idle_or(p, choices);
     let handed_in = if case.planned { Some(&plan) } else { None };
-    Ok(answered(alloc, p, handed_in, case)? == case.wanted)
+    Ok(answered(alloc, p, handed_in, rules, case)? == case.wanted)
 }
 
-fn is_right(alloc: Global, case: &Case) -> Result<bool, Fail> {
+fn is_right(
+    alloc: Global,
+    rules: &mut Vec<Box<dyn Propagator>>,
+    case: &Case,
+) -> Result<bool, Fail> {
     let p = problem(alloc, INSTANCE)?;
-    holds(alloc, &p, case)
+    holds(alloc, &p, rules, case)
+}
+
+/// Whether one of them has answered a cut or a fail.
+fn have_answered(rules: &Vec<Box<dyn Propagator>>) -> bool {
+    for rule in rules {
+        if rule.given() > 0 {
+            return true;
+        }
+    }
+    false
 }
 
 /// Cases, one a line: strict or not, a plan or none, the lines, and what is wanted.
@@ -76,6 +102,9 @@ macro_rules! cases {
         }),*]
     };
 }
+
+/// The first case that is strict: it leaves a region that is not closed.
+const FIRST_STRICT: usize = 17;
 
 static CASES: [Case; 26] = cases! {
     false true "decide n idle\ndecide v upto n 0\nplan 1\nfail bound\nfail bound\nend optimal 1\n"
@@ -129,8 +158,20 @@ static CASES: [Case; 26] = cases! {
 
 #[test]
 fn certificates(rt: HostRuntime) -> Result<(), Fail> {
+    let alloc = rt.alloc();
+    let mut none: Vec<Box<dyn Propagator>> = Vec::new(alloc);
+    let mut rules: Vec<Box<dyn Propagator>> = Vec::new(alloc);
+    rules.push(Box::new(alloc, ForbiddenRule::new(alloc))?)?;
+    rules.push(Box::new(alloc, load_rule(alloc))?)?;
+    rules.push(Box::new(alloc, NeededRule::new(alloc))?)?;
+    rules.push(Box::new(alloc, PairRule::new(alloc))?)?;
+    rules.push(Box::new(alloc, SetRule::new(alloc))?)?;
+    rules.push(Box::new(alloc, GroupRule::new(alloc))?)?;
     for (at, case) in CASES.iter().enumerate() {
-        assert!(rt; is_right(rt.alloc(), case)?, "at {at}");
+        // only what is strict asks them
+        assert_eq!(rt; have_answered(&rules), at > FIRST_STRICT, "at {at}");
+        assert!(rt; is_right(alloc, &mut none, case)?, "at {at}");
+        assert!(rt; is_right(alloc, &mut rules, case)?, "at {at}, with rules");
     }
     Ok(())
 }

@@ -1,9 +1,10 @@
-use Rattle.cert_check.proofs.Prelude.{◌^◌, IsTrue, ◌≡◌, ◌<◌, ◌-◌, option_copied, bound_of, bytes_of, choices_handed, IsUnderway, StandsIn}
+use Rattle.cert_check.proofs.Prelude.{◌^◌, IsTrue, ◌≡◌, ◌<◌, ◌-◌, option_copied, bound_of, bytes_of, choices_handed, FollowWalk, IsUnderway, StandsIn}
 use Rattle.cert_check.proofs.lines.check_lines.Given as goal
 
 abbrev pub invariant-lines : goal.invariant-lines
 invariant-lines g l = record {
   underway : IsUnderway l.p.given (bound_of l.p.given (choices_handed (option_copied l.plan))) l.strict (IsTrue g.D.Desk.tells) (bytes_of (g.D.Desk.files l.fn.desk l.name)) l.reader.at l.walk;
+  follow : FollowWalk (λ b. (goal.Propagator-dyn g (b.vtable, b.value)).meaning b.value) l.p.given l.walk l.rules.items;
   stands : IsTrue g.D.Desk.tells → StandsIn (bytes_of (g.D.Desk.files l.desk l.name)) l.reader;
   named : l.reader.name ≡ l.name;
   within : l.reader.at.place < 2 ^ 64;

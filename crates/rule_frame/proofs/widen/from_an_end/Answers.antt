@@ -1,4 +1,4 @@
-use Rattle.rule_frame.proofs.Prelude.{◌≡◌, ◌+◌, ◌-◌, ◌≤◌, subst, arith, nat_tests, FailHolds, Part, in_part, keeping, part_past, sets}
+use Rattle.rule_frame.proofs.Prelude.{◌+◌, ◌-◌, ◌≤◌, subst, arith, nat_tests, FailHolds, in_part, keeping, part_past, sets}
 use Rattle.rule_frame.proofs.WidenLemmas.{further_holds}
 use Rattle.rule_frame.proofs.widen.from_an_end.Goals as goal
 

@@ -6,8 +6,8 @@ pub loop-i-preserved : goal.loop-i-preserved
 loop-i-preserved c =
     let next : c.loop-i.i + 1 ≡ suc c.loop-i.i = omega arith in
     record {
-      within = λ t h. rw next (omega (arith, c.loop-i.invariant.within t h, c.most_held-total.ensures.most.each t h));
-      small = omega (arith, c.loop-i.invariant.small, c.most_held-total.ensures.small);
+      within = λ t h. rw next (omega (arith, c.loop-i.invariant.within t h, c.most_of-total.ensures.most.each t h));
+      small = omega (arith, c.loop-i.invariant.small, c.most_of-total.ensures.small);
     }
 
 pub returns-clause-within : goal.returns-clause-within

@@ -1,11 +1,5 @@
-use Rattle.rule_setload.proofs.Prelude.{inl, inr, arith, cases_lt}
+use Rattle.rule_setload.proofs.Prelude.{arith}
 use Rattle.rule_setload.proofs.walk.stays_always.Goals as goal
 
-pub periods-preserved : goal.periods-preserved
-periods-preserved c = record {
-  most = c.in-Some.ensures.most;
-  stays = λ t l. elim (cases_lt t c.periods.from) [ inl earlier ↦ c.periods.invariant.stays t earlier | inr now ↦ c.in-Some.ensures.stays t now l ];
-}
-
-pub returns : goal.returns
-returns c = λ on t l. c.periods.invariant.stays t (omega (arith, l))
+pub returns-then-stays_during : goal.returns-then-stays_during
+returns-then-stays_during c = λ _ t l. (c.stays_during.ensures c.if-stays_during.true) t (omega arith, omega (arith, l, c.horizon.ensures.horizon))

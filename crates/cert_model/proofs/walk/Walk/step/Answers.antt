@@ -3,8 +3,8 @@ use Rattle.cert_model.proofs.StandLemmas.{IsHeld, few_decisions, legal_here, no_
 use Rattle.cert_model.proofs.walk.Walk.step.Goals as goal
 
 pub refusal-requires-clause-legal : goal.refusal-requires-clause-legal
-refusal-requires-clause-legal c =
-    let r = c.requires in
+refusal-requires-clause-legal g c =
+    let r = c.requires.stands in
     let p = c.args.p.now.given in
     let w = the_view c.self.inside in
     let opened = c.in_ok-enter.ensures in
@@ -12,8 +12,8 @@ refusal-requires-clause-legal c =
     legal_here p r.bound r.strict r.steps w c.enter.new.self held (stands_as p r.bound r.strict r.steps w c.args.self.now c.self.view_is r.stands) c.in-Whole.is
 
 pub advance-requires-clause-legal : goal.advance-requires-clause-legal
-advance-requires-clause-legal c =
-    let r = c.requires in
+advance-requires-clause-legal g c =
+    let r = c.requires.stands in
     let p = c.args.p.now.given in
     let w = the_view c.self.inside in
     let opened = c.in_ok-enter.ensures in
@@ -21,8 +21,8 @@ advance-requires-clause-legal c =
     legal_here p r.bound r.strict r.steps w c.enter.new.self held (stands_as p r.bound r.strict r.steps w c.args.self.now c.self.view_is r.stands) c.in-Whole.is
 
 pub counted-self-inside-requires : goal.counted-self-inside-requires
-counted-self-inside-requires c =
-    let r = c.requires in
+counted-self-inside-requires g c =
+    let r = c.requires.stands in
     let p = c.args.p.now.given in
     let w = the_view c.self.inside in
     let opened = c.in_ok-enter.ensures in
@@ -30,7 +30,7 @@ counted-self-inside-requires c =
     few_decisions p r.bound r.strict r.steps w c.enter.new.self held (stands_as p r.bound r.strict r.steps w c.args.self.now c.self.view_is r.stands) r.few
 
 pub returns-clause-ok : goal.returns-clause-ok
-returns-clause-ok c =
+returns-clause-ok g c =
     λ bound strict steps shown.
     let p = c.args.p.now.given in
     let w = the_view c.self.inside in

@@ -1,11 +1,9 @@
-use Rattle.rule_load.proofs.Prelude.{subst, refl, Contains, choices, domain_at, domain_before, machine_count, on_side, sets, sets_before, filter_is_fewer, movers_told}
+use Rattle.rule_load.proofs.Prelude.{refl, choices, domain_at, domain_before, machine_count, narrowed_is_fewer, sets, sets_before, movers_told}
 use Rattle.rule_load.proofs.KeptLemmas.{cache_told, come_told, kept_fewer}
 use Rattle.rule_load.proofs.standings.StandingsKeeper.told.Goals as goal
 
 pub told-requires-clause-fewer : goal.told-requires-clause-fewer
-told-requires-clause-fewer c =
-    λ d h. filter_is_fewer (on_side c.args.change.side c.args.change.part) (choices (domain_before c.args.before c.args.kept.now (domain_at c.args.g.now c.args.change.element))) d
-    (subst (λ cs. Contains cs d) c.requires.narrowed.left h)
+told-requires-clause-fewer c = narrowed_is_fewer c.args.p.now.given c.args.g.now c.args.change c.args.before c.args.kept.now c.requires.narrowed
 
 pub told-requires-2-clause-right : goal.told-requires-2-clause-right
 told-requires-2-clause-right c = kept_fewer c.args.p.now.given c.args.g.now c.args.change c.args.before c.args.kept.now c.args.self.now.table c.args.self.now.fixed c.args.self.now.near c.args.self.now.firsts c.args.self.now.movers c.requires.narrowed c.requires.right

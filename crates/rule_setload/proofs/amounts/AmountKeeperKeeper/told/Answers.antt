@@ -1,11 +1,9 @@
-use Rattle.rule_setload.proofs.Prelude.{subst, Contains, choices, domain_at, domain_before, on_side, sets, sets_before, filter_is_fewer}
+use Rattle.rule_setload.proofs.Prelude.{narrowed_is_fewer, sets_before}
 use Rattle.rule_setload.proofs.KeptLemmas.{amounts_told, kept_standings}
 use Rattle.rule_setload.proofs.amounts.AmountKeeperKeeper.told.Goals as goal
 
 pub told-requires-clause-fewer : goal.told-requires-clause-fewer
-told-requires-clause-fewer c =
-    λ d h. filter_is_fewer (on_side c.args.change.side c.args.change.part) (choices (domain_before c.args.before c.args.kept.now (domain_at c.args.g.now c.args.change.element))) d
-    (subst (λ cs. Contains cs d) c.requires.narrowed.left h)
+told-requires-clause-fewer c = narrowed_is_fewer c.args.p.now.given c.args.g.now c.args.change c.args.before c.args.kept.now c.requires.narrowed
 
 pub told-requires-clause-right : goal.told-requires-clause-right
 told-requires-clause-right c = kept_standings c.args.p.now.given (sets_before c.args.g.now c.args.change.element c.args.before c.args.kept.now) c.args.self.now.index.lists c.args.self.now.table c.args.self.now.movers c.args.self.now.stayers.items c.requires.right

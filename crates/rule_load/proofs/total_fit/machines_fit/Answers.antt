@@ -1,6 +1,6 @@
 use Rattle.rule_load.proofs.Prelude.{◌+◌, refl, slice_index_or, arith, all_nodes, Amount, base, demand_of, may_wait, most_anywhere, no_standing, sets, vm}
 use Rattle.rule_load.proofs.TotalLemmas.{ever_most}
-use Rattle.rule_load.proofs.total_uses.machines_fit.Goals as goal
+use Rattle.rule_load.proofs.total_fit.machines_fit.Goals as goal
 
 pub returns-then-most-spare : goal.returns-then-most-spare
 returns-then-most-spare c = λ on. record {

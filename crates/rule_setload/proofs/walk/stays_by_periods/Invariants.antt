@@ -1,6 +1,6 @@
 use Rattle.rule_setload.proofs.Prelude.{◌+◌, ◌-◌, ◌≤◌}
 use Rattle.rule_setload.specs.Prelude.{has_node, sets, StaysBefore}
-use Rattle.rule_setload.proofs.walk.stays_always.Given as goal
+use Rattle.rule_setload.proofs.walk.stays_by_periods.Given as goal
 
 abbrev pub invariant-periods : goal.invariant-periods
 invariant-periods l = record {

@@ -1,5 +1,5 @@
 use Rattle.rule_load.proofs.Prelude.{ℕ, ◌+◌, ◌<◌, slice_index_or, all_nodes, IsMost, may_wait, most_anywhere, no_standing, sets, vm}
-use Rattle.rule_load.proofs.total_uses.machines_fit.Given as goal
+use Rattle.rule_load.proofs.total_fit.machines_fit.Given as goal
 
 abbrev pub invariant-loop-i : goal.invariant-loop-i
 invariant-loop-i l =
