@@ -1,5 +1,5 @@
 -- Where bounds of what is used fit, nothing is overloaded.
-use Rattle.rule_load.proofs.Prelude.{◌≡◌, inl, inr, ℕ, zero, suc, ◌+◌, ◌-◌, ◌<◌, ◌≤◌, cond, List, length, subst, sym, arith, slice_index_or, cases_eq, cases_lt, sum_to-le, all_nodes, Amount, AreMost, AreStanding, capacity_of, Choice, Element, HasRoom, Instance, is_steady, IsDuring, IsElement, IsEnd, IsFreeDuring, IsFreeOf, IsFreePast, IsOverload, IsOverloaded, load, machine_count, MachinesFit, may_wait, most_anywhere, most_kept, never, no_standing, node, TheNode, node_count, Nodes, NodesFit, one, Period, RegionView, Sets, sets, setting, Standing, sum_to, sure, Vm, vm, end_is_choice, machine_change, node_change, setting_agrees, setting_total}
+use Rattle.rule_load.proofs.Prelude.{◌≡◌, inl, inr, ℕ, zero, suc, ◌+◌, ◌-◌, ◌<◌, ◌≤◌, cond, List, length, refl, subst, sym, arith, slice_index_or, cases_eq, cases_lt, sum_to-le, all_nodes, Amount, AreMost, AreStanding, capacity_of, Choice, Element, HasRoom, Instance, is_steady, IsDuring, IsElement, IsEnd, IsFreeDuring, IsFreeOf, IsFreePast, IsOverload, IsOverloaded, load, machine_count, MachinesFit, may_wait, most_anywhere, most_kept, never, no_standing, node, TheNode, node_count, Nodes, NodesFit, one, Period, RegionView, Sets, sets, setting, Standing, sum_to, sure, Vm, vm, end_is_choice, machine_change, node_change, setting_agrees, setting_total}
 use Rattle.rule_load.proofs.RoomLemmas.{steady-fits, steady-room}
 use Rattle.rule_load.proofs.TotalLemmas.{are_most}
 use Rattle.rule_load.proofs.UseLemmas.{sure_most}
@@ -77,6 +77,25 @@ pub loose_free : (p : Instance) (g : RegionView) (ks : List Standing) (r : ℕ) 
     IsFreeDuring (λ b. IsOverload p b r (all_nodes p)) p (sets g) x
 loose_free p g ks r x used total short are sum has fits machines nodes =
     free_during p (sets g) r (all_nodes p) x (λ v. most_anywhere p v r x (may_wait p (sets g) x v) (slice_index_or ks v no_standing)) used total (total - used) sum (are_most p g ks r (all_nodes p) x short are) has (omega (arith, fits)) machines nodes
+
+-- where no machine uses more than what is spare of less, none does of more
+spare_more : (p : Instance) (s : Sets) (r : ℕ) (set : Nodes) (x : Period) (most : ℕ → ℕ) (less more : ℕ) → less ≤ more → MachinesFit p s r set x most less → MachinesFit p s r set x most more
+spare_more p s r set x most less more l fits = record { each = λ v low. record { each = λ c t end h. omega (arith, l, (fits.each v low).each c t end h) } }
+
+-- and by a bound of what is used that leaves enough for any machine and any node
+pub roomy_free : (p : Instance) (g : RegionView) (ks : List Standing) (r : ℕ) (x : Period) (used total stake : ℕ) → x.to < never → AreStanding p (sets g) ks →
+    sum_to (machine_count p) (λ v. most_anywhere p v r x (may_wait p (sets g) x v) (slice_index_or ks v no_standing)) ≤ used → HasRoom p (sets g) r (all_nodes p) x total → used + stake ≤ total →
+    ((s : Sets) (y : Period) (most : ℕ → ℕ) → MachinesFit p s r (all_nodes p) y most (total - used)) → ((k : ℕ) → k + stake ≤ total → NodesFit p (sets g) r (all_nodes p) x k) →
+    IsFreeDuring (λ b. IsOverload p b r (all_nodes p)) p (sets g) x
+roomy_free p g ks r x used total stake short are within has fits machines nodes =
+    loose_free p g ks r x exact total short are refl has (omega (arith, within, fits))
+    (spare_more p (sets g) r (all_nodes p) x each (total - used) (total - exact) (omega (arith, within)) (machines (sets g) x each)) (nodes exact (omega (arith, within, fits)))
+  where
+    each : ℕ → ℕ
+    each v = most_anywhere p v r x (may_wait p (sets g) x v) (slice_index_or ks v no_standing)
+
+    exact : ℕ
+    exact = sum_to (machine_count p) each
 
 -- ---- resource by resource
 

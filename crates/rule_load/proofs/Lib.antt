@@ -4,6 +4,7 @@ pub mod FreeLemmas
 pub mod KeptLemmas
 pub mod DirtyLemmas
 pub mod LooseLemmas
+pub mod NodeRoomLemmas
 mod OverLemmas
 pub mod RoomLemmas
 pub mod SetLemmas

@@ -1,6 +1,8 @@
 -- What one machine uses at the most on the nodes of any set.
-use Rattle.rule_load.proofs.Prelude.{slice_index_or, Contains, sum_by, nat_lt, ◌≡◌, inl, inr, ℕ, suc, ◌+◌, ◌-◌, ◌<◌, ◌≤◌, Bool, true, false, not, ◌&&◌, nat_le, cond, Option, Some, None, List, [], ◌∷◌, length, refl, sym, ◌∙◌, arith, cases_lt, false≢true, nat_tests, Place, ends_by_duration, contains_here, ends_of_rows, least_of_each, may_each, sum_but_for}
+use Rattle.rule_load.proofs.Prelude.{slice_index_or, Contains, sum_by, nat_lt, ◌≡◌, inl, inr, ℕ, suc, ◌+◌, ◌-◌, ◌*◌, ◌<◌, ◌≤◌, Bool, true, false, not, ◌&&◌, nat_le, cond, Option, Some, None, List, [], ◌∷◌, length, refl, sym, ◌∙◌, arith, cases_lt, false≢true, nat_tests, Place, ends_by_duration, contains_here, ends_of_rows, least_of_each, may_each, sum_but_for, sum_by-cons}
 use Rattle.rule_load.specs.Prelude.{Act, acting_slices, action_duration, Allocate, Amount, AreMost, AreMovers, AreStanding, At, base, Boot, Choice, choices, Climbs, demand_of, DomainView, end_of, Gone, had_there, held_at, held_by, Idle, idle_slices, Init, Instance, IsDuring, IsMost, IsMostUnder, IsRowEnd, IsStanding, kept_until, Kill, Kind, kind_of, least, leave_of, machine_count, may, may_wait, Migrate, most_anywhere, never, no_row, no_standing, Nodes, Period, Ready, RegionView, Resume, Row, Running, sets, Shutdown, Sleeping, Slices, slices_by, slices_of, Stage, stage_at, stage_from, Standing, State, state_of, sum_to, sure, Suspend, use_of, vm, waits, weigh, weight_if}
+use Rattle.profiles.specs.Fixed.{IsMostUse}
+use Rattle.std.proofs.Math.Nat.{suc-mul}
 use Rattle.rule_load.proofs.StillLemmas.{least_attained}
 
 -- ---- what slices weigh
@@ -171,6 +173,30 @@ pub base_but_for : (p : Instance) (g : RegionView) (ks : List Standing) (r : ℕ
 base_but_for p g ks r x xs are =
     sum_but_for (machine_count p) (λ v. most_anywhere p v r x (may_wait p (sets g) x v) (slice_index_or ks v no_standing)) (λ v. base p v (Amount r)) xs are.machines.once are.machines.each
     (λ v low out. let stays : may_wait p (sets g) x v ≡ true = may_each (waits p.horizon x.to) (sets g (vm v)) Idle (are.others v low out) refl in rw stays refl)
+
+-- ---- at once
+
+most-ever : (p : Instance) (v r : ℕ) (x : Period) (b : Bool) (k : Standing) → most_anywhere p v r x b k ≤ base p v (Amount r) + demand_of p v r
+most-ever p v r x true k = omega arith
+most-ever p v r x false k = at (nat_le k.leave x.from)
+  where
+    at : (b : Bool) → cond b (demand_of p v r) (base p v (Amount r) + demand_of p v r) ≤ base p v (Amount r) + demand_of p v r
+    at true = omega arith
+    at false = omega arith
+
+sum-under : (f : ℕ → ℕ) (bound : ℕ) (xs : List ℕ) → ((v : ℕ) → Contains xs v → f v ≤ bound) → sum_by f xs ≤ length xs * bound
+sum-under f bound [] h = omega arith
+sum-under f bound (x ∷ xs) h =
+    omega (arith, sum_by-cons f x xs, suc-mul (length xs) bound, h x (0, omega arith, refl), sum-under f bound xs (λ v i. h v (suc i.0, omega (arith, i.1), i.2)))
+
+-- what all use is no more than what they have at present, and for each machine that may not stay the most that one uses
+pub total_at_once : (p : Instance) (g : RegionView) (ks : List Standing) (r : ℕ) (x : Period) (xs : List ℕ) (most : ℕ) → AreMovers p (sets g) xs → IsMostUse p r (machine_count p) most →
+    sum_to (machine_count p) (λ v. most_anywhere p v r x (may_wait p (sets g) x v) (slice_index_or ks v no_standing)) ≤ sum_to (machine_count p) (λ v. base p v (Amount r)) + length xs * most
+total_at_once p g ks r x xs most are is =
+    omega (arith, base_but_for p g ks r x xs are, sum-under (λ v. most_anywhere p v r x (may_wait p (sets g) x v) (slice_index_or ks v no_standing) - base p v (Amount r)) most xs (λ v i. beside v (are.machines.each v i)))
+  where
+    beside : (v : ℕ) → v < machine_count p → most_anywhere p v r x (may_wait p (sets g) x v) (slice_index_or ks v no_standing) - base p v (Amount r) ≤ most
+    beside v low = omega (arith, most-ever p v r x (may_wait p (sets g) x v) (slice_index_or ks v no_standing), is.each v low)
 
 -- ---- under its choices
 

@@ -1,8 +1,9 @@
 -- What is kept beside the rule: where each machine surely stands and before when it does not start at a node, with levels; the machines
--- near each node, and those that may not stay.
+-- near each node, and those that may not stay; and the nodes that may not be usable at all times.
 use Rattle.std.specs.Prelude.{◌≡◌, ℕ, ◌<◌, true, List, length, slice_index_or}
 use Rattle.std.specs.List.{Contains}
 use Rattle.profiles.specs.Prelude.{AreFirstAt, AreFirsts, AreMachines, AreMovers, AreStanding, comes_by, FixedView, have_come, hosted_in, Instance, IsFixed, IsNear, level_at, Levels, list_at, machine_count, no_standing, node_count, one, Sets, state_of, Tables, vm}
+use Rattle.rule_load.specs.NodeRooms.{AreRooms, RoomsView}
 use Rattle.rule_load.specs.Words.{Element, Vm, TheNode, Cache, Standing}
 
 -- each machine of which all choices have come to a node is in the list of the node
@@ -10,8 +11,8 @@ pub record HaveCome (p : Instance) (s : Sets) (xs : List (List ℕ)) : Type 0 wh
   pub come : (n v t : ℕ) → n < node_count p → v < machine_count p → have_come n t (s (vm v)) ≡ true → Contains (list_at xs n) v
 
 -- what is kept of a level is right for the sets, what does not change is for the instance, and of each node the machines near it are
--- listed, and all that may not stay
-pub record AreKept (p : Instance) (s : Sets) (m : Tables) (x : FixedView) (xs : List (List ℕ)) (f : Levels ℕ) (ws : List ℕ) (k : ℕ) : Type 0 where
+-- listed, and all that may not stay, and all nodes that may not be usable at all times
+pub record AreKept (p : Instance) (s : Sets) (m : Tables) (x : FixedView) (xs : List (List ℕ)) (f : Levels ℕ) (ws : List ℕ) (os : RoomsView) (k : ℕ) : Type 0 where
   pub standing : AreStanding p s (level_at m k)
   pub fixed : IsFixed p x
   pub near : IsNear p xs
@@ -19,9 +20,10 @@ pub record AreKept (p : Instance) (s : Sets) (m : Tables) (x : FixedView) (xs : 
   pub firsts : AreFirsts p s (level_at f k)
   pub same : length f.older ≡ length m.older
   pub movers : AreMovers p s ws
+  pub rooms : AreRooms p s os
 
-abbrev pub cache_of : Tables → FixedView → List (List ℕ) → Levels ℕ → List ℕ → Cache
-cache_of m x xs f ws = record { right = λ p k s. AreKept p s m x xs f ws k; level = length m.older }
+abbrev pub cache_of : Tables → FixedView → List (List ℕ) → Levels ℕ → List ℕ → RoomsView → Cache
+cache_of m x xs f ws os = record { right = λ p k s. AreKept p s m x xs f ws os k; level = length m.older }
 
 -- ---- what node n needs of it
 

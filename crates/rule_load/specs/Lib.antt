@@ -1,5 +1,6 @@
 -- what a reader must believe
 pub mod Watched
+pub mod NodeRooms
 pub mod Kept
 -- what the code's contracts and the rule's laws say beside it
 pub mod Dirty

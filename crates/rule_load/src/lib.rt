@@ -10,6 +10,7 @@ mod kept;
 mod loose_room;
 mod measures;
 mod node_look;
+pub mod node_rooms;
 mod nodes;
 mod over;
 pub mod period;

@@ -34,7 +34,7 @@ pub(crate) fn refutes_part(
     reason: &Reason,
 ) -> bool
     requires region { IsSized p.now.given g.now }
-    requires right { IsCacheFor (cache_of k.now.table k.now.fixed k.now.near k.now.firsts k.now.movers) p.now.given (sets g.now) }
+    requires right { IsCacheFor (cache_of k.now.table k.now.fixed k.now.near k.now.firsts k.now.movers k.now.rooms) p.now.given (sets g.now) }
     requires element { IsElement p.now.given e }
     requires may { MayAnswer reason.now }
     ensures { IsTrue result → FailHolds p.now.given (keeping e (in_part part) (sets g.now)) reason.now }
@@ -68,7 +68,7 @@ fn overloads(
     n: NodeId,
 ) -> bool
     requires region { IsSized p.now.given g.now }
-    requires right { IsCacheFor (cache_of k.now.table k.now.fixed k.now.near k.now.firsts k.now.movers) p.now.given (sets g.now) }
+    requires right { IsCacheFor (cache_of k.now.table k.now.fixed k.now.near k.now.firsts k.now.movers k.now.rooms) p.now.given (sets g.now) }
     requires node { n.0 < node_count p.now.given }
     ensures { IsTrue result → (t ≤ p.now.given.horizon) × (r < length p.now.given.resources) × IsOverload p.now.given (sure p.now.given (keeping e (in_part part) (sets g.now)) t) r (one n.0) }
 {

@@ -3,7 +3,9 @@ ghost use Rattle.std.specs.Prelude.{◌≡◌, ℕ, ◌<◌, OnErr, OnOk, [], le
 ghost use Rattle.profiles.specs.Prelude.{AreMovers, AreStanding, IsElement, IsFixed, IsNear, IsStanding, machine_count, no_standing, node_count, sets};
 ghost use Rattle.rule_frame.specs.Caches.{IsCacheFor};
 ghost use Rattle.rule_load.specs.Kept.{AreKeptAt, Grows, IsListedBy, IsListedFor};
+ghost use Rattle.rule_load.specs.NodeRooms.{AreRooms};
 
+use crate::node_rooms::NodeRooms;
 use crate::{Fixed, Kept, Standing};
 use profiles::firsts::Firsts;
 use profiles::movers::Movers;
@@ -13,8 +15,8 @@ use rule_frame::{Before, Change, Domain, Element, Keeper, Memory, NodeId, Proble
 use std::alloc::Global;
 
 /// Keeps for each machine until when it surely stands on its host, and where it surely comes to; for each node the
-/// machines near it, of which none is taken away, and before when each machine does not start there; and the machines
-/// that may not stay.
+/// machines near it, of which none is taken away, and before when each machine does not start there; the machines
+/// that may not stay; and the nodes that may not be usable at all times.
 #[derive(Drop)]
 pub struct Standings {
     table: Table,
@@ -22,6 +24,7 @@ pub struct Standings {
     near: Near,
     firsts: Firsts,
     movers: Movers,
+    rooms: NodeRooms,
     alloc: Global,
 }
 
@@ -36,13 +39,14 @@ impl Standings {
             near: Near::none(alloc),
             firsts: Firsts::new(alloc),
             movers: Movers::none(alloc),
+            rooms: NodeRooms::none(alloc),
             alloc,
         }
     }
 
     /// Where a machine surely stands in the region of which this was told last.
     pub fn of(&self, p: &Problem, _g: &Region, v: VmId) -> Standing
-        requires right { IsCacheFor (cache_of self.now.table self.now.fixed self.now.near self.now.firsts self.now.movers) p.now.given (sets _g.now) }
+        requires right { IsCacheFor (cache_of self.now.table self.now.fixed self.now.near self.now.firsts self.now.movers self.now.rooms) p.now.given (sets _g.now) }
         requires machine { IsElement p.now.given (Element.Vm v) }
         ensures { IsStanding p.now.given v.0 (sets _g.now (Element.Vm v)) result }
     {
@@ -51,7 +55,7 @@ impl Standings {
 
     /// What no change of a region changes.
     pub fn fixed(&self, p: &Problem, _g: &Region) -> &Fixed
-        requires { IsCacheFor (cache_of self.now.table self.now.fixed self.now.near self.now.firsts self.now.movers) p.now.given (sets _g.now) }
+        requires { IsCacheFor (cache_of self.now.table self.now.fixed self.now.near self.now.firsts self.now.movers self.now.rooms) p.now.given (sets _g.now) }
         ensures { IsFixed p.now.given result.now }
     {
         &self.fixed
@@ -67,6 +71,7 @@ impl Standings {
         ensures fixed { self.new.fixed ≡ self.old.fixed }
         ensures firsts { self.new.firsts ≡ self.old.firsts }
         ensures movers { self.new.movers ≡ self.old.movers }
+        ensures rooms { self.new.rooms ≡ self.old.rooms }
         ensures near { OnOk result (IsNear _p.now.given self.new.near) }
         ensures grows { OnOk result (Grows (machine_count _p.now.given) self.old.near self.new.near) }
         ensures there { OnOk result (IsListedBy _p.now.given v.0 (slice_index_or self.old.table.top v.0 no_standing) self.new.near) }
@@ -85,6 +90,7 @@ impl Standings {
         ensures fixed { self.new.fixed ≡ self.old.fixed }
         ensures firsts { self.new.firsts ≡ self.old.firsts }
         ensures movers { self.new.movers ≡ self.old.movers }
+        ensures rooms { self.new.rooms ≡ self.old.rooms }
         ensures near { OnOk result (IsNear p.now.given self.new.near) }
         ensures there { OnOk result ((v : ℕ) → v < machine_count p.now.given → IsListedBy p.now.given v (slice_index_or self.old.table.top v no_standing) self.new.near) }
     {
@@ -103,6 +109,7 @@ impl Standings {
         ensures fixed { self.new.fixed ≡ self.old.fixed }
         ensures firsts { self.new.firsts ≡ self.old.firsts }
         ensures movers { self.new.movers ≡ self.old.movers }
+        ensures rooms { self.new.rooms ≡ self.old.rooms }
         ensures near { OnOk result (IsNear p.now.given self.new.near) }
         ensures grows { OnOk result (Grows (machine_count p.now.given) self.old.near self.new.near) }
         ensures there { OnOk result (IsListedFor p.now.given e self.old.table.top self.new.near) }
@@ -116,7 +123,7 @@ impl Standings {
     /// What is kept, as far as a node needs it.
     #[tactic(auto, using(crate::proofs::KeptLemmas::kept_at, crate::proofs::KeptLemmas::kept_firsts))]
     pub(crate) fn at(&self, p: &Problem, g: &Region, n: NodeId) -> Kept<'_>
-        requires right { IsCacheFor (cache_of self.now.table self.now.fixed self.now.near self.now.firsts self.now.movers) p.now.given (sets g.now) }
+        requires right { IsCacheFor (cache_of self.now.table self.now.fixed self.now.near self.now.firsts self.now.movers self.now.rooms) p.now.given (sets g.now) }
         requires node { n.0 < node_count p.now.given }
         ensures { AreKeptAt p.now.given (sets g.now) n.0 result.fixed.now result.standings.now result.near.now result.firsts.now }
     {
@@ -130,7 +137,7 @@ impl Standings {
 
     /// Where each machine surely stands in the region of which this was told last.
     pub fn all(&self, p: &Problem, _g: &Region) -> &[Standing]
-        requires { IsCacheFor (cache_of self.now.table self.now.fixed self.now.near self.now.firsts self.now.movers) p.now.given (sets _g.now) }
+        requires { IsCacheFor (cache_of self.now.table self.now.fixed self.now.near self.now.firsts self.now.movers self.now.rooms) p.now.given (sets _g.now) }
         ensures { AreStanding p.now.given (sets _g.now) result.now }
     {
         self.table.standings()
@@ -138,22 +145,31 @@ impl Standings {
 
     /// The machines that may not stay in the region of which this was told last, and no machine twice.
     pub fn movers(&self, p: &Problem, _g: &Region) -> &[u32]
-        requires { IsCacheFor (cache_of self.now.table self.now.fixed self.now.near self.now.firsts self.now.movers) p.now.given (sets _g.now) }
+        requires { IsCacheFor (cache_of self.now.table self.now.fixed self.now.near self.now.firsts self.now.movers self.now.rooms) p.now.given (sets _g.now) }
         ensures { AreMovers p.now.given (sets _g.now) result.now }
     {
         self.movers.machines()
+    }
+
+    /// What all nodes have, and the nodes that may not be usable at all times.
+    pub(crate) fn rooms(&self, p: &Problem, _g: &Region) -> &NodeRooms
+        requires { IsCacheFor (cache_of self.now.table self.now.fixed self.now.near self.now.firsts self.now.movers self.now.rooms) p.now.given (sets _g.now) }
+        ensures { AreRooms p.now.given (sets _g.now) result.now }
+    {
+        &self.rooms
     }
 }
 
 impl Keeper for Standings {
     ghost use Rattle.rule_load.specs.Kept.{cache_of};
 
-    ghost cache = { λ k. cache_of k.table k.fixed k.near k.firsts k.movers };
+    ghost cache = { λ k. cache_of k.table k.fixed k.near k.firsts k.movers k.rooms };
 
     fn post(&mut self, p: &Problem, g: &Region) -> Result<(), Memory> {
         self.fixed = Fixed::of(self.alloc, p)?;
         self.near = Near::of(self.alloc, p)?;
         self.movers = Movers::of(self.alloc, p, g)?;
+        self.rooms = NodeRooms::of(self.alloc, p, g)?;
         self.table.post(p, g)?;
         self.firsts.post(p, g)?;
         self.put_all(p)
@@ -170,6 +186,7 @@ impl Keeper for Standings {
         self.table.told(p, g, change, before, kept)?;
         self.firsts.told(p, g, change)?;
         self.movers.told(p, g, change.element)?;
+        self.rooms.told(p, g, change.element)?;
         self.put_changed(p, change.element)?;
         Ok(())
     }

@@ -1,6 +1,6 @@
 //! Whether each machine fits in what is spare on all nodes together during a period, under any of its choices.
-ghost use Rattle.std.specs.Prelude.{◌≡◌, ◌+◌, ◌*◌, ◌<◌, ◌≤◌, length, slice_index_or, true, IsTrue};
-ghost use Rattle.rule_load.specs.Prelude.{all_nodes, Amount as AmountOf, base as the_base, Choice as AnyChoice, demand_of, IsElement, IsFixed, IsMost, IsMostUnder, IsSized, leave_of, machine_count, MachinesFit, max_amount, max_capacity, max_nodes, may_wait as the_may_wait, most_anywhere as the_most_anywhere, no_standing, sets, vm};
+ghost use Rattle.std.specs.Prelude.{◌≡◌, ℕ, ◌+◌, ◌*◌, ◌<◌, ◌≤◌, length, slice_index_or, true, IsTrue};
+ghost use Rattle.rule_load.specs.Prelude.{all_nodes, Amount as AmountOf, base as the_base, Choice as AnyChoice, demand_of, IsElement, IsFixed, IsMost, IsMostUnder, IsSized, leave_of, machine_count, MachinesFit, max_amount, max_capacity, max_nodes, may_wait as the_may_wait, most_anywhere as the_most_anywhere, no_standing, Period as AnyPeriod, Sets, sets, vm};
 
 use crate::total_uses::{may_wait, most_anywhere};
 use crate::{Fixed, Leaving, Period, Standing, base, leaves_of};
@@ -120,6 +120,15 @@ fn is_below(p: &Problem, g: &Region, v: VmId, r: u8, x: Period, bound: u64) -> b
     needs.had + needs.demand <= bound || ends_are_under(p, g, v, r, needs, x, bound)
 }
 
+/// Whether what any machine has and brings is spare: then each uses no more, whatever its choices and numbers are.
+pub(crate) fn any_fits(p: &Problem, f: &Fixed, r: u8, spare: u64) -> bool
+    requires fixed { IsFixed p.now.given f.now }
+    requires resource { r < length p.now.given.resources }
+    ensures { IsTrue result → (s : Sets) (x : AnyPeriod) (most : ℕ → ℕ) → MachinesFit p.now.given s r (all_nodes p.now.given) x most spare }
+{
+    f.most(p, r) <= spare
+}
+
 /// Whether each machine uses no more, under any end of its choices, than what is spare and what it surely uses
 /// itself.
 pub(crate) fn machines_fit(
@@ -139,8 +148,7 @@ pub(crate) fn machines_fit(
     requires small { spare ≤ max_nodes * max_capacity }
     ensures { IsTrue result → MachinesFit p.now.given (sets g.now) r (all_nodes p.now.given) x (λ v. the_most_anywhere p.now.given v r x (the_may_wait p.now.given (sets g.now) x v) (slice_index_or ks.now v no_standing)) spare }
 {
-    // what any of them has and brings is spare
-    if f.most(p, r) <= spare {
+    if any_fits(p, f, r, spare) {
         return true;
     }
     for i in 0..p.cluster().machines().len() {

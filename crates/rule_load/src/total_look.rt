@@ -1,12 +1,14 @@
 //! The look at the load of all nodes together, by where machines surely stand.
-ghost use Rattle.std.specs.Prelude.{◌+◌, ◌<◌, ◌≤◌, length, IfSome, IsTrue};
-ghost use Rattle.rule_load.specs.Prelude.{all_nodes, AreMovers, AreStanding, IsFixed, IsFreeDuring, IsFreePast, IsLook, IsOverload, IsOverloaded, IsSized, sets, total_load_watch};
+ghost use Rattle.std.specs.Prelude.{ℕ, ◌+◌, ◌-◌, ◌<◌, ◌≤◌, length, IfSome, IsTrue};
+ghost use Rattle.rule_load.specs.NodeRooms.{always};
+ghost use Rattle.rule_load.specs.Prelude.{all_nodes, AreMovers, AreRooms, AreStanding, IsFixed, IsFreeDuring, IsFreePast, IsLook, IsOverload, IsOverloaded, IsSized, MachinesFit, Period as AnyPeriod, Sets, sets, total_load_watch};
 
 use crate::change_instants::next_change_anywhere;
-use crate::loose_room::loose_room;
+use crate::loose_room::{LooseRoom, loose_room};
+use crate::node_rooms::{NodeRooms, always};
 use crate::room::steady_room;
-use crate::total_fit::machines_fit;
-use crate::total_uses::most_total;
+use crate::total_fit::{any_fits, machines_fit};
+use crate::total_uses::{most_at_once, most_total};
 use crate::{Fixed, Period, Standing, resource_total};
 use closing::watch::look_at_total_load;
 use rule_frame::{Look, Problem, Region};
@@ -78,6 +80,88 @@ fn has_enough(
     has_steady_room(p, f, g, ks, movers, r, x) || has_loose_room(p, f, g, ks, movers, r, x)
 }
 
+// whether that much use leaves of a room what one node may lack, or any machine may use more
+fn leaves_enough(p: &Problem, f: &Fixed, r: u8, used: u64, room: LooseRoom) -> bool
+    requires fixed { IsFixed p.now.given f.now }
+    requires resource { r < length p.now.given.resources }
+    ensures within { IsTrue result → used + room.at_stake ≤ room.total }
+    ensures machines { IsTrue result → (s : Sets) (x : AnyPeriod) (most : ℕ → ℕ) → MachinesFit p.now.given s r (all_nodes p.now.given) x most (room.total - used) }
+{
+    used <= room.total && room.at_stake <= room.total - used && any_fits(p, f, r, room.total - used)
+}
+
+// whether it is seen by what is kept of all nodes that of a resource enough is there at all times, without a look at any
+fn is_roomy_at_once(
+    p: &Problem,
+    f: &Fixed,
+    g: &Region,
+    ks: &[Standing],
+    movers: &[u32],
+    rooms: &NodeRooms,
+    r: u8,
+) -> bool
+    requires region { IsSized p.now.given g.now }
+    requires fixed { IsFixed p.now.given f.now }
+    requires right { AreStanding p.now.given (sets g.now) ks.now }
+    requires movers { AreMovers p.now.given (sets g.now) movers.now }
+    requires rooms { AreRooms p.now.given (sets g.now) rooms.now }
+    requires resource { r < length p.now.given.resources }
+    ensures { IsTrue result → IsFreeDuring (λ b. IsOverload p.now.given b r (all_nodes p.now.given)) p.now.given (sets g.now) (always p.now.given) }
+{
+    let room = rooms.room(p, g, r);
+    match most_at_once(p, f, g, ks, movers, r) {
+        None => false,
+        Some(used) => leaves_enough(p, f, r, used, room),
+    }
+}
+
+// the same, with a look at the machines that may not stay
+fn is_roomy(
+    p: &Problem,
+    f: &Fixed,
+    g: &Region,
+    ks: &[Standing],
+    movers: &[u32],
+    rooms: &NodeRooms,
+    r: u8,
+) -> bool
+    requires region { IsSized p.now.given g.now }
+    requires fixed { IsFixed p.now.given f.now }
+    requires right { AreStanding p.now.given (sets g.now) ks.now }
+    requires movers { AreMovers p.now.given (sets g.now) movers.now }
+    requires rooms { AreRooms p.now.given (sets g.now) rooms.now }
+    requires resource { r < length p.now.given.resources }
+    ensures { IsTrue result → IsFreeDuring (λ b. IsOverload p.now.given b r (all_nodes p.now.given)) p.now.given (sets g.now) (always p.now.given) }
+{
+    let x = always(p);
+    let used = most_total(p, f, g, ks, movers, r, x);
+    let room = rooms.room(p, g, r);
+    leaves_enough(p, f, r, used, room)
+}
+
+// whether it is seen that of a resource enough is there at all times: what is kept of all nodes tells first
+fn has_always_enough(
+    p: &Problem,
+    f: &Fixed,
+    g: &Region,
+    ks: &[Standing],
+    movers: &[u32],
+    rooms: &NodeRooms,
+    r: u8,
+) -> bool
+    requires region { IsSized p.now.given g.now }
+    requires fixed { IsFixed p.now.given f.now }
+    requires right { AreStanding p.now.given (sets g.now) ks.now }
+    requires movers { AreMovers p.now.given (sets g.now) movers.now }
+    requires rooms { AreRooms p.now.given (sets g.now) rooms.now }
+    requires resource { r < length p.now.given.resources }
+    ensures { IsTrue result → IsFreeDuring (λ b. IsOverload p.now.given b r (all_nodes p.now.given)) p.now.given (sets g.now) (always p.now.given) }
+{
+    is_roomy_at_once(p, f, g, ks, movers, rooms, r)
+        || is_roomy(p, f, g, ks, movers, rooms, r)
+        || has_enough(p, f, g, ks, movers, r, always(p))
+}
+
 // whether it is of each resource
 fn is_free(p: &Problem, f: &Fixed, g: &Region, ks: &[Standing], movers: &[u32], x: Period) -> bool
     requires region { IsSized p.now.given g.now }
@@ -95,19 +179,28 @@ fn is_free(p: &Problem, f: &Fixed, g: &Region, ks: &[Standing], movers: &[u32], 
     true
 }
 
-// whether it is at all times taken together
-fn is_always_free(p: &Problem, f: &Fixed, g: &Region, ks: &[Standing], movers: &[u32]) -> bool
+// whether it is at all times taken together, which what is kept tells first
+fn is_always_free(
+    p: &Problem,
+    f: &Fixed,
+    g: &Region,
+    ks: &[Standing],
+    movers: &[u32],
+    rooms: &NodeRooms,
+) -> bool
     requires region { IsSized p.now.given g.now }
     requires fixed { IsFixed p.now.given f.now }
     requires right { AreStanding p.now.given (sets g.now) ks.now }
     requires movers { AreMovers p.now.given (sets g.now) movers.now }
-    ensures { IsTrue result → IsLook (total_load_watch p.now.given) p.now.given (sets g.now) Look.Clean }
+    requires rooms { AreRooms p.now.given (sets g.now) rooms.now }
+    ensures { IsTrue result → IsFreeDuring (IsOverloaded p.now.given (all_nodes p.now.given)) p.now.given (sets g.now) (always p.now.given) }
 {
-    let x = Period {
-        from: 0,
-        to: p.horizon(),
-    };
-    is_free(p, f, g, ks, movers, x)
+    for r in 0..resource_total(p) {
+        if !has_always_enough(p, f, g, ks, movers, rooms, r as u8) {
+            return false;
+        }
+    }
+    true
 }
 
 // the end of a period from an instant on in which it is, if one is seen: as long a one as may be, or half as long and so on,
@@ -176,14 +269,16 @@ pub(crate) fn total_look(
     g: &Region,
     ks: &[Standing],
     movers: &[u32],
+    rooms: &NodeRooms,
 ) -> Look
     requires region { IsSized p.now.given g.now }
     requires fixed { IsFixed p.now.given f.now }
     requires right { AreStanding p.now.given (sets g.now) ks.now }
     requires movers { AreMovers p.now.given (sets g.now) movers.now }
+    requires rooms { AreRooms p.now.given (sets g.now) rooms.now }
     ensures { IsLook (total_load_watch p.now.given) p.now.given (sets g.now) result }
 {
-    if is_always_free(p, f, g, ks, movers) {
+    if is_always_free(p, f, g, ks, movers, rooms) {
         return Look::Clean;
     }
     if is_free_by_periods(p, f, g, ks, movers) {

@@ -1,6 +1,7 @@
 //! What machines use at the most on all nodes together during a period.
-ghost use Rattle.std.specs.Prelude.{◌≡◌, ◌-◌, ◌*◌, ◌<◌, ◌≤◌, length, slice_index_or};
+ghost use Rattle.std.specs.Prelude.{◌≡◌, ◌-◌, ◌*◌, ◌<◌, ◌≤◌, IfSome, length, slice_index_or};
 ghost use Rattle.std.specs.List.{sum_by};
+ghost use Rattle.rule_load.specs.NodeRooms.{always};
 ghost use Rattle.rule_load.specs.Prelude.{Amount as AmountOf, AreMachines, AreMovers, base as the_base, is_nought, IsElement, IsFixed, IsSized, machine_count, max_amount, max_machines, may_wait as the_may_wait, most_anywhere as the_most_anywhere, no_standing, sets, sum_to};
 
 use crate::measures::Hurries;
@@ -137,4 +138,24 @@ pub(crate) fn most_total(
 {
     let beside = beside_bases(p, g, ks, movers, r, x);
     f.total_base(p, r) + beside.more - beside.less
+}
+
+/// A bound of that at all times that takes no look at a machine: what all have at present, and for each machine that may not
+/// stay the most that any one uses. `None` where it is too large a number.
+pub(crate) fn most_at_once(
+    p: &Problem,
+    f: &Fixed,
+    _g: &Region,
+    _ks: &[Standing],
+    movers: &[u32],
+    r: u8,
+) -> Option<u64>
+    requires fixed { IsFixed p.now.given f.now }
+    requires movers { AreMovers p.now.given (sets _g.now) movers.now }
+    requires resource { r < length p.now.given.resources }
+    ensures { IfSome result (λ used. sum_to (machine_count p.now.given) (λ v. the_most_anywhere p.now.given v r (always p.now.given) (the_may_wait p.now.given (sets _g.now) (always p.now.given) v) (slice_index_or _ks.now v no_standing)) ≤ used) }
+{
+    let more = (movers.len() as u64).checked_mul(f.most(p, r))?;
+    let used = f.total_base(p, r).checked_add(more)?;
+    Some(used)
 }

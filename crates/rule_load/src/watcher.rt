@@ -66,7 +66,14 @@ impl Watcher<Standings> for Loads {
 
     fn look(&self, k: &Standings, p: &Problem, g: &Region, i: usize) -> Look {
         match node_at(p, i) {
-            None => total_look(p, k.fixed(p, g), g, k.all(p, g), k.movers(p, g)),
+            None => total_look(
+                p,
+                k.fixed(p, g),
+                g,
+                k.all(p, g),
+                k.movers(p, g),
+                k.rooms(p, g),
+            ),
             Some(n) => node_look(p, g, k.at(p, g, n), n),
         }
     }

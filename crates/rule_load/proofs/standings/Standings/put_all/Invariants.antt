@@ -7,6 +7,7 @@ invariant-loop-i l = record {
   fixed : l.self.fixed ≡ l.initial.self.fixed;
   firsts : l.self.firsts ≡ l.initial.self.firsts;
   movers : l.self.movers ≡ l.initial.self.movers;
+  rooms : l.self.rooms ≡ l.initial.self.rooms;
   near : IsNear l.p.given l.self.near;
   there : (v : ℕ) → v < l.i → IsListedBy l.p.given v (slice_index_or l.self.table.top v no_standing) l.self.near;
 }
