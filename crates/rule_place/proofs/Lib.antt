@@ -2,6 +2,7 @@ mod Prelude
 mod AllowedLemmas
 mod BrokenLemmas
 mod DirtyLemmas
+pub mod KeepLemmas
 mod NodeLemmas
 mod OptionalLemmas
 mod ShutdownLemmas

@@ -1,7 +1,8 @@
 -- The watches of nodes on which a change of a machine does not weigh.
-use Rattle.rule_place.proofs.Prelude.{IsTrue, ◌≡◌, ◌≢◌, ◌⊎◌, inl, inr, ℕ, ◌+◌, ◌<◌, ◌≤◌, Bool, true, false, List, [], ◌∷◌, length, set, refl, sym, ◌∙◌, arith, Contains, filter, and_parts, eqb-true, false≢true, nat_tests, length-set, Stay, Place, IsMachineLess, contains_filter, filter_contains, surely_each, away, away_least}
-use Rattle.rule_place.specs.Prelude.{Act, AreDirtyUpTo, AreNodesDirty, AreSpared, At, Choice, From, goes_in, hosted_in, Idle, in_part, Inside, Instance, IsEnd, IsLess, IsStill, IsUntouched, Levels, node_count, NodeId, Nowhere, on_side, one, Outside, Part, Presence, present_at, same_place, Side, state_of, Upto, usable_watch, Vm, VmId}
+use Rattle.rule_place.proofs.Prelude.{IsTrue, ◌≡◌, ◌≢◌, ◌⊎◌, inl, inr, ℕ, ◌<◌, ◌≤◌, ◌&&◌, Bool, true, false, List, [], ◌∷◌, length, set, refl, sym, ◌∙◌, arith, Contains, false≢true, nat_tests, length-set, Stay, Place, IsMachineLess, surely_each, away, away_least, arrival, kept_law, numbers, of_one, first_of, no_less, cond, nat_lt}
+use Rattle.rule_place.specs.Prelude.{Act, AreDirtyUpTo, AreFewer, AreNodesDirty, AreSpared, At, base, Choice, comes_by, gain, GivesUp, goes_in, held_at, hosted_in, Instance, IsEnd, IsInstance, IsLess, IsNoSooner, IsStill, IsUntouched, leave_of, Levels, never, node_count, NodeId, Nowhere, one, Presence, present_at, state_of, usable_watch, Vm, VmId, Weight}
 use Rattle.rule_place.proofs.DirtyLemmas.{other}
+use Rattle.rule_place.proofs.KeepLemmas.{given_up_still}
 
 -- ---- dirty watches
 
@@ -39,22 +40,12 @@ spared_both p P Q m n o first second = record {
   spared = λ i h e. (first.spared i (omega (arith, h, second.count)) (second.kept i e), second.spared i h e);
 }
 
--- the host, the place of a part, and a place to which not all go
-pub untouched : (p : Instance) (v : ℕ) (part : Part) (now : List Choice) (m n o q : Levels) →
-    AreSpared (λ k. hosted_in (state_of p v) (one k) ≡ false) m n →
-    AreSpared (λ k. (c : Choice) → IsTrue (in_part part c) → goes_in c (one k) ≡ false) n o →
-    AreSpared (λ k. (c : Choice) × Contains now c × (goes_in c (one k) ≡ false)) o q → AreSpared (IsUntouched p v part now) m q
-untouched p v part now m n o q host parts elsewhere =
-    spared_weaker p _ (IsUntouched p v part now) m q (λ k x. record { host = x.0; part = x.1.0; elsewhere = x.1.1 })
-    (spared_both p _ _ m n q host (spared_both p _ _ n o q parts elsewhere))
+-- the host, unless it is given up no later, and a place to which not all go
+pub untouched : (p : Instance) (v : ℕ) (old now : List Choice) (m n o : Levels) → AreSpared (λ k. (hosted_in (state_of p v) (one k) ≡ false) ⊎ GivesUp p v old now k) m n → AreSpared (λ k. (c : Choice) × Contains now c × (goes_in c (one k) ≡ false)) n o → AreSpared (IsNoSooner p v old now) m o
+untouched p v old now m n o host elsewhere =
+    spared_weaker p _ (IsNoSooner p v old now) m o (λ k x. elim x.0 [ inl off ↦ inl (record { host = off; elsewhere = x.1 }) | inr given ↦ inr given ]) (spared_both p _ _ m n o host elsewhere)
 
 -- ---- places
-
--- where a choice goes does not depend on its start
-goes_same : (q r : Place) (s u k : ℕ) → same_place q r ≡ true → goes_in (Act r u) (one k) ≡ false → goes_in (Act q s) (one k) ≡ false
-goes_same Nowhere r s u k same g = refl
-goes_same (At m) Nowhere s u k same g = absurd (omega (arith, eqb-true (m.0 + 1) 0 same))
-goes_same (At m) (At n) s u k same g = let is : m.0 ≡ n.0 = omega (arith, eqb-true (m.0 + 1) (n.0 + 1) same) in rw is g
 
 pub goes_started : (q : Place) (s k : ℕ) → goes_in (Act q 0) (one k) ≡ false → goes_in (Act q s) (one k) ≡ false
 goes_started Nowhere s k g = g
@@ -66,23 +57,26 @@ one_other n k ne = grind (arith, nat_tests, ne)
 pub at_spared : (p : Instance) (n : NodeId) (m o : Levels) → AreSpared (λ k. k ≢ n.0) m o → AreSpared (λ k. goes_in (Act (At n) 0) (one k) ≡ false) m o
 at_spared p n m o = spared_weaker p _ _ m o (λ k ne. one_other n.0 k ne)
 
-pub part_goes : (part : Part) (r : Place) (k : ℕ) → ((q : Place) (s : ℕ) → IsTrue (in_part part (Act q s)) → same_place q r ≡ true) → (in_part part Stay ≡ false) → goes_in (Act r 0) (one k) ≡ false → (c : Choice) → IsTrue (in_part part c) → goes_in c (one k) ≡ false
-part_goes part r k same stay g Stay h = refl
-part_goes part r k same stay g (Act q s) h = goes_same q r s 0 k (same q s h) g
+-- ---- a node where a choice holds what it brings alone
 
-pub upto_goes : (r : Place) (u : ℕ) (c : Choice) → IsTrue (in_part (Upto r u) c) → (k : ℕ) → goes_in (Act r 0) (one k) ≡ false → goes_in c (one k) ≡ false
-upto_goes r u c h k g = part_goes (Upto r u) r k (λ q s h. (and_parts (same_place q r) _ h).0) refl g c h
+module _ (p : Instance) (v k : ℕ) (off : hosted_in (state_of p v) (one k) ≡ false) where
+  brought : (w : Weight) (t : ℕ) (c : Choice) → t < never → held_at p v w (one k) t c ≡ cond (comes_by k t (arrival c)) (gain p v w k) 0
+  brought w t c short =
+      let law = kept_law p v w k t (c ∷ []) (numbers p v c) short (of_one p v c) in
+      let nothing : cond (hosted_in (state_of p v) (one k) && nat_lt t (leave_of p v c)) (base p v w) 0 ≡ 0 = rw off refl in
+      omega (arith, law, nothing)
 
-pub from_goes : (r : Place) (u : ℕ) (c : Choice) → IsTrue (in_part (From r u) c) → (k : ℕ) → goes_in (Act r 0) (one k) ≡ false → goes_in c (one k) ≡ false
-from_goes r u c h k g = part_goes (From r u) r k (λ q s h. (and_parts (same_place q r) _ h).0) refl g c h
+  -- a sooner start brings no less
+  sooner : (w : Weight) (t u s : ℕ) (q : Place) → t < never → u ≤ s → held_at p v w (one k) t (Act q s) ≤ held_at p v w (one k) t (Act q u)
+  sooner w t u s Nowhere short l = omega (arith, brought w t (Act Nowhere s) short, brought w t (Act Nowhere u) short)
+  sooner w t u s (At m) short l = omega (arith, brought w t (Act (At m) s) short, brought w t (Act (At m) u) short, no_less (one k m.0) u s t (gain p v w k) l)
 
-pub idle_goes : (c : Choice) → IsTrue (in_part Idle c) → (k : ℕ) → goes_in c (one k) ≡ false
-idle_goes Stay h k = refl
-idle_goes (Act q s) h k = absurd (false≢true h)
+  sooner_present : (t u s : ℕ) (q : Place) → t < never → u ≤ s → IsTrue (present_at p v (one k) t (Act q s)) → IsTrue (present_at p v (one k) t (Act q u))
+  sooner_present t u s q short l on = let more = sooner Presence t u s q short l in grind (arith, nat_tests, on, more)
 
 -- ---- a node where nothing changes
 
-module _ (p : Instance) (v : VmId) (side : Side) (part : Part) (old now : List Choice) (k : ℕ) (left : now ≡ filter (on_side side part) old) (at : IsUntouched p v.0 part now k) where
+module _ (p : Instance) (sound : IsInstance p) (v : VmId) (old now : List Choice) (k : ℕ) (fewer : AreFewer now old) (at : IsUntouched p v.0 now k) where
   absent : (t : ℕ) (c : Choice) → goes_in c (one k) ≡ false → present_at p v.0 (one k) t c ≡ false
   absent t c g = rw (away p v.0 Presence (one k) t c at.host g) refl
 
@@ -94,49 +88,40 @@ module _ (p : Instance) (v : VmId) (side : Side) (part : Part) (old now : List C
     action = λ far i. absurd i;
   }
 
-  -- a choice that goes there was one of those that the change has left alone
-  left-alone : (c : Choice) → Contains now c → goes_in c (one k) ≡ true → Contains old c
-  left-alone c there g = (filter_contains (on_side side part) old c (rw left at there)).0
-
-  outside : (c d : Choice) → Contains now c → goes_in c (one k) ≡ true → goes_in d (one k) ≡ true → Contains old d → Contains now d
-  outside c d there g gd was = by side left
+  -- a start there holds no more than the first one there was
+  later : (t u s : ℕ) (q : Place) → t ≤ p.horizon → u ≤ s → IsMachineLess p (usable_watch p k).scope v.0 t (Act q s ∷ []) (Act q u ∷ [])
+  later t u s q early l =
+      let short : t < never = omega (arith, sound.horizon, early) in
+      record {
+        held = λ w set i. rw i.1 (sooner p v.0 k at.host w t u s q short l);
+        present = λ set i x. rw i (alone (present_at p v.0 (one k) t (Act q u)) (sooner_present p v.0 k at.host t u s q short l (of_alone (present_at p v.0 (one k) t (Act q s)) (rw i at x))));
+        action = λ far i. absurd i;
+      }
     where
-      none : (e : Choice) → goes_in e (one k) ≡ true → in_part part e ≡ false
-      none e ge = out (in_part part e) refl
-        where
-          out : (b : Bool) → in_part part e ≡ b → b ≡ false
-          out true is = absurd (false≢true (sym (at.part e is) ∙ ge))
-          out false is = refl
+      alone : (b : Bool) → IsTrue b → IsTrue (b && true)
+      alone true h = h
+      alone false h = h
 
-      by : (side : Side) → now ≡ filter (on_side side part) old → Contains now d
-      by Inside is = absurd (false≢true (sym (none c g) ∙ (filter_contains (in_part part) old c (rw is at there)).1))
-      by Outside is = rw is (contains_filter (on_side Outside part) old d was (rw (none d gd) refl))
-
-  end-before : (c : Choice) → IsEnd now c → goes_in c (one k) ≡ true → IsEnd old c
-  end-before Stay end g = absurd (false≢true g)
-  end-before (Act Nowhere s) end g = absurd (false≢true g)
-  end-before (Act (At n) s) end g = (
-    left-alone (Act (At n) s) end.0 g,
-    elim end.1 [
-      | inl first ↦ inl (λ u was. first u (outside (Act (At n) s) (Act (At n) u) end.0 g g was))
-      | inr last ↦ inr (λ u was. last u (outside (Act (At n) s) (Act (At n) u) end.0 g g was))
-    ],
-  )
+      of_alone : (b : Bool) → IsTrue (b && true) → IsTrue b
+      of_alone true h = h
+      of_alone false h = h
 
   untouched-still : IsStill p (usable_watch p k).scope (Vm v) old now
   untouched-still = record {
     sure = λ t l. less now old t at.elsewhere.0 at.elsewhere.1 at.elsewhere.2;
-    ends = λ c end t l. by c end t (goes_in c (one k)) refl;
+    ends = λ c end t l. by c end t l;
   }
     where
-      by : (c : Choice) → IsEnd now c → (t : ℕ) (b : Bool) → goes_in c (one k) ≡ b → IsLess p (usable_watch p k).scope (Vm v) t (c ∷ []) old ⊎ ((d : Choice) × IsEnd old d × IsLess p (usable_watch p k).scope (Vm v) t (c ∷ []) (d ∷ []))
-      by c end t false g = inl (less (c ∷ []) old t c (0, omega arith, refl) g)
-      by c end t true g = inr (c, end-before c end g, record { held = λ w set i. omega arith; present = λ set i x. x; action = λ far i x. x })
+      by : (c : Choice) → IsEnd now c → (t : ℕ) → t ≤ p.horizon → IsLess p (usable_watch p k).scope (Vm v) t (c ∷ []) old ⊎ ((d : Choice) × IsEnd old d × IsLess p (usable_watch p k).scope (Vm v) t (c ∷ []) (d ∷ []))
+      by Stay end t l = inl (less (Stay ∷ []) old t Stay (0, omega arith, refl) refl)
+      by (Act q s) end t l =
+          let first = first_of old q s (fewer (Act q s) end.0) in
+          inr (Act q first.0, (first.1, inl first.2), later t first.0 s q l (first.2 s (fewer (Act q s) end.0)))
 
-pub nodes_spared : (p : Instance) (v : VmId) (side : Side) (part : Part) (old now : List Choice) (m n : Levels) → now ≡ filter (on_side side part) old → AreSpared (IsUntouched p v.0 part now) m n → AreNodesDirty p (Vm v) old now m n
-nodes_spared p v side part old now m n left s = record {
+pub nodes_spared : (p : Instance) (v : VmId) (old now : List Choice) (m n : Levels) → IsInstance p → AreFewer now old → AreSpared (IsNoSooner p v.0 old now) m n → AreNodesDirty p (Vm v) old now m n
+nodes_spared p v old now m n sound fewer s = record {
   older = s.older;
   count = s.count;
   kept = s.kept;
-  still = λ i h e. untouched-still p v side part old now i left (s.spared i h e);
+  still = λ i h e. elim (s.spared i h e) [ inl off ↦ untouched-still p sound v old now i fewer off | inr given ↦ given_up_still p sound v old now i fewer given ];
 }

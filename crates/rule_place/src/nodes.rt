@@ -1,12 +1,14 @@
 //! Which watches of nodes are dirty.
-ghost use Rattle.std.specs.Prelude.{◌≡◌, ◌≢◌, ◌+◌, ◌-◌, ◌<◌, ◌≤◌, ℕ, false, filter, IfNone, IfSome, IsTrue, List, [], length};
+ghost use Rattle.std.specs.Prelude.{◌≡◌, ◌≢◌, ◌⊎◌, ◌<◌, ◌≤◌, false, IfNone, IfSome, IsTrue, [], length};
 ghost use Rattle.std.specs.List.{Contains};
-ghost use Rattle.rule_place.specs.Prelude.{AreDirtyUpTo, AreNodesDirty, AreSpared, Choice as AnyChoice, choices, goes_in, hosted_in, in_part, IsElement, IsRegionOf, machine_count, node_count, on_side, one, sets, state_of};
+ghost use Rattle.rule_place.specs.Prelude.{AreDirtyUpTo, AreFewer, AreNodesDirty, AreSpared, Choice as AnyChoice, choices, domain_at, domain_before, GivesUp, goes_in, hosted_in, IsElement, IsRegionOf, IsSized, least, leave_of, machine_count, node_count, one, sets, state_of};
 
+use crate::shutdowns::goes_elsewhere;
+use domains::measure::{Measure, lowest_lost};
+use profiles::standing::leaves::leaves_of;
+use profiles::standing::numbers::Leaving;
 use rule_constraint::host;
-use rule_frame::{
-    Change, Choice, DirtySet, Domain, Element, NodeId, Part, Place, Problem, Region, VmId,
-};
+use rule_frame::{Before, Choice, DirtySet, Domain, Element, NodeId, Place, Problem, Region, VmId};
 
 // sets dirty each watch
 fn set_all_dirty(dirty: &mut DirtySet)
@@ -39,39 +41,78 @@ fn set_place_dirty(p: &Problem, place: Place, dirty: &mut DirtySet)
     }
 }
 
-// sets dirty that of a machine's host
-fn set_host_dirty(p: &Problem, v: VmId, dirty: &mut DirtySet)
+// the first start at the last place of a domain: where place after place is taken away, that one stands longest
+fn start_at_last_place(domain: &Domain) -> Option<Choice>
+    ensures { IfSome result (Contains (choices domain.now)) }
+{
+    let rows = domain.rows();
+    let count = rows.len();
+    if count == 0 {
+        return None;
+    }
+    let row = rows[count - 1];
+    Some(Choice::Act {
+        place: row.place,
+        start: row.lo,
+    })
+}
+
+// whether it is seen that a machine gives its host up no later than before it lost some choices
+#[tactic(auto, using(crate::proofs::KeepLemmas::as_soon, crate::proofs::KeepLemmas::none_lost))]
+fn leaves_as_soon(p: &Problem, v: VmId, domain: &Domain, before: Before, _kept: &Domain) -> bool
     requires machine { v.0 < machine_count p.now.given }
-    requires count { length dirty.old.top ≡ node_count p.now.given }
-    ensures { AreSpared (λ k. hosted_in (state_of p.now.given v.0) (one k) ≡ false) dirty.old dirty.new }
+    requires fewer { AreFewer (choices domain.now) (choices (domain_before before _kept.now domain.now)) }
+    requires some { choices domain.now ≢ [] }
+    ensures { IsTrue result → least (leave_of p.now.given v.0) (choices domain.now) ≤ least (leave_of p.now.given v.0) (choices (domain_before before _kept.now domain.now)) }
 {
-    match host(p, v) {
-        None => {}
-        Some(h) => set_node_dirty(p, h, dirty),
+    let Before::Lost(lost) = before else {
+        return false;
+    };
+    let leaving = Leaving {
+        problem: p,
+        machine: v,
+        leaves: leaves_of(p, v),
+    };
+    let Some(first) = lowest_lost(lost, &leaving) else {
+        return true;
+    };
+    match start_at_last_place(domain) {
+        None => false,
+        Some(c) => leaving.value(c) <= first,
     }
 }
 
-// the place of a part
-#[tactic(auto, using(crate::proofs::NodeLemmas::idle_goes, crate::proofs::NodeLemmas::upto_goes, crate::proofs::NodeLemmas::from_goes))]
-fn place_of(part: Part) -> Option<Place>
-    ensures none { IfNone result ((c : AnyChoice) → IsTrue (in_part part c) → (k : ℕ) → goes_in c (one k) ≡ false) }
-    ensures some { IfSome result (λ r. (c : AnyChoice) → IsTrue (in_part part c) → (k : ℕ) → goes_in (AnyChoice.Act r 0) (one k) ≡ false → goes_in c (one k) ≡ false) }
+// whether a machine is seen to give a node up no later than before, which is its host
+fn gives_up(p: &Problem, g: &Region, v: VmId, n: NodeId, before: Before, kept: &Domain) -> bool
+    requires region { IsSized p.now.given g.now }
+    requires machine { v.0 < machine_count p.now.given }
+    requires fewer { AreFewer (sets g.now (Element.Vm v)) (choices (domain_before before kept.now (domain_at g.now (Element.Vm v)))) }
+    ensures { IsTrue result → GivesUp p.now.given v.0 (choices (domain_before before kept.now (domain_at g.now (Element.Vm v)))) (sets g.now (Element.Vm v)) n.0 }
 {
-    match part {
-        Part::Idle => None,
-        Part::Upto(place, _) => Some(place),
-        Part::From(place, _) => Some(place),
-    }
+    let domain = g.domain(Element::Vm(v));
+    !domain.is_empty() && leaves_as_soon(p, v, domain, before, kept) && goes_elsewhere(p, g, v, n)
 }
 
-// sets dirty that of the node to which the choices of a part go
-fn set_part_dirty(p: &Problem, part: Part, dirty: &mut DirtySet)
+// sets dirty that of a machine's host, but where the machine gives it up no later than before
+fn set_host_dirty(
+    p: &Problem,
+    g: &Region,
+    v: VmId,
+    before: Before,
+    kept: &Domain,
+    dirty: &mut DirtySet,
+)
+    requires region { IsSized p.now.given g.now }
+    requires machine { v.0 < machine_count p.now.given }
+    requires fewer { AreFewer (sets g.now (Element.Vm v)) (choices (domain_before before kept.now (domain_at g.now (Element.Vm v)))) }
     requires count { length dirty.old.top ≡ node_count p.now.given }
-    ensures { AreSpared (λ k. (c : AnyChoice) → IsTrue (in_part part c) → goes_in c (one k) ≡ false) dirty.old dirty.new }
+    ensures { AreSpared (λ k. (hosted_in (state_of p.now.given v.0) (one k) ≡ false) ⊎ GivesUp p.now.given v.0 (choices (domain_before before kept.now (domain_at g.now (Element.Vm v)))) (sets g.now (Element.Vm v)) k) dirty.old dirty.new }
 {
-    match place_of(part) {
-        None => {}
-        Some(place) => set_place_dirty(p, place, dirty),
+    let Some(h) = host(p, v) else {
+        return;
+    };
+    if !gives_up(p, g, v, h, before, kept) {
+        set_node_dirty(p, h, dirty);
     }
 }
 
@@ -114,18 +155,26 @@ fn set_only_dirty(p: &Problem, domain: &Domain, dirty: &mut DirtySet)
     }
 }
 
-/// Sets dirty the watches of nodes on which a change of an element may weigh: of a machine its host, the node of the
-/// part that has changed, and the node to which all choices go that are left; of a node its own.
-pub fn set_nodes_dirty(p: &Problem, g: &Region, change: Change, dirty: &mut DirtySet)
+/// Sets dirty the watches of nodes on which it may weigh that an element has lost choices: of a machine its host, unless
+/// it gives that up no later, and the node to which all choices go that are left; of a node its own. On any other node a
+/// machine that starts later there needs it no sooner.
+pub fn set_nodes_dirty(
+    p: &Problem,
+    g: &Region,
+    x: Element,
+    before: Before,
+    kept: &Domain,
+    dirty: &mut DirtySet,
+)
     requires region { IsRegionOf p.now.given g.now }
-    requires element { IsElement p.now.given change.element }
+    requires element { IsElement p.now.given x }
+    requires fewer { AreFewer (sets g.now x) (choices (domain_before before kept.now (domain_at g.now x))) }
     requires count { length dirty.old.top ≡ node_count p.now.given }
-    ensures { (old : List AnyChoice) → sets g.now change.element ≡ filter (on_side change.side change.part) old → AreNodesDirty p.now.given change.element old (sets g.now change.element) dirty.old dirty.new }
+    ensures { AreNodesDirty p.now.given x (choices (domain_before before kept.now (domain_at g.now x))) (sets g.now x) dirty.old dirty.new }
 {
-    match change.element {
+    match x {
         Element::Vm(v) => {
-            set_host_dirty(p, v, dirty);
-            set_part_dirty(p, change.part, dirty);
+            set_host_dirty(p, g, v, before, kept, dirty);
             set_only_dirty(p, g.domain(Element::Vm(v)), dirty);
         }
         Element::Node(n) => dirty.set_dirty(n.0 as usize, true),

@@ -71,8 +71,8 @@ fn may_leave_by(p: &Problem, v: VmId, domain: &Domain, end: Instant) -> bool
     false
 }
 
-// whether it has come to a node by no instant up to the horizon
-fn goes_elsewhere(p: &Problem, g: &Region, v: VmId, n: NodeId) -> bool
+/// Whether a machine has come to a node by no instant up to the horizon.
+pub(crate) fn goes_elsewhere(p: &Problem, g: &Region, v: VmId, n: NodeId) -> bool
     requires region { IsSized p.now.given g.now }
     requires machine { v.0 < machine_count p.now.given }
     ensures { IsTrue result → (c : AnyChoice) (t : ℕ) → Contains (sets g.now (Element.Vm v)) c → t ≤ p.now.given.horizon → has_come n.0 t c ≡ false }

@@ -57,11 +57,11 @@ impl Watcher<ConstraintIndex> for NeededNodes {
         p: &Problem,
         g: &Region,
         change: Change,
-        _before: Before,
-        _kept: &Domain,
+        before: Before,
+        kept: &Domain,
         dirty: &mut DirtySet,
     ) {
-        set_nodes_dirty(p, g, change, dirty);
+        set_nodes_dirty(p, g, change.element, before, kept, dirty);
     }
 
     fn look(&self, _k: &ConstraintIndex, p: &Problem, g: &Region, i: usize) -> Look {
