@@ -7,4 +7,5 @@ pub mod LegalLemmas
 pub mod CostLemmas
 pub mod HostLemmas
 pub mod SoundLemmas
+pub mod GoingLemmas
 pub mod Public

@@ -84,7 +84,7 @@ preserved_past k v r u past [] all = refl
 preserved_past k v r u past (c ∷ cs) all =
     preserved_past k v r (preserved_with v r u c) past cs (All-tail (λ c. is_rule k c ≡ true) c cs all) ∙ preserves_none k v r u past c (All-head (λ c. is_rule k c ≡ true) c cs all)
 
-demand_past : (p : Instance) → IsInstance p → (v r : ℕ) (m : Machine) → slice_get p.machines v ≡ Some m → amounts_fit (length p.resources) m.usage ≡ true → length p.resources ≤ r → demand_of p v r ≡ 0
+pub demand_past : (p : Instance) → IsInstance p → (v r : ℕ) (m : Machine) → slice_get p.machines v ≡ Some m → amounts_fit (length p.resources) m.usage ≡ true → length p.resources ≤ r → demand_of p v r ≡ 0
 unfolding demand_of preserved_of
 demand_past p sound v r m there fit past =
     let used : use_of p.machines v r ≡ 0 = ap (λ (o : Option Machine). amount_of o r) there ∙ amount_zero (length p.resources) m.usage fit r past in
