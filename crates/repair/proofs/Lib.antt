@@ -8,4 +8,6 @@ pub mod CostLemmas
 pub mod HostLemmas
 pub mod SoundLemmas
 pub mod GoingLemmas
+pub mod EventLemmas
+pub mod OneEnding
 pub mod Public

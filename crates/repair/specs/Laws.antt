@@ -1,8 +1,12 @@
--- The laws of what is left of an execution. None says that nothing runs: what runs counts as undone, as what has failed does.
-use Rattle.std.specs.Prelude.{◌≡◌, ℕ, ◌<◌, IsTrue}
+-- The laws of what is left of an execution, and of events that are read.
+use Rattle.std.specs.Prelude.{◌≡◌, ℕ, ◌<◌, List, IsTrue}
 use Rattle.slices.specs.Prelude.{Choices, choices_of, cost_of, host_is_online, Instance, IsInstance, IsPlan, IsPlanOf, IsValid, machine_count, PlanChoices, state_of}
 use Rattle.executor.specs.{Phases.Phases, Steps.IsExecution}
+use Rattle.repair.specs.Events.{EndsFrom, Point}
 use Rattle.repair.specs.Rest.{IsRest, open_cost, rest_choices}
+use Rattle.repair.specs.declared.following.Ending.{Ending}
+
+-- ---- what is left: none of these laws says that nothing runs; what runs counts as undone, as what has failed does
 
 -- what is so of all that is left of each execution of a valid plan
 abbrev pub OfEachRest : (Instance → Choices → Phases → Instance → Type 0) → Type 0
@@ -29,3 +33,11 @@ RestIsSound = OfEachRest (λ p plan phases q. IsInstance q)
 -- the choices that are left cost the sum of the ends of what has not ended
 abbrev pub RestCosts : Type 0
 RestCosts = (p : Instance) (plan : Choices) (phases : Phases) (q : Instance) → IsRest p plan phases q → cost_of q (rest_choices plan phases) ≡ open_cost p plan phases
+
+-- ---- events that are read
+
+-- two endings of the reading of one text are the same
+abbrev pub EndingIsOne : Type 0
+EndingIsOne =
+    (p : Instance) (plan : Choices) (first : Point) (a b : Ending) (phases phases' : Phases) (rest rest' : List ℕ) →
+    EndsFrom p plan first a phases rest → EndsFrom p plan first b phases' rest' → (a ≡ b) × (phases ≡ phases') × (rest ≡ rest')

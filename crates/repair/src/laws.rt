@@ -1,6 +1,6 @@
-//! Laws of what is left of an execution: each is the contract of a function that does nothing, and a lemma of the
-//! same name in proofs/Public proves it.
-ghost use Rattle.repair.specs.Laws.{RestCosts, RestHosts, RestIsPlan, RestIsSound, RestIsValid};
+//! Laws of what is left of an execution, and of events that are read: each is the contract of a function that does
+//! nothing, and a lemma of the same name in proofs/Public proves it.
+ghost use Rattle.repair.specs.Laws.{EndingIsOne, RestCosts, RestHosts, RestIsPlan, RestIsSound, RestIsValid};
 
 /// The choices that are left are legal in the new problem.
 #[tactic(auto, using(crate::proofs::Public::rest_is_plan))]
@@ -30,4 +30,10 @@ pub fn rest_hosts()
 #[tactic(auto, using(crate::proofs::Public::rest_is_sound))]
 pub fn rest_is_sound()
     ensures { RestIsSound }
+{}
+
+/// Two endings of the reading of one text are the same.
+#[tactic(auto, using(crate::proofs::Public::ending_is_one))]
+pub fn ending_is_one()
+    ensures { EndingIsOne }
 {}

@@ -3,8 +3,11 @@
 
 mod ended;
 mod faults;
+mod following;
 mod going_on;
 pub mod laws;
+mod words;
 
 pub use faults::RestFault;
+pub use following::{Ending, follow};
 pub use going_on::rest;
