@@ -315,11 +315,11 @@ fn adds_to_generated(rt: HostRuntime) -> Result<(), Fail> {
     let whole = desk.get("o").ok_or("no file")?;
     let head = instance.get(..GENERATED_HEAD).ok_or("no head")?;
     let tail = instance.get(GENERATED_HEAD..).ok_or("no tail")?;
-    assert_eq!(rt; whole.len(), instance.len() + more.len());
-    assert!(rt; whole.starts_with(head) && whole.ends_with(tail));
-    assert_eq!(rt;
-        whole.get(GENERATED_HEAD..GENERATED_HEAD + more.len()),
-        Some(more)
-    );
+    let mut expected = Vec::new(alloc);
+    let pieces: [&[u8]; 3] = [head, more, tail];
+    for piece in pieces {
+        expected.extend_from_slice(piece)?;
+    }
+    assert_eq!(rt; whole, expected.as_slice());
     Ok(())
 }
