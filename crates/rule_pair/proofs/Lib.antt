@@ -2,5 +2,6 @@ mod Prelude
 mod ApartLemmas
 mod BrokenLemmas
 mod LongestLemmas
+pub mod PastLemmas
 mod StayLemmas
 mod StrangerLemmas

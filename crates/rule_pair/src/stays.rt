@@ -1,8 +1,8 @@
 //! How long a machine stays on its host.
-ghost use Rattle.std.specs.Prelude.{◌≡◌, ◌≤◌, IfSome, IsTrue};
+ghost use Rattle.std.specs.Prelude.{◌≡◌, ℕ, ◌<◌, ◌≤◌, IfSome, IsTrue, length, slice_index_or, true};
 ghost use Rattle.cluster.specs.declared.choices.Choice.{Choice as AnyChoice};
 ghost use Rattle.cluster.specs.declared.choices.Choice.TheVariants.{Act};
-ghost use Rattle.rule_constraint.specs.Prelude.{AreLeaves, choices, Climbs, IsElement, IsEnd, least, leave_of};
+ghost use Rattle.rule_constraint.specs.Prelude.{AreLeaves, choices, Climbs, IsElement, IsEnd, least, leave_of, no_row};
 
 use domains::measure::{Measure, lowest};
 use profiles::standing::leaves::{Leaves, leaves_of};
@@ -77,4 +77,48 @@ pub fn leaves_by(p: &Problem, v: VmId, domain: &Domain, t: Instant) -> bool
         }
     }
     true
+}
+
+// whether a machine keeps its host past an instant under each start of a row at another node, by how it leaves
+fn row_stays_past(p: &Problem, v: VmId, leaves: Leaves, row: Row, t: Instant) -> bool
+    requires { AreLeaves p.now.given v.0 leaves }
+    ensures { IsTrue result → (s : ℕ) → row.lo ≤ s → t < leave_of p.now.given v.0 (Act row.place s) }
+{
+    match row.place {
+        Place::Nowhere => false,
+        Place::At(n) => {
+            n.0 != leaves.host.0
+                && (n.0 as usize) < p.cluster().nodes().len()
+                && u64::from(t) < u64::from(row.lo) + leaves.lasts
+        }
+    }
+}
+
+// whether it does so under each start
+fn rows_stay_past(p: &Problem, v: VmId, leaves: Leaves, rows: &[Row], t: Instant) -> bool
+    requires { AreLeaves p.now.given v.0 leaves }
+    ensures { IsTrue result → (i s : ℕ) → i < length rows.now → (slice_index_or rows.now i no_row).lo ≤ s → t < leave_of p.now.given v.0 (Act (slice_index_or rows.now i no_row).place s) }
+{
+    for i in 0..rows.len() {
+        if !row_stays_past(p, v, leaves, rows[i], t) {
+            return false;
+        }
+    }
+    true
+}
+
+/// Whether a machine that may stay keeps its host past an instant under each of its choices, told by how it leaves. The
+/// kind of its action is asked once, and not for each place.
+#[tactic(auto, using(crate::proofs::PastLemmas::all_past))]
+pub fn stays_past(p: &Problem, v: VmId, domain: &Domain, t: Instant) -> bool
+    requires { IsElement p.now.given (Element.Vm v) }
+    ensures { IsTrue result → (domain.now.idle ≡ true) × (t < least (leave_of p.now.given v.0) (choices domain.now)) }
+{
+    if !domain.idle() {
+        return false;
+    }
+    match leaves_of(p, v) {
+        None => false,
+        Some(leaves) => rows_stay_past(p, v, leaves, domain.rows(), t),
+    }
 }
