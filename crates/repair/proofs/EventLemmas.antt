@@ -1,5 +1,5 @@
 -- What the parts of a reading of events do to where it stands.
-use Rattle.base.proofs.Public.{◌≡◌, ◌≢◌, inl, inr, ℕ, suc, ◌+◌, List, Bool, Option, Some, None, Ok, Err, Result, IsTrue, refl, subst}
+use Rattle.base.proofs.Public.{◌≡◌, ◌≢◌, inl, inr, ℕ, suc, ◌+◌, List, Bool, Option, Some, None, Ok, Err, IsTrue, refl, subst}
 use Rattle.cluster.specs.declared.ids.Element.{Element}
 use Rattle.cluster.proofs.Public.{listed-element_named}
 use Rattle.event_lines.specs.Lines.{ReadsLine}
@@ -10,7 +10,7 @@ use Rattle.executor.specs.Prelude.{IsStep, MayStart, Phases}
 use Rattle.executor.specs.declared.phase.Phase.{Phase, TheVariants.Running}
 use Rattle.executor.specs.declared.phase.StepFault.{StepFault, TheVariants.Already, TheVariants.NotReady, TheVariants.NotRunning}
 use Rattle.executor.proofs.Public.{end_left, fail_left, not_hindered, start_left, steps_left}
-use Rattle.repair.specs.Events.{EndsAt, EndsFrom, event_of, FollowGives, IsEvent, IsRefused, IsWrong, Point, point, Reaches, StopsInLine, Tells}
+use Rattle.repair.specs.Events.{EndsAt, event_of, FollowGives, IsEvent, IsRefused, IsWrong, Point, point, Reaches, Tells}
 use Rattle.repair.specs.Parts.{LineDoes, TakeGives}
 use Rattle.repair.specs.declared.{following.Ending.Ending, following.Ending.TheVariants.AllRead, following.Ending.TheVariants.Refused}
 use Rattle.repair.specs.declared.words.Word.{Word, TheVariants.Start, TheVariants.End, TheVariants.Fail}

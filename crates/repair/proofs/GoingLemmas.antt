@@ -1,12 +1,12 @@
 -- What the call makes: a problem that is what is left, and a plan of it with the choices that are left.
-use Rattle.base.proofs.Public.{◌≡◌, ◌≢◌, inl, inr, ℕ, ◌+◌, ◌<◌, ◌≤◌, List, [], ◌∷◌, ◌++◌, length, take, drop, Option, Some, is_some, IsNone, IsTrue, true, get_or_from_slice_get, refl, sym, ap, subst, ◌∙◌, ◌-◌, arith, and_parts, cases_Bool, cases_lt, ext_get_or, get_or, get_or-append_seam, get_or-drop, get_or-map-range_with_len, get_or-take, get_or_append_left, get_or_past, le-ltb, length-append, length-drop, length-map-range_with_len, length-take-le, lt-ltb, map, option_map, range_with_len, slice_get, slice_index_or}
+use Rattle.base.proofs.Public.{◌≡◌, ◌≢◌, inl, inr, ℕ, ◌+◌, ◌<◌, ◌≤◌, List, [], ◌∷◌, ◌++◌, length, take, drop, Some, is_some, IsNone, IsTrue, true, get_or_from_slice_get, refl, sym, ap, subst, ◌∙◌, ◌-◌, arith, and_parts, cases_Bool, cases_lt, ext_get_or, get_or, get_or-append_seam, get_or-drop, get_or-map-range_with_len, get_or-take, get_or_append_left, get_or_past, le-ltb, length-append, length-drop, length-map-range_with_len, length-take-le, lt-ltb, map, option_map, range_with_len, slice_get, slice_index_or}
 use Rattle.std.proofs.lemmas.List.{get_or_push}
 use Rattle.std.proofs.lemmas.Option.{slice_get-get_or, slice_get_past}
 use Rattle.slices.specs.Prelude.{amounts_fit, choices_of, cost_of, demand_of, element_at, element_count, element_number, Instance, inventory_of, is_legal, IsElement, IsInstance, IsPlanOf, IsValid, machine_count, machine_fits, max_resources, node, node_count, parted, PlanChoices, SoundInstance, start_of, vm}
 use Rattle.cluster.specs.declared.{choices.Choice.Choice, choices.Choice.TheVariants.Idle, ids.Element.Element, ids.Element.TheVariants.Node as TheNode, ids.Element.TheVariants.Vm, machines.Machine.Machine}
 use Rattle.cluster.specs.declared.nodes.Node.{Node}
-use Rattle.cluster.proofs.Public.{element_at-element_number, element_number-lt, IsListed-element_at}
-use Rattle.slices.proofs.Public.{legal_is_plan, past-idle}
+use Rattle.cluster.proofs.Public.{element_at-element_number, element_number-lt}
+use Rattle.slices.proofs.Public.{past-idle}
 use Rattle.executor.specs.Prelude.{is_ended, IsExecution, IsFirst, Phases}
 use Rattle.executor.specs.Views.{Execution, IsMonitor, phases_of}
 use Rattle.executor.specs.declared.phase.Phase.TheVariants.{None as NoAction, Running}

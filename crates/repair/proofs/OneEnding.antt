@@ -7,7 +7,7 @@ use Rattle.event_lines.proofs.Public.{line_is_one}
 use Rattle.slices.specs.Prelude.{Choices, element_named, Instance, inventory_of}
 use Rattle.executor.specs.Prelude.{IsStep, MayStart, Moves, Phases}
 use Rattle.executor.specs.declared.phase.Phase.{Phase, TheVariants.Ended, TheVariants.Failed, TheVariants.Running}
-use Rattle.repair.specs.Events.{EndsAt, EndsFrom, event_of, IsEvent, IsRefused, IsTurn, IsWrong, Point, Tells, Turns, word_text}
+use Rattle.repair.specs.Events.{EndsAt, event_of, IsEvent, IsRefused, IsTurn, IsWrong, Point, Tells, Turns, word_text}
 use Rattle.repair.specs.Laws.{EndingIsOne}
 use Rattle.repair.specs.declared.following.Ending.{Ending, TheVariants.AllRead, TheVariants.Refused}
 use Rattle.repair.specs.declared.words.Word.{Word, TheVariants.Start, TheVariants.End, TheVariants.Fail}

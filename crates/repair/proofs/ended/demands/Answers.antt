@@ -1,4 +1,4 @@
-use Rattle.std.proofs.Common.{◌≡◌, length, sym, ap, ◌∙◌, arith}
+use Rattle.std.proofs.Common.{◌≡◌, length, ap, ◌∙◌, arith}
 use Rattle.repair.proofs.GoingLemmas.{all_demands}
 use Rattle.repair.proofs.ended.demands.Goals as goal
 

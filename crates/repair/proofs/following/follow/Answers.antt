@@ -1,6 +1,6 @@
 use Rattle.base.proofs.Public.{◌≡◌, ◌+◌, ◌∙◌, refl, rules, arith, Err}
 use Rattle.repair.specs.Prelude.{choices_of, phases_of}
-use Rattle.executor.proofs.Public.{few_steps, steps_left}
+use Rattle.executor.proofs.Public.{few_steps}
 use Rattle.repair.proofs.EventLemmas.{after_event, ends_there, event_fewer, stops_there}
 use Rattle.repair.proofs.following.follow.Goals as goal
 

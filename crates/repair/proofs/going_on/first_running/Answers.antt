@@ -1,4 +1,4 @@
-use Rattle.std.proofs.Common.{◌≡◌, ◌<◌, refl, sym, ap, subst, ◌∙◌, arith}
+use Rattle.std.proofs.Common.{◌≡◌, refl, sym, ap, subst, ◌∙◌, arith}
 use Rattle.executor.specs.declared.phase.Phase.TheVariants.{Running}
 use Rattle.repair.specs.Prelude.{element_at, element_count, inventory_of, IsFirst, phases_of}
 use Rattle.repair.proofs.GoingLemmas.{first_runs, known_of, none_runs}

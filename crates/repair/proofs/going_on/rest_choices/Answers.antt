@@ -1,4 +1,4 @@
-use Rattle.std.proofs.Common.{◌≡◌, ℕ, ◌<◌, ◌+◌, [], ◌∷◌, ◌++◌, length, slice_index_or, sym, ap, subst, ◌∙◌, arith, rules, length-append}
+use Rattle.std.proofs.Common.{◌≡◌, ℕ, [], ◌∷◌, ◌++◌, length, slice_index_or, ap, ◌∙◌, arith, rules, length-append}
 use Rattle.cluster.specs.declared.choices.Choice.TheVariants.{Idle}
 use Rattle.repair.specs.Prelude.{choices_of, element_at, inventory_of, phases_of, rest_choices}
 use Rattle.repair.proofs.GoingLemmas.{one_more_choice}

@@ -1,7 +1,7 @@
-use Rattle.std.proofs.Common.{◌≡◌, sym, ap, subst, ◌∙◌}
+use Rattle.std.proofs.Common.{sym, ap, subst, ◌∙◌}
 use Rattle.cluster.specs.Inventory.{Inventory}
 use Rattle.remake.specs.Making.{instance_with}
-use Rattle.repair.specs.Prelude.{inventory_of, IsInstance, IsInventory, phases_of}
+use Rattle.repair.specs.Prelude.{IsInstance, IsInventory, phases_of}
 use Rattle.repair.proofs.GoingLemmas.{known_of, parts_are_sound}
 use Rattle.repair.proofs.going_on.rest_problem.Goals as goal
 
