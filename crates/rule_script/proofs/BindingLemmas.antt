@@ -5,7 +5,7 @@ use Rattle.cluster.specs.declared.ids.Element.{Element}
 use Rattle.indexmap.specs.IndexMap.{insert_entry}
 use Rattle.rule_script.specs.Bindings.{bind, Bindings, lookup}
 
-same_bytes : (x y : List ℕ) → bytes_eq x y ≡ true → x ≡ y
+pub same_bytes : (x y : List ℕ) → bytes_eq x y ≡ true → x ≡ y
 same_bytes x y same = grind (arith, common_steps, bytes_eq-Decides)
 
 pub lookup-bind : (env : Bindings) (x y : List ℕ) (v : List Element) → lookup (bind env x v) y ≡ (if bytes_eq y x then Some v else lookup env y)

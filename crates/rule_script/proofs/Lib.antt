@@ -12,3 +12,5 @@ mod PassLemmas
 mod CallLemmas
 mod ScriptLemmas
 mod AddLemmas
+mod WordLemmas
+mod StatementLemmas

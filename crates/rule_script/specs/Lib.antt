@@ -16,4 +16,5 @@ pub mod Script
 pub mod LineRefusals
 pub mod Reads
 pub mod Texts
+pub mod Spelling
 pub mod Laws
