@@ -1,8 +1,11 @@
 -- What a variable has once one is bound.
 use Rattle.std.specs.Map.{lookup as lookup_by}
-use Rattle.base.proofs.Public.{◌≡◌, ◌∙◌, ℕ, Bool, true, false, List, [], ◌∷◌, Option, Some, refl, ap, inl, inr, cases_Bool, common_steps, arith, bytes_eq, bytes_eq-Decides, map, if◌then◌else◌}
+use Rattle.base.proofs.Public.{◌≡◌, ◌∙◌, ℕ, zero, suc, Bool, true, false, List, [], ◌∷◌, Option, Some, refl, ap, inl, inr, cases_Bool, common_steps, arith, bytes_eq, bytes_eq-Decides, map, length, position, position_or_len, ◌<◌, if◌then◌else◌}
 use Rattle.cluster.specs.declared.ids.Element.{Element}
+use Rattle.indexmap.proofs.MapLemmas.{Found-position}
 use Rattle.indexmap.specs.IndexMap.{insert_entry}
+use Rattle.indexmap.specs.Layout.{set_value_at}
+use Rattle.std.specs.Map.{keys_of}
 use Rattle.rule_script.specs.Bindings.{bind, Bindings, lookup}
 
 pub same_bytes : (x y : List ℕ) → bytes_eq x y ≡ true → x ≡ y
@@ -48,3 +51,24 @@ module _ {X : Type 0} (f : X → List ℕ) where
   bind_there (e ∷ es) key v =
       with_first (bytes_eq (f key) (f e.0)) e v es (insert_entry (λ a b. bytes_eq (f a) (f b)) es key v)
       ∙ ap (λ (l : Bindings). if bytes_eq (f key) (f e.0) then (f e.0, v) ∷ seen es else (f e.0, e.1) ∷ l) (bind_there es key v)
+
+  -- a variable that is there gets the value in its place
+  bind_at : (es : List (X × List Element)) (i : ℕ) (y : List ℕ) (v : List Element) → position_or_len (λ k. bytes_eq y (f k)) (keys_of es) ≡ i → i < length es → seen (set_value_at es i v) ≡ bind (seen es) y v
+  unfolding bind
+  bind_at [] i y v is within = absurd (omega arith)
+  bind_at (e ∷ es) zero y v is within = elim (cases_Bool (bytes_eq y (f e.0))) [
+    | inl same ↦ rw same refl
+    | inr apart ↦ absurd (let later = rw apart at is in omega arith)
+  ]
+  bind_at (e ∷ es) (suc i) y v is within = elim (cases_Bool (bytes_eq y (f e.0))) [
+    | inl same ↦ absurd (let here = rw same at is in omega arith)
+    | inr apart ↦
+        let later = rw apart at is in
+        let rest : seen (set_value_at es i v) ≡ bind (seen es) y v = bind_at es i y v (omega (arith, later)) (omega (arith, within)) in
+        rw apart (ap (λ (l : Bindings). (f e.0, e.1) ∷ l) rest)
+  ]
+
+  pub bind_found : (es : List (X × List Element)) (i : ℕ) (y : List ℕ) (v : List Element) → position (λ k. bytes_eq y (f k)) (keys_of es) ≡ Some i → seen (set_value_at es i v) ≡ bind (seen es) y v
+  bind_found es i y v is =
+      let there = Found-position (λ k. bytes_eq y (f k)) es i is in
+      bind_at es i y v there.or_len there.within

@@ -1,6 +1,7 @@
 -- The pass over the tokens of a set gives the value of the set.
+use Rattle.std.proofs.lemmas.Fmt.{decimal_step}
 use Rattle.std.proofs.lemmas.List.{drop_all}
-use Rattle.base.proofs.Public.{◌≡◌, ◌∙◌, ℕ, ◌+◌, ◌-◌, ◌<◌, ◌≤◌, ◌++◌, suc, nat_lt, List, [], ◌∷◌, length, drop, drop-cons, add-one, get_or, Option, Some, None, IsSome, Ok, Err, refl, sym, ap, arith, inl, inr, cases_Bool, append_assoc, append-nil, decimal}
+use Rattle.base.proofs.Public.{◌≡◌, ◌∙◌, ℕ, ◌+◌, ◌-◌, ◌<◌, ◌≤◌, ◌++◌, ◌/◌, ◌%◌, ◌^◌, suc, nat_lt, List, [], ◌∷◌, length, drop, drop-cons, add-one, get_or, Option, Some, None, IsSome, Ok, Err, refl, sym, ap, arith, inl, inr, cases_Bool, append_assoc, append-nil, decimal, decimal_digit}
 use Rattle.cluster.specs.Prelude.{element_named, Inventory, is_name}
 use Rattle.cluster.specs.declared.ids.Element.{Element}
 use Rattle.rule_script.specs.Bindings.{Bindings}
@@ -178,3 +179,13 @@ module _ (k : Inventory) (x : List ℕ) (first count step : ℕ) (found : List E
       ap (λ (l : List Element). Ok l) (sym (append-nil found)) ∙ ap (after_these found) (sym here) ∙ so_far
 
 pub ruleset number_rules = (one_more_number, no_such_number, all_numbers)
+
+-- ---- the digits of a number
+
+pub last_digit : (n : ℕ) → n < 10 → (text : List ℕ) → text ++ (48 + n) ∷ [] ≡ text ++ decimal n
+last_digit n small text = rw (decimal_digit n small) refl
+
+pub one_more_digit : (n : ℕ) → 10 ≤ n → n < 2 ^ 64 → (text : List ℕ) → (text ++ decimal (n / 10)) ++ (48 + n % 10) ∷ [] ≡ text ++ decimal n
+one_more_digit n some small text = rw (decimal_step n some small) (append_assoc text (decimal (n / 10)) ((48 + n % 10) ∷ []))
+
+pub ruleset digit_rules = (last_digit, one_more_digit)

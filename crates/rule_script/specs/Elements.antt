@@ -1,7 +1,7 @@
 -- Lists of elements: what is in one, how two are put together, and lists of one sort alone.
-use Rattle.std.specs.Prelude.{◌==◌, ◌++◌, Bool, false, not, List, [], ◌∷◌, Option, Some, None, option_map}
-use Rattle.std.specs.List.{filter, list_any}
-use Rattle.cluster.specs.Prelude.{has_machine, has_node, no_nodes, with_node}
+use Rattle.std.specs.Prelude.{◌≡◌, ◌++◌, Bool, not, List, [], ◌∷◌, Option, Some, None, option_map}
+use Rattle.std.specs.List.{filter}
+use Rattle.cluster.specs.Prelude.{no_nodes, with_node}
 use Rattle.cluster.specs.declared.ids.Element.{Element}
 use Rattle.cluster.specs.declared.sets.NodeSet.{NodeSet}
 use Rattle.cluster.specs.declared.ids.VmId.{VmId}
@@ -9,18 +9,10 @@ use Rattle.cluster.specs.declared.ids.Element.TheVariants.{Node, Vm}
 use Rattle.rule_script.specs.declared.elements.ElementSet.{ElementSet}
 use Rattle.rule_script.specs.declared.tokens.Operator.{Operator}
 use Rattle.rule_script.specs.declared.tokens.Operator.TheVariants.{Plus, Minus, Both}
+pub use Rattle.rule_script.specs.Marks.{in_list, is_marked, is_same}
 pub use Rattle.rule_script.specs.Small.{is_small}
 
--- ---- what is in a list
-
-abbrev pub is_same : Element → Element → Bool
-is_same (Vm v) (Vm w) = v.0 == w.0
-is_same (Node n) (Node m) = n.0 == m.0
-is_same (Vm v) (Node m) = false
-is_same (Node n) (Vm w) = false
-
-unfoldable pub in_list : List Element → Element → Bool
-in_list xs e = list_any (is_same e) xs
+-- ---- two lists put together
 
 -- `a + b` is a and then those of b not in a; `a - b` and `a & b` are in a's order
 abbrev pub joined_by : Operator → List Element → List Element → List Element
@@ -30,8 +22,12 @@ joined_by Both a b = filter (λ e. in_list b e) a
 
 -- whether the element is in a set of machines and of nodes
 abbrev pub has_element : ElementSet → Element → Bool
-has_element s (Vm v) = has_machine s.machines v.0
-has_element s (Node n) = has_node s.nodes n.0
+has_element s (Vm v) = is_marked s.machines.items v.0
+has_element s (Node n) = is_marked s.nodes.items n.0
+
+-- the set has what is in the list
+abbrev pub IsSetOf : List Element → ElementSet → Type 0
+IsSetOf xs s = (x : Element) → has_element s x ≡ in_list xs x
 
 -- ---- lists of one sort
 

@@ -6,6 +6,7 @@ pub mod SetSteps
 pub mod Kinds
 pub mod Grammar
 pub mod Small
+pub mod Marks
 pub mod Elements
 pub mod Answers
 pub mod Bindings

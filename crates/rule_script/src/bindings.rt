@@ -50,8 +50,13 @@ impl Variables {
         ensures bound { OnOk result (self.new ≡ bind self.old name.now value) }
         ensures kept { OnErr result (self.new ≡ self.old) }
     {
-        let key = Vec::from_slice(alloc, name)?;
-        self.values.insert(key, value)?;
+        match self.values.get_index_of(name) {
+            Some(place) => self.values[place] = value,
+            None => {
+                let key = Vec::from_slice(alloc, name)?;
+                self.values.insert(key, value)?;
+            }
+        }
         Ok(())
     }
 }

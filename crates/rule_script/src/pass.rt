@@ -1,5 +1,5 @@
 //! The value of a set, by one pass over its tokens.
-ghost use Rattle.std.specs.Prelude.{◌≡◌, ◌++◌, ◌+◌, ◌^◌, ◌≤◌, [], ◌∷◌, true, IfOk, IfSome, MatchOption};
+ghost use Rattle.std.specs.Prelude.{◌≡◌, ◌++◌, ◌+◌, ◌^◌, ◌<◌, ◌≤◌, [], ◌∷◌, true, IfOk, IfSome, MatchOption, OnOk};
 ghost use Rattle.std.specs.Fmt.{decimal};
 ghost use Rattle.cluster.specs.Inventory.{element_named};
 ghost use Rattle.rule_script.specs.Answers.{Answers};
@@ -22,6 +22,9 @@ use std::marker::Model;
 
 /// A range has fewer numbers between its first and its last than this.
 const MAX_RANGE: u64 = 4_096;
+
+/// The digits of a number of 64 bits, at most.
+const MAX_DIGITS: usize = 20;
 
 /// What waits for a term.
 #[derive(Drop)]
@@ -139,20 +142,42 @@ fn named(alloc: Global, cluster: &Cluster, name: &[u8]) -> Result<Result<Element
     }
 }
 
-/// The element of that name with a number after it, if there is one.
+/// Puts a digit at the end of a text.
+fn push_digit(text: &mut Vec<u8>, digit: u64) -> Result<(), Memory>
+    requires { digit < 10 }
+    ensures { OnOk result (text.new.items ≡ text.old.items ++ (48 + digit) ∷ []) }
+{
+    text.push(b'0' + digit as u8)?;
+    Ok(())
+}
+
+/// Puts the digits of a number at the end of a text.
+#[tactic(auto, using(crate::proofs::PassLemmas::digit_rules))]
+fn push_decimal(text: &mut Vec<u8>, number: u64) -> Result<(), Memory>
+    ensures { OnOk result (text.new.items ≡ text.old.items ++ decimal number) }
+{
+    if number < 10 {
+        return push_digit(text, number);
+    }
+    push_decimal(text, number / 10)?;
+    push_digit(text, number % 10)
+}
+
+/// The element of that name with a number after it, if there is one. The name is left as it was.
 fn found_numbered(
-    alloc: Global,
     cluster: &Cluster,
-    name: &[u8],
+    name: &mut Vec<u8>,
     number: u64,
 ) -> Result<Option<Element>, Memory>
-    ensures element { IfOk result (λ e. e ≡ element_named cluster.now.given (name.now ++ decimal number)) }
+    ensures element { IfOk result (λ e. e ≡ element_named cluster.now.given (name.old.items ++ decimal number)) }
     ensures small { IfOk result (λ o. IfSome o (λ e. is_small e ≡ true)) }
+    ensures name { OnOk result (name.new.items ≡ name.old.items) }
 {
-    let digits = format!(in alloc; "{number}")?;
-    let mut text = Vec::from_slice(alloc, name)?;
-    text.extend_from_slice(digits.as_bytes())?;
-    Ok(found(cluster, &text))
+    let len = name.len();
+    push_decimal(name, number)?;
+    let element = found(cluster, name);
+    name.truncate(len);
+    Ok(element)
 }
 
 /// The elements of that name with so many numbers after it, from the first on.
@@ -166,9 +191,11 @@ fn numbered(
     requires { first + count ≤ 2 ^ 64 }
     ensures { IfOk result (λ worth. worth ≡ numbered cluster.now.given name.now first count) }
 {
-    let mut elements = Elements::new(alloc);
+    let mut text = Vec::with_capacity(alloc, name.len() + MAX_DIGITS)?;
+    text.extend_from_slice(name)?;
+    let mut elements = Elements::with_room(alloc, count as usize)?;
     for step in 0..count {
-        match found_numbered(alloc, cluster, name, first + step)? {
+        match found_numbered(cluster, &mut text, first + step)? {
             Some(element) => elements.push(element)?,
             None => return Ok(Err(Mistake::NoSuch)),
         }

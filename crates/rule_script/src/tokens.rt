@@ -201,8 +201,8 @@ fn content(line: &[u8]) -> &[u8]
 pub fn tokens_of(alloc: Global, line: &[u8]) -> Result<Vec<Token<'_>>, Memory>
     ensures { IfOk result (λ found. found.items ≡ tokens_of line.now) }
 {
-    let mut found = Vec::new(alloc);
     let mut rest = content(line);
+    let mut found = Vec::with_capacity(alloc, rest.len() / 2)?;
     'pieces: while !rest.is_empty() {
         let len = piece_len(rest);
         add_piece(&mut found, &rest[..len])?;

@@ -1,12 +1,8 @@
-use Rattle.base.proofs.Public.{◌∙◌, ◌||◌, ap, sym, get_or}
-use Rattle.cluster.specs.declared.ids.Element.TheVariants.{Vm}
-use Rattle.rule_script.specs.Elements.{is_same}
-use Rattle.rule_script.proofs.ElementLemmas.{in_list_more}
+use Rattle.cluster.specs.Prelude.{max_machines, max_nodes}
+use Rattle.rule_script.specs.Elements.{has_element}
+use Rattle.rule_script.proofs.ElementLemmas.{made_of, no_marks}
 use Rattle.rule_script.proofs.elements.ElementSet.of.Goals as goal
 
-pub loop-e-preserved : goal.loop-e-preserved
-loop-e-preserved c = λ x.
-    let none = Vm (record { 0 = 0 }) in
-    c.insert.ensures x
-    ∙ ap (λ b. b || is_same x (get_or c.args.list.now c.loop-e.e-index none)) (c.loop-e.invariant x)
-    ∙ sym (in_list_more c.args.list.now c.loop-e.e-index none x c.loop-e-test.true)
+pub returns : goal.returns
+returns c = λ x.
+    made_of c.args.list.now x (has_element c.in_ok-set.set x) (has_element c.mark_all.new.self x) (no_marks max_machines max_nodes c.in_ok-set.set c.in_ok-set.ensures.machines c.in_ok-set.ensures.nodes x) (c.mark_all.ensures x)

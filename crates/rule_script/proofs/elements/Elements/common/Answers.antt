@@ -1,16 +1,18 @@
 use Rattle.std.proofs.lemmas.Fn.{filter_same}
 use Rattle.base.proofs.Public.{◌≡◌, ◌∙◌, ap, filter, rules}
-use Rattle.rule_script.specs.Elements.{has_element, in_list}
+use Rattle.rule_script.specs.Marks.{in_list}
 use Rattle.rule_script.specs.Small.{is_small}
-use Rattle.rule_script.proofs.ElementLemmas.{filter-same, list_all-filter}
+use Rattle.rule_script.proofs.ElementLemmas.{list_all-filter}
 use Rattle.rule_script.proofs.elements.Elements.common.Goals as goal
 
-pub invariant_of-kept : goal.invariant_of-kept
-invariant_of-kept c =
-    let left : c.retain.new.self.items ≡ filter (λ x. has_element c.of-set.result x) c.kept.inside.list.items = filter_same _ (λ x. has_element c.of-set.result x) _ (λ x b f' k. search rules) _ _ c.retain.ensures.filtered in
-    rw left (list_all-filter is_small (λ x. has_element c.of-set.result x) c.kept.inside.list.items c.kept.invariant)
+pub invariant_of-result : goal.invariant_of-result
+invariant_of-result c =
+    let left : c.retain.new.self.items ≡ filter (λ x. in_list c.in_ok-others.others x) c.self.inside.list.items = filter_same _ (λ x. in_list c.in_ok-others.others x) _ (λ x b f' k. search rules) _ _ c.retain.ensures.filtered in
+    (rw left (list_all-filter is_small (λ x. in_list c.in_ok-others.others x) c.self.inside.list.items c.self.invariant.0), λ s never. absurd (cc))
 
 pub returns : goal.returns
 returns c =
-    let left : c.retain.new.self.items ≡ filter (λ x. has_element c.of-set.result x) c.kept.inside.list.items = filter_same _ (λ x. has_element c.of-set.result x) _ (λ x b f' k. search rules) _ _ c.retain.ensures.filtered in
-    left ∙ ap (filter (λ x. has_element c.of-set.result x)) c.kept.view_is ∙ filter-same (λ x. has_element c.of-set.result x) (λ x. in_list c.args.others.now x) c.args.self (λ x. c.of-set.ensures x)
+    let left : c.retain.new.self.items ≡ filter (λ x. in_list c.in_ok-others.others x) c.self.inside.list.items = filter_same _ (λ x. in_list c.in_ok-others.others x) _ (λ x b f' k. search rules) _ _ c.retain.ensures.filtered in
+    left
+    ∙ ap (filter (λ x. in_list c.in_ok-others.others x)) c.self.view_is
+    ∙ ap (λ l. filter (λ x. in_list l x) c.args.self) c.in_ok-others.ensures

@@ -1,16 +1,12 @@
-use Rattle.std.proofs.lemmas.Fn.{filter_same}
-use Rattle.base.proofs.Public.{◌≡◌, ◌∙◌, ap, filter, not, rules}
-use Rattle.rule_script.specs.Elements.{has_element, in_list}
+use Rattle.base.proofs.Public.{not}
+use Rattle.rule_script.specs.Elements.{IsSetOf}
+use Rattle.rule_script.specs.Marks.{in_list}
 use Rattle.rule_script.specs.Small.{is_small}
-use Rattle.rule_script.proofs.ElementLemmas.{filter-same, list_all-filter}
+use Rattle.rule_script.proofs.ElementLemmas.{list_all-filter, of_that_value}
 use Rattle.rule_script.proofs.elements.Elements.without.Goals as goal
 
-pub invariant_of-kept : goal.invariant_of-kept
-invariant_of-kept c =
-    let left : c.retain.new.self.items ≡ filter (λ x. not (has_element c.of-set.result x)) c.kept.inside.list.items = filter_same _ (λ x. not (has_element c.of-set.result x)) _ (λ x b f' k. search rules) _ _ c.retain.ensures.filtered in
-    rw left (list_all-filter is_small (λ x. not (has_element c.of-set.result x)) c.kept.inside.list.items c.kept.invariant)
-
-pub returns : goal.returns
-returns c =
-    let left : c.retain.new.self.items ≡ filter (λ x. not (has_element c.of-set.result x)) c.kept.inside.list.items = filter_same _ (λ x. not (has_element c.of-set.result x)) _ (λ x b f' k. search rules) _ _ c.retain.ensures.filtered in
-    left ∙ ap (filter (λ x. not (has_element c.of-set.result x))) c.kept.view_is ∙ filter-same (λ x. not (has_element c.of-set.result x)) (λ x. not (in_list c.args.others.now x)) c.args.self (λ x. ap not (c.of-set.ensures x))
+pub invariant_of-result : goal.invariant_of-result
+invariant_of-result c = (
+  rw c.take_out.ensures.list (list_all-filter is_small (λ x. not (in_list c.items.result.now x)) c.list.inside.list.items c.list.invariant.0),
+  of_that_value (λ s. IsSetOf c.take_out.new.list.items s.value) _ c.take_out.ensures.set,
+)

@@ -1,0 +1,18 @@
+-- What is in a list of elements, and the marks of a set.
+use Rattle.std.specs.Prelude.{◌==◌, ℕ, Bool, false, List, slice_get, unwrap_or}
+use Rattle.std.specs.List.{list_any}
+use Rattle.cluster.specs.declared.ids.Element.{Element}
+use Rattle.cluster.specs.declared.ids.Element.TheVariants.{Node, Vm}
+
+abbrev pub is_same : Element → Element → Bool
+is_same (Vm v) (Vm w) = v.0 == w.0
+is_same (Node n) (Node m) = n.0 == m.0
+is_same (Vm v) (Node m) = false
+is_same (Node n) (Vm w) = false
+
+unfoldable pub in_list : List Element → Element → Bool
+in_list xs e = list_any (is_same e) xs
+
+-- whether there is a mark at the place, which there never is past the end
+abbrev pub is_marked : List Bool → ℕ → Bool
+is_marked marks place = unwrap_or (slice_get marks place) false
