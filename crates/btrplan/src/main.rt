@@ -2,6 +2,9 @@
 //! for, and says what the program promises.
 #![tactic(auto)]
 
+mod advice;
+
+use crate::advice::advise;
 use commands::run::run;
 use commands::status::Status;
 use plan_io::{FileDesk, StdSink, StdSource};
@@ -30,5 +33,7 @@ fn main(rt: HostRuntime) -> ExitCode {
     let mut input = StdSource::new(rt.stdin());
     let mut out = StdSink::new(io::writer(&rt));
     let status = run(alloc, &words, &mut desk, &mut input, &mut out, &RuleSolver);
+    // what cannot be said changes nothing
+    let _ = advise(&rt, &words, status);
     ExitCode::from(status.code())
 }

@@ -33,7 +33,7 @@ fn is_picture(bytes: &[u8]) -> bool {
     bytes.starts_with(b"<svg ") && bytes.ends_with(b"</svg>\n")
 }
 
-fn kept(bytes: &[u8]) -> Option<Kept> {
+fn left_as(bytes: &[u8]) -> Option<Kept> {
     if bytes == OLD {
         Some(Kept::Old)
     } else if bytes.is_empty() {
@@ -57,7 +57,7 @@ fn draws(rt: &impl Abort, alloc: Global, case: Case<'_>, at: usize) -> Result<()
     assert_eq!(rt; answer, status, "at {at}");
     assert_eq!(rt; out.written(), printed, "at {at}");
     let picture = desk.get("s").ok_or("no picture")?;
-    assert_eq!(rt; kept(picture), Some(left), "at {at}");
+    assert_eq!(rt; left_as(picture), Some(left), "at {at}");
     assert_eq!(rt; desk.get("i"), Some(SWAP), "at {at}");
     assert_eq!(rt; desk.get("p"), Some(plan), "at {at}");
     assert_eq!(rt; desk.get("other"), Some(b"kept".as_slice()), "at {at}");

@@ -1,0 +1,63 @@
+//! What is said on standard error beside an answer: how to go on from there. Where all went well nothing is said.
+
+use commands::status::Status;
+use std::fs::File;
+use std::io;
+
+const USAGE: &str = "\
+usage: btrplan COMMAND, with names of files
+  plan INSTANCE PLAN CERT [budget N]   searches a plan of least cost, and writes it with its certificate
+  check INSTANCE PLAN CERT [strict]    judges a plan and its certificate
+  replay INSTANCE PLAN                 prints the loads of a plan at each instant, and the verdict on it
+  show INSTANCE PLAN                   lists a plan, a line an action
+  picture INSTANCE PLAN SVG            draws a plan
+  script INSTANCE SCRIPT OUT           adds the constraints of a script to an instance
+  execute INSTANCE PLAN                prints what may start, and reads what has ended or failed
+  generate SEED INSTANCE               writes the instance of a number
+  demo SEED                            generates, plans and checks
+files and lines: docs/FORMATS.md
+";
+
+// the words that are no command, and all commands
+fn say_usage(rt: &HostRuntime, words: &[String]) -> io::Result<()> {
+    eprint!(rt; "btrplan: no command has these words:")?;
+    for word in words {
+        eprint!(rt; " '{word}'")?;
+    }
+    eprint!(rt; "\n{USAGE}")
+}
+
+// how many files a command reads: their names stand next to its own
+fn input_count(command: &str) -> usize {
+    match command {
+        "plan" => 1,
+        "check" => 3,
+        "replay" | "show" | "picture" | "script" | "execute" => 2,
+        _ => 0,
+    }
+}
+
+// which file that is read cannot be opened, and why
+fn say_unread(rt: &HostRuntime, words: &[String]) -> io::Result<()> {
+    let count = words.first().map_or(0, |word| input_count(word));
+    for name in words.iter().skip(1).take(count) {
+        if let Err(fault) = File::open(rt, name) {
+            return eprintln!(rt; "btrplan: {name} cannot be read: {}", fault.kind());
+        }
+    }
+    eprintln!(rt; "btrplan: a file, or standard input, cannot be read to its end")
+}
+
+/// Says what helps after an answer of a status, if anything does. What cannot be said is left out.
+pub fn advise(rt: &HostRuntime, words: &[String], status: Status) -> io::Result<()> {
+    match status {
+        Status::Good | Status::Negative | Status::Undecided | Status::Input => Ok(()),
+        Status::Words => say_usage(rt, words),
+        Status::ReadFault => say_unread(rt, words),
+        Status::WriteFault => eprintln!(
+            rt;
+            "btrplan: a file, or standard output, cannot be written: its folder may be missing, or its disk full"
+        ),
+        Status::Memory => eprintln!(rt; "btrplan: there is not enough memory"),
+    }
+}
