@@ -10,4 +10,4 @@ use Rattle.repair.specs.declared.faults.RestFault.TheVariants as fault
 abbrev pub RestGives : Instance → Choices → Phases → Result (SoundInstance × PlanChoices) RestFault → Type 0
 RestGives p plan phases (Ok (q, after)) = ((e : Element) → phases e ≢ Running) × IsGoingOn p plan phases q.given after
 RestGives p plan phases (Err (fault.Running e)) = IsFirst p (λ x. phases x ≡ Running) e
-RestGives p plan phases (Err fault.Memory) = Unit {0}
+RestGives p plan phases (Err fault.Memory) = (e : Element) → phases e ≢ Running
