@@ -130,7 +130,7 @@ fn rest_choices(
 /// What is left of a problem and its plan, whatever has failed: the problem after what has ended, and a valid plan
 /// of it with the choices of all else, at their old starts.
 ///
-/// `Running` exactly where an action runs, with the first such.
+/// `Running` exactly where an action runs, with the first such; `Memory` for want of memory, and only where none runs.
 pub fn rest(
     alloc: Global,
     p: &Problem,
