@@ -69,15 +69,21 @@ fn refuses(
     scripts(rt, alloc, (script, (None, None)), left, at)
 }
 
-/// Scripts, what is printed, and the constraints that they add.
-const ADDED: [(&[u8], &[u8], &[u8]); 12] = [
+/// A script, what is printed, and the constraints that it adds.
+type Added<'a> = (&'a [u8], &'a [u8], &'a [u8]);
+
+/// One that binds a set and goes over another.
+const POLICY: Added<'static> = (
+    b"let $web = v[0:3]\nalways spread($web)\neach $n in n0 + n1 : maxOnline($n, 1)",
+    b"scripted 3\n",
+    br#",{"continuous":true,"kind":"spread","machines":["v0","v1","v2","v3"]},{"amount":1,"continuous":false,"kind":"maxOnline","nodes":["n0"]},{"amount":1,"continuous":false,"kind":"maxOnline","nodes":["n1"]}"#,
+);
+
+/// Scripts of all sorts.
+const ADDED: [Added<'static>; 12] = [
     (b"", b"scripted 0\n", b""),
     (b"# nothing \xff\n\n   \n", b"scripted 0\n", b""),
-    (
-        b"let $web = v[0:3]\nalways spread($web)\neach $n in n0 + n1 : maxOnline($n, 1)",
-        b"scripted 3\n",
-        br#",{"continuous":true,"kind":"spread","machines":["v0","v1","v2","v3"]},{"amount":1,"continuous":false,"kind":"maxOnline","nodes":["n0"]},{"amount":1,"continuous":false,"kind":"maxOnline","nodes":["n1"]}"#,
-    ),
+    POLICY,
     (
         b"running(v2 + v0 + v2 + v[0:1])\n",
         b"scripted 1\n",
@@ -300,10 +306,20 @@ fn each_failing_call(rt: HostRuntime) -> Result<(), Fail> {
 /// So many bytes of the instance of the seed 1 stand before the end of its fourteen constraints.
 const GENERATED_HEAD: usize = 1_272;
 
+/// That instance with more constraints after its own.
+fn with_after_head(alloc: Global, instance: &[u8], more: &[u8]) -> Result<Vec<u8>, Fail> {
+    let head = instance.get(..GENERATED_HEAD).ok_or("no head")?;
+    let tail = instance.get(GENERATED_HEAD..).ok_or("no tail")?;
+    let mut whole = Vec::from_slice(alloc, head)?;
+    whole.extend_from_slice(more)?;
+    whole.extend_from_slice(tail)?;
+    Ok(whole)
+}
+
 #[test]
 fn adds_to_generated(rt: HostRuntime) -> Result<(), Fail> {
     let alloc = rt.alloc();
-    let (script, line, more) = ADDED[2];
+    let (script, line, more) = POLICY;
     let mut desk = DeskMem::new(calls(alloc, None)?);
     desk.put("s", script)?;
     let mut out = SinkMem::new(calls(alloc, None)?);
@@ -312,14 +328,7 @@ fn adds_to_generated(rt: HostRuntime) -> Result<(), Fail> {
     assert_eq!(rt; status, Status::Good);
     assert!(rt; out.written().ends_with(line));
     let instance = desk.get("i").ok_or("no instance")?;
-    let whole = desk.get("o").ok_or("no file")?;
-    let head = instance.get(..GENERATED_HEAD).ok_or("no head")?;
-    let tail = instance.get(GENERATED_HEAD..).ok_or("no tail")?;
-    let mut expected = Vec::new(alloc);
-    let pieces: [&[u8]; 3] = [head, more, tail];
-    for piece in pieces {
-        expected.extend_from_slice(piece)?;
-    }
-    assert_eq!(rt; whole, expected.as_slice());
+    let expected = with_after_head(alloc, instance, more)?;
+    assert_eq!(rt; desk.get("o"), Some(expected.as_slice()));
     Ok(())
 }
