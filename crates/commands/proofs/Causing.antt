@@ -54,6 +54,18 @@ causes_of_rest before reads source sink kept source_now writes_now sink_now ende
   sink = causes.writes;
 }
 
+-- where the desk's reads did not fail, and what is left only reads the source and writes to the desk
+pub causes_of_events : (reads reads_now source source_now writes between writes_now sink : ℕ) (ended : Result Ending Fault) → reads_now ≡ reads → between ≡ writes
+    → PartCauses source source_now between writes_now ended → CommandCauses (counts reads source writes sink) (counts reads_now source_now writes_now sink) ended
+causes_of_events reads reads_now source source_now writes between writes_now sink ended same same_writes causes = record {
+  read = λ h. inr (causes.read h);
+  write = λ h. inl (subst (λ n. Rose n writes_now) same_writes (causes.write h));
+  reads = inl same;
+  source = causes.reads;
+  writes = subst (λ n. (writes_now ≡ n) ⊎ (ended ≡ Err Fault.WriteFault)) same_writes causes.writes;
+  sink = inl refl;
+}
+
 -- where nothing failed and memory was there, the status stands for an answer
 pub answered : (before after : Counts) (result : Status) → Causes before after result → NothingFailed before after → ¬ (result ≡ Status.Memory) → IsAnswered result
 answered before after Status.Good causes nothing memory = tt

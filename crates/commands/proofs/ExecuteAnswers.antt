@@ -220,19 +220,25 @@ no_plan files instance plan_file line p read plan_read starts =
     value_is_no_line : (plan : Choices) (line : List ℕ) → ◌≡◌ {A = Result Choices (List ℕ)} (Ok plan) (Err line) → ⊥
     value_is_no_line plan line e = cc
 
+-- a plan that was refused is no valid plan
+pub no_plan_there : {X : Type 0} (view : X → Choices) (files : Files) (instance plan_file : List ℕ) (p : Instance) (f : Fault) → instance_in files instance ≡ Ok p →
+    ((◌≡◌ {A = Result X Fault} (Err f) (Err Fault.ReadFault) → ⊥) → Reads {X = X} view (Err f) (plan_in p files plan_file)) →
+    (line : String Global) → f ≡ Fault.Input line → ¬ Starts files instance plan_file
+no_plan_there {X} view files instance plan_file p f read reads line is = no_plan files instance plan_file (string_bytes line) p read (refused f line is reads)
+  where
+    refused : (f : Fault) (line : String Global) → f ≡ Fault.Input line →
+        ((◌≡◌ {A = Result X Fault} (Err f) (Err Fault.ReadFault) → ⊥) → Reads {X = X} view (Err f) (plan_in p files plan_file)) → plan_in p files plan_file ≡ Err (string_bytes line)
+    refused f line is reads =
+        let there : (◌≡◌ {A = Result X Fault} (Err (Fault.Input line)) (Err Fault.ReadFault) → ⊥) → Reads {X = X} view (Err (Fault.Input line)) (plan_in p files plan_file) = rw is at reads in
+        there (λ e. cc)
+
 -- where the plan was refused or not read, nothing is taken
 pub takes_no_plan : {X : Type 0} (view : X → Choices) (instance plan_file : List ℕ) (taking : Taking) (before after : Outside) (p : Instance) (f : Fault) → IsOfReading f →
     TakesNothing taking before.printed after.printed → instance_in before.files instance ≡ Ok p →
     ((◌≡◌ {A = Result X Fault} (Err f) (Err Fault.ReadFault) → ⊥) → Reads {X = X} view (Err f) (plan_in p before.files plan_file)) →
     EndsAnyhow (Takes (Some (execute instance plan_file)) taking before) after (Err f)
 takes_no_plan {X} view instance plan_file taking before after p f kind nothing read reads =
-    takes_unread instance plan_file taking before after f kind nothing (λ line is. no_plan before.files instance plan_file (string_bytes line) p read (refused f line is reads))
-  where
-    refused : (f : Fault) (line : String Global) → f ≡ Fault.Input line →
-        ((◌≡◌ {A = Result X Fault} (Err f) (Err Fault.ReadFault) → ⊥) → Reads {X = X} view (Err f) (plan_in p before.files plan_file)) → plan_in p before.files plan_file ≡ Err (string_bytes line)
-    refused f line is reads =
-        let there : (◌≡◌ {A = Result X Fault} (Err (Fault.Input line)) (Err Fault.ReadFault) → ⊥) → Reads {X = X} view (Err (Fault.Input line)) (plan_in p before.files plan_file) = rw is at reads in
-        there (λ e. cc)
+    takes_unread instance plan_file taking before after f kind nothing (no_plan_there view before.files instance plan_file p f read reads)
 
 -- what an execution takes is what the command takes
 pub takes_executed : (instance plan_file : List ℕ) (taking : Taking) (before after : Outside) (p : Instance) (plan : Choices) (ended : Result Ending Fault) → instance_in before.files instance ≡ Ok p →

@@ -13,6 +13,7 @@ pub mod PictureAnswers
 pub mod PlanAnswers
 pub mod Printing
 pub mod Readings
+pub mod RepairAnswers
 pub mod ReplayAnswers
 pub mod ScriptAnswers
 pub mod ShowAnswers

@@ -4,7 +4,7 @@ use Rattle.commands.specs.Prelude.{bytes_of, certificate_text, choices_of, Eleme
 use Rattle.trees.specs.declared.steps.Goal.TheVariants.{Infeasible as NonePlanned}
 use Rattle.search.specs.Answers.{plan_in}
 use Rattle.commands.specs.Planning.{undecided_line}
-use Rattle.commands.proofs.Ends.{says, answers_well, answers_refused, ends_more}
+use Rattle.commands.proofs.{Ends.says, Ends.answers_well, Ends.answers_refused, Ends.ends_more, OutputLemmas.rest_of_both}
 
 -- ---- the line
 
@@ -87,9 +87,6 @@ to_stay p tells old new found is = record {
 rest_of_one : (plan_file certificate : List ℕ) (before after : Files) → OthersStay certificate before after → RestStays plan_file certificate before after
 rest_of_one plan_file certificate before after stay = λ other not_plan not_certificate. stay other not_certificate
 
-rest_of_both : (plan_file certificate : List ℕ) (before between after : Files) → OthersStay certificate before between → OthersStay plan_file between after → RestStays plan_file certificate before after
-rest_of_both plan_file certificate before between after first then = λ other not_plan not_certificate. then other not_plan ∙ first other not_certificate
-
 -- what is left where the certificate is not whole
 pub leaves_certificate : (plan_file certificate : List ℕ) (budget : ℕ) (p : Instance) (before after : Files) → plan_file ≢ certificate → IsCertificateCut p (before certificate) (after certificate) → OthersStay certificate before after →
     LeavesPlanned plan_file certificate budget p before after
@@ -106,7 +103,7 @@ pub leaves_plan : (plan_file certificate : List ℕ) (budget : ℕ) (p : Instanc
 leaves_plan plan_file certificate budget p found before between after apart whole cut stay plan_cut then = record {
   certificate_cut = subst (λ (file : Option (List ℕ)). IsCertificateCut p (before certificate) file) (sym kept) cut;
   plan_cut = by plan_cut;
-  others = rest_of_both plan_file certificate before between after stay then;
+  others = rest_of_both certificate plan_file before between after stay then;
 }
   where
     kept : after certificate ≡ between certificate
@@ -127,7 +124,7 @@ written plan_file certificate budget p found before between after apart sound wh
   stays = stays;
   plan_whole = plan_whole;
   plan_reads = rw plan_whole reads;
-  others = rest_of_both plan_file certificate before between after stay then;
+  others = rest_of_both certificate plan_file before between after stay then;
 }
 
 -- and said

@@ -6,6 +6,7 @@ use Rattle.slices.specs.{Rules.IsFirstBroken, declared.rule.Broken.Broken}
 use Rattle.transcript.specs.Prelude.{Choices, first_point, Instance, inventory_of, IsValid, StopsInEvent, StopsInStart}
 use Rattle.replay.specs.Lines.{broken_line}
 use Rattle.transcript.specs.declared.conclusion.Conclusion.{Conclusion, TheVariants.Done, TheVariants.StoppedFail, TheVariants.StoppedEnd, TheVariants.Refused}
+use Rattle.event_lines.specs.declared.faults.EventFault.{EventFault}
 use Rattle.transcript.specs.{Lines.fault_text, Transcript.EndsFrom}
 use Rattle.plan_io.specs.Files.{Files}
 use Rattle.commands.specs.{Answer.Outside, Answer.outside, Answer.Says, Answer.AnswersBy, Inputs.input_line, Inputs.Instance.instance_in, Inputs.Plan.plan_in, declared.status.Status.Status}
@@ -16,12 +17,16 @@ use Rattle.commands.specs.{Answer.Outside, Answer.outside, Answer.Says, Answer.A
 abbrev pub events_line : (text : List ℕ) → List ℕ
 events_line text = input_line (codes "events") text
 
+-- The line that refuses the event line of this number.
+abbrev pub refused_line : ℕ → EventFault → List ℕ
+refused_line number fault = events_line (decimal number ++ codes " " ++ fault_text fault)
+
 -- The line of how an execution ends, after the lines of its starts.
 unfoldable pub conclusion_line : Instance → Conclusion → List ℕ
 conclusion_line p Done = codes "done\n"
 conclusion_line p (StoppedFail e) = codes "stopped fail " ++ name_of (inventory_of p) e ++ codes "\n"
 conclusion_line p StoppedEnd = codes "stopped end\n"
-conclusion_line p (Refused number fault) = events_line (decimal number ++ codes " " ++ fault_text fault)
+conclusion_line p (Refused number fault) = refused_line number fault
 
 abbrev pub conclusion_status : Conclusion → Status
 conclusion_status Done = Status.Good

@@ -11,6 +11,7 @@ pub mod Showing
 pub mod Picturing
 pub mod Scripting
 pub mod Executing
+pub mod Repairing
 pub mod Generating
 pub mod Demonstrating
 pub mod Commands

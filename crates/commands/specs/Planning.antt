@@ -1,5 +1,5 @@
 -- What `plan` answers, and what it leaves in the files.
-use Rattle.std.specs.Prelude.{◌≡◌, ◌≢◌, ◌⊎◌, ◌++◌, Bool, ℕ, List, Option, Some, None, Result, Ok, IfOk, IsTrue, option_map, codes}
+use Rattle.std.specs.Prelude.{◌≡◌, ◌⊎◌, ◌++◌, Bool, ℕ, List, Option, Some, None, Result, Ok, IfOk, IsTrue, option_map, codes}
 use Rattle.std.specs.{Fmt.decimal, Io.StartsWith}
 use Rattle.plan_json.specs.Prelude.{plan_of, plan_text}
 use Rattle.search.specs.Prelude.{bytes_of, choices_of, cost_of, CountsWrites, goal_in, Instance, IsInstance, IsStayingPlan, IsTreeOf, IsTrueOf, MayStay, plan_in, PlanChoices, steps_of, Tree}
@@ -7,7 +7,7 @@ use Rattle.plan_io.specs.{Prelude.Files, Prelude.IsCut, Prelude.OthersStay, decl
 use Rattle.trees.specs.declared.steps.{Goal.Goal, Step.Step}
 use Rattle.cert_text.specs.Spelling.{certificate_text}
 use Rattle.search.specs.declared.found.Found.{Found, TheVariants.Optimal, TheVariants.Infeasible, TheVariants.Undecided}
-use Rattle.commands.specs.{Answer.Outside, declared.status.Status.Status}
+use Rattle.commands.specs.{Answer.Outside, Outputs.RestStays, declared.status.Status.Status}
 
 -- ---- what is said
 
@@ -50,10 +50,6 @@ pub record IsPlanCut (p : Instance) (budget : ℕ) (certificate plan : Option (L
   pub found : Found
   pub certified : IsCertified p budget found certificate
   pub cut : StartsWith (plan_text p (plan_in found)) (bytes_of plan)
-
--- Each file but these two is as before.
-abbrev pub RestStays : (plan_file certificate : List ℕ) → Files → Files → Type 0
-RestStays plan_file certificate before after = (other : List ℕ) → other ≢ plan_file → other ≢ certificate → after other ≡ before other
 
 -- ---- the command
 

@@ -30,16 +30,19 @@ pub use Rattle.cert_check.specs.declared.verdict.{CheckFault.CheckFault, CheckFa
 pub use Rattle.commands.specs.Answer.{AnswersBy, LeavesBy, Outside, outside, Says, told}
 pub use Rattle.commands.specs.Causes.{Causes, CommandCauses, Counts, counts, NothingFailed, OnlyReads, PartCauses, ReadCauses, WriteCauses}
 pub use Rattle.commands.specs.Checking.{Checks, IsChecked, IsLineRefusal, no_line, not_a_line, SaysGiven, short_line, too_long_line, undecided_line, verdict_status, why_text}
-unfoldable pub use Rattle.commands.specs.{Checking.verdict_line, Commands.IsAnswer, Demonstrating.demo_line, Endings.Ends, Endings.EndsAnyhow, Executing.conclusion_line, Executing.Executes, Executing.Starts, Executing.TakesRead}
+unfoldable pub use Rattle.commands.specs.{Checking.verdict_line, Commands.IsAnswer, Demonstrating.demo_line, Endings.Ends, Endings.EndsAnyhow, Executing.conclusion_line, Executing.Executes, Executing.Starts, Executing.TakesRead, Repairing.repaired_line, Repairing.RepairsPlan, Repairing.running_line, Repairing.SaysRest, Repairing.TakesEvents}
 pub use Rattle.commands.specs.Commands.{KeepsDeskReads, KeepsDeskWrites, KeepsSource, Leaves, LeavesAtFailedRead, MayRun, ReadsInput, Takes}
 pub use Rattle.commands.specs.Demonstrating.{demo_certificate, demo_instance, demo_plan, Follows, IsConcluded, IsDemonstrated, IsPlannedAndChecked, LeavesDemo, optimal_line}
 pub use Rattle.commands.specs.Endings.{fault_status, IsAnswered, IsLastLine, IsOfExecuting, IsOfReading, IsOfWriting, IsRefusal, LastEnds, line_of, LineEnds, out_fault, outcome_status, printed_with, Reads}
-pub use Rattle.commands.specs.Executing.{conclusion_status, events_line, IsExecuted, IsPartOfAnswer, TakesNothing, Taking, taking, Took, TookBy}
+pub use Rattle.commands.specs.Executing.{conclusion_status, events_line, IsExecuted, IsPartOfAnswer, refused_line, TakesNothing, Taking, taking, Took, TookBy}
+pub use Rattle.commands.specs.Repairing.{first_event, IsRepairCut, IsRepaired, LeavesEnding, LeavesRepaired, LeavesRest, Repairs, RepairsBy, RepairsSome, RepairsTold, SaysEnding, StopsAtEnding, StopsReading, TookEvents, TookEventsBy}
+pub use Rattle.repair.specs.{Answers.RestGives, Events.EndsFrom, Events.FollowGives, Events.StopsInLine, Rest.IsGoingOn}
+pub use Rattle.executor.specs.{Answers.IsFirst, Phases.first_phases, Phases.Phases, Steps.IsExecution, Views.IsMonitor, Views.phases_of}
 pub use Rattle.commands.specs.{Generating.HasGenerated, Generating.LeavesGenerated, Inputs.input_line, Inputs.Instance.instance_in, Inputs.Instance.instance_line, Inputs.Instance.lined}
 unfoldable pub use Rattle.commands.specs.{Generating.generated_line, Inputs.whole_of, Inputs.Instance.reading_of, Inputs.Plan.any_plan_reading_of, Planning.found_line, Printed.PrintsPrefix, Scripting.scripted_line, Words.number_of}
 pub use Rattle.commands.specs.Inputs.Plan.{any_plan_in, any_plan_lined, needed, plan_in, plan_line}
 pub use Rattle.commands.specs.Inputs.Script.{script_in, script_line, script_lined, script_reading_of}
-pub use Rattle.commands.specs.{Laws.AreAccepted, Laws.PlannedIsChecked, Laws.WrittenIsAccepted, Laws.yes_to, Meaning.HasFilesApart, Meaning.meaning, Outputs.HasText, Outputs.IsTextCut, Picturing.HasPicture, Picturing.IsPictureCut, Picturing.IsPictured, Picturing.LeavesPictured, Picturing.Pictures, Replaying.IsReplayed, Replaying.Replays, Scripting.IsScripted, Scripting.LeavesScripted, Scripting.Scripts, Showing.IsListed, Showing.Lists, declared.demonstrating.TheConstants.DEMO_BUDGET}
-pub use Rattle.commands.specs.Planning.{Certifies, found_status, IsCertificateCut, IsCertified, IsPlanCut, IsPlanned, IsToStay, IsWritten, LeavesPlanned, plan_cost, RestStays}
-pub use Rattle.commands.specs.Words.{are_names, asked, check, Command, command_of, demo, execute, generate, is_name, is_plain, picture, plan, replay, script, show}
+pub use Rattle.commands.specs.{Laws.AreAccepted, Laws.PlannedIsChecked, Laws.WrittenIsAccepted, Laws.yes_to, Meaning.HasFilesApart, Meaning.meaning, Outputs.AreTextsCut, Outputs.HasText, Outputs.HasTexts, Outputs.IsTextCut, Outputs.RestStays, Picturing.HasPicture, Picturing.IsPictureCut, Picturing.IsPictured, Picturing.LeavesPictured, Picturing.Pictures, Replaying.IsReplayed, Replaying.Replays, Scripting.IsScripted, Scripting.LeavesScripted, Scripting.Scripts, Showing.IsListed, Showing.Lists, declared.demonstrating.TheConstants.DEMO_BUDGET}
+pub use Rattle.commands.specs.Planning.{Certifies, found_status, IsCertificateCut, IsCertified, IsPlanCut, IsPlanned, IsToStay, IsWritten, LeavesPlanned, plan_cost}
+pub use Rattle.commands.specs.Words.{are_names, asked, check, Command, command_of, demo, execute, generate, is_name, is_plain, picture, plan, repair, replay, script, show}
 pub use Rattle.commands.specs.declared.{fault.Ending.Ending, fault.Fault.Fault, status.Status.Status}

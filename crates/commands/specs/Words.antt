@@ -12,6 +12,7 @@ pub data Command : Type 0 where
   picture : (instance plan_file picture_file : List ℕ) → Command
   script : (instance script_file out_file : List ℕ) → Command
   execute : (instance plan_file : List ℕ) → Command
+  repair : (instance plan_file new_instance new_plan : List ℕ) → Command
   generate : (seed : ℕ) (instance : List ℕ) → Command
   demo : (seed : ℕ) → Command
 
@@ -41,8 +42,9 @@ command_of (word ∷ first ∷ second ∷ third ∷ []) =
     if bytes_eq word (codes "check") && are_names (first ∷ second ∷ third ∷ []) then Some (check first second third false) else
     if bytes_eq word (codes "picture") && are_names (first ∷ second ∷ third ∷ []) then Some (picture first second third) else
     if bytes_eq word (codes "script") && are_names (first ∷ second ∷ third ∷ []) then Some (script first second third) else None
-command_of (word ∷ instance ∷ plan_file ∷ certificate ∷ last ∷ []) =
-    if bytes_eq word (codes "check") && bytes_eq last (codes "strict") && are_names (instance ∷ plan_file ∷ certificate ∷ []) then Some (check instance plan_file certificate true) else None
+command_of (word ∷ first ∷ second ∷ third ∷ last ∷ []) =
+    if bytes_eq word (codes "check") && bytes_eq last (codes "strict") && are_names (first ∷ second ∷ third ∷ []) then Some (check first second third true) else
+    if bytes_eq word (codes "repair") && are_names (first ∷ second ∷ third ∷ last ∷ []) then Some (repair first second third last) else None
 command_of (word ∷ instance ∷ plan_file ∷ certificate ∷ between ∷ number ∷ []) =
     if bytes_eq word (codes "plan") && bytes_eq between (codes "budget") && are_names (instance ∷ plan_file ∷ certificate ∷ []) then option_map (plan instance plan_file certificate) (number_of number) else None
 command_of (word ∷ first ∷ second ∷ []) =

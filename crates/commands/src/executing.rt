@@ -1,41 +1,18 @@
 //! The command `execute`.
 
-ghost use Rattle.std.specs.Prelude.{◌≡◌, ◌≢◌, ◌++◌, Some, Err, IsTrue, IfOk, IfErr, codes, string_bytes};
-ghost use Rattle.std.specs.{Fmt.decimal, Io.StartsWith};
-ghost use Rattle.commands.specs.Prelude.{broken_line, choices_of, CommandCauses, conclusion_line, conclusion_status, counts, Ends, EndsAnyhow, events_line, execute, Executes, Files, InRange, IsAnswer, IsLastLine, IsOfExecuting, IsPartOfAnswer, IsPlanOf, IsRefusal, IsValid, KeepsSource, MayRun, NamesListed, outside, PartCauses, PrintsPrefix, Takes, taking, told, TookBy};
-ghost use Rattle.transcript.specs.Lines.{fault_text};
-ghost use Rattle.commands.specs.declared.status.Status.TheVariants as Status;
+ghost use Rattle.std.specs.Prelude.{◌≡◌, ◌≢◌, Some, Err, IsTrue, IfErr};
+ghost use Rattle.std.specs.Io.{StartsWith};
+ghost use Rattle.commands.specs.Prelude.{choices_of, CommandCauses, conclusion_line, conclusion_status, counts, Ends, EndsAnyhow, execute, Executes, Files, IsAnswer, IsLastLine, IsOfExecuting, IsPartOfAnswer, IsPlanOf, IsValid, KeepsSource, MayRun, NamesListed, outside, PartCauses, PrintsPrefix, Takes, taking, told, TookBy};
 
+use crate::events::{refused_event, say_broken};
 use crate::fault::{Ending, Fault, Outcome};
 use crate::inputs::instance::problem_at;
 use crate::inputs::plan::plan_at;
-use crate::inputs::refusal;
-use base::Memory;
 use catalogue::Problem;
 use plan_io::{Desk, Sink, Source};
-use replay::broken_line;
 use slices::Plan;
-use slices::rule::Broken;
 use std::alloc::Global;
-use transcript::{Conclusion, EventFault, ExecuteFault};
-
-/// What is wrong with an event line, after its number.
-fn event_text(alloc: Global, number: u32, fault: EventFault) -> Result<String, Memory>
-    ensures { IfOk result (λ text. string_bytes text ≡ decimal number ++ codes " " ++ fault_text fault) }
-{
-    let what = fault.text();
-    Ok(format!(in alloc; "{number} {what}")?)
-}
-
-/// The fault of a refused event line.
-fn refused_event(alloc: Global, number: u32, fault: EventFault) -> Fault
-    ensures { IsRefusal result (events_line (decimal number ++ codes " " ++ fault_text fault)) }
-{
-    match event_text(alloc, number, fault) {
-        Ok(text) => refusal(alloc, "events", &text),
-        Err(Memory) => Fault::Memory,
-    }
-}
+use transcript::{Conclusion, ExecuteFault};
 
 /// The last line of an execution.
 #[tactic(auto, unfolding(crate::specs::Executing::conclusion_line))]
@@ -56,18 +33,6 @@ fn conclude(alloc: Global, p: &Problem, conclusion: Conclusion) -> Result<Ending
     Ok(Ending {
         line: Some(line),
         outcome,
-    })
-}
-
-/// The last line of a plan that is not valid.
-fn say_broken(alloc: Global, p: &Problem, broken: Broken) -> Result<Ending, Fault>
-    requires { InRange p.now.given broken.rule }
-    ensures { IsLastLine result (broken_line p.now.given broken) Status.Negative }
-{
-    let line = broken_line(alloc, p, broken)?;
-    Ok(Ending {
-        line: Some(line),
-        outcome: Outcome::Negative,
     })
 }
 

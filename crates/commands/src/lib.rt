@@ -4,6 +4,7 @@
 
 mod checking;
 mod demonstrating;
+mod events;
 mod executing;
 mod fault;
 mod generating;
@@ -12,6 +13,7 @@ pub mod laws;
 mod outputs;
 mod picturing;
 mod planning;
+mod repairing;
 mod replaying;
 pub mod run;
 mod scripting;

@@ -10,6 +10,7 @@ use crate::fault::{Ending, Fault};
 use crate::generating::generate;
 use crate::picturing::picture;
 use crate::planning::plan;
+use crate::repairing::repair;
 use crate::replaying::replay;
 use crate::scripting::script;
 use crate::showing::show;
@@ -126,6 +127,22 @@ fn answer<D: Desk, I: Source, O: Sink, S: Solver>(
                 plan_file,
             },
         ) => execute(alloc, desk, input, out, instance, plan_file),
+        Some(
+            Command::Repair {
+                instance,
+                plan_file,
+                new_instance,
+                new_plan,
+            },
+        ) => repair(
+            alloc,
+            desk,
+            input,
+            instance,
+            plan_file,
+            new_instance,
+            new_plan,
+        ),
         Some(Command::Generate { seed, instance }) => generate(alloc, desk, seed, instance),
         Some(Command::Demo { seed }) => demo(alloc, desk, solver, seed),
         None => Err(Fault::Words),

@@ -47,6 +47,13 @@ pub enum Command<'a> {
         instance: &'a str,
         plan_file: &'a str,
     },
+    /// Reads what became of a plan of the instance, and writes the problem and the plan that are left.
+    Repair {
+        instance: &'a str,
+        plan_file: &'a str,
+        new_instance: &'a str,
+        new_plan: &'a str,
+    },
     /// Generates the problem of a seed, and writes it as the instance.
     Generate {
         seed: u64,
@@ -80,6 +87,16 @@ fn are_three_names(first: &str, second: &str, third: &str) -> bool
     ensures { result ≡ are_names (first.now ∷ second.now ∷ third.now ∷ []) }
 {
     is_name(first) && first != second && first != third && are_two_names(second, third)
+}
+
+fn are_four_names(first: &str, second: &str, third: &str, fourth: &str) -> bool
+    ensures { result ≡ are_names (first.now ∷ second.now ∷ third.now ∷ fourth.now ∷ []) }
+{
+    is_name(first)
+        && first != second
+        && first != third
+        && first != fourth
+        && are_three_names(second, third, fourth)
 }
 
 /// Whether a word that is a number has no sign and no leading zero.
@@ -200,24 +217,31 @@ fn with_three<'a>(
     }
 }
 
-/// The command that this word is before the names of three files and a last word.
+/// The command that this word is before the names of three files and a last word, which may be a fourth name.
 fn with_last<'a>(
     word: &str,
-    instance: &'a str,
-    plan_file: &'a str,
-    certificate: &'a str,
-    last: &str,
+    first: &'a str,
+    second: &'a str,
+    third: &'a str,
+    last: &'a str,
 ) -> Option<Command<'a>>
-    ensures meaning { let words = word.now ∷ instance.now ∷ plan_file.now ∷ certificate.now ∷ last.now ∷ [] in
+    ensures meaning { let words = word.now ∷ first.now ∷ second.now ∷ third.now ∷ last.now ∷ [] in
         option_map meaning result ≡ command_of words }
     ensures apart { IfSome result (λ command. HasFilesApart (meaning command)) }
 {
-    if word == "check" && last == "strict" && are_three_names(instance, plan_file, certificate) {
+    if word == "check" && last == "strict" && are_three_names(first, second, third) {
         Some(Command::Check {
-            instance,
-            plan_file,
-            certificate,
+            instance: first,
+            plan_file: second,
+            certificate: third,
             strict: true,
+        })
+    } else if word == "repair" && are_four_names(first, second, third, last) {
+        Some(Command::Repair {
+            instance: first,
+            plan_file: second,
+            new_instance: third,
+            new_plan: last,
         })
     } else {
         None
@@ -281,11 +305,11 @@ pub fn read_words(words: &[String]) -> Option<Command<'_>>
             second.as_str(),
             third.as_str(),
         ),
-        [word, instance, plan_file, certificate, last] => with_last(
+        [word, first, second, third, last] => with_last(
             word.as_str(),
-            instance.as_str(),
-            plan_file.as_str(),
-            certificate.as_str(),
+            first.as_str(),
+            second.as_str(),
+            third.as_str(),
             last.as_str(),
         ),
         [word, instance, plan_file, certificate, between, number] => with_number(
