@@ -13,6 +13,7 @@ usage: btrplan COMMAND, with names of files
   picture INSTANCE PLAN SVG            draws a plan
   script INSTANCE SCRIPT OUT           adds the constraints of a script to an instance
   execute INSTANCE PLAN                prints what may start, and reads what has ended or failed
+  repair INSTANCE PLAN INSTANCE PLAN   reads what became of a plan, and writes what is left
   generate SEED INSTANCE               writes the instance of a number
   demo SEED                            generates, plans and checks
 files and lines: docs/FORMATS.md
@@ -32,7 +33,7 @@ fn input_count(command: &str) -> usize {
     match command {
         "plan" => 1,
         "check" => 3,
-        "replay" | "show" | "picture" | "script" | "execute" => 2,
+        "replay" | "show" | "picture" | "script" | "execute" | "repair" => 2,
         _ => 0,
     }
 }

@@ -16,6 +16,7 @@ mod instances;
 mod one_byte;
 mod picturing;
 mod planning;
+mod repairing;
 mod replaying;
 mod scripting;
 mod showing;
@@ -154,6 +155,12 @@ fn words_in_no_command(rt: HostRuntime) -> Result<(), Fail> {
         "script i  c",
         "script i s c x",
         "scripts i s c",
+        "repair i p j",
+        "repair i p j j",
+        "repair i p i q",
+        "repair i p j p",
+        "repair i i j q",
+        "repair i p j q x",
         "demo",
         "demo ",
         "demo 01",
