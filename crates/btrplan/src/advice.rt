@@ -55,8 +55,7 @@ pub fn advise(rt: &HostRuntime, words: &[String], status: Status) -> io::Result<
         Status::Good | Status::Negative | Status::Undecided | Status::Input => Ok(()),
         Status::Words => say_usage(rt, words),
         Status::ReadFault => say_unread(rt, words),
-        Status::WriteFault => eprintln!(
-            rt;
+        Status::WriteFault => eprintln!(rt;
             "btrplan: a file, or standard output, cannot be written: its folder may be missing, or its disk full"
         ),
         Status::Memory => eprintln!(rt; "btrplan: there is not enough memory"),

@@ -26,7 +26,8 @@ const SECOND: &[u8] =
     b"{\"actions\":[{\"element\":\"v0\",\"kind\":\"migrate\",\"place\":\"n1\",\"start\":3}]}\n";
 
 /// The plan of which none has ended.
-const BOTH: &[u8] = b"{\"actions\":[{\"element\":\"v0\",\"kind\":\"migrate\",\"place\":\"n1\",\"start\":3},{\"element\":\"v1\",\"kind\":\"migrate\",\"place\":\"n2\",\"start\":0}]}\n";
+const BOTH: &[u8] =
+    b"{\"actions\":[{\"element\":\"v0\",\"kind\":\"migrate\",\"place\":\"n1\",\"start\":3},{\"element\":\"v1\",\"kind\":\"migrate\",\"place\":\"n2\",\"start\":0}]}\n";
 
 /// The first action ends, and the second one fails.
 const FAILURE: &[u8] = b"start v1\nend v1\nstart v0\nfail v0\n";
@@ -124,7 +125,10 @@ fn what_is_refused(rt: HostRuntime) -> Result<(), Fail> {
     let alloc = rt.alloc();
     let none = (None, None, None);
     let table: [((&[u8], &[u8]), (Status, &[u8])); 10] = [
-        ((ONE_BY_ONE, b"start v1\n"), (Status::Negative, b"running v1\n")),
+        (
+            (ONE_BY_ONE, b"start v1\n"),
+            (Status::Negative, b"running v1\n"),
+        ),
         (
             (ONE_BY_ONE, b"start v0\n"),
             (Status::Input, b"input events 1 not ready\n"),
@@ -171,17 +175,61 @@ fn each_failing_call(rt: HostRuntime) -> Result<(), Fail> {
     let given: (&[u8], &[u8]) = (ONE_BY_ONE, FAILURE);
     let moved = Kept::Moved(b"n2");
     // each file is read by two calls of the desk, and each new one is written by two
-    let table: [((Option<u64>, Option<u64>, Option<u64>), (Status, &[u8]), (Kept<'_>, &[u8])); 10] = [
-        ((Some(0), None, None), (Status::ReadFault, b""), (Kept::Before, OLD)),
-        ((Some(1), None, None), (Status::ReadFault, b""), (Kept::Before, OLD)),
-        ((Some(2), None, None), (Status::ReadFault, b""), (Kept::Before, OLD)),
-        ((Some(3), None, None), (Status::ReadFault, b""), (Kept::Before, OLD)),
-        ((None, Some(0), None), (Status::ReadFault, b""), (Kept::Before, OLD)),
-        ((Some(4), None, None), (Status::WriteFault, b""), (Kept::Before, OLD)),
-        ((Some(5), None, None), (Status::WriteFault, b""), (Kept::Nothing, OLD)),
-        ((Some(6), None, None), (Status::WriteFault, b""), (moved, OLD)),
-        ((Some(7), None, None), (Status::WriteFault, b""), (moved, b"")),
-        ((None, None, Some(0)), (Status::WriteFault, b""), (moved, SECOND)),
+    let table: [(
+        (Option<u64>, Option<u64>, Option<u64>),
+        (Status, &[u8]),
+        (Kept<'_>, &[u8]),
+    ); 10] = [
+        (
+            (Some(0), None, None),
+            (Status::ReadFault, b""),
+            (Kept::Before, OLD),
+        ),
+        (
+            (Some(1), None, None),
+            (Status::ReadFault, b""),
+            (Kept::Before, OLD),
+        ),
+        (
+            (Some(2), None, None),
+            (Status::ReadFault, b""),
+            (Kept::Before, OLD),
+        ),
+        (
+            (Some(3), None, None),
+            (Status::ReadFault, b""),
+            (Kept::Before, OLD),
+        ),
+        (
+            (None, Some(0), None),
+            (Status::ReadFault, b""),
+            (Kept::Before, OLD),
+        ),
+        (
+            (Some(4), None, None),
+            (Status::WriteFault, b""),
+            (Kept::Before, OLD),
+        ),
+        (
+            (Some(5), None, None),
+            (Status::WriteFault, b""),
+            (Kept::Nothing, OLD),
+        ),
+        (
+            (Some(6), None, None),
+            (Status::WriteFault, b""),
+            (moved, OLD),
+        ),
+        (
+            (Some(7), None, None),
+            (Status::WriteFault, b""),
+            (moved, b""),
+        ),
+        (
+            (None, None, Some(0)),
+            (Status::WriteFault, b""),
+            (moved, SECOND),
+        ),
     ];
     for (at, (failing, said, left)) in table.into_iter().enumerate() {
         repairs(&rt, alloc, (given, failing, said, left), at)?;
