@@ -16,7 +16,6 @@ mod instances;
 mod one_byte;
 mod picturing;
 mod planning;
-mod repairing;
 mod replaying;
 mod scripting;
 mod showing;
