@@ -1,5 +1,7 @@
 //! What is said on standard error beside an answer: how to go on from there. Where all went well nothing is said.
 
+use crate::finding::say_place;
+use crate::meaning::{say_broken, say_infeasible};
 use commands::status::Status;
 use std::fs::File;
 use std::io;
@@ -49,10 +51,31 @@ fn say_unread(rt: &HostRuntime, words: &[String]) -> io::Result<()> {
     eprintln!(rt; "btrplan: a file, or standard input, cannot be read to its end")
 }
 
-/// Says what helps after an answer of a status, if anything does. What cannot be said is left out.
-pub fn advise(rt: &HostRuntime, words: &[String], status: Status) -> io::Result<()> {
+// what a negative answer means, by its line
+fn say_negative(rt: &HostRuntime, words: &[String], line: &str) -> io::Result<()> {
+    match words {
+        [command, instance, _, certificate, ..] if command.as_str() == "plan" => say_infeasible(
+            rt,
+            rt.alloc(),
+            instance,
+            certificate,
+        ),
+        [_, instance, ..] if line.starts_with("broken ") => say_broken(
+            rt,
+            rt.alloc(),
+            instance,
+            line,
+        ),
+        _ => Ok(()),
+    }
+}
+
+/// Says what helps after an answer of a status, by its last line, if anything does. What cannot be said is left out.
+pub fn advise(rt: &HostRuntime, words: &[String], status: Status, line: &str) -> io::Result<()> {
     match status {
-        Status::Good | Status::Negative | Status::Undecided | Status::Input => Ok(()),
+        Status::Good | Status::Undecided => Ok(()),
+        Status::Negative => say_negative(rt, words, line),
+        Status::Input => say_place(rt, rt.alloc(), words, line),
         Status::Words => say_usage(rt, words),
         Status::ReadFault => say_unread(rt, words),
         Status::WriteFault => eprintln!(rt;

@@ -3,8 +3,14 @@
 #![tactic(auto)]
 
 mod advice;
+mod finding;
+mod last_line;
+mod meaning;
+mod progress;
 
 use crate::advice::advise;
+use crate::last_line::KeepingSink;
+use crate::progress::TellingDesk;
 use commands::run::run;
 use commands::status::Status;
 use plan_io::{FileDesk, StdSink, StdSource};
@@ -29,11 +35,11 @@ fn main(rt: HostRuntime) -> ExitCode {
         // A word that is no text is in no command, and neither is no word.
         Err(_) => (),
     }
-    let mut desk = FileDesk::new(&rt, alloc);
+    let mut desk = TellingDesk::new(FileDesk::new(&rt, alloc), &rt, &words);
     let mut input = StdSource::new(rt.stdin());
-    let mut out = StdSink::new(io::writer(&rt));
+    let mut out = KeepingSink::new(alloc, StdSink::new(io::writer(&rt)));
     let status = run(alloc, &words, &mut desk, &mut input, &mut out, &RuleSolver);
     // what cannot be said changes nothing
-    let _ = advise(&rt, &words, status);
+    let _ = advise(&rt, &words, status, out.last_line());
     ExitCode::from(status.code())
 }

@@ -12,13 +12,9 @@ mod listings;
 #[cfg(test)]
 mod making;
 #[cfg(test)]
-mod pictures;
-#[cfg(test)]
 mod plan_texts;
 #[cfg(test)]
 mod printed;
-#[cfg(test)]
-mod rack;
 #[cfg(test)]
 mod reading;
 #[cfg(test)]

@@ -1,0 +1,98 @@
+//! A command with each of its calls failing in turn.
+
+use crate::rows::{Ended, Failing, Row};
+use commands::status::Status;
+use std::io;
+
+/// The longest text of a file that is printed, in bytes.
+const MOST_PRINTED: usize = 16_384;
+
+/// Whether a file is as it was, or a beginning of what a whole run leaves there.
+fn is_left(before: Option<&[u8]>, whole: Option<&[u8]>, after: Option<&[u8]>) -> bool {
+    if after == before {
+        return true;
+    }
+    match (whole, after) {
+        (Some(whole), Some(after)) => whole.starts_with(after),
+        _ => false,
+    }
+}
+
+/// Whether a run with one failed call ends as it has to beside the whole one.
+fn is_cut(row: &Row, whole: &Ended, cut: &Ended) -> bool {
+    let status = match cut.faults() {
+        (1, 0) => Status::ReadFault,
+        (0, 1) => Status::WriteFault,
+        _ => return false,
+    };
+    cut.status == status
+        && whole.sink.written().starts_with(cut.sink.written())
+        && row.files().all(|(name, before)| is_left(
+            before,
+            whole.desk.get(name),
+            cut.desk.get(name),
+        ))
+}
+
+/// Fails each call of one sort in turn, from the first to the last that the command makes, and returns how many it made.
+fn fail_each(
+    rt: &HostRuntime,
+    row: &Row,
+    whole: &Ended,
+    failing: fn(u64) -> Failing,
+) -> io::Result<u64> {
+    for call in 0..u64::MAX {
+        let cut = row.run(rt.alloc(), failing(call))?;
+        if cut.faults() == whole.faults() {
+            return Ok(call);
+        }
+        if !is_cut(row, whole, &cut) {
+            println!(rt; "{:?}: status {}", failing(call), cut.status.code())?;
+        }
+    }
+    Ok(u64::MAX)
+}
+
+/// Prints what a command has printed, and each file that it has changed: its text, or how long that is.
+fn say(rt: &HostRuntime, row: &Row, whole: &Ended) -> io::Result<()> {
+    print!(rt;
+        "{}",
+        str::from_utf8(whole.sink.written()).unwrap_or_default()
+    )?;
+    for (name, before) in row.files() {
+        let after = whole.desk.get(name);
+        if after == before {
+            continue;
+        }
+        let text = str::from_utf8(after.unwrap_or_default()).unwrap_or_default();
+        if text.len() <= MOST_PRINTED {
+            print!(rt; "{name}:\n{text}")?;
+        } else {
+            println!(rt; "{name}: {} bytes", text.len())?;
+        }
+    }
+    Ok(())
+}
+
+/// Runs a command once, and prints what it has printed and changed, and its status.
+pub fn run_once(rt: &HostRuntime, row: &Row) -> io::Result<()> {
+    let whole = row.run(rt.alloc(), Failing::None)?;
+    say(rt, row, &whole)?;
+    println!(rt; "status {}", whole.status.code())
+}
+
+/// Prints what a command prints and changes, its status, how many calls it makes of its files, its source and its sink, and
+/// how many bytes of the source it leaves. Each of the calls is failed once; where something then stands that should not, a
+/// line more says so.
+pub fn try_calls(rt: &HostRuntime, row: &Row) -> io::Result<()> {
+    let mut whole = row.run(rt.alloc(), Failing::None)?;
+    say(rt, row, &whole)?;
+    let files = fail_each(rt, row, &whole, Failing::Desk)?;
+    let source = fail_each(rt, row, &whole, Failing::Source)?;
+    let sink = fail_each(rt, row, &whole, Failing::Sink)?;
+    let left = whole.left();
+    println!(rt;
+        "status {}, calls {files} {source} {sink}, left {left}",
+        whole.status.code()
+    )
+}
