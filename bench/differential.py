@@ -1,12 +1,13 @@
 #!/usr/bin/env python3
 """Compares the program's answers with those of a slow planner that goes over all plans, on random tiny instances.
 
-    bench/differential.py [COUNT [SEED]]     so many instances (2,000), from this seed on (1)
+    bench/differential.py [--program PROGRAM] [COUNT [SEED]]     so many instances (2,000), from this seed on (1)
 
 Instances have all 21 kinds of constraints and all states. Each is planned with five budgets. An answer must be the
 slow planner's where it is decided, must undercut nothing where it is not, its plan must be valid with that cost, and
 a strict check must accept its certificate. The first difference is printed with its instance, and ends with status 1.
 """
+import argparse
 import json
 import os
 import random
@@ -91,7 +92,7 @@ def instance(pick):
 
 
 def call(*words):
-    ran = subprocess.run([PROGRAM, *words], capture_output=True, text=True, timeout=120)
+    ran = subprocess.run(words, capture_output=True, text=True, timeout=120)
     return ran.stdout.strip()
 
 
@@ -120,12 +121,15 @@ def wrong(p, best, budget, line, plan, verdict):
 
 
 def main():
-    count = int(sys.argv[1]) if len(sys.argv) > 1 else 2_000
-    seed = int(sys.argv[2]) if len(sys.argv) > 2 else 1
-    answers, done = {}, 0
+    asked = argparse.ArgumentParser(description="Compares answers with those of a planner that goes over all plans.")
+    asked.add_argument("--program", default=PROGRAM)
+    asked.add_argument("count", type=int, nargs="?", default=2_000, help="instances")
+    asked.add_argument("seed", type=int, nargs="?", default=1, help="the first seed")
+    asked = asked.parse_args()
+    seed, answers, done = asked.seed, {}, 0
     with tempfile.TemporaryDirectory() as room:
         files = [os.path.join(room, it) for it in ("instance.json", "plan.json", "certificate.txt")]
-        while done < count:
+        while done < asked.count:
             given = instance(random.Random(seed))
             seed += 1
             p = plain.Instance(given)
@@ -135,10 +139,10 @@ def main():
                 json.dump(given, it)
             best = plain.least_cost(p)
             for budget in BUDGETS:
-                line = call("plan", *files, "budget", str(budget))
+                line = call(asked.program, "plan", *files, "budget", str(budget))
                 with open(files[1], encoding="utf-8") as it:
                     plan = json.load(it)
-                fault = wrong(p, best, budget, line, plan, call("check", *files, "strict"))
+                fault = wrong(p, best, budget, line, plan, call(asked.program, "check", *files, "strict"))
                 if fault:
                     print(f"seed {seed - 1}, budget {budget}: {line}: {fault}\n{json.dumps(given)}")
                     return 1
