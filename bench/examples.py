@@ -34,7 +34,8 @@ def examples(page):
 def run_page(page, folder):
     """Runs the examples of a page in the folder, and returns how many there are."""
     os.symlink(PROGRAM, os.path.join(folder, "btrplan"))
-    os.symlink(os.path.join(TOP, "examples"), os.path.join(folder, "examples"))
+    for name in ("bench", "examples"):
+        os.symlink(os.path.join(TOP, name), os.path.join(folder, name))
     count = 0
     for command, wanted in examples(text_of(os.path.join(TOP, page))):
         made = subprocess.run(["bash", "-c", command], cwd=folder, capture_output=True, text=True, check=False)
