@@ -1,43 +1,23 @@
 -- `check` says yes to the files that `plan` writes.
-use Rattle.std.proofs.Common.{◌≡◌, ◌∙◌, ℕ, Bool, List, Option, Some, None, Result, Ok, Err, sym, ap, subst, refl, arith}
-use Rattle.commands.specs.Prelude.{AnswersBy, any_plan_in, any_plan_lined, any_plan_reading_of, AreAccepted, bytes_of, CheckFault, Checks, choices_handed, choices_in, Files, Found, Goal, goal_in, Infeasible, Instance, instance_in, IsAnswer, IsCertificate, IsChecked, IsHandedIn, IsTrueOf, IsYesUnlessOutside, least_in, least_of, Line, Memory, No, NotALine, Optimal, Outside, plan_of, PlanChoices, PlannedIsChecked, ReadFault, reading_of, Says, SaysGiven, Short, Status, TooLong, Undecided, Verdict, verdict_line, WrittenIsAccepted, Yes, yes_to}
+use Rattle.std.proofs.Common.{◌≡◌, ◌∙◌, ℕ, Bool, List, Option, Result, Ok, Err, sym, ap, subst}
+use Rattle.commands.specs.Prelude.{AnswersBy, any_plan_in, any_plan_lined, any_plan_reading_of, AreAccepted, bytes_of, CheckFault, Checks, choices_handed, Files, Found, Goal, goal_in, Instance, instance_in, IsAnswer, IsChecked, IsYesUnlessOutside, least_in, Line, Memory, No, NotALine, Outside, plan_of, PlanChoices, PlannedIsChecked, ReadFault, reading_of, Says, SaysGiven, Short, Status, TooLong, Verdict, verdict_line, WrittenIsAccepted, Yes, yes_to}
 use Rattle.cert_read.specs.declared.line.LineFault.TheVariants.{Memory as NoRoom}
 use Rattle.cert_check.specs.Laws.{IsAccepted}
 use Rattle.search.specs.Answers.{plan_in}
-use Rattle.cert_check.proofs.Public.{certificate_is_accepted, is_writable}
+use Rattle.solver.proofs.Public.{certified_is_accepted}
 
--- ---- the plan
-
-same_choices : (plan : Option PlanChoices) → choices_in plan ≡ choices_handed plan
-same_choices None = refl
-same_choices (Some plan) = refl
-
--- the plan that is answered, if one is, is a valid plan
-handed_in : (p : Instance) (budget : ℕ) (found : Found) → IsTrueOf p budget found → IsHandedIn p (choices_handed (plan_in found))
-handed_in p budget (Optimal plan) is = (is.0.legal, is.1.valid)
-handed_in p budget Infeasible is = tt
-handed_in p budget (Undecided None least) is = tt
-handed_in p budget (Undecided (Some plan) least) is = (is.best_is.whole.legal, is.best_is.valid)
+-- ---- the files
 
 plan_read_back : (p : Instance) (files : Files) (plan_file : List ℕ) (plan : Option PlanChoices) → plan_of p (bytes_of (files plan_file)) ≡ Ok plan → any_plan_in p files plan_file ≡ Ok (choices_handed plan)
 unfolding any_plan_reading_of
 plan_read_back p files plan_file plan reads = ap (any_plan_lined p) reads
 
--- ---- the certificate
-
 pub written_is_accepted : WrittenIsAccepted
 written_is_accepted plan_file certificate budget few p before after found is = record {
   plan = plan_read_back p after plan_file (plan_in found) is.plan_reads;
   accepted = λ strict.
-      let tree = is.certified.tree in
-      let shown = is.certified.tree_is in
-      let handed = handed_in p budget found is.true_of in
-      let same = same_choices (plan_in found) in
-      let yes = certificate_is_accepted p is.problem (choices_handed (plan_in found)) handed (goal_in p budget found) tree (subst (λ plan. IsCertificate p plan (goal_in p budget found) tree) same shown.certificate)
-      (is_writable p tree shown.writable (omega (arith, few, shown.within))) strict (λ _. shown.lean) in
-      let least : least_of p (choices_handed (plan_in found)) tree ≡ least_in found = ap (λ plan. least_of p plan tree) (sym same) ∙ sym shown.least in
-      subst (λ low. IsAccepted p (choices_handed (plan_in found)) strict (bytes_of (after certificate)) (goal_in p budget found) low) least
-      (subst (λ file. IsAccepted p (choices_handed (plan_in found)) strict file (goal_in p budget found) (least_of p (choices_handed (plan_in found)) tree)) (sym (ap bytes_of is.certified.whole)) yes);
+      subst (λ file. IsAccepted p (choices_handed (plan_in found)) strict file (goal_in p budget found) (least_in found)) (sym (ap bytes_of is.certified.whole))
+      (certified_is_accepted p is.problem budget few found is.true_of is.certified.text is.certified.shows strict);
 }
 
 -- ---- what `check` says

@@ -5,7 +5,8 @@ use Rattle.cert_write.specs.Prelude.{Files, Instance}
 use Rattle.search.specs.declared.found.Found.{Found, TheVariants.Optimal, TheVariants.Infeasible, TheVariants.Undecided}
 use Rattle.commands.specs.Answer.{Outside, Says, AnswersBy, LeavesBy, outside}
 use Rattle.commands.specs.{Inputs.Instance.instance_in, Checking.IsChecked, Generating.HasGenerated, Generating.LeavesGenerated, declared.demonstrating.TheConstants.DEMO_BUDGET, declared.status.Status.Status}
-use Rattle.commands.specs.Planning.{IsWritten, LeavesPlanned, found_line, found_status, plan_cost}
+use Rattle.solver.specs.Prelude.{plan_cost}
+use Rattle.commands.specs.Planning.{IsWritten, LeavesPlanned, found_line, found_status}
 
 -- ---- its files
 

@@ -1,18 +1,14 @@
 -- What `plan` answers, and what it leaves in the files.
-use Rattle.std.specs.Prelude.{◌≡◌, ◌⊎◌, ◌++◌, Bool, ℕ, List, Option, Some, None, Result, Ok, IfOk, IsTrue, option_map, codes}
+use Rattle.std.specs.Prelude.{◌≡◌, ◌⊎◌, ◌++◌, ℕ, List, Option, Some, None, Ok, option_map, codes}
 use Rattle.std.specs.{Fmt.decimal, Io.StartsWith}
 use Rattle.plan_json.specs.Prelude.{plan_of, plan_text}
-use Rattle.search.specs.Prelude.{bytes_of, choices_of, cost_of, CountsWrites, goal_in, Instance, IsInstance, IsStayingPlan, IsTreeOf, IsTrueOf, MayStay, plan_in, PlanChoices, steps_of, Tree}
-use Rattle.plan_io.specs.{Prelude.Files, Prelude.IsCut, Prelude.OthersStay, declared.faults.OutFault.OutFault}
-use Rattle.trees.specs.declared.steps.{Goal.Goal, Step.Step}
-use Rattle.cert_text.specs.Spelling.{certificate_text}
+use Rattle.search.specs.Prelude.{bytes_of, Instance, IsInstance, IsTrueOf, MayStay, plan_in}
+use Rattle.plan_io.specs.Prelude.{Files}
+use Rattle.solver.specs.Prelude.{IsCertificateCut, IsCertified, IsToStay, plan_cost}
 use Rattle.search.specs.declared.found.Found.{Found, TheVariants.Optimal, TheVariants.Infeasible, TheVariants.Undecided}
 use Rattle.commands.specs.{Answer.Outside, Outputs.RestStays, declared.status.Status.Status}
 
 -- ---- what is said
-
-abbrev pub plan_cost : Instance → PlanChoices → ℕ
-plan_cost p plan = cost_of p (choices_of plan)
 
 -- The line of what stayed undecided: the cost of the best plan, if one was met, and the cost that no valid plan undercuts.
 abbrev pub undecided_line : (best : Option ℕ) (least : ℕ) → List ℕ
@@ -33,18 +29,6 @@ found_status (Undecided best least) = Status.Undecided
 
 -- ---- what is written
 
--- The certificate is whole: the text of one tree that shows the answer, with its goal.
-pub record IsCertified (p : Instance) (budget : ℕ) (found : Found) (certificate : Option (List ℕ)) : Type 0 where
-  pub tree : Tree
-  pub tree_is : IsTreeOf p budget found tree
-  pub whole : certificate ≡ Some (certificate_text p (steps_of tree) (goal_in p budget found))
-
--- The certificate is as before, absent, empty or a prefix of the text of some steps and a goal.
-pub record IsCertificateCut (p : Instance) (before after : Option (List ℕ)) : Type 0 where
-  pub steps : List Step
-  pub goal : Goal
-  pub cut : IsCut before (certificate_text p steps goal) after
-
 -- The certificate of an answer is whole, and the plan's file is absent, empty or a prefix of the text of the plan that is answered, or of none.
 pub record IsPlanCut (p : Instance) (budget : ℕ) (certificate plan : Option (List ℕ)) : Type 0 where
   pub found : Found
@@ -52,25 +36,6 @@ pub record IsPlanCut (p : Instance) (budget : ℕ) (certificate plan : Option (L
   pub cut : StartsWith (plan_text p (plan_in found)) (bytes_of plan)
 
 -- ---- the command
-
--- The answer is a valid plan in which each element is idle, and it costs nothing.
-pub record IsToStay (p : Instance) (found : Found) : Type 0 where
-  pub plan : PlanChoices
-  pub found_is : found ≡ Optimal plan
-  pub stays : IsStayingPlan p plan
-  pub costs : plan_cost p plan ≡ 0
-
--- What a solver does that certifies an answer to a problem. The certificate is whole, the answer is so of all plans of the problem, and where staying is a valid plan it is the answer.
--- However it ends, no other file changes and what is left of the certificate is a prefix of one; `Failed` comes only where the count of failed writes rose, and no read fails.
--- D has the desks; the three functions are what is seen of one: its files, and how many reads and writes failed.
-pub record Certifies {D : Type 0} (p : Instance) (budget : ℕ) (certificate : List ℕ) (tells : Bool) (files : D → Files) (read_faults write_faults : D → ℕ) (old new : D) (result : Result Found OutFault) : Type 0 where
-  pub whole : IsTrue tells → IfOk result (λ found. IsCertified p budget found (files new certificate))
-  pub cut : IsTrue tells → IsCertificateCut p (files old certificate) (files new certificate)
-  pub others : IsTrue tells → OthersStay certificate (files old) (files new)
-  pub true_of : IfOk result (IsTrueOf p budget)
-  pub stays : MayStay p → IfOk result (IsToStay p)
-  pub cause : CountsWrites (write_faults old) (write_faults new) result
-  pub reads_kept : read_faults new ≡ read_faults old
 
 -- An answer is written: one tree shows it, it is so of all plans of the problem, the two files are whole, the plan's is read back, and no other file changes. Where staying is a valid plan it is the answer, whatever the budget.
 pub record IsWritten (plan_file certificate : List ℕ) (budget : ℕ) (p : Instance) (before after : Files) (found : Found) : Type 0 where

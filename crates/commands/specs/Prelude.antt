@@ -12,16 +12,14 @@ pub use Rattle.show.specs.Prelude.{IsPartOfShown}
 unfoldable pub use Rattle.show.specs.Prelude.{listing_text}
 pub use Rattle.picture.specs.Prelude.{IsDrawn}
 pub use Rattle.transcript.specs.Prelude.{ExecuteGives, first_point, IsBegun, NamesListed, RunGives}
-pub use Rattle.cert_write.specs.Prelude.{Files, IsCertificate, OthersStay}
-pub use Rattle.search.specs.Prelude.{choices_in, choices_of, CountsWrites, Covered, goal_in, IsShown, IsStayed, IsTrueOf, least_in, LeavesText, MayStay, Meaning, PlanChoices}
-unfoldable pub use Rattle.search.specs.Prelude.{end_line, end_of, IsValid, step_line}
-pub use Rattle.cert_check.specs.Prelude.{bytes_of, CheckGives, Choices, choices_handed, CountsCheck, Instance, inventory_of, IsHandedIn, IsInstance, IsPlanOf, IsSound, IsYesUnlessOutside, least_of, machine_count, node, node_count, steps_of, sum_to, vm}
-unfoldable pub use Rattle.cert_check.specs.Prelude.{certificate_text}
-pub use Rattle.cluster.specs.declared.{choices.Choice.TheVariants.Idle, ids.Element.Element}
+pub use Rattle.cert_write.specs.Prelude.{Files, OthersStay}
+pub use Rattle.search.specs.Prelude.{choices_of, CountsWrites, goal_in, IsTrueOf, least_in, MayStay, PlanChoices}
+unfoldable pub use Rattle.search.specs.Prelude.{IsValid}
+pub use Rattle.cert_check.specs.Prelude.{bytes_of, CheckGives, Choices, choices_handed, CountsCheck, Instance, inventory_of, IsInstance, IsPlanOf, IsSound, IsYesUnlessOutside}
+pub use Rattle.cluster.specs.declared.ids.Element.{Element}
 pub use Rattle.json_walk.specs.declared.reading.TheConstants.{MAX_TEXT_BYTES}
 pub use Rattle.slices.specs.{Rules.IsFirstBroken, declared.rule.Broken.Broken}
 pub use Rattle.trees.specs.declared.steps.Goal.{Goal}
-unfoldable pub use Rattle.cert_text.specs.Spelling.{header_line}
 pub use Rattle.transcript.specs.declared.conclusion.{Conclusion.Conclusion, Conclusion.TheVariants.Done, Conclusion.TheVariants.Refused, Conclusion.TheVariants.StoppedEnd, Conclusion.TheVariants.StoppedFail, ExecuteFault.ExecuteFault}
 pub use Rattle.transcript.specs.declared.conclusion.ExecuteFault.TheVariants.{NotValid, WriteFault}
 pub use Rattle.cert_read.specs.declared.line.LineFault.{LineFault, TheVariants.NotALine, TheVariants.ReadFault, TheVariants.Short, TheVariants.TooLong}
@@ -43,6 +41,7 @@ unfoldable pub use Rattle.commands.specs.{Generating.generated_line, Inputs.whol
 pub use Rattle.commands.specs.Inputs.Plan.{any_plan_in, any_plan_lined, needed, plan_in, plan_line}
 pub use Rattle.commands.specs.Inputs.Script.{script_in, script_line, script_lined, script_reading_of}
 pub use Rattle.commands.specs.{Laws.AreAccepted, Laws.PlannedIsChecked, Laws.WrittenIsAccepted, Laws.yes_to, Meaning.HasFilesApart, Meaning.meaning, Outputs.AreTextsCut, Outputs.HasText, Outputs.HasTexts, Outputs.IsTextCut, Outputs.RestStays, Picturing.HasPicture, Picturing.IsPictureCut, Picturing.IsPictured, Picturing.LeavesPictured, Picturing.Pictures, Replaying.IsReplayed, Replaying.Replays, Scripting.IsScripted, Scripting.LeavesScripted, Scripting.Scripts, Showing.IsListed, Showing.Lists, declared.demonstrating.TheConstants.DEMO_BUDGET}
-pub use Rattle.commands.specs.Planning.{Certifies, found_status, IsCertificateCut, IsCertified, IsPlanCut, IsPlanned, IsToStay, IsWritten, LeavesPlanned, plan_cost}
+pub use Rattle.solver.specs.Prelude.{IsCertificateCut, IsCertified, IsToStay, plan_cost}
+pub use Rattle.commands.specs.Planning.{found_status, IsPlanCut, IsPlanned, IsWritten, LeavesPlanned}
 pub use Rattle.commands.specs.Words.{are_names, asked, check, Command, command_of, demo, execute, generate, is_name, is_plain, picture, plan, repair, replay, script, show}
 pub use Rattle.commands.specs.declared.{fault.Ending.Ending, fault.Fault.Fault, status.Status.Status}

@@ -11,7 +11,8 @@ use Rattle.instance_make.specs.Prelude.{instance_of, instance_text, MAX_TEXT_BYT
 use Rattle.plan_json.specs.Prelude.{plan_of, plan_text}
 use Rattle.replay.specs.Lines.{broken_line}
 use Rattle.repair.specs.{Events.EndsFrom, Events.Point, Events.point, Events.StopsInLine, Rest.IsGoingOn, declared.following.Ending.Ending, declared.following.Ending.TheVariants.AllRead, declared.following.Ending.TheVariants.Refused}
-use Rattle.commands.specs.{Answer.Outside, Answer.Says, Answer.AnswersBy, Executing.refused_line, Executing.TakesNothing, Executing.Taking, Inputs.Instance.instance_in, Inputs.Plan.plan_in, Outputs.AreTextsCut, Outputs.HasTexts, Planning.plan_cost, declared.status.Status.Status}
+use Rattle.solver.specs.Prelude.{plan_cost}
+use Rattle.commands.specs.{Answer.Outside, Answer.Says, Answer.AnswersBy, Executing.refused_line, Executing.TakesNothing, Executing.Taking, Inputs.Instance.instance_in, Inputs.Plan.plan_in, Outputs.AreTextsCut, Outputs.HasTexts, declared.status.Status.Status}
 
 -- ---- the last line
 

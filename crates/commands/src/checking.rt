@@ -8,7 +8,6 @@ use crate::fault::{Ending, Fault, Outcome};
 use crate::inputs::instance::problem_at;
 use crate::inputs::plan::any_plan_at;
 use crate::inputs::refusal;
-use crate::solver::Solver;
 use base::Memory;
 use catalogue::Problem;
 use cert_check::{CheckFault, Verdict};
@@ -16,6 +15,7 @@ use cert_model::why::Why;
 use cert_read::LineFault;
 use plan_io::Desk;
 use slices::Plan;
+use solver::Solver;
 use std::alloc::Global;
 use trees::Goal;
 

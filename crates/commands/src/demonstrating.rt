@@ -9,12 +9,12 @@ use crate::fault::{Ending, Fault, Outcome};
 use crate::generating::write_generated;
 use crate::inputs::instance::problem_at;
 use crate::planning::{found_line, outcome_of, write_found};
-use crate::solver::Solver;
 use base::Memory;
 use catalogue::Problem;
 use plan_io::Desk;
 use search::Found;
 use slices::plan::cost;
+use solver::Solver;
 use std::alloc::Global;
 
 /// The file of the generated instance.

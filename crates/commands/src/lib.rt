@@ -18,6 +18,5 @@ mod replaying;
 pub mod run;
 mod scripting;
 mod showing;
-pub mod solver;
 pub mod status;
 mod words;

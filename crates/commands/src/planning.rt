@@ -8,7 +8,6 @@ ghost use Rattle.commands.specs.Planning.{undecided_line};
 
 use crate::fault::{Ending, Fault, Outcome};
 use crate::inputs::instance::problem_at;
-use crate::solver::Solver;
 use base::Memory;
 use catalogue::Problem;
 use plan_io::{Desk, OutFault, write_whole};
@@ -16,6 +15,7 @@ use plan_json::print_plan;
 use search::Found;
 use slices::Plan;
 use slices::plan::cost;
+use solver::Solver;
 use std::alloc::Global;
 
 /// The plan of an answer, if it has one.
@@ -95,7 +95,7 @@ fn write_plan<D: Desk>(
 }
 
 /// Decides on a problem, and writes the certificate and then the plan.
-#[tactic(auto, using(crate::proofs::PlanAnswers::whole_plan, crate::proofs::PlanAnswers::leaves_certificate, crate::proofs::PlanAnswers::leaves_plan, crate::proofs::PlanAnswers::written))]
+#[tactic(auto, using(solver::proofs::Public::whole_plan, crate::proofs::PlanAnswers::leaves_certificate, crate::proofs::PlanAnswers::leaves_plan, crate::proofs::PlanAnswers::written))]
 pub fn write_found<D: Desk, S: Solver>(
     alloc: Global,
     desk: &mut D,

@@ -14,10 +14,10 @@ use crate::repairing::repair;
 use crate::replaying::replay;
 use crate::scripting::script;
 use crate::showing::show;
-use crate::solver::Solver;
 use crate::status::Status;
 use crate::words::{Command, read_words};
 use plan_io::{Desk, OutFault, Sink, Source, write_text};
+use solver::Solver;
 use std::alloc::Global;
 
 /// Does what the words ask for, but for the last line where one is still to be printed.

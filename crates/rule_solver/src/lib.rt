@@ -7,7 +7,6 @@ ghost use Rattle.rule_solver.specs.Prelude.{Certifies};
 use branching::brancher::Brancher;
 use catalogue::Problem;
 use cert_check::{CheckFault, Verdict};
-use commands::solver::{Solver, certify};
 use guided::guided::Guided;
 use plan_io::{Desk, OutFault};
 use prop_core::propagator::Propagator;
@@ -18,11 +17,12 @@ use rule_place::rule::{ForbiddenRule, NeededRule};
 use rule_setload::rule::SetRule;
 use search::Found;
 use slices::Plan;
+use solver::{Solver, certify};
 use std::alloc::Global;
 
 /// Searches as a solver does, by the six rules and the brancher that is handed in. `Memory` also where there is no
 /// memory for the rules, and then no file is touched.
-#[tactic(auto, using(commands::proofs::Public::untouched))]
+#[tactic(auto, using(solver::proofs::Public::untouched))]
 pub fn certify_by_rules<D: Desk>(
     alloc: Global,
     desk: &mut D,
@@ -51,7 +51,7 @@ pub fn certify_by_rules<D: Desk>(
 pub struct RuleSolver;
 
 impl Solver for RuleSolver {
-    #[tactic(auto, using(commands::proofs::Public::untouched))]
+    #[tactic(auto, using(solver::proofs::Public::untouched))]
     fn certify<D: Desk>(
         &self,
         alloc: Global,

@@ -1,10 +1,6 @@
 //! Instances on nodes with 4 of one resource each. A migration takes 3, the start of a node 4, and the
 //! actions of machines that are no migration take 1.
 
-/// Nothing at all.
-pub const EMPTY: &[u8] =
-    br#"{"horizon":5,"resources":[],"nodes":[],"machines":[],"constraints":[]}"#;
-
 /// One machine on one node.
 pub const ALONE: &[u8] =
     br#"{"horizon":20,"resources":["cpu"],"nodes":[{"name":"n0","capacity":{"cpu":4}}],"machines":[{"name":"v0","state":"running","node":"n0","use":{"cpu":1}}],"constraints":[{"kind":"online","nodes":["n0"]}]}"#;
@@ -76,10 +72,6 @@ pub const CROWDED: &[u8] =
 /// A machine that is to leave its node at once.
 pub const NO_TIME: &[u8] =
     br#"{"horizon":0,"resources":["cpu"],"durations":{"migrate":{"base":3},"allocate":{"base":1},"node_boot":{"base":4},"node_shutdown":{"base":2}},"nodes":[{"name":"n0","capacity":{"cpu":4}},{"name":"n1","capacity":{"cpu":4}}],"machines":[{"name":"v0","state":"running","node":"n0","use":{"cpu":1}}],"constraints":[{"kind":"ban","machines":["v0"],"nodes":["n0"]},{"kind":"online","nodes":["n0","n1"]}]}"#;
-
-/// A machine on a node that is not listed, and a constraint of no kind.
-pub const UNLISTED: &[u8] =
-    br#"{"horizon":20,"resources":["cpu"],"nodes":[{"name":"n0","capacity":{"cpu":4}}],"machines":[{"name":"v0","state":"running","node":"n9","use":{"cpu":1}}],"constraints":[{"kind":"sprad"}]}"#;
 
 /// Three nodes whose stop takes all the time there is: the first may not be on at the end beside the second, nor
 /// beside the third.

@@ -4,19 +4,19 @@ use branching::brancher::Brancher;
 use branching::least_start::LeastStart;
 use catalogue::Problem;
 use cert_check::{CheckFault, Verdict};
-use commands::solver::Solver;
 use plan_io::{Desk, OutFault};
 use prop_core::propagator::Propagator;
 use rule_solver::{RuleSolver, certify_by_rules};
 use search::Found;
 use slices::Plan;
+use solver::Solver;
 use std::alloc::Global;
 
 /// Searches by the rules of the program and the brancher that takes the least start.
 pub struct ByLeastStart;
 
 impl Solver for ByLeastStart {
-    #[tactic(auto, using(commands::proofs::Public::untouched))]
+    #[tactic(auto, using(solver::proofs::Public::untouched))]
     fn certify<D: Desk>(
         &self,
         alloc: Global,
@@ -46,7 +46,7 @@ impl Solver for ByLeastStart {
 pub struct NoMemory;
 
 impl Solver for NoMemory {
-    #[tactic(auto, using(commands::proofs::Public::untouched))]
+    #[tactic(auto, using(solver::proofs::Public::untouched))]
     fn certify<D: Desk>(
         &self,
         _alloc: Global,

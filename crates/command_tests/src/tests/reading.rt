@@ -1,14 +1,39 @@
-//! The command `check` on a desk that gives one byte at each read.
+//! The command `check` on a desk that gives one byte at each read, and that it reads no further than the line that decides.
 
-use crate::tests::checking::forged;
-use crate::tests::instances::SWAP;
-use crate::tests::replaying::ONE_BY_ONE;
+use crate::tests::instances::{CROSSED, SWAP};
 use crate::tests::solvers::NoMemory;
-use crate::tests::words;
+use crate::tests::{runs_on, words};
 use commands::run::run;
 use commands::status::Status;
-use plan_io::{Desk, DeskSure, Failed, OutFault, SinkMem, SourceMem};
+use plan_io::{Desk, DeskMem, DeskSure, Failed, OutFault, SinkMem, SourceMem};
+use std::alloc::Global;
 use std::test::Fail;
+
+/// The second machine moves, and then the first one.
+const ONE_BY_ONE: &[u8] =
+    br#"{"actions":[{"element":"v0","kind":"migrate","place":"n1","start":3},{"element":"v1","kind":"migrate","place":"n2","start":0}]}"#;
+
+/// The lines of a certificate for `SWAP` and `ONE_BY_ONE`.
+static LINES: [&str; 8] = [
+    "btrplan certificate 1\n",
+    "cut v0 idle place 0 20 v0 n0\n",
+    "cut v0 upto n2 17 place 0 20 v0 n2\n",
+    "cut v1 idle place 1 20 v1 n1\n",
+    "cut v1 upto n0 17 place 1 20 v1 n0\n",
+    "cut v0 upto n1 2 load 2 cpu n1\n",
+    "fail bound\n",
+    "end optimal 9\n",
+];
+
+/// The certificate of `LINES` with this text in place of the line of this number.
+fn forged(alloc: Global, number: usize, text: &str) -> Result<Vec<u8>, Fail> {
+    let mut certificate = Vec::new(alloc);
+    for (i, line) in LINES.iter().enumerate() {
+        let line = if i + 1 == number { text } else { *line };
+        certificate.extend_from_slice(line.as_bytes())?;
+    }
+    Ok(certificate)
+}
 
 /// A desk that hands on a buffer of at most one byte.
 #[derive(Drop)]
@@ -84,5 +109,28 @@ fn a_byte_at_each_read(rt: HostRuntime) -> Result<(), Fail> {
         let answer = run(alloc, &words, &mut desk, &mut input, &mut out, &NoMemory);
         assert_eq!(rt; (answer, out.written()), (status, printed.as_bytes()));
     }
+    Ok(())
+}
+
+#[test]
+fn no_read_after_the_line_that_decides(rt: HostRuntime) -> Result<(), Fail> {
+    let alloc = rt.alloc();
+    let mut certificate = Vec::from_slice(alloc, b"btrplan certificate 1\nend infeasible\n")?;
+    certificate.extend_from_slice("left\n".repeat(alloc, 838_860)?.as_bytes())?;
+    let mut fails = Vec::new(alloc);
+    for call in 30..1_200 {
+        fails.push(call)?;
+    }
+    let mut desk = DeskMem::new(fails);
+    desk.put("i", CROSSED)?;
+    desk.put("p", b"null")?;
+    desk.put("c", &certificate)?;
+    let mut out = SinkMem::new(Vec::new(alloc));
+    let status = runs_on(alloc, "check i p c", &mut desk, &mut out, &NoMemory)?;
+    assert_eq!(rt;
+        (status, out.written()),
+        (Status::Negative, b"no 2 structure\n".as_slice())
+    );
+    assert_eq!(rt; desk.read_faults(), 0);
     Ok(())
 }
