@@ -5,3 +5,4 @@ mod LongestLemmas
 pub mod PastLemmas
 mod StayLemmas
 mod StrangerLemmas
+mod UnmovedLemmas

@@ -1,7 +1,7 @@
 -- A machine that may stay and leaves late is on its host under each of its choices.
-use Rattle.rule_pair.proofs.Prelude.{◌≡◌, ◌≢◌, inl, inr, ℕ, zero, suc, ◌+◌, ◌<◌, ◌≤◌, Bool, true, false, ◌&&◌, ◌==◌, nat_lt, List, [], ◌∷◌, length, slice_index_or, None, refl, sym, ◌∙◌, arith, eq-eqb, nat_tests, Choice, choices, DomainView, Instance, least, leave_of, no_row, present_law, sure, VmId}
-use Rattle.rule_pair.specs.Prelude.{sure, Act, Idle, IsStanding, kept_use, never, one, Presence, Row, Sets, Standing, state_of, vm}
-use Rattle.base.proofs.Public.{◌-◌, cond, subst, Contains, Contains-append_cases, cases_lt, flat_map}
+use Rattle.rule_pair.proofs.Prelude.{◌≡◌, ◌≢◌, inl, inr, ℕ, zero, suc, ◌+◌, ◌<◌, ◌≤◌, Bool, true, ◌&&◌, ◌==◌, nat_lt, List, [], ◌∷◌, length, slice_index_or, None, refl, sym, ◌∙◌, arith, eq-eqb, nat_tests, Choice, choices, DomainView, Instance, least, leave_of, no_row, present_law, sure}
+use Rattle.rule_pair.specs.Prelude.{sure, Act, Idle, IsStanding, never, one, Row, Sets, Standing, state_of, vm}
+use Rattle.base.proofs.Public.{◌-◌, cond, subst, Contains, Contains-append_cases, flat_map}
 use Rattle.cluster.specs.declared.choices.Place.{Place}
 use Rattle.cluster.specs.declared.ids.NodeId.{NodeId}
 use Rattle.cluster.specs.declared.states.State.TheVariants.{Running}

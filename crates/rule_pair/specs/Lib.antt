@@ -4,4 +4,5 @@ pub mod Covers
 pub mod Apart
 pub mod Longest
 pub mod Stays
+pub mod Unmoved
 pub mod Prelude

@@ -2,6 +2,7 @@
 #![tactic(auto)]
 
 mod clear;
+mod dirty;
 mod hall;
 mod longest;
 mod members;
@@ -13,3 +14,5 @@ pub mod rule;
 mod stays;
 mod strangers;
 mod suggest;
+mod unmoved;
+pub mod watcher;

@@ -55,8 +55,8 @@ fn part_found(parts: &[Vms], v: VmId) -> Option<usize>
     None
 }
 
-// a part in which it is
-fn part_with(parts: &[Vms], v: VmId) -> Option<usize>
+/// A part in which it is.
+pub(crate) fn part_with(parts: &[Vms], v: VmId) -> Option<usize>
     ensures { IfSome result (λ i. IsInPart parts.now i v.0) }
 {
     let found = part_found(parts, v);

@@ -7,7 +7,8 @@ use crate::pair_look::look_quickly;
 use crate::pairs::pair_reason;
 use crate::refuting::refutes_part;
 use crate::suggest::suggest_pairs;
-use rule_constraint::{ConstraintIndex, ConstraintWatcher, Kinds};
+use crate::watcher::PairWatcher;
+use rule_constraint::{ConstraintIndex, Kinds};
 use rule_frame::{
     Element, Instant, Look, Memory, Part, Problem, Reason, ReasonKind, Region, Rule, Suggestion,
     View,
@@ -46,10 +47,10 @@ impl Kinds for Pairs {
         p: &Problem,
         g: &Region,
         c: u32,
-        _found: &Suggestion,
+        found: &Suggestion,
         them: &mut Vec<Suggestion>,
     ) -> Result<(), Memory> {
-        suggest_pairs(p, g, c, them)
+        suggest_pairs(p, g, c, found, them)
     }
 
     ghost no_loads = { λ k. refl };
@@ -58,4 +59,4 @@ impl Kinds for Pairs {
 }
 
 /// The rule of the constraints that keep machines apart.
-pub type PairRule = Rule<ConstraintWatcher<Pairs>, ConstraintIndex>;
+pub type PairRule = Rule<PairWatcher, ConstraintIndex>;

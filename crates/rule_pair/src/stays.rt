@@ -6,7 +6,7 @@ ghost use Rattle.rule_constraint.specs.Prelude.{AreLeaves, choices, Climbs, IsEl
 
 use domains::measure::{Measure, lowest};
 use profiles::standing::leaves::{Leaves, leaves_of};
-use profiles::standing::numbers::{Leaving, LeavingFrom, leave};
+use profiles::standing::numbers::{Leaving, LeavingFrom, NEVER, leave};
 use rule_frame::{Choice, Domain, Element, Instant, Place, Problem, Row, VmId};
 
 // how a machine leaves its host, where all its starts are at nodes; a row at no node comes before all others
@@ -31,6 +31,9 @@ pub fn leave_or_later(p: &Problem, v: VmId, domain: &Domain) -> u64
     requires { IsElement p.now.given (Element.Vm v) }
     ensures { least (leave_of p.now.given v.0) (choices domain.now) ≤ result }
 {
+    if domain.rows().len() == 0 {
+        return NEVER;
+    }
     match leaves_for_nodes(p, v, domain) {
         None => leave(p, v, domain),
         Some(leaves) => {
