@@ -1,25 +1,29 @@
 #!/usr/bin/env python3
 """Plans families of instances, checks the certificates, and prints a table of what it took.
 
-    bench/families.py [--strict] [--limit SECONDS] [WORD..]     the instances whose names begin with a WORD, or all
+    bench/families.py [--strict] [--limit SECONDS] [--program PROGRAM] [--beside PROGRAM] [WORD..]
 
-Each row is an instance with its sizes and seed. It says the answer, the decisions and the cuts of the certificate and
-its bytes, the processor seconds (user and system) of `plan` and of `check`, with `--strict` also of a strict check, and
-the peak of the resident memory of `plan`. All numbers of an instance come from `random.Random(seed)`. The program is
-built first where that is due. A call that takes longer than the limit, ten minutes without one, is given up.
+Planned are the instances whose names begin with a WORD, or all. Each row is an instance with its sizes and seed; `ties` says
+that all machines are alike. It says the answer, the decisions and the cuts of the certificate and its bytes, the processor
+seconds (user and system) of `plan` and of `check`, with `--strict` also of a strict check, and the peak of the resident memory
+of `plan`. With another program beside that takes the words `plan INSTANCE PLAN CERTIFICATE` it says also what that one answers
+where that differs, its seconds, and how many times as many ours took. All numbers of an instance come from
+`random.Random(seed)`. The program is built first where that is due, if none is named. A call that takes more processor
+seconds than the limit, 600 without one, is given up.
 """
 import argparse
 import json
 import os
 import random
 import resource
+import signal
 import subprocess
 import sys
 import tempfile
 
 TOP = os.path.dirname(os.path.dirname(os.path.realpath(__file__)))
 PROGRAM = os.path.join(TOP, "crates", "btrplan", "out", "btrplan")
-LIMIT = 600.0
+LIMIT = 600
 RESOURCES = ("cpu", "mem")
 MOVES = {"migrate": {"base": 2, "per": 1, "resource": "mem"}, "node_boot": {"base": 4}, "node_shutdown": {"base": 2}}
 
@@ -37,9 +41,9 @@ def machine(number, host, cpu, mem):
     return {"name": f"v{number}", "state": "running", "node": f"n{host}", "use": {"cpu": cpu, "mem": mem}}
 
 
-def spread_out(pick, nodes, machines):
+def spread_out(pick, nodes, machines, ties=""):
     """Uses of machines, a host for each, the one with the least load of cpu, and the loads."""
-    uses = [(pick.randint(1, 4), pick.randint(1, 8)) for _ in range(machines)]
+    uses = [(2, 4) if ties else (pick.randint(1, 4), pick.randint(1, 8)) for _ in range(machines)]
     loads, hosts = [[0, 0] for _ in range(nodes)], [0] * machines
     for v in range(machines):
         hosts[v] = min(range(nodes), key=lambda n: loads[n][0])
@@ -55,10 +59,10 @@ def online(nodes):
     return {"kind": "online", "nodes": [f"n{n}" for n in nodes]}
 
 
-def evacuate(nodes, machines, seed, percent=70, off=1):
+def evacuate(nodes, machines, seed, percent=70, off=1, ties=""):
     """The first nodes are emptied; the others are so full of cpu afterwards, on average, and less of mem."""
     pick = random.Random(seed)
-    uses, hosts, loads = spread_out(pick, nodes, machines)
+    uses, hosts, loads = spread_out(pick, nodes, machines, ties)
     sizes = [max(max(load[r] for load in loads), -(-100 * sum(u[r] for u in uses) // (part * (nodes - off))))
              for r, part in ((0, percent), (1, min(percent, 70)))]
     constraints = [offline(range(off)), online(range(off, nodes))]
@@ -97,21 +101,21 @@ def cycles(count, length, seed):
     return instance(8 * length, nodes, machines, [online(range(count * length)), *fences])
 
 
-def free_cycles(count, length, seed):
+def free_cycles(count, length, seed, ties=""):
     """Each machine fills its node and must leave it, for any other; there is one free node."""
     pick, bans = random.Random(seed), []
     total = count * length
-    mems = [pick.randint(1, 4) for _ in range(total)]
+    mems = [2 if ties else pick.randint(1, 4) for _ in range(total)]
     for v in range(total):
         bans.append({"kind": "ban", "machines": [f"v{v}"], "nodes": [f"n{v}"]})
     return instance(8 * total, [node(n, 8, 8) for n in range(total + 1)],
                     [machine(v, v, 5, mems[v]) for v in range(total)], [online(range(total + 1)), *bans])
 
 
-def wake(nodes, machines, seed, dark=4):
+def wake(nodes, machines, seed, dark=4, ties=""):
     """Some machines may be on no node that is online, so dark nodes must boot, as few as hold them."""
     pick = random.Random(seed)
-    uses, hosts, loads = spread_out(pick, nodes - dark, machines)
+    uses, hosts, loads = spread_out(pick, nodes - dark, machines, ties)
     sizes = [max(load[r] for load in loads) + 8 for r in (0, 1)]
     moved, room = [], [2 * size - 8 for size in sizes]
     for v in pick.sample(range(machines), machines):
@@ -165,6 +169,42 @@ def split(nodes, machines, seed):
                     [offline([0]), online(range(1, nodes)), {"kind": "split", "parts": parts, "continuous": True}])
 
 
+def mixed(given, seed):
+    """The same with other constraints beside: spreads of four, a ban of half of the nodes for some of those that leave, and an
+    amount of half of the nodes that is all used."""
+    pick = random.Random(seed)
+    hosts = {it["name"]: it["node"] for it in given["machines"]}
+    gone = {n for it in given["constraints"] if it["kind"] in ("offline", "ban") for n in it["nodes"]}
+    nodes = [it["name"] for it in given["nodes"]]
+    stay = [n for n in nodes if n not in gone]
+    stay = stay if 2 * len(stay) >= len(nodes) else nodes
+    leaving = sorted(v for it in given["constraints"] if it["kind"] == "ban" for v in it["machines"])
+    leaving = [v for v in hosts if hosts[v] in gone and (not leaving or v in leaving)] or leaving
+    for _ in range(max(1, len(hosts) // 20)):
+        four = pick.sample(sorted(hosts), 4)
+        apart = len({hosts[v] for v in four}) == 4
+        given["constraints"].append({"kind": "spread", "machines": four, "continuous": apart})
+    given["constraints"].append({"kind": "ban", "machines": pick.sample(leaving, max(1, len(leaving) // 3)),
+                                 "nodes": sorted(pick.sample(stay, len(stay) // 2))})
+    some = set(pick.sample(stay, len(stay) // 2))
+    amount = sum(it["use"]["cpu"] for it in given["machines"] if it["node"] in some)
+    given["constraints"].append({"kind": "resourceCapacity", "nodes": sorted(some), "resource": "cpu", "amount": amount,
+                                 "continuous": True})
+    return given
+
+
+def mixed_evacuate(nodes, machines, seed, percent, off=1, ties=""):
+    return mixed(evacuate(nodes, machines, seed, percent, off, ties), seed)
+
+
+def mixed_wake(nodes, machines, seed, dark=4, ties=""):
+    return mixed(wake(nodes, machines, seed, dark, ties), seed)
+
+
+def mixed_free_cycles(count, length, seed, ties=""):
+    return mixed(free_cycles(count, length, seed, ties), seed)
+
+
 ROWS = [
     (evacuate, 10, 40, 1), (evacuate, 40, 200, 1), (evacuate, 100, 600, 1), (evacuate, 512, 4096, 1),
     (evacuate, 10, 40, 1, 98), (evacuate, 20, 100, 1, 98), (evacuate, 20, 100, 2, 98), (evacuate, 512, 4096, 1, 98),
@@ -172,26 +212,33 @@ ROWS = [
     (wake, 6, 20, 1), (wake, 20, 100, 1), (wake, 64, 400, 1),
     (contradiction, 10, 50, 1), (contradiction, 40, 200, 1), (contradiction, 512, 4096, 1),
     (swap, 1_000), (swap, 1_000_000), (spread, 64), (spread, 512), (split, 40, 200, 1), (split, 512, 4096, 1),
+    (evacuate, 20, 100, 1, 90, 1, "ties"), (wake, 20, 100, 1, 4, "ties"), (free_cycles, 2, 3, 1, "ties"),
+    (mixed_evacuate, 20, 100, 1, 90), (mixed_evacuate, 20, 100, 1, 90, 1, "ties"), (mixed_evacuate, 20, 100, 2, 98),
+    (mixed_evacuate, 40, 200, 1, 95), (mixed_evacuate, 40, 200, 1, 90, 1, "ties"), (mixed_evacuate, 100, 600, 1, 70),
+    (mixed_wake, 20, 100, 1), (mixed_wake, 20, 100, 1, 4, "ties"), (mixed_wake, 40, 200, 1),
+    (mixed_free_cycles, 2, 3, 1), (mixed_free_cycles, 2, 3, 1, "ties"), (mixed_free_cycles, 2, 4, 2),
+    (mixed_free_cycles, 2, 4, 2, "ties"),
 ]
+TITLES = ["instance", "answer", "decisions", "cuts", "bytes", "plan s", "check s", "strict s", "MB"]
+TITLES_BESIDE = ["the other", "s", "ratio"]
 
 
 def seconds(words, limit):
-    """Runs the program: its last line, and processor seconds."""
+    """Runs a program: its last line, and processor seconds."""
     before = resource.getrusage(resource.RUSAGE_CHILDREN)
-    try:
-        ran = subprocess.run([PROGRAM, *words], capture_output=True, text=True, timeout=limit)
-        line = (ran.stdout.strip().splitlines() or [f"status {ran.returncode}"])[-1]
-    except subprocess.TimeoutExpired:
-        line = "given up"
+    ran = subprocess.run(words, capture_output=True, text=True,
+                         preexec_fn=lambda: resource.setrlimit(resource.RLIMIT_CPU, (limit, limit + 10)))
     after = resource.getrusage(resource.RUSAGE_CHILDREN)
-    return line, after.ru_utime + after.ru_stime - before.ru_utime - before.ru_stime
+    line = (ran.stdout.strip().splitlines() or [f"status {ran.returncode}"])[-1]
+    took = after.ru_utime + after.ru_stime - before.ru_utime - before.ru_stime
+    return "given up" if ran.returncode == -signal.SIGXCPU else line, took
 
 
 def peak(words):
-    """The megabytes that the program takes at most, run by a process of its own."""
+    """The megabytes that a program takes at most, run by a process of its own."""
     code = ("import resource, subprocess, sys; subprocess.run(sys.argv[1:], stdout=subprocess.DEVNULL); "
             "print(resource.getrusage(resource.RUSAGE_CHILDREN).ru_maxrss // 1024)")
-    return subprocess.run([sys.executable, "-c", code, PROGRAM, *words], capture_output=True, text=True).stdout.strip()
+    return subprocess.run([sys.executable, "-c", code, *words], capture_output=True, text=True).stdout.strip()
 
 
 def counted(path):
@@ -205,40 +252,61 @@ def counted(path):
     return counts["decide"], counts["cut"], os.path.getsize(path)
 
 
-def measured(room, given, is_strict, limit):
+def beside(asked, paths, line, planned):
+    """What the other program makes of an instance: its answer where that differs, its seconds, and the ratio."""
+    others = [paths[0], f"{paths[1]}.other", f"{paths[2]}.other"]
+    told, took = seconds([asked.beside, "plan", *others], asked.limit)
+    return ["" if told == line else told, f"{took:.3f}", f"{planned / max(took, 0.001):.1f}"]
+
+
+def measured(room, given, asked):
+    """The cells of an instance."""
     paths = [os.path.join(room, it) for it in ("instance.json", "plan.json", "certificate.txt")]
     with open(paths[0], "w", encoding="utf-8") as it:
         json.dump(given, it)
-    line, planned = seconds(["plan", *paths], limit)
+    line, planned = seconds([asked.program, "plan", *paths], asked.limit)
+    other = beside(asked, paths, line, planned) if asked.beside else []
     if line == "given up":
-        return [line, "", "", "", f"{planned:.3f}", "", "", ""]
-    verdict, checked = seconds(["check", *paths], limit)
+        return [line, "", "", "", f"{planned:.3f}", "", "", "", *other]
+    verdict, checked = seconds([asked.program, "check", *paths], asked.limit)
     strict = ""
-    if is_strict:
-        told, took = seconds(["check", *paths, "strict"], limit)
+    if asked.strict:
+        told, took = seconds([asked.program, "check", *paths, "strict"], asked.limit)
         strict = f"{took:.2f}" if told.startswith("yes") else told
     if not verdict.startswith("yes"):
         line = f"{line}, but check: {verdict}"
     decides, cuts, size = counted(paths[2])
     return [line, f"{decides:,}", f"{cuts:,}", f"{size:,}", f"{planned:.3f}", f"{checked:.3f}", strict,
-            peak(["plan", *paths])]
+            peak([asked.program, "plan", *paths]), *other]
+
+
+def words_of(about, limit):
+    """The words of the command line that this bench and `bench/policies.py` share."""
+    asked = argparse.ArgumentParser(description=about)
+    asked.add_argument("--strict", action="store_true", help="check each certificate strictly too")
+    asked.add_argument("--limit", type=int, default=limit, help="processor seconds after which a call is given up")
+    asked.add_argument("--program", default=PROGRAM, help="the program, if not the one that the gate builds")
+    asked.add_argument("--beside", help="another program")
+    asked.add_argument("words", nargs="*", help="how the names of the instances begin that are planned")
+    return asked
+
+
+def print_table(rows, asked):
+    """A line for each of these instances, of which each is a name, a function and its arguments."""
+    if asked.program == PROGRAM:
+        subprocess.run([os.path.join(TOP, "btrplan")], stdout=subprocess.DEVNULL, check=False)
+    titles = [*TITLES, *(TITLES_BESIDE if asked.beside else [])]
+    print(f"| {' | '.join(titles)} |\n|{'---|' * len(titles)}", flush=True)
+    with tempfile.TemporaryDirectory() as room:
+        for name, make, sizes in rows:
+            if not asked.words or any(name.startswith(it) for it in asked.words):
+                print(f"| {name} | {' | '.join(measured(room, make(*sizes), asked))} |", flush=True)
 
 
 def main():
-    given = argparse.ArgumentParser(description="Plans families of instances, and prints a table of what it took.")
-    given.add_argument("--strict", action="store_true", help="check each certificate strictly too")
-    given.add_argument("--limit", type=float, default=LIMIT, help="seconds after which a call is given up")
-    given.add_argument("words", nargs="*", help="how the names of the instances begin that are planned")
-    given = given.parse_args()
-    subprocess.run([os.path.join(TOP, "btrplan")], stdout=subprocess.DEVNULL, check=False)
-    print("| instance | answer | decisions | cuts | bytes | plan s | check s | strict s | MB |")
-    print("|---|---|---|---|---|---|---|---|---|")
-    with tempfile.TemporaryDirectory() as room:
-        for make, *sizes in ROWS:
-            name = " ".join([make.__name__.replace("_", "-"), *map(str, sizes)])
-            if not given.words or any(name.startswith(it) for it in given.words):
-                row = measured(room, make(*sizes), given.strict, given.limit)
-                print(f"| {name} | {' | '.join(row)} |", flush=True)
+    asked = words_of("Plans families of instances, and prints a table of what it took.", LIMIT).parse_args()
+    rows = ((" ".join([make.__name__.replace("_", "-"), *map(str, sizes)]), make, sizes) for make, *sizes in ROWS)
+    print_table(rows, asked)
     return 0
 
 

@@ -51,10 +51,10 @@ class Site:
             self.states[v] = state
         self.rule(kind, machines=machines)
 
-    def made(self, percent, gone=0):
+    def made(self, percent, gone=0, sorts=SORTS):
         """The instance: what runs in the end fills so many percent of the nodes that stay."""
         sizes = {}
-        for r in SORTS:
+        for r in sorts:
             loads = [0] * self.count
             for use, host, state in zip(self.uses, self.hosts, self.states):
                 loads[host] += use[r] if state == "running" else 0
@@ -66,7 +66,7 @@ class Site:
             if state in ("running", "sleeping"):
                 machines[-1]["node"] = f"n{host}"
         nodes = [{"name": f"n{n}", "capacity": sizes} for n in range(self.count)]
-        return {"horizon": self.horizon, "resources": list(SORTS), "durations": ACTIONS, "nodes": nodes,
+        return {"horizon": self.horizon, "resources": list(sorts), "durations": ACTIONS, "nodes": nodes,
                 "machines": machines, "constraints": self.rules}
 
 

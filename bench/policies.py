@@ -1,16 +1,12 @@
 #!/usr/bin/env python3
 """Plans instances in which a node goes and one kind of constraint binds, and prints a table of what it took.
 
-    bench/policies.py [--strict] [--limit SECONDS] [--sizes NODESxMACHINES,..] [WORD..]
+    bench/policies.py [--strict] [--limit SECONDS] [--program PROGRAM] [--beside PROGRAM] [--sizes NODESxMACHINES,..] [WORD..]
 
 Each row is an instance whose name begins with a WORD, or all: once with machines of different sizes, and once (`ties`) with
-machines that are all alike. The columns are those of `bench/families.py`.
+machines that are all alike. The other words and the columns are those of `bench/families.py`.
 """
-import argparse
-import os
-import subprocess
 import sys
-import tempfile
 
 import families
 from operations import SORTS, Site
@@ -19,6 +15,7 @@ from operations import SORTS, Site
 def site_of(nodes, machines, seed, ties, horizon=300):
     """Machines on nodes; where there are ties all of one size."""
     site = Site(nodes, machines, seed, horizon=horizon)
+    site.is_even = ties
     if ties:
         site.uses = [{"cpu": 2, "mem": 4} for _ in site.uses]
     return site
@@ -167,29 +164,180 @@ def crowded(site):
     return given
 
 
-ALL = (alone, fenced, banned, rooted, zoned, gathered, dedicated, licensed, limited, capped, apart, tenants, ordered, one_by_one,
-       crowded)
+def crowded_hour(site):
+    """The same within an hour."""
+    site.horizon = 3_600
+    return crowded(site)
+
+
+def quiet(site):
+    """Nothing is to be done, and two hundred spreads hold."""
+    site.leave([])
+    for _ in range(200):
+        first = {}
+        for v in site.some(5):
+            first.setdefault(site.hosts[v], v)
+        site.rule("spread", machines=sorted(first.values()), continuous=True)
+    return site.made(80)
+
+
+def pairs(site):
+    """Half of the machines have a twin on another node, at all times."""
+    site.leave([0])
+    some = site.some(len(site.uses) // 2)
+    for a, b in zip(some[::2], some[1::2]):
+        if site.hosts[a] != site.hosts[b]:
+            site.rule("spread", machines=[a, b], continuous=True)
+    return site.made(75, 1)
+
+
+def counted(site):
+    """Each of four racks may hold two machines more than now, or none."""
+    site.leave([0])
+    for k, rack in enumerate(quarters(site)):
+        site.rule("runningCapacity", nodes=rack, amount=len(hosted(site, rack)) + 2 * (k % 2), continuous=True)
+    return site.made(75, 1)
+
+
+def members(site, count):
+    """A machine of each of so many nodes, the one that goes among them."""
+    nodes = [0, *site.pick.sample(range(1, site.count), count - 1)]
+    return [site.pick.choice(hosted(site, [n])) for n in nodes]
+
+
+def services(site):
+    """Five services have a member on two nodes of three each, apart at all times."""
+    site.leave([0])
+    for _ in range(5):
+        site.rule("spread", machines=members(site, site.count * 2 // 3), continuous=True)
+    return site.made(75, 1)
+
+
+def wide(site):
+    """Two services have a member on all nodes but one."""
+    site.leave([0])
+    for _ in range(2):
+        site.rule("spread", machines=members(site, site.count - 1), continuous=True)
+    return site.made(75, 1)
+
+
+def walled(site):
+    """Three tenants, each on a third of the nodes, share none at any time."""
+    site.leave([0])
+    thirds = [[v for v, n in enumerate(site.hosts) if n * 3 // site.count == k] for k in range(3)]
+    site.rule("split", parts=[[f"v{v}" for v in third] for third in thirds], continuous=True)
+    return site.made(75, 1)
+
+
+def in_turn(site):
+    """What leaves does so one at a time, in any order."""
+    site.horizon = 1_000
+    site.leave([0])
+    site.rule("serialize", machines=hosted(site, [0]))
+    return site.made(75, 1)
+
+
+def overbooked(site):
+    """A third of the cpu that is used is written, and nodes are overbooked by threes, forty windows of them less."""
+    site.leave([0])
+    given = site.made(75, 1)
+    for node in given["nodes"]:
+        node["capacity"] = {**node["capacity"], "cpu": node["capacity"]["cpu"] // 3 + 2}
+    site.rule("overbook", nodes=range(site.count), resource="cpu", num=3, den=1)
+    for _ in range(40):
+        nodes = sorted(site.pick.sample(range(site.count), 5))
+        site.rule("overbook", nodes=nodes, resource="cpu", num=site.pick.randint(285, 300), den=100)
+    return given
+
+
+def asleep(site):
+    """A quarter of the machines is put to sleep."""
+    site.leave([])
+    site.wish("sleeping", site.some(len(site.uses) // 4))
+    return site.made(85)
+
+
+def powered(site):
+    """Two nodes are dark, the others are full but for a little, one goes, and not more may be powered in the end than now."""
+    dark = [site.count - 2, site.count - 1]
+    for v in hosted(site, dark):
+        site.states[v] = "ready"
+    site.rule("offline", nodes=[0])
+    site.rule("online", nodes=range(1, site.count - 2))
+    site.rule("maxOnline", nodes=range(site.count), amount=site.count - 1, continuous=True)
+    site.rule("maxOnline", nodes=range(site.count), amount=site.count - 2, continuous=False)
+    given = site.made(70)
+    for n, node in enumerate(given["nodes"]):
+        if n in dark:
+            node["online"] = False
+        elif n:
+            node["capacity"] = {r: load(site, [n], r) + n % 2 for r in SORTS}
+    return given
+
+
+def mended(site):
+    """A rack has to give up an eighth of its cpu."""
+    site.leave([])
+    rack = quarters(site)[0]
+    site.rule("resourceCapacity", nodes=rack, resource="cpu", amount=load(site, rack, "cpu") * 7 // 8, continuous=False)
+    return site.made(75)
+
+
+def puzzles(site):
+    """Two blocks of four nodes; in each of them three machines are to rotate over the fourth node, in some order."""
+    site.leave([])
+    given = site.made(75)
+    for first in (0, 4):
+        block = range(first, first + 4)
+        moved = [hosted(site, [n])[0] for n in block[:3]]
+        for k, (n, v) in enumerate(zip(block, moved)):
+            site.uses[v].update(cpu=7, mem=6 + k)
+            given["nodes"][n]["capacity"] = {r: load(site, [n], r) for r in SORTS}
+            site.rule("ban", machines=[v], nodes=[it for it in range(site.count) if it == n or it not in block])
+        spare = block[3]
+        given["nodes"][spare]["capacity"] = {"cpu": load(site, [spare], "cpu") + 7, "mem": load(site, [spare], "mem") + 8}
+    return given
+
+
+def overfull(site):
+    """Four nodes hold more than they have room for now, so no plan is valid."""
+    site.leave([0])
+    given = site.made(85, 1)
+    for n in site.pick.sample(range(1, site.count), 4):
+        given["nodes"][n]["capacity"] = {**given["nodes"][n]["capacity"], "mem": load(site, [n], "mem") - 1}
+    return given
+
+
+def day(site):
+    """Nothing but that the node goes, within a day."""
+    site.horizon = 86_400
+    site.leave([0])
+    return site.made(75, 1)
+
+
+def eight(site):
+    """The same with eight resources, all of them full to 85 percent."""
+    site.leave([0])
+    more = ("disk", "iops", "net", "gpu", "ports", "seats")
+    for use in site.uses:
+        use.update({r: use["cpu"] if site.is_even else site.pick.randint(1, 9) for r in more})
+    return site.made(85, 1, (*SORTS, *more))
+
+
+ALL = (alone, fenced, banned, rooted, zoned, gathered, dedicated, licensed, limited, capped, apart, tenants, ordered,
+       one_by_one, crowded, crowded_hour, quiet, pairs, counted, services, wide, walled, in_turn, overbooked, asleep, powered,
+       mended, puzzles, overfull, day, eight)
 
 
 def main():
-    given = argparse.ArgumentParser(description="Plans instances in which one kind of constraint binds.")
-    given.add_argument("--strict", action="store_true", help="check each certificate strictly too")
-    given.add_argument("--limit", type=float, default=60.0, help="seconds after which a call is given up")
-    given.add_argument("--sizes", default="40x200,100x600,200x1600", help="numbers of nodes and machines")
-    given.add_argument("words", nargs="*", help="how the names of the instances begin that are planned")
-    given = given.parse_args()
-    sizes = [tuple(map(int, it.split("x"))) for it in given.sizes.split(",")]
-    subprocess.run([os.path.join(families.TOP, "btrplan")], stdout=subprocess.DEVNULL, check=False)
-    print("| instance | answer | decisions | cuts | bytes | plan s | check s | strict s | MB |")
-    print("|---|---|---|---|---|---|---|---|---|")
-    with tempfile.TemporaryDirectory() as room:
-        for nodes, machines in sizes:
-            for make in ALL:
-                for ties in (False, True):
-                    name = f"{make.__name__.replace('_', '-')} {nodes} {machines}{' ties' if ties else ''}"
-                    if not given.words or any(name.startswith(it) for it in given.words):
-                        row = families.measured(room, make(site_of(nodes, machines, 7, ties)), given.strict, given.limit)
-                        print(f"| {name} | {' | '.join(row)} |", flush=True)
+    asked = families.words_of("Plans instances in which one kind of constraint binds.", 60)
+    asked.add_argument("--sizes", default="40x200,100x600,200x1600", help="numbers of nodes and machines")
+    asked = asked.parse_args()
+    sizes = [tuple(map(int, it.split("x"))) for it in asked.sizes.split(",")]
+    rows = ((f"{make.__name__.replace('_', '-')} {nodes} {machines}{' ties' if ties else ''}",
+             lambda make, *sizes: make(site_of(*sizes)), (make, nodes, machines, 7, ties))
+            for nodes, machines in sizes for make in ALL for ties in (False, True))
+    families.print_table(rows, asked)
     return 0
 
 

@@ -2,7 +2,7 @@
 """Runs `repair` of the built program over events that go on, fail or are refused, and compares the line, the status and
 the two files, byte for byte.
 
-    bench/repairs.py [--program PROGRAM] [COUNT [SEED]]     the rows, and so many random executions (3,000) from this seed on (1)
+    bench/repairs.py [--program PROGRAM] [COUNT [SEED]]     the rows, and so many executions (3,000), from this seed on (1)
 
 A random execution is one of a random plan of a random small instance; some of its lines are spoilt. What is wanted of it is
 told by a plain model of plans that are under way, which shares nothing with the program but the formats. What is left is
@@ -305,7 +305,8 @@ class Bench:
             wanted = (verdict, 1, [OLD, OLD])
         found = self.repair(self.given, self.plan, events)
         if found != wanted or not is_valid and not found[0].startswith("broken "):
-            return f"{json.dumps(given)}\n{json.dumps(listed(execution.actions.items()))}\n{events[:500]}\n{found}\nwanted {wanted}"
+            plan = json.dumps(listed(execution.actions.items()))
+            return f"{json.dumps(given)}\n{plan}\n{events[:500]}\n{found}\nwanted {wanted}"
         words = found[0].split()
         counts[" ".join(words[3:]) if words[0] == "input" else words[0]] += 1
         return self.fault_of_left(words[1], seed % 10 == 0) if words[0] == "repaired" else None
