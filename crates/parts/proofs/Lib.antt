@@ -1,0 +1,15 @@
+pub mod NumberLemmas
+pub mod FindLemmas
+pub mod CutForms
+pub mod CutLemmas
+pub mod EmbedLemmas
+pub mod HoldLemmas
+pub mod SplitLemmas
+pub mod ViewLemmas
+pub mod InsideLemmas
+pub mod WholeLemmas
+pub mod ValidLemmas
+pub mod KeepLemmas
+pub mod UnionLemmas
+pub mod SoundLemmas
+pub mod Public
