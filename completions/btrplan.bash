@@ -2,7 +2,7 @@
 
 _btrplan() {
     local word=${COMP_WORDS[COMP_CWORD]} place=$COMP_CWORD
-    local commands='plan check replay show picture script execute repair generate demo'
+    local commands='plan check replay show picture script execute repair explain generate demo'
     COMPREPLY=()
     [ "${COMP_WORDS[1]-}" != trial ] || place=$((place - 1))
     local command=${COMP_WORDS[COMP_CWORD - place + 1]-} files last
@@ -12,7 +12,7 @@ _btrplan() {
         return
     fi
     case $command in
-        plan) files='2 3 4' last=budget ;;
+        plan | explain) files='2 3 4' last=budget ;;
         check) files='2 3 4' last=strict ;;
         picture | script) files='2 3 4' last= ;;
         replay | show | execute) files='2 3' last= ;;

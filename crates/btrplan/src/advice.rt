@@ -8,16 +8,17 @@ use std::io;
 
 const USAGE: &str = "\
 usage: btrplan COMMAND, with names of files
-  plan INSTANCE PLAN CERT [budget N]   searches a plan of least cost, and writes it with its certificate
-  check INSTANCE PLAN CERT [strict]    judges a plan and its certificate
-  replay INSTANCE PLAN                 prints the loads of a plan at each instant, and the verdict on it
-  show INSTANCE PLAN                   lists a plan, a line an action
-  picture INSTANCE PLAN SVG            draws a plan
-  script INSTANCE SCRIPT OUT           adds the constraints of a script to an instance
-  execute INSTANCE PLAN                prints what may start, and reads what has ended or failed
-  repair INSTANCE PLAN INSTANCE PLAN   reads what became of a plan, and writes what is left
-  generate SEED INSTANCE               writes the instance of a number
-  demo SEED                            generates, plans and checks
+  plan INSTANCE PLAN CERT [budget N]      searches a plan of least cost, and writes it with its certificate
+  explain INSTANCE CORE CERT [budget N]   says which constraints leave no valid plan
+  check INSTANCE PLAN CERT [strict]       judges a plan and its certificate
+  replay INSTANCE PLAN                    prints the loads of a plan at each instant, and the verdict on it
+  show INSTANCE PLAN                      lists a plan, a line an action
+  picture INSTANCE PLAN SVG               draws a plan
+  script INSTANCE SCRIPT OUT              adds the constraints of a script to an instance
+  execute INSTANCE PLAN                   prints what may start, and reads what has ended or failed
+  repair INSTANCE PLAN INSTANCE PLAN      reads what became of a plan, and writes what is left
+  generate SEED INSTANCE                  writes the instance of a number
+  demo SEED                               generates, plans and checks
 files and lines: docs/FORMATS.md
 ";
 
@@ -33,7 +34,7 @@ fn say_usage(rt: &HostRuntime, words: &[String]) -> io::Result<()> {
 // how many files a command reads: their names stand next to its own
 fn input_count(command: &str) -> usize {
     match command {
-        "plan" => 1,
+        "plan" | "explain" => 1,
         "check" => 3,
         "replay" | "show" | "picture" | "script" | "execute" | "repair" => 2,
         _ => 0,

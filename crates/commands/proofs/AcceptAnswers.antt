@@ -1,9 +1,10 @@
--- `check` says yes to the files that `plan` writes.
+-- `check` says yes to the files that `plan` and `explain` write.
 use Rattle.std.proofs.Common.{◌≡◌, ◌∙◌, ℕ, Bool, List, Option, Result, Ok, Err, sym, ap, subst}
-use Rattle.commands.specs.Prelude.{AnswersBy, any_plan_in, any_plan_lined, any_plan_reading_of, AreAccepted, bytes_of, CheckFault, Checks, choices_handed, Files, Found, Goal, goal_in, Instance, instance_in, IsAnswer, IsChecked, IsYesUnlessOutside, least_in, Line, Memory, No, NotALine, Outside, plan_of, PlanChoices, PlannedIsChecked, ReadFault, reading_of, Says, SaysGiven, Short, Status, TooLong, Verdict, verdict_line, WrittenIsAccepted, Yes, yes_to}
+use Rattle.commands.specs.Prelude.{AnswersBy, any_plan_in, any_plan_lined, any_plan_reading_of, AreAccepted, bytes_of, CheckFault, Checks, choices_handed, ExplainedIsChecked, Files, Found, Goal, goal_in, Infeasible, Instance, instance_in, IsAnswer, IsChecked, IsYesUnlessOutside, least_in, Line, lined, Memory, No, NotALine, Outside, plan_of, PlanChoices, PlannedIsChecked, ReadFault, reading_of, Says, SaysGiven, Short, Status, TooLong, Verdict, verdict_line, WrittenIsAccepted, Yes, yes_to}
 use Rattle.cert_read.specs.declared.line.LineFault.TheVariants.{Memory as NoRoom}
 use Rattle.cert_check.specs.Laws.{IsAccepted}
 use Rattle.search.specs.Answers.{plan_in}
+use Rattle.explain.specs.Prelude.{sub}
 use Rattle.solver.proofs.Public.{certified_is_accepted}
 
 -- ---- the files
@@ -47,3 +48,18 @@ planned_is_checked instance plan_file certificate budget few not_plan not_certif
     let kept : start.files instance ≡ before.files instance = ap (λ (fs : Files). fs instance) files ∙ planned.written.others instance not_plan not_certificate in
     let read_again : instance_in start.files instance ≡ Ok p = ap (λ file. reading_of (bytes_of file)) kept ∙ read in
     checked_is_yes plan_file certificate budget p planned.found strict start after result are (subst (λ reading. AnswersBy (IsChecked plan_file certificate strict) reading start after result) read_again answer)
+
+-- ---- the files of a core
+
+pub explained_is_checked : ExplainedIsChecked
+unfolding IsAnswer reading_of
+explained_is_checked core certificate budget few p before between said is fits plan_file start after source strict result core_stays certificate_stays none answer =
+    let q = sub p is.kept in
+    let there : bytes_of (start.files certificate) ≡ is.text = ap bytes_of (certificate_stays ∙ is.written.written.second_whole) in
+    let read : instance_in start.files core ≡ Ok q = ap (λ file. reading_of (bytes_of file)) core_stays ∙ ap lined (is.written.reads fits) in
+    let are : AreAccepted plan_file certificate budget q Infeasible start.files = record {
+      plan = none;
+      accepted = λ some. subst (λ (file : List ℕ). IsAccepted q (choices_handed (plan_in Infeasible)) some file (goal_in q budget Infeasible) (least_in Infeasible)) (sym there)
+          (certified_is_accepted q is.written.sound budget few Infeasible is.is_core.core.infeasible is.text is.is_core.core.certified some);
+    } in
+    checked_is_yes plan_file certificate budget q Infeasible strict start after result are (subst (λ reading. AnswersBy (IsChecked plan_file certificate strict) reading start after result) read answer)

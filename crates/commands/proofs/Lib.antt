@@ -5,6 +5,7 @@ pub mod CheckAnswers
 pub mod DemoAnswers
 pub mod Ends
 pub mod ExecuteAnswers
+pub mod ExplainAnswers
 pub mod GenerateAnswers
 pub mod LastLines
 pub mod Numbers

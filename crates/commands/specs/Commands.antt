@@ -1,9 +1,9 @@
 -- What each command answers and leaves: a line for each command in each table, and a room for each below.
 use Rattle.std.specs.Prelude.{◌≡◌, Bool, ℕ, List, Option, Some, None, IsTrue, codes}
 use Rattle.plan_io.specs.Files.{Files}
-use Rattle.commands.specs.Words.{Command, plan, check, replay, show, picture, script, execute, repair, generate, demo}
+use Rattle.commands.specs.Words.{Command, plan, check, replay, show, picture, script, execute, repair, explain, generate, demo}
 use Rattle.commands.specs.{Inputs.Instance.instance_in, Inputs.Plan.plan_in, Answer.Outside, Answer.Says, Answer.AnswersBy, Answer.LeavesBy, Planning.IsPlanned, Planning.LeavesPlanned, Checking.IsChecked, Replaying.IsReplayed, Showing.IsListed, Picturing.IsPictured, Picturing.LeavesPictured, Scripting.IsScripted, Scripting.LeavesScripted}
-use Rattle.commands.specs.{Executing.IsExecuted, Executing.Starts, Executing.Taking, Executing.TakesRead, Generating.IsGenerated, Generating.LeavesGenerated, Repairing.IsRepaired, Repairing.LeavesRepaired, Repairing.TakesEvents, declared.status.Status.Status}
+use Rattle.commands.specs.{Executing.IsExecuted, Executing.Starts, Executing.Taking, Executing.TakesRead, Generating.IsGenerated, Generating.LeavesGenerated, Explaining.IsExplained, Explaining.LeavesExplained, Repairing.IsRepaired, Repairing.LeavesRepaired, Repairing.TakesEvents, declared.status.Status.Status}
 use Rattle.commands.specs.Demonstrating.{IsDemonstrated, LeavesDemo, demo_certificate, demo_instance, demo_plan}
 
 -- The desk reads the files that the command reads, and writes those that it creates.
@@ -17,6 +17,7 @@ MayRun reads writes (Some (picture instance plan_file picture_file)) = IsTrue (r
 MayRun reads writes (Some (script instance script_file out_file)) = IsTrue (reads instance) × IsTrue (reads script_file) × IsTrue (writes out_file)
 MayRun reads writes (Some (execute instance plan_file)) = IsTrue (reads instance) × IsTrue (reads plan_file)
 MayRun reads writes (Some (repair instance plan_file new_instance new_plan)) = IsTrue (reads instance) × IsTrue (reads plan_file) × IsTrue (writes new_instance) × IsTrue (writes new_plan)
+MayRun reads writes (Some (explain instance core certificate budget)) = IsTrue (reads instance) × IsTrue (writes core) × IsTrue (writes certificate)
 MayRun reads writes (Some (generate seed instance)) = IsTrue (writes instance)
 MayRun reads writes (Some (demo seed)) = IsTrue (writes demo_instance) × IsTrue (reads demo_instance) × IsTrue (writes demo_plan) × IsTrue (reads demo_plan) × IsTrue (writes demo_certificate) × IsTrue (reads demo_certificate)
 
@@ -39,6 +40,8 @@ IsAnswer (Some (execute instance plan_file)) source before after result =
     AnswersBy (IsExecuted source plan_file) (instance_in before.files instance) before after result
 IsAnswer (Some (repair instance plan_file new_instance new_plan)) source before after result =
     AnswersBy (IsRepaired source plan_file new_instance new_plan) (instance_in before.files instance) before after result
+IsAnswer (Some (explain instance core certificate budget)) source before after result =
+    AnswersBy (IsExplained core certificate budget) (instance_in before.files instance) before after result
 IsAnswer (Some (generate seed instance)) source before after result = IsGenerated seed instance before after result
 IsAnswer (Some (demo seed)) source before after result = IsDemonstrated seed before after result
 
@@ -55,6 +58,7 @@ Leaves (Some (script instance script_file out_file)) before after = LeavesBy (Le
 Leaves (Some (execute instance plan_file)) before after = after ≡ before
 Leaves (Some (repair instance plan_file new_instance new_plan)) before after =
     LeavesBy (λ p start end. LeavesBy (LeavesRepaired new_instance new_plan p) (plan_in p start plan_file) start end) (instance_in before instance) before after
+Leaves (Some (explain instance core certificate budget)) before after = LeavesBy (LeavesExplained core certificate budget) (instance_in before instance) before after
 Leaves (Some (generate seed instance)) before after = LeavesGenerated seed instance before after
 Leaves (Some (demo seed)) before after = LeavesDemo seed before after
 
@@ -69,6 +73,7 @@ LeavesAtFailedRead (Some (picture instance plan_file picture_file)) before after
 LeavesAtFailedRead (Some (script instance script_file out_file)) before after = after ≡ before
 LeavesAtFailedRead (Some (execute instance plan_file)) before after = after ≡ before
 LeavesAtFailedRead (Some (repair instance plan_file new_instance new_plan)) before after = after ≡ before
+LeavesAtFailedRead (Some (explain instance core certificate budget)) before after = after ≡ before
 LeavesAtFailedRead (Some (generate seed instance)) before after = ⊥
 LeavesAtFailedRead (Some (demo seed)) before after = LeavesDemo seed before after
 
@@ -83,6 +88,7 @@ KeepsSource told files (Some (picture instance plan_file picture_file)) before a
 KeepsSource told files (Some (script instance script_file out_file)) before after = after ≡ before
 KeepsSource told files (Some (execute instance plan_file)) before after = IsTrue told → ¬ Starts files instance plan_file → after ≡ before
 KeepsSource told files (Some (repair instance plan_file new_instance new_plan)) before after = IsTrue told → ¬ Starts files instance plan_file → after ≡ before
+KeepsSource told files (Some (explain instance core certificate budget)) before after = after ≡ before
 KeepsSource told files (Some (generate seed instance)) before after = after ≡ before
 KeepsSource told files (Some (demo seed)) before after = after ≡ before
 
@@ -97,6 +103,7 @@ Takes (Some (picture instance plan_file picture_file)) taking before after resul
 Takes (Some (script instance script_file out_file)) taking before after result = Unit {0}
 Takes (Some (execute instance plan_file)) taking before after result = TakesRead instance plan_file taking before after result
 Takes (Some (repair instance plan_file new_instance new_plan)) taking before after result = TakesEvents instance plan_file new_instance new_plan taking before after result
+Takes (Some (explain instance core certificate budget)) taking before after result = Unit {0}
 Takes (Some (generate seed instance)) taking before after result = Unit {0}
 Takes (Some (demo seed)) taking before after result = Unit {0}
 
@@ -111,6 +118,7 @@ KeepsDeskWrites (Some (picture instance plan_file picture_file)) before after = 
 KeepsDeskWrites (Some (script instance script_file out_file)) before after = Unit {0}
 KeepsDeskWrites (Some (execute instance plan_file)) before after = after ≡ before
 KeepsDeskWrites (Some (repair instance plan_file new_instance new_plan)) before after = Unit {0}
+KeepsDeskWrites (Some (explain instance core certificate budget)) before after = Unit {0}
 KeepsDeskWrites (Some (generate seed instance)) before after = Unit {0}
 KeepsDeskWrites (Some (demo seed)) before after = Unit {0}
 
@@ -125,6 +133,7 @@ KeepsDeskReads (Some (picture instance plan_file picture_file)) before after = U
 KeepsDeskReads (Some (script instance script_file out_file)) before after = Unit {0}
 KeepsDeskReads (Some (execute instance plan_file)) before after = Unit {0}
 KeepsDeskReads (Some (repair instance plan_file new_instance new_plan)) before after = Unit {0}
+KeepsDeskReads (Some (explain instance core certificate budget)) before after = Unit {0}
 KeepsDeskReads (Some (generate seed instance)) before after = after ≡ before
 KeepsDeskReads (Some (demo seed)) before after = Unit {0}
 
@@ -139,5 +148,6 @@ ReadsInput (Some (picture instance plan_file picture_file)) = Unit {0}
 ReadsInput (Some (script instance script_file out_file)) = Unit {0}
 ReadsInput (Some (execute instance plan_file)) = Unit {0}
 ReadsInput (Some (repair instance plan_file new_instance new_plan)) = Unit {0}
+ReadsInput (Some (explain instance core certificate budget)) = Unit {0}
 ReadsInput (Some (generate seed instance)) = ⊥
 ReadsInput (Some (demo seed)) = Unit {0}

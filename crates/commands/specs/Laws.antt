@@ -1,11 +1,14 @@
--- What is proved of the files that `plan` writes: `check` says yes to them.
-use Rattle.std.specs.Prelude.{◌≡◌, ◌≢◌, ℕ, ◌<◌, ◌^◌, Bool, List, Option, Some, Ok}
+-- What is proved of the files that `plan` and `explain` write: `check` says yes to them.
+use Rattle.std.specs.Prelude.{◌≡◌, ◌≢◌, ℕ, ◌<◌, ◌≤◌, ◌^◌, Bool, List, length, Option, Some, None, Ok}
 use Rattle.search.specs.Prelude.{bytes_of, goal_in, Instance, least_in, plan_in}
 use Rattle.plan_io.specs.Files.{Files}
+use Rattle.instance_make.specs.Prelude.{instance_text, MAX_TEXT_BYTES}
+use Rattle.explain.specs.Prelude.{sub}
+use Rattle.trees.specs.declared.steps.Goal.TheVariants.{Infeasible}
 use Rattle.cert_model.specs.Walks.{choices_handed}
 use Rattle.cert_check.specs.{Laws.IsAccepted, declared.verdict.Verdict.Verdict, declared.verdict.Verdict.TheVariants.Yes}
 use Rattle.search.specs.declared.found.Found.{Found}
-use Rattle.commands.specs.{Words.check, Answer.Outside, Answer.Says, Inputs.Instance.instance_in, Inputs.Plan.any_plan_in, Commands.IsAnswer, Checking.verdict_line, Planning.IsPlanned, Planning.IsWritten, declared.status.Status.Status}
+use Rattle.commands.specs.{Words.check, Answer.Outside, Answer.Says, Inputs.Instance.instance_in, Inputs.Plan.any_plan_in, Commands.IsAnswer, Checking.verdict_line, Explaining.SaysCore, Planning.IsPlanned, Planning.IsWritten, declared.status.Status.Status}
 
 -- The files of an answer, read for its problem: the plan's has the plan that is answered, or none. For it the certificate has the verdict yes,
 -- with the goal and the least of the answer, and no other; strictly or not.
@@ -30,3 +33,11 @@ PlannedIsChecked =
     (p : Instance) (before between : Outside) (said : Status) → instance_in before.files instance ≡ Ok p → (planned : IsPlanned plan_file certificate budget p before between said) →
     (start after : Outside) (source : Option (List ℕ)) (strict : Bool) (result : Status) → start.files ≡ between.files → IsAnswer (Some (check instance plan_file certificate strict)) source start after result →
     Says (verdict_line (yes_to p budget planned.found)) Status.Good start after result
+
+-- After `explain` has found a core, the answer of `check` to its two files, and to a plan's file that says that there is none, is that no plan is valid, strictly or not.
+-- The core is read where it has no more bytes than an instance may have.
+abbrev pub ExplainedIsChecked : Type 0
+ExplainedIsChecked =
+    (core certificate : List ℕ) (budget : ℕ) → budget < 2 ^ 64 → (p : Instance) (before between : Outside) (said : Status) → (is : SaysCore core certificate budget p before between said) → length (instance_text (sub p is.kept)) ≤ MAX_TEXT_BYTES →
+    (plan_file : List ℕ) (start after : Outside) (source : Option (List ℕ)) (strict : Bool) (result : Status) → start.files core ≡ between.files core → start.files certificate ≡ between.files certificate → any_plan_in (sub p is.kept) start.files plan_file ≡ Ok None →
+    IsAnswer (Some (check core plan_file certificate strict)) source start after result → Says (verdict_line (Yes Infeasible None)) Status.Good start after result

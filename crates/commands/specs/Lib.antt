@@ -12,6 +12,7 @@ pub mod Picturing
 pub mod Scripting
 pub mod Executing
 pub mod Repairing
+pub mod Explaining
 pub mod Generating
 pub mod Demonstrating
 pub mod Commands

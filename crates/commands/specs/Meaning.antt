@@ -1,7 +1,7 @@
 -- A command as the program holds it.
-use Rattle.commands.specs.Words.{Command, plan, check, replay, show, picture, script, execute, repair, generate, demo}
+use Rattle.commands.specs.Words.{Command, plan, check, replay, show, picture, script, execute, repair, explain, generate, demo}
 use Rattle.commands.specs.declared.words.Command.{Command as Read}
-use Rattle.commands.specs.declared.words.Command.TheVariants.{Plan, Check, Replay, Show, Picture, Script, Execute, Repair, Generate, Demo}
+use Rattle.commands.specs.declared.words.Command.TheVariants.{Plan, Check, Replay, Show, Picture, Script, Execute, Repair, Explain, Generate, Demo}
 use Rattle.std.specs.Prelude.{◌≢◌}
 
 abbrev pub meaning : Read → Command
@@ -13,6 +13,7 @@ meaning (Picture instance plan_file picture_file) = picture instance.now plan_fi
 meaning (Script instance script_file out_file) = script instance.now script_file.now out_file.now
 meaning (Execute instance plan_file) = execute instance.now plan_file.now
 meaning (Repair instance plan_file new_instance new_plan) = repair instance.now plan_file.now new_instance.now new_plan.now
+meaning (Explain instance core certificate budget) = explain instance.now core.now certificate.now budget
 meaning (Generate seed instance) = generate seed instance.now
 meaning (Demo seed) = demo seed
 
@@ -26,5 +27,6 @@ HasFilesApart (picture instance plan_file picture_file) = Unit {0}
 HasFilesApart (script instance script_file out_file) = Unit {0}
 HasFilesApart (execute instance plan_file) = Unit {0}
 HasFilesApart (repair instance plan_file new_instance new_plan) = new_instance ≢ new_plan
+HasFilesApart (explain instance core certificate budget) = core ≢ certificate
 HasFilesApart (generate seed instance) = Unit {0}
 HasFilesApart (demo seed) = Unit {0}

@@ -13,7 +13,7 @@ unfoldable pub use Rattle.show.specs.Prelude.{listing_text}
 pub use Rattle.picture.specs.Prelude.{IsDrawn}
 pub use Rattle.transcript.specs.Prelude.{ExecuteGives, first_point, IsBegun, NamesListed, RunGives}
 pub use Rattle.cert_write.specs.Prelude.{Files, OthersStay}
-pub use Rattle.search.specs.Prelude.{choices_of, CountsWrites, goal_in, IsTrueOf, least_in, MayStay, PlanChoices}
+pub use Rattle.search.specs.Prelude.{choices_of, CountsWrites, goal_in, IsTrueOf, IsValidPlan, least_in, MayStay, PlanChoices}
 unfoldable pub use Rattle.search.specs.Prelude.{IsValid}
 pub use Rattle.cert_check.specs.Prelude.{bytes_of, CheckGives, Choices, choices_handed, CountsCheck, Instance, inventory_of, IsInstance, IsPlanOf, IsSound, IsYesUnlessOutside}
 pub use Rattle.cluster.specs.declared.ids.Element.{Element}
@@ -40,8 +40,10 @@ pub use Rattle.commands.specs.{Generating.HasGenerated, Generating.LeavesGenerat
 unfoldable pub use Rattle.commands.specs.{Generating.generated_line, Inputs.whole_of, Inputs.Instance.reading_of, Inputs.Plan.any_plan_reading_of, Planning.found_line, Printed.PrintsPrefix, Scripting.scripted_line, Words.number_of}
 pub use Rattle.commands.specs.Inputs.Plan.{any_plan_in, any_plan_lined, needed, plan_in, plan_line}
 pub use Rattle.commands.specs.Inputs.Script.{script_in, script_line, script_lined, script_reading_of}
-pub use Rattle.commands.specs.{Laws.AreAccepted, Laws.PlannedIsChecked, Laws.WrittenIsAccepted, Laws.yes_to, Meaning.HasFilesApart, Meaning.meaning, Outputs.AreTextsCut, Outputs.HasText, Outputs.HasTexts, Outputs.IsTextCut, Outputs.RestStays, Picturing.HasPicture, Picturing.IsPictureCut, Picturing.IsPictured, Picturing.LeavesPictured, Picturing.Pictures, Replaying.IsReplayed, Replaying.Replays, Scripting.IsScripted, Scripting.LeavesScripted, Scripting.Scripts, Showing.IsListed, Showing.Lists, declared.demonstrating.TheConstants.DEMO_BUDGET}
+pub use Rattle.commands.specs.{Laws.AreAccepted, Laws.ExplainedIsChecked, Laws.PlannedIsChecked, Laws.WrittenIsAccepted, Laws.yes_to, Meaning.HasFilesApart, Meaning.meaning, Outputs.AreTextsCut, Outputs.HasText, Outputs.HasTexts, Outputs.IsTextCut, Outputs.RestStays, Picturing.HasPicture, Picturing.IsPictureCut, Picturing.IsPictured, Picturing.LeavesPictured, Picturing.Pictures, Replaying.IsReplayed, Replaying.Replays, Scripting.IsScripted, Scripting.LeavesScripted, Scripting.Scripts, Showing.IsListed, Showing.Lists, declared.demonstrating.TheConstants.DEMO_BUDGET}
+unfoldable pub use Rattle.commands.specs.Explaining.{core_lines, feasible_line, IsExplained, needed_lines, open_line}
+pub use Rattle.commands.specs.Explaining.{LeavesExplained, needed_line, SaysCore, SaysFeasible, SaysOpen, WritesKept}
 pub use Rattle.solver.specs.Prelude.{IsCertificateCut, IsCertified, IsToStay, plan_cost}
 pub use Rattle.commands.specs.Planning.{found_status, IsPlanCut, IsPlanned, IsWritten, LeavesPlanned}
-pub use Rattle.commands.specs.Words.{are_names, asked, check, Command, command_of, demo, execute, generate, is_name, is_plain, picture, plan, repair, replay, script, show}
+pub use Rattle.commands.specs.Words.{are_names, asked, check, Command, command_of, demo, execute, explain, generate, is_name, is_plain, picture, plan, repair, replay, script, show}
 pub use Rattle.commands.specs.declared.{fault.Ending.Ending, fault.Fault.Fault, status.Status.Status}

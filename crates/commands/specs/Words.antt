@@ -1,7 +1,7 @@
 -- What the words of the command line ask for.
 use Rattle.std.specs.Prelude.{◌&&◌, ◌==◌, ◌^◌, Bool, true, false, not, ℕ, List, [], ◌∷◌, length, nat_le, nat_lt, Option, Some, None, if◌then◌else◌, map, codes, String, string_bytes, bytes_eq, option_map}
 use Rattle.std.specs.{List.list_all, Fmt.decimal, Str.Parse.digits_value, declared.alloc.Global.Global}
-use Rattle.commands.specs.declared.words.TheConstants.{BUDGET, LONGEST_NAME}
+use Rattle.commands.specs.declared.words.TheConstants.{BUDGET, EXPLAIN_BUDGET, LONGEST_NAME}
 
 -- A command, with the names of its files, and its seed, its budget of decisions, or whether the check is strict.
 pub data Command : Type 0 where
@@ -13,6 +13,7 @@ pub data Command : Type 0 where
   script : (instance script_file out_file : List ℕ) → Command
   execute : (instance plan_file : List ℕ) → Command
   repair : (instance plan_file new_instance new_plan : List ℕ) → Command
+  explain : (instance core certificate : List ℕ) (budget : ℕ) → Command
   generate : (seed : ℕ) (instance : List ℕ) → Command
   demo : (seed : ℕ) → Command
 
@@ -41,12 +42,14 @@ command_of (word ∷ first ∷ second ∷ third ∷ []) =
     if bytes_eq word (codes "plan") && are_names (first ∷ second ∷ third ∷ []) then Some (plan first second third BUDGET) else
     if bytes_eq word (codes "check") && are_names (first ∷ second ∷ third ∷ []) then Some (check first second third false) else
     if bytes_eq word (codes "picture") && are_names (first ∷ second ∷ third ∷ []) then Some (picture first second third) else
-    if bytes_eq word (codes "script") && are_names (first ∷ second ∷ third ∷ []) then Some (script first second third) else None
+    if bytes_eq word (codes "script") && are_names (first ∷ second ∷ third ∷ []) then Some (script first second third) else
+    if bytes_eq word (codes "explain") && are_names (first ∷ second ∷ third ∷ []) then Some (explain first second third EXPLAIN_BUDGET) else None
 command_of (word ∷ first ∷ second ∷ third ∷ last ∷ []) =
     if bytes_eq word (codes "check") && bytes_eq last (codes "strict") && are_names (first ∷ second ∷ third ∷ []) then Some (check first second third true) else
     if bytes_eq word (codes "repair") && are_names (first ∷ second ∷ third ∷ last ∷ []) then Some (repair first second third last) else None
-command_of (word ∷ instance ∷ plan_file ∷ certificate ∷ between ∷ number ∷ []) =
-    if bytes_eq word (codes "plan") && bytes_eq between (codes "budget") && are_names (instance ∷ plan_file ∷ certificate ∷ []) then option_map (plan instance plan_file certificate) (number_of number) else None
+command_of (word ∷ first ∷ second ∷ third ∷ between ∷ number ∷ []) =
+    if bytes_eq word (codes "plan") && bytes_eq between (codes "budget") && are_names (first ∷ second ∷ third ∷ []) then option_map (plan first second third) (number_of number) else
+    if bytes_eq word (codes "explain") && bytes_eq between (codes "budget") && are_names (first ∷ second ∷ third ∷ []) then option_map (explain first second third) (number_of number) else None
 command_of (word ∷ first ∷ second ∷ []) =
     if bytes_eq word (codes "replay") && are_names (first ∷ second ∷ []) then Some (replay first second) else
     if bytes_eq word (codes "show") && are_names (first ∷ second ∷ []) then Some (show first second) else

@@ -32,7 +32,7 @@ impl Outcome {
     }
 }
 
-/// How a command ends that meets no fault: its last line, where one is still to be printed.
+/// How a command ends that meets no fault: what it prints last, a line or several, where any is still to be printed.
 #[derive(Debug, Drop)]
 pub struct Ending {
     pub line: Option<String>,

@@ -6,6 +6,7 @@ mod checking;
 mod demonstrating;
 mod events;
 mod executing;
+mod explaining;
 mod fault;
 mod generating;
 mod inputs;

@@ -6,6 +6,7 @@ ghost use Rattle.commands.specs.Prelude.{asked, Causes, Command as Asked, Comman
 use crate::checking::check;
 use crate::demonstrating::demo;
 use crate::executing::execute;
+use crate::explaining::explain;
 use crate::fault::{Ending, Fault};
 use crate::generating::generate;
 use crate::picturing::picture;
@@ -143,6 +144,14 @@ fn answer<D: Desk, I: Source, O: Sink, S: Solver>(
             new_instance,
             new_plan,
         ),
+        Some(
+            Command::Explain {
+                instance,
+                core,
+                certificate,
+                budget,
+            },
+        ) => explain(alloc, desk, solver, instance, core, certificate, budget),
         Some(Command::Generate { seed, instance }) => generate(alloc, desk, seed, instance),
         Some(Command::Demo { seed }) => demo(alloc, desk, solver, seed),
         None => Err(Fault::Words),
@@ -213,7 +222,7 @@ fn finish<O: Sink>(out: &mut O, ended: Result<Ending, Fault>) -> Status
 
 /// Does what the words ask for: it reads the files, writes those that the command creates, prints the
 /// lines, and says how it ended. The words are those of the command line without the program's name.
-/// `plan` and `demo` search by the solver; no other command asks it.
+/// `plan`, `explain` and `demo` search by the solver, and `check` and `demo` ask it for the verdict; no other command asks it.
 pub fn run<D: Desk, I: Source, O: Sink, S: Solver>(
     alloc: Global,
     words: &[String],

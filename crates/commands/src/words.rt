@@ -1,7 +1,7 @@
 //! The words of the command line.
 
 ghost use Rattle.std.specs.Prelude.{◌≡◌, ◌≢◌, [], ◌∷◌, option_map, IfSome};
-ghost use Rattle.commands.specs.Prelude.{are_names, asked, command_of, demo, generate, HasFilesApart, is_name, is_plain, meaning, number_of, plan};
+ghost use Rattle.commands.specs.Prelude.{are_names, asked, command_of, demo, explain, generate, HasFilesApart, is_name, is_plain, meaning, number_of, plan};
 
 /// A command, with the names of its files, and its seed, its budget of decisions, or whether the check is strict.
 #[derive(Clone, Copy, Debug, PartialEq, Eq)]
@@ -54,6 +54,14 @@ pub enum Command<'a> {
         new_instance: &'a str,
         new_plan: &'a str,
     },
+    /// Explains why the instance has no valid plan, with at most so many decisions in each search, and writes the constraints
+    /// that are needed and their certificate.
+    Explain {
+        instance: &'a str,
+        core: &'a str,
+        certificate: &'a str,
+        budget: u64,
+    },
     /// Generates the problem of a seed, and writes it as the instance.
     Generate {
         seed: u64,
@@ -67,6 +75,9 @@ pub enum Command<'a> {
 
 /// How many decisions a plan may take where the words do not say it.
 pub const BUDGET: u64 = 100_000;
+
+/// How many decisions each search of an explanation may take where the words do not say it.
+pub const EXPLAIN_BUDGET: u64 = 10_000;
 
 /// The most bytes of a file's name.
 pub const LONGEST_NAME: usize = 4096;
@@ -212,6 +223,13 @@ fn with_three<'a>(
             script_file: second,
             out_file: third,
         })
+    } else if word == "explain" && are_three_names(first, second, third) {
+        Some(Command::Explain {
+            instance: first,
+            core: second,
+            certificate: third,
+            budget: EXPLAIN_BUDGET,
+        })
     } else {
         None
     }
@@ -271,21 +289,46 @@ fn planning<'a>(
     }
 }
 
+/// The command `explain` with the budget that a word is.
+fn explaining<'a>(
+    instance: &'a str,
+    core: &'a str,
+    certificate: &'a str,
+    budget: &str,
+) -> Option<Command<'a>>
+    requires { core.now ≢ certificate.now }
+    ensures meaning { let command = option_map (explain instance.now core.now certificate.now) (number_of budget.now) in
+        option_map meaning result ≡ command }
+    ensures apart { IfSome result (λ command. HasFilesApart (meaning command)) }
+{
+    match number_of(budget) {
+        Some(budget) => Some(Command::Explain {
+            instance,
+            core,
+            certificate,
+            budget,
+        }),
+        None => None,
+    }
+}
+
 /// The command that this word is before the names of three files, a word and a number.
 fn with_number<'a>(
     word: &str,
-    instance: &'a str,
-    plan_file: &'a str,
-    certificate: &'a str,
+    first: &'a str,
+    second: &'a str,
+    third: &'a str,
     between: &str,
     number: &str,
 ) -> Option<Command<'a>>
-    ensures meaning { let words = word.now ∷ instance.now ∷ plan_file.now ∷ certificate.now ∷ between.now ∷ number.now ∷ [] in
+    ensures meaning { let words = word.now ∷ first.now ∷ second.now ∷ third.now ∷ between.now ∷ number.now ∷ [] in
         option_map meaning result ≡ command_of words }
     ensures apart { IfSome result (λ command. HasFilesApart (meaning command)) }
 {
-    if word == "plan" && between == "budget" && are_three_names(instance, plan_file, certificate) {
-        planning(instance, plan_file, certificate, number)
+    if word == "plan" && between == "budget" && are_three_names(first, second, third) {
+        planning(first, second, third, number)
+    } else if word == "explain" && between == "budget" && are_three_names(first, second, third) {
+        explaining(first, second, third, number)
     } else {
         None
     }
@@ -312,11 +355,11 @@ pub fn read_words(words: &[String]) -> Option<Command<'_>>
             third.as_str(),
             last.as_str(),
         ),
-        [word, instance, plan_file, certificate, between, number] => with_number(
+        [word, first, second, third, between, number] => with_number(
             word.as_str(),
-            instance.as_str(),
-            plan_file.as_str(),
-            certificate.as_str(),
+            first.as_str(),
+            second.as_str(),
+            third.as_str(),
             between.as_str(),
             number.as_str(),
         ),
