@@ -118,5 +118,7 @@ pub fn say_infeasible(
         eprint!(rt; "btrplan: no plan is valid; the first case that fails: ")?;
     }
     say_reason(rt, alloc, instance_file, &words)?;
-    eprintln!(rt; "btrplan: explain INSTANCE CORE CERT finds constraints that leave none, each of them needed")
+    eprintln!(rt;
+        "btrplan: explain INSTANCE CORE CERT finds constraints that leave none, each of them needed"
+    )
 }
