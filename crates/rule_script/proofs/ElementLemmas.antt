@@ -1,17 +1,17 @@
 -- Elements that sets have a place for, and lists of one sort.
 use Rattle.std.proofs.lemmas.List.{drop_all}
 use Rattle.std.proofs.lemmas.Option.{unwrap_or-slice_get}
-use Rattle.base.proofs.Public.{◌≡◌, ◌∙◌, ◌&&◌, ◌||◌, ◌+◌, ◌<◌, ◌≤◌, ◌++◌, ℕ, Bool, true, false, List, [], ◌∷◌, length, Option, Some, None, refl, sym, ap, arith, inl, inr, cases_Bool, cases_lt, eq-eqb, eqb-true, or_right, lt-ltb, not, filter, list_all, list_any, list_all-append, list_any-append, and_from, option_map, append_assoc, append-nil, take, drop, drop-cons, add-one, get_or, take_all, list_any_more, common_steps, replicate, get_or-replicate, get_or_past, length-replicate, subst, if◌then◌else◌}
+use Rattle.base.proofs.Public.{nat_lt, le-leb, lt-leb, and-false, add-zero, take_more, length-take-le, ◌≡◌, ◌∙◌, ◌&&◌, ◌||◌, ◌+◌, ◌<◌, ◌≤◌, ◌++◌, ℕ, Bool, true, false, List, [], ◌∷◌, length, Option, Some, None, refl, sym, ap, arith, inl, inr, cases_Bool, cases_lt, eq-eqb, eqb-true, or_right, lt-ltb, not, filter, list_all, list_all-append, list_any-append, and_from, option_map, append_assoc, append-nil, take, drop, drop-cons, add-one, get_or, take_all, list_any_more, common_steps, replicate, get_or-replicate, get_or_past, length-replicate, if◌then◌else◌}
 use Rattle.cluster.specs.Prelude.{Inventory, IsInventory, IsListed, max_machines, max_nodes, with_node}
 use Rattle.cluster.specs.declared.ids.Element.{Element}
 use Rattle.cluster.specs.declared.sets.NodeSet.{NodeSet}
 use Rattle.cluster.specs.declared.ids.NodeId.{NodeId}
 use Rattle.cluster.specs.declared.ids.VmId.{VmId}
 use Rattle.cluster.specs.declared.ids.Element.TheVariants.{Node, Vm}
-use Rattle.rule_script.specs.Elements.{has_element, machines_of, nodes_with}
-use Rattle.rule_script.specs.Marks.{in_list, is_marked, is_same}
+use Rattle.rule_script.specs.Elements.{counts, entry_of, machines_of, nodes_with, standing}
+use Rattle.rule_script.specs.Marks.{in_list, is_same, number_at}
 use Rattle.rule_script.specs.Small.{is_small}
-use Rattle.rule_script.specs.declared.elements.ElementSet.{ElementSet}
+use Rattle.rule_script.specs.declared.places.Places.{Places}
 
 -- what is listed is small
 pub small-listed : (k : Inventory) → IsInventory k → (e : Element) → IsListed k e → is_small e ≡ true
@@ -85,95 +85,180 @@ all_kept q (x ∷ xs) good =
     let more : filter q xs ≡ xs = all_kept q xs (λ y there. good y (or_right (is_same y x) (in_list xs y) there)) in
     rw (here, more) refl
 
--- where none of a list passes, what passes is not in it
-not_among : (h : Element → Bool) (ys : List Element) (x : Element) → list_any h ys ≡ false → h x ≡ true → in_list ys x ≡ false
-unfolding in_list
-not_among h [] x none passes = refl
-not_among h (y ∷ ys) x none passes = elim (cases_Bool (h y)) [
-  | inl here ↦ absurd (let never : true ≡ false = rw here at none in cc)
-  | inr other ↦
-      let rest : list_any h ys ≡ false = rw other at none in
-      elim (cases_Bool (is_same x y)) [
-        | inl same ↦ absurd (let both : h y ≡ true = ap h (sym (same_element x y same)) ∙ passes in cc)
-        | inr apart ↦ rw apart (not_among h ys x rest passes)
-      ]
-]
+-- ---- numbers by their places
 
--- ---- marks
-
-no_mark : (n p : ℕ) → is_marked (replicate n false) p ≡ false
-no_mark n p =
-    unwrap_or-slice_get (replicate n false) p false
+no_number : (n p : ℕ) → number_at (replicate n 0) p ≡ 0
+no_number n p =
+    unwrap_or-slice_get (replicate n 0) p 0
     ∙ elim (cases_lt p n) [
-      | inl within ↦ get_or-replicate n p false false within
-      | inr past ↦ get_or_past (replicate n false) p false (omega (arith, length-replicate n false))
+      | inl within ↦ get_or-replicate n p 0 0 within
+      | inr past ↦ get_or_past (replicate n 0) p 0 (omega (arith, length-replicate {A = ℕ} n 0))
     ]
 
--- a set without a mark
-pub no_marks : (n m : ℕ) (s : ElementSet) → s.machines.items ≡ replicate n false → s.nodes.items ≡ replicate m false → (x : Element) → has_element s x ≡ false
-no_marks n m s machines nodes (Vm v) = ap (λ (l : List Bool). is_marked l v.0) machines ∙ no_mark n v.0
-no_marks n m s machines nodes (Node k) = ap (λ (l : List Bool). is_marked l k.0) nodes ∙ no_mark m k.0
+-- before any number is given
+pub no_numbers : (n m : ℕ) (s : Places) → s.machines.items ≡ replicate n 0 → s.nodes.items ≡ replicate m 0 → (x : Element) → entry_of s x ≡ 0
+no_numbers n m s machines nodes (Vm v) = ap (λ (l : List ℕ). number_at l v.0) machines ∙ no_number n v.0
+no_numbers n m s machines nodes (Node k) = ap (λ (l : List ℕ). number_at l k.0) nodes ∙ no_number m k.0
 
--- ---- the set of a list
-
-twice : (c d a b : Bool) → (if b then c else (if a then c else d)) ≡ (if a || b then c else d)
+twice : (c d : ℕ) (a b : Bool) → (if b then c else (if a then c else d)) ≡ (if a || b then c else d)
 twice c d true true = refl
 twice c d true false = refl
 twice c d false true = refl
 twice c d false false = refl
 
-pub mark_begins : (x : Element) (is_in old : Bool) → old ≡ (if in_list [] x then is_in else old)
+pub none_numbered : (x : Element) (number old : ℕ) → old ≡ (if in_list [] x then number else old)
 unfolding in_list
-mark_begins x is_in old = refl
+none_numbered x number old = refl
 
-pub one_more_mark : (xs : List Element) (i : ℕ) (d x : Element) (is_in old now new : Bool) → i < length xs → now ≡ (if in_list (take i xs) x then is_in else old) → new ≡ (if is_same x (get_or xs i d) then is_in else now) → new ≡ (if in_list (take (i + 1) xs) x then is_in else old)
-one_more_mark xs i d x is_in old now new within so_far step =
+pub one_more_numbered : (xs : List Element) (i : ℕ) (d x : Element) (number old now new : ℕ) → i < length xs → now ≡ (if in_list (take i xs) x then number else old) → new ≡ (if is_same x (get_or xs i d) then number else now) → new ≡ (if in_list (take (i + 1) xs) x then number else old)
+one_more_numbered xs i d x number old now new within so_far step =
     step
-    ∙ ap (λ (b : Bool). if is_same x (get_or xs i d) then is_in else b) so_far
-    ∙ twice is_in old (in_list (take i xs) x) (is_same x (get_or xs i d))
-    ∙ ap (λ (b : Bool). if b then is_in else old) (sym (in_list_more xs i d x within))
+    ∙ ap (λ (b : ℕ). if is_same x (get_or xs i d) then number else b) so_far
+    ∙ twice number old (in_list (take i xs) x) (is_same x (get_or xs i d))
+    ∙ ap (λ (b : Bool). if b then number else old) (sym (in_list_more xs i d x within))
 
-pub all_marked : (xs : List Element) (i : ℕ) (x : Element) (is_in old now : Bool) → length xs ≤ i → now ≡ (if in_list (take i xs) x then is_in else old) → now ≡ (if in_list xs x then is_in else old)
-all_marked xs i x is_in old now past so_far = so_far ∙ ap (λ (l : List Element). if in_list l x then is_in else old) (take_all i xs past)
+pub all_numbered : (xs : List Element) (i : ℕ) (x : Element) (number old now : ℕ) → length xs ≤ i → now ≡ (if in_list (take i xs) x then number else old) → now ≡ (if in_list xs x then number else old)
+all_numbered xs i x number old now past so_far = so_far ∙ ap (λ (l : List Element). if in_list l x then number else old) (take_all i xs past)
 
-pub ruleset set_rules = (mark_begins, all_marked)
+pub ruleset entry_rules = (none_numbered, all_numbered)
 
-put_in : (a b : Bool) → (if b then true else a) ≡ (a || b)
-put_in true true = refl
-put_in true false = refl
-put_in false true = refl
-put_in false false = refl
-
-pub made_of : (xs : List Element) (x : Element) (before after : Bool) → before ≡ false → after ≡ (if in_list xs x then true else before) → after ≡ in_list xs x
-made_of xs x before after none is = is ∙ ap (λ (b : Bool). if in_list xs x then true else b) none ∙ put_in false (in_list xs x)
-
-pub made_of_both : (xs ys : List Element) (x : Element) (before after : Bool) → before ≡ in_list xs x → after ≡ (if in_list ys x then true else before) → after ≡ in_list (xs ++ ys) x
-made_of_both xs ys x before after was is = is ∙ ap (λ (b : Bool). if in_list ys x then true else b) was ∙ put_in (in_list xs x) (in_list ys x) ∙ sym (in_both xs ys x)
-
--- what holds of a value holds of the value that there is
-pub of_that_value : {A : Type 0} (P : A → Type 0) (x : A) → P x → (y : A) → Some x ≡ Some y → P y
-of_that_value P x holds y is = let same : x ≡ y = cc in subst P same holds
-
--- ---- elements taken out of a list and its set
+-- ---- the entries that count
 
 abbrev besides : List Element → Element → Bool
 besides ys e = not (in_list ys e)
 
-taken_out : (a b : Bool) → (if b then false else a) ≡ (a && not b)
-taken_out true true = refl
-taken_out true false = refl
-taken_out false true = refl
-taken_out false false = refl
+front_gone : (q : Element → Bool) (c : Bool) (x : Element) (xs : List Element) → q x ≡ false → filter q (if c then x ∷ xs else xs) ≡ filter q xs
+front_gone q true x xs drops = rw drops refl
+front_gone q false x xs drops = refl
 
-module _ (xs ys : List Element) (before after : Element → Bool) (was : (x : Element) → before x ≡ in_list xs x) where
-  pub nothing_taken : list_any before ys ≡ false → xs ≡ filter (besides ys) xs
-  nothing_taken none = sym (all_kept (besides ys) xs (λ x there. ap not (not_among before ys x none (was x ∙ there))))
+front_kept : (q : Element → Bool) (c : Bool) (x : Element) (xs ys : List Element) → q x ≡ true → ys ≡ filter q xs → (if c then x ∷ ys else ys) ≡ filter q (if c then x ∷ xs else xs)
+front_kept q true x xs ys keeps is = rw (keeps, is) refl
+front_kept q false x xs ys keeps is = is
 
-  pub set_left : ((x : Element) → after x ≡ (if in_list ys x then false else before x)) → (x : Element) → after x ≡ in_list (filter (besides ys) xs) x
-  set_left is x = is x ∙ ap (λ (b : Bool). if in_list ys x then false else b) (was x) ∙ taken_out (in_list xs x) (in_list ys x) ∙ sym (in_filtered (besides ys) xs x)
+-- some elements get a number with which no entry of theirs counts
+renumbered : (old new : Element → ℕ) (ys : List Element) (number n : ℕ) (xs : List Element) → ((x : Element) → new x ≡ (if in_list ys x then number else old x)) → ((m : ℕ) → m < n + length xs → counts number m ≡ false) → standing new n xs ≡ filter (besides ys) (standing old n xs)
+unfolding standing
+renumbered old new ys number n [] is past = refl
+renumbered old new ys number n (x ∷ xs) is past =
+    let rest : standing new (n + 1) xs ≡ filter (besides ys) (standing old (n + 1) xs) = renumbered old new ys number (n + 1) xs is (λ m below. past m (omega (arith, below))) in
+    elim (cases_Bool (in_list ys x)) [
+      | inl there ↦
+          let now : new x ≡ number = is x ∙ ap (λ (b : Bool). if b then number else old x) there in
+          let gone : counts (new x) n ≡ false = rw now (past n (omega arith)) in
+          rw gone (rest ∙ sym (front_gone (besides ys) (counts (old x) n) x (standing old (n + 1) xs) (ap not there)))
+      | inr apart ↦
+          let same : new x ≡ old x = is x ∙ ap (λ (b : Bool). if b then number else old x) apart in
+          rw same (front_kept (besides ys) (counts (old x) n) x (standing old (n + 1) xs) (standing new (n + 1) xs) (ap not apart) rest)
+    ]
 
-  pub list_left : ((x : Element) → after x ≡ (if in_list ys x then false else before x)) → filter after xs ≡ filter (besides ys) xs
-  list_left is = filter-same_in after (besides ys) xs (λ x there. is x ∙ ap (λ (b : Bool). if in_list ys x then false else b) (was x ∙ there) ∙ taken_out true (in_list ys x))
+module _ (entry : Element → ℕ) where
+  all_stand : (n : ℕ) (xs : List Element) → ((x : Element) → in_list xs x ≡ true → (0 < entry x) × (entry x ≤ n)) → standing entry n xs ≡ xs
+  unfolding standing in_list
+  all_stand n [] good = refl
+  all_stand n (x ∷ xs) good =
+      let here : (0 < entry x) × (entry x ≤ n) = good x (ap (λ (b : Bool). b || in_list xs x) (same_as_itself x)) in
+      let rest : standing entry (n + 1) xs ≡ xs = all_stand (n + 1) xs (λ y there. let it = good y (or_right (is_same y x) (in_list xs y) there) in (it.0, omega (arith, it.1))) in
+      rw (lt-ltb 0 (entry x) here.0, le-leb (entry x) n here.1, rest) refl
+
+  standing-append : (n : ℕ) (xs ys : List Element) → standing entry n (xs ++ ys) ≡ standing entry n xs ++ standing entry (n + length xs) ys
+  unfolding standing
+  standing-append n [] ys = rw add-zero refl
+  standing-append n (x ∷ xs) ys =
+      let further : n + 1 + length xs ≡ n + length (x ∷ xs) = omega arith in
+      let rest : standing entry (n + 1) (xs ++ ys) ≡ standing entry (n + 1) xs ++ standing entry (n + length (x ∷ xs)) ys = standing-append (n + 1) xs ys ∙ ap (λ (k : ℕ). standing entry (n + 1) xs ++ standing entry k ys) further in
+      elim (cases_Bool (counts (entry x) n)) [
+        | inl there ↦ rw there (ap (λ (l : List Element). x ∷ l) rest)
+        | inr gone ↦ rw gone rest
+      ]
+
+-- ---- a list whose entries all count
+
+module _ (entry : Element → ℕ) (xs : List Element) (is : (x : Element) → entry x ≡ (if in_list xs x then 1 else 0)) where
+  pub all_of : standing entry 1 xs ≡ xs
+  all_of = all_stand entry 1 xs (λ x there. let one : entry x ≡ 1 = is x ∙ ap (λ (b : Bool). if b then 1 else 0) there in (omega (arith, one), omega (arith, one)))
+
+  is_one : (b : Bool) → nat_lt 0 (if b then 1 else 0) ≡ b
+  is_one true = refl
+  is_one false = refl
+
+  pub marks_all : (x : Element) → nat_lt 0 (entry x) ≡ in_list (standing entry 1 xs) x
+  marks_all x = ap (nat_lt 0) (is x) ∙ is_one (in_list xs x) ∙ ap (λ (l : List Element). in_list l x) (sym all_of)
+
+-- ---- elements put in at the end, and elements taken out
+
+either : (number old : ℕ) (a b : Bool) → 0 < number → nat_lt 0 old ≡ a → nat_lt 0 (if b then number else old) ≡ (a || b)
+either number old true true some is = lt-ltb 0 number some
+either number old false true some is = lt-ltb 0 number some
+either number old true false some is = is
+either number old false false some is = is
+
+left : (old : ℕ) (a b : Bool) → nat_lt 0 old ≡ a → nat_lt 0 (if b then 0 else old) ≡ (a && not b)
+left old true true is = refl
+left old false true is = refl
+left old true false is = is
+left old false false is = is
+
+never_twice : (a b c : Bool) → a ≡ (b && not c) → c ≡ true → not a ≡ true
+never_twice a true true is there = ap not is
+never_twice a false true is there = ap not is
+never_twice a b false is there = absurd (cc)
+
+module _ (old new : Element → ℕ) (xs : List Element) (marks : (x : Element) → nat_lt 0 (old x) ≡ in_list (standing old 1 xs) x) where
+  module _ (ys more : List Element) (these : more ≡ filter (besides (standing old 1 xs)) ys) (is : (x : Element) → new x ≡ (if in_list more x then length xs + 1 else old x)) where
+    apart : (x : Element) → in_list (standing old 1 xs) x ≡ true → besides more x ≡ true
+    apart x there = never_twice (in_list more x) (in_list ys x) (in_list (standing old 1 xs) x) (ap (λ (l : List Element). in_list l x) these ∙ in_filtered (besides (standing old 1 xs)) ys x) there
+
+    past : (m : ℕ) → m < 1 + length xs → counts (length xs + 1) m ≡ false
+    past m below = ap (λ (b : Bool). nat_lt 0 (length xs + 1) && b) (lt-leb (length xs + 1) m (omega (arith, below))) ∙ and-false (nat_lt 0 (length xs + 1))
+
+    pub put_in : standing new 1 (xs ++ more) ≡ standing old 1 xs ++ more
+    put_in =
+        let before : standing new 1 xs ≡ standing old 1 xs = renumbered old new more (length xs + 1) 1 xs is past ∙ all_kept (besides more) (standing old 1 xs) apart in
+        let after : standing new (1 + length xs) more ≡ more = all_stand new (1 + length xs) more (λ x there. let last : new x ≡ length xs + 1 = is x ∙ ap (λ (b : Bool). if b then length xs + 1 else old x) there in (omega (arith, last), omega (arith, last))) in
+        standing-append new 1 xs more ∙ rw (before, after) refl
+
+    pub put_in_marks : (x : Element) → nat_lt 0 (new x) ≡ in_list (standing new 1 (xs ++ more)) x
+    put_in_marks x =
+        ap (nat_lt 0) (is x)
+        ∙ either (length xs + 1) (old x) (in_list (standing old 1 xs) x) (in_list more x) (omega arith) (marks x)
+        ∙ sym (in_both (standing old 1 xs) more x)
+        ∙ ap (λ (l : List Element). in_list l x) (sym put_in)
+
+  module _ (ys : List Element) (is : (x : Element) → new x ≡ (if in_list ys x then 0 else old x)) where
+    pub taken_out : standing new 1 xs ≡ filter (besides ys) (standing old 1 xs)
+    taken_out = renumbered old new ys 0 1 xs is (λ m below. refl)
+
+    pub taken_out_marks : (x : Element) → nat_lt 0 (new x) ≡ in_list (standing new 1 xs) x
+    taken_out_marks x =
+        ap (nat_lt 0) (is x)
+        ∙ left (old x) (in_list (standing old 1 xs) x) (in_list ys x) (marks x)
+        ∙ sym (in_filtered (besides ys) (standing old 1 xs) x)
+        ∙ ap (λ (l : List Element). in_list l x) (sym taken_out)
+
+-- ---- the entries that count, from the first on
+
+module _ (entry : Element → ℕ) (xs : List Element) (i : ℕ) (d : Element) (within : i < length xs) where
+  one_more_entry : standing entry 1 (take (i + 1) xs) ≡ standing entry 1 (take i xs) ++ standing entry (i + 1) (get_or xs i d ∷ [])
+  one_more_entry =
+      let at : 1 + length (take i xs) ≡ i + 1 = omega (arith, length-take-le i xs (omega (arith, within))) in
+      ap (standing entry 1) (take_more xs i d within) ∙ standing-append entry 1 (take i xs) (get_or xs i d ∷ []) ∙ ap (λ (n : ℕ). standing entry 1 (take i xs) ++ standing entry n (get_or xs i d ∷ [])) at
+
+  pub entry_counts : counts (entry (get_or xs i d)) (i + 1) ≡ true → standing entry 1 (take i xs) ++ get_or xs i d ∷ [] ≡ standing entry 1 (take (i + 1) xs)
+  unfolding standing
+  entry_counts good = sym (one_more_entry ∙ rw good refl)
+
+  pub entry_gone : counts (entry (get_or xs i d)) (i + 1) ≡ false → standing entry 1 (take i xs) ≡ standing entry 1 (take (i + 1) xs)
+  unfolding standing
+  entry_gone gone = sym (one_more_entry ∙ rw gone (append-nil (standing entry 1 (take i xs))))
+
+pub no_entry : (entry : Element → ℕ) (found : List Element) → found ≡ [] → found ≡ standing entry 1 []
+unfolding standing
+no_entry entry found is = is
+
+pub all_entries : (entry : Element → ℕ) (xs found : List Element) (i : ℕ) → length xs ≤ i → found ≡ standing entry 1 (take i xs) → found ≡ standing entry 1 xs
+all_entries entry xs found i past is = is ∙ ap (standing entry 1) (take_all i xs past)
+
+pub ruleset count_rules = (no_entry, all_entries)
 
 -- ---- lists of one sort, from a place on
 

@@ -1,9 +1,10 @@
 -- The pass over the tokens of a set gives the value of the set.
-use Rattle.std.proofs.lemmas.Fmt.{decimal_step}
 use Rattle.std.proofs.lemmas.List.{drop_all}
-use Rattle.base.proofs.Public.{◌≡◌, ◌∙◌, ℕ, ◌+◌, ◌-◌, ◌<◌, ◌≤◌, ◌++◌, ◌/◌, ◌%◌, ◌^◌, suc, nat_lt, List, [], ◌∷◌, length, drop, drop-cons, add-one, get_or, Option, Some, None, IsSome, Ok, Err, refl, sym, ap, arith, inl, inr, cases_Bool, append_assoc, append-nil, decimal, decimal_digit}
-use Rattle.cluster.specs.Prelude.{element_named, Inventory, is_name}
+use Rattle.base.proofs.Public.{◌≡◌, ◌∙◌, ℕ, ◌+◌, ◌-◌, ◌<◌, ◌≤◌, ◌++◌, suc, nat_lt, List, [], ◌∷◌, length, drop, drop-cons, add-one, get_or, Option, Some, None, IsSome, Ok, Err, refl, sym, ap, arith, inl, inr, cases_Bool, append_assoc, append-nil, bytes_eq, decimal, true}
+use Rattle.cluster.proofs.Public.{element_named-name_of}
+use Rattle.cluster.specs.Prelude.{element_named, Inventory, IsInventory, IsListed, is_name, name_of}
 use Rattle.cluster.specs.declared.ids.Element.{Element}
+use Rattle.rule_script.proofs.BindingLemmas.{same_bytes}
 use Rattle.rule_script.specs.Bindings.{Bindings}
 use Rattle.rule_script.specs.Pass.{advance, goes, run, whole, with_term}
 use Rattle.rule_script.specs.Sets.{Set, named, span, bound, bracket, Due, term_due, more_due, Waiting, combined, max_open, reading, set_at, set_or}
@@ -180,12 +181,10 @@ module _ (k : Inventory) (x : List ℕ) (first count step : ℕ) (found : List E
 
 pub ruleset number_rules = (one_more_number, no_such_number, all_numbers)
 
--- ---- the digits of a number
+-- ---- the element of a name
 
-pub last_digit : (n : ℕ) → n < 10 → (text : List ℕ) → text ++ (48 + n) ∷ [] ≡ text ++ decimal n
-last_digit n small text = rw (decimal_digit n small) refl
+-- a listed element that has a name is found by it
+pub named_so : (k : Inventory) (e : Element) (name : List ℕ) → IsInventory k → IsListed k e → bytes_eq (name_of k e) name ≡ true → element_named k name ≡ Some e
+named_so k e name sound listed same = ap (element_named k) (sym (same_bytes (name_of k e) name same)) ∙ element_named-name_of k e sound listed
 
-pub one_more_digit : (n : ℕ) → 10 ≤ n → n < 2 ^ 64 → (text : List ℕ) → (text ++ decimal (n / 10)) ++ (48 + n % 10) ∷ [] ≡ text ++ decimal n
-one_more_digit n some small text = rw (decimal_step n some small) (append_assoc text (decimal (n / 10)) ((48 + n % 10) ∷ []))
-
-pub ruleset digit_rules = (last_digit, one_more_digit)
+pub ruleset named_rules = (named_so)

@@ -1,15 +1,15 @@
 -- Lists of elements: what is in one, how two are put together, and lists of one sort alone.
-use Rattle.std.specs.Prelude.{◌≡◌, ◌++◌, Bool, not, List, [], ◌∷◌, Option, Some, None, option_map}
+use Rattle.std.specs.Prelude.{ℕ, ◌+◌, ◌&&◌, ◌++◌, Bool, not, nat_le, nat_lt, List, [], ◌∷◌, Option, Some, None, option_map, if◌then◌else◌}
 use Rattle.std.specs.List.{filter}
 use Rattle.cluster.specs.Prelude.{no_nodes, with_node}
 use Rattle.cluster.specs.declared.ids.Element.{Element}
 use Rattle.cluster.specs.declared.sets.NodeSet.{NodeSet}
 use Rattle.cluster.specs.declared.ids.VmId.{VmId}
 use Rattle.cluster.specs.declared.ids.Element.TheVariants.{Node, Vm}
-use Rattle.rule_script.specs.declared.elements.ElementSet.{ElementSet}
+use Rattle.rule_script.specs.declared.places.Places.{Places}
 use Rattle.rule_script.specs.declared.tokens.Operator.{Operator}
 use Rattle.rule_script.specs.declared.tokens.Operator.TheVariants.{Plus, Minus, Both}
-pub use Rattle.rule_script.specs.Marks.{in_list, is_marked, is_same}
+pub use Rattle.rule_script.specs.Marks.{in_list, is_same, number_at}
 pub use Rattle.rule_script.specs.Small.{is_small}
 
 -- ---- two lists put together
@@ -20,14 +20,21 @@ joined_by Plus a b = a ++ filter (λ e. not (in_list a e)) b
 joined_by Minus a b = filter (λ e. not (in_list b e)) a
 joined_by Both a b = filter (λ e. in_list b e) a
 
--- whether the element is in a set of machines and of nodes
-abbrev pub has_element : ElementSet → Element → Bool
-has_element s (Vm v) = is_marked s.machines.items v.0
-has_element s (Node n) = is_marked s.nodes.items n.0
+-- ---- lists of which some entries do not count
 
--- the set has what is in the list
-abbrev pub IsSetOf : List Element → ElementSet → Type 0
-IsSetOf xs s = (x : Element) → has_element s x ≡ in_list xs x
+-- the number of an element
+abbrev pub entry_of : Places → Element → ℕ
+entry_of s (Vm v) = number_at s.machines.items v.0
+entry_of s (Node n) = number_at s.nodes.items n.0
+
+-- whether an entry of that number counts, where those of its element do from one number on, and none where that is 0
+abbrev pub counts : ℕ → ℕ → Bool
+counts first number = nat_lt 0 first && nat_le first number
+
+-- the entries that count; the first entry has that number
+unfoldable pub standing : (Element → ℕ) → ℕ → List Element → List Element
+standing entry n [] = []
+standing entry n (e ∷ es) = if counts (entry e) n then e ∷ standing entry (n + 1) es else standing entry (n + 1) es
 
 -- ---- lists of one sort
 

@@ -8,6 +8,7 @@ pub mod Grammar
 pub mod Small
 pub mod Marks
 pub mod Elements
+pub mod Held
 pub mod Answers
 pub mod Bindings
 pub mod Values

@@ -1,4 +1,4 @@
--- What is in a list of elements, and the marks of a set.
+-- What is in a list of elements, and numbers by their places.
 use Rattle.std.specs.Prelude.{◌==◌, ℕ, Bool, false, List, slice_get, unwrap_or}
 use Rattle.std.specs.List.{list_any}
 use Rattle.cluster.specs.declared.ids.Element.{Element}
@@ -13,6 +13,6 @@ is_same (Node n) (Vm w) = false
 unfoldable pub in_list : List Element → Element → Bool
 in_list xs e = list_any (is_same e) xs
 
--- whether there is a mark at the place, which there never is past the end
-abbrev pub is_marked : List Bool → ℕ → Bool
-is_marked marks place = unwrap_or (slice_get marks place) false
+-- the number at a place; 0 past the end
+abbrev pub number_at : List ℕ → ℕ → ℕ
+number_at numbers place = unwrap_or (slice_get numbers place) 0

@@ -1,7 +1,6 @@
 -- What the reading of a script answers.
-use Rattle.std.specs.Prelude.{◌≡◌, ℕ, ◌++◌, List, Result, Ok, Err}
+use Rattle.std.specs.Prelude.{◌≡◌, ℕ, List, Result, Ok, Err}
 use Rattle.catalogue.specs.Instance.{Instance, SoundInstance}
-use Rattle.catalogue.specs.declared.constraint.Constraint.{Constraint}
 use Rattle.rule_script.specs.Bindings.{Bindings}
 use Rattle.rule_script.specs.Script.{at, Progress, script_done}
 use Rattle.rule_script.specs.declared.faults.Mistake.{Mistake}

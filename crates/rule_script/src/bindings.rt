@@ -1,8 +1,7 @@
 //! Variables and their values.
-ghost use Rattle.std.specs.Prelude.{◌≡◌, [], ◌∷◌, None, Some, OnOk, OnErr, IfOk, option_copied};
+ghost use Rattle.std.specs.Prelude.{◌≡◌, [], OnOk, OnErr, IfOk, option_copied};
 ghost use Rattle.rule_script.specs.Bindings.{bind, lookup};
 ghost use Rattle.rule_script.specs.Values.{there};
-ghost use Rattle.rule_script.specs.Small.{is_small};
 
 use crate::elements::Elements;
 use crate::faults::Mistake;

@@ -1,7 +1,6 @@
 //! The constraint that a call means.
-ghost use Rattle.std.specs.Prelude.{◌≡◌};
 ghost use Rattle.rule_script.specs.Answers.{Answers};
-ghost use Rattle.rule_script.specs.Calls.{constraint_of, groups_in, machine_in, machines_in, nodes_in, of_sort, parts_in, resource_in};
+ghost use Rattle.rule_script.specs.Calls.{constraint_of, groups_in, machine_in, machines_in, nodes_in, parts_in, resource_in};
 ghost use Rattle.rule_script.specs.Values.{value_of};
 
 use crate::bindings::Bindings;

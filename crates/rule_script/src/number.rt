@@ -1,5 +1,5 @@
 //! Numbers in texts: decimal, without a leading zero, below 2^64.
-ghost use Rattle.std.specs.Prelude.{◌≡◌, IsTrue};
+ghost use Rattle.std.specs.Prelude.{◌≡◌};
 ghost use Rattle.std.specs.Char.{is_ascii_digit};
 ghost use Rattle.std.specs.List.{list_all};
 ghost use Rattle.rule_script.specs.Numbers.{is_numeral, number_of};

@@ -1,7 +1,7 @@
 //! The value of a set, by one pass over its tokens.
-ghost use Rattle.std.specs.Prelude.{◌≡◌, ◌++◌, ◌+◌, ◌^◌, ◌<◌, ◌≤◌, [], ◌∷◌, true, IfOk, IfSome, MatchOption, OnOk};
+ghost use Rattle.std.specs.Prelude.{◌≡◌, ◌++◌, ◌+◌, ◌^◌, ◌≤◌, [], ◌∷◌, Some, true, IfOk, IfSome, MatchOption, OnOk};
 ghost use Rattle.std.specs.Fmt.{decimal};
-ghost use Rattle.cluster.specs.Inventory.{element_named};
+ghost use Rattle.cluster.specs.Inventory.{element_named, IsListed};
 ghost use Rattle.rule_script.specs.Answers.{Answers};
 ghost use Rattle.rule_script.specs.Pass.{closed, more_next, advance, run, term_next, whole, with_term};
 ghost use Rattle.rule_script.specs.Small.{is_small};
@@ -13,10 +13,12 @@ ghost use Rattle.rule_script.specs.declared.pass.Waiting.TheVariants.{Nothing};
 use crate::bindings::Bindings;
 use crate::elements::Elements;
 use crate::faults::{Mistake, Refusal};
+use crate::gathered::Gathered;
 use crate::sets::SetText;
 use crate::tokens::{Operator, Token};
 use base::Memory;
-use cluster::{Cluster, Element};
+use cluster::{Cluster, Element, NodeId, VmId};
+use itoa::Buffer;
 use std::alloc::Global;
 use std::marker::Model;
 
@@ -32,7 +34,7 @@ enum Waiting {
     /// Nothing: it is the first of its set.
     Nothing,
     /// What stands before the term is worth, and the operator between.
-    Left(Result<Elements, Mistake>, Operator),
+    Left(Result<Gathered, Mistake>, Operator),
 }
 
 /// What is due after some tokens of a set.
@@ -41,7 +43,7 @@ enum Due {
     /// A term.
     Term(Waiting),
     /// An operator, a closing bracket or the end; and what the set is worth so far.
-    More(Result<Elements, Mistake>),
+    More(Result<Gathered, Mistake>),
 }
 
 /// Whether a token goes on with a set.
@@ -50,7 +52,7 @@ enum Next {
     /// It does, and this is due after it.
     On(Due),
     /// It does not, and the set is worth so much.
-    Done(Result<Elements, Mistake>),
+    Done(Result<Gathered, Mistake>),
 }
 
 /// What waits at each open bracket. Contracts see it as a list, the innermost first.
@@ -98,24 +100,24 @@ impl Brackets {
 /// Two values put together: the first that has none from the left decides.
 fn joined(
     operator: Operator,
-    left: Result<Elements, Mistake>,
-    right: Result<Elements, Mistake>,
-) -> Result<Result<Elements, Mistake>, Memory>
+    left: Result<Gathered, Mistake>,
+    right: Result<Gathered, Mistake>,
+) -> Result<Result<Gathered, Mistake>, Memory>
     ensures { IfOk result (λ worth. worth ≡ joined_value operator left right) }
 {
     match left {
         Err(mistake) => Ok(Err(mistake)),
         Ok(left) => match right {
             Err(mistake) => Ok(Err(mistake)),
-            Ok(right) => Ok(Ok(Elements::joined(operator, left, right)?)),
+            Ok(right) => Ok(Ok(left.joined(operator, right.settled()?)?)),
         },
     }
 }
 
 fn with_term(
     waiting: Waiting,
-    term: Result<Elements, Mistake>,
-) -> Result<Result<Elements, Mistake>, Memory>
+    term: Result<Gathered, Mistake>,
+) -> Result<Result<Gathered, Mistake>, Memory>
     ensures { IfOk result (λ worth. worth ≡ with_term waiting term) }
 {
     match waiting {
@@ -142,30 +144,68 @@ fn named(alloc: Global, cluster: &Cluster, name: &[u8]) -> Result<Result<Element
     }
 }
 
-/// Puts a digit at the end of a text.
-fn push_digit(text: &mut Vec<u8>, digit: u64) -> Result<(), Memory>
-    requires { digit < 10 }
-    ensures { OnOk result (text.new.items ≡ text.old.items ++ (48 + digit) ∷ []) }
+/// The one after an element, in the order of its sort, if there is one.
+fn next_of(cluster: &Cluster, element: Element) -> Option<Element>
+    ensures { IfSome result (IsListed cluster.now.given) }
 {
-    text.push(b'0' + digit as u8)?;
-    Ok(())
+    match element {
+        Element::Vm(v) => {
+            let next = v.0.checked_add(1)?;
+            if (next as usize) < cluster.machines().len() {
+                Some(Element::Vm(VmId(next)))
+            } else {
+                None
+            }
+        }
+        Element::Node(n) => {
+            let next = n.0.checked_add(1)?;
+            if (next as usize) < cluster.nodes().len() {
+                Some(Element::Node(NodeId(next)))
+            } else {
+                None
+            }
+        }
+    }
 }
 
-/// Puts the digits of a number at the end of a text.
-#[tactic(auto, using(crate::proofs::PassLemmas::digit_rules))]
-fn push_decimal(text: &mut Vec<u8>, number: u64) -> Result<(), Memory>
-    ensures { OnOk result (text.new.items ≡ text.old.items ++ decimal number) }
+/// Whether a listed element has the name.
+#[tactic(auto, using(crate::proofs::PassLemmas::named_rules))]
+fn is_named(cluster: &Cluster, element: Element, name: &[u8]) -> bool
+    requires { IsListed cluster.now.given element }
+    ensures { result ≡ true → element_named cluster.now.given name.now ≡ Some element }
 {
-    if number < 10 {
-        return push_digit(text, number);
+    cluster.name(element).as_bytes() == name
+}
+
+/// The one after the last of these, if it has the name.
+fn guessed(cluster: &Cluster, before: &[Element], name: &[u8]) -> Option<Element>
+    ensures element { IfSome result (λ e. element_named cluster.now.given name.now ≡ Some e) }
+    ensures small { IfSome result (λ e. is_small e ≡ true) }
+{
+    let next = next_of(cluster, *before.last()?)?;
+    if is_named(cluster, next, name) {
+        Some(next)
+    } else {
+        None
     }
-    push_decimal(text, number / 10)?;
-    push_digit(text, number % 10)
+}
+
+/// The element of that name, if there is one. Elements of one range mostly stand side by side, so
+/// the one after the last before it is looked at first.
+fn found_after(cluster: &Cluster, before: &[Element], name: &[u8]) -> Option<Element>
+    ensures element { result ≡ element_named cluster.now.given name.now }
+    ensures small { IfSome result (λ e. is_small e ≡ true) }
+{
+    match guessed(cluster, before, name) {
+        Some(element) => Some(element),
+        None => found(cluster, name),
+    }
 }
 
 /// The element of that name with a number after it, if there is one. The name is left as it was.
 fn found_numbered(
     cluster: &Cluster,
+    before: &[Element],
     name: &mut Vec<u8>,
     number: u64,
 ) -> Result<Option<Element>, Memory>
@@ -174,8 +214,9 @@ fn found_numbered(
     ensures name { OnOk result (name.new.items ≡ name.old.items) }
 {
     let len = name.len();
-    push_decimal(name, number)?;
-    let element = found(cluster, name);
+    let mut digits = Buffer::new();
+    name.extend_from_slice(digits.format(number).as_bytes())?;
+    let element = found_after(cluster, before, name);
     name.truncate(len);
     Ok(element)
 }
@@ -195,7 +236,7 @@ fn numbered(
     text.extend_from_slice(name)?;
     let mut elements = Elements::with_room(alloc, count as usize)?;
     for step in 0..count {
-        match found_numbered(cluster, &mut text, first + step)? {
+        match found_numbered(cluster, elements.items(), &mut text, first + step)? {
             Some(element) => elements.push(element)?,
             None => return Ok(Err(Mistake::NoSuch)),
         }
@@ -221,10 +262,20 @@ fn span(
 }
 
 /// What is due after a term.
-fn after_term(waiting: Waiting, term: Result<Elements, Mistake>) -> Result<Next, Memory>
+fn after(waiting: Waiting, term: Result<Gathered, Mistake>) -> Result<Next, Memory>
     ensures { IfOk result (λ n. n ≡ On (More (with_term waiting term))) }
 {
     Ok(Next::On(Due::More(with_term(waiting, term)?)))
+}
+
+/// What is due after a term that is a list.
+fn after_list(waiting: Waiting, term: Result<Elements, Mistake>) -> Result<Next, Memory>
+    ensures { IfOk result (λ n. n ≡ On (More (with_term waiting term))) }
+{
+    match term {
+        Ok(list) => after(waiting, Ok(Gathered::new(list))),
+        Err(mistake) => after(waiting, Err(mistake)),
+    }
 }
 
 /// After a token where a term is due.
@@ -240,11 +291,11 @@ fn term_next(
 {
     let alloc = brackets.allocator();
     match token {
-        Token::Word(name) => after_term(waiting, named(alloc, cluster, name.bytes())?),
+        Token::Word(name) => after_list(waiting, named(alloc, cluster, name.bytes())?),
         Token::Span(name, first, last) => {
-            after_term(waiting, span(alloc, cluster, name.bytes(), *first, *last)?)
+            after_list(waiting, span(alloc, cluster, name.bytes(), *first, *last)?)
         }
-        Token::Variable(name) => after_term(waiting, bindings.value(name.bytes())?),
+        Token::Variable(name) => after_list(waiting, bindings.value(name.bytes())?),
         Token::Opens => {
             brackets.push(waiting)?;
             Ok(Next::On(Due::Term(Waiting::Nothing)))
@@ -257,23 +308,23 @@ fn term_next(
         | Token::Comma
         | Token::Bar
         | Token::Equals
-        | Token::Other => Ok(Next::Done(Ok(Elements::new(alloc)))),
+        | Token::Other => Ok(Next::Done(Ok(Gathered::none(alloc)))),
     }
 }
 
 /// After a closing bracket.
-fn closed(worth: Result<Elements, Mistake>, brackets: &mut Brackets) -> Result<Next, Memory>
+fn closed(worth: Result<Gathered, Mistake>, brackets: &mut Brackets) -> Result<Next, Memory>
     ensures { IfOk result (λ n. closed worth brackets.old ≡ (n, brackets.new)) }
 {
     match brackets.pop() {
-        Some(waiting) => after_term(waiting, worth),
+        Some(waiting) => after(waiting, worth),
         None => Ok(Next::Done(worth)),
     }
 }
 
 /// After a token that stands after a term.
 fn more_next(
-    worth: Result<Elements, Mistake>,
+    worth: Result<Gathered, Mistake>,
     brackets: &mut Brackets,
     token: &Token,
 ) -> Result<Next, Memory>
@@ -314,11 +365,11 @@ fn advance(
 }
 
 /// What a set is worth that ends there.
-fn whole(alloc: Global, due: Due) -> Result<Elements, Mistake>
+fn whole(alloc: Global, due: Due) -> Result<Gathered, Mistake>
     ensures { result ≡ whole due }
 {
     match due {
-        Due::Term(_) => Ok(Elements::new(alloc)),
+        Due::Term(_) => Ok(Gathered::none(alloc)),
         Due::More(worth) => worth,
     }
 }
@@ -329,7 +380,7 @@ fn worth(
     cluster: &Cluster,
     bindings: &Bindings,
     tokens: &[Token],
-) -> Result<Result<Elements, Mistake>, Memory>
+) -> Result<Result<Gathered, Mistake>, Memory>
     ensures { IfOk result (λ worth. worth ≡ run cluster.now.given bindings.now (Term Nothing) [] tokens.now) }
 {
     let mut brackets = Brackets::new(alloc);
@@ -354,7 +405,7 @@ pub fn value(
     ensures { Answers result (value_of cluster.now.given bindings.now set.now) }
 {
     match worth(alloc, cluster, bindings, set.tokens())? {
-        Ok(elements) => Ok(elements),
+        Ok(gathered) => Ok(gathered.settled()?),
         Err(mistake) => Err(Refusal::Wrong(mistake)),
     }
 }

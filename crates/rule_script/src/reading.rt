@@ -1,5 +1,5 @@
 //! What the tokens of a line say, by descent.
-ghost use Rattle.std.specs.Prelude.{◌≡◌, codes};
+ghost use Rattle.std.specs.Prelude.{codes};
 ghost use Rattle.rule_script.specs.Grammar.{Gives, Takes, arguments, binding, call_at, each_of, needs, plain_set, set_and_number, set_resource_number, sets_at, spoken, statement, two_sets, unflagged};
 
 use crate::cursor::Tokens;

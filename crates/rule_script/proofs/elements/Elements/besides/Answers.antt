@@ -8,7 +8,7 @@ use Rattle.rule_script.proofs.elements.Elements.besides.Goals as goal
 pub invariant_of-result : goal.invariant_of-result
 invariant_of-result c =
     let left : c.retain.new.self.items ≡ filter (λ x. not (in_list c.args.others.now x)) c.self.inside.list.items = filter_same _ (λ x. not (in_list c.args.others.now x)) _ (λ x b f' k. search rules) _ _ c.retain.ensures.filtered in
-    (rw left (list_all-filter is_small (λ x. not (in_list c.args.others.now x)) c.self.inside.list.items c.self.invariant.0), λ s never. absurd (cc))
+    rw left (list_all-filter is_small (λ x. not (in_list c.args.others.now x)) c.self.inside.list.items c.self.invariant)
 
 pub returns : goal.returns
 returns c =
