@@ -1,6 +1,6 @@
 //! A command with each of its calls failing in turn.
 
-use crate::rows::{Ended, Failing, Row};
+use crate::rows::{Called, Ended, Failing, Row};
 use commands::status::Status;
 use std::io;
 
@@ -27,27 +27,25 @@ fn is_cut(row: &Row, whole: &Ended, cut: &Ended) -> bool {
     };
     cut.status == status
         && whole.sink.written().starts_with(cut.sink.written())
-        && row.files().all(|(name, before)| is_left(
-            before,
-            whole.desk.get(name),
-            cut.desk.get(name),
-        ))
+        && row.files().iter().all(|file| {
+            is_left(
+                file.text(),
+                whole.desk.get(&file.name),
+                cut.desk.get(&file.name),
+            )
+        })
 }
 
-/// Fails each call of one sort in turn, from the first to the last that the command makes, and returns how many it made.
-fn fail_each(
-    rt: &HostRuntime,
-    row: &Row,
-    whole: &Ended,
-    failing: fn(u64) -> Failing,
-) -> io::Result<u64> {
+/// Fails each call of one of the three in turn, from the first to the last that the command makes, and returns how many it
+/// made.
+fn fail_each(rt: &HostRuntime, row: &Row, whole: &Ended, called: Called) -> io::Result<u64> {
     for call in 0..u64::MAX {
-        let cut = row.run(rt.alloc(), failing(call))?;
+        let cut = row.run(rt.alloc(), Some(Failing { called, call }))?;
         if cut.faults() == whole.faults() {
             return Ok(call);
         }
         if !is_cut(row, whole, &cut) {
-            println!(rt; "{:?}: status {}", failing(call), cut.status.code())?;
+            println!(rt; "{called:?} {call}: status {}", cut.status.code())?;
         }
     }
     Ok(u64::MAX)
@@ -59,9 +57,9 @@ fn say(rt: &HostRuntime, row: &Row, whole: &Ended) -> io::Result<()> {
         "{}",
         str::from_utf8(whole.sink.written()).unwrap_or_default()
     )?;
-    for (name, before) in row.files() {
-        let after = whole.desk.get(name);
-        if after == before {
+    for file in row.files() {
+        let (name, after) = (&file.name, whole.desk.get(&file.name));
+        if after == file.text() {
             continue;
         }
         let text = str::from_utf8(after.unwrap_or_default()).unwrap_or_default();
@@ -76,7 +74,7 @@ fn say(rt: &HostRuntime, row: &Row, whole: &Ended) -> io::Result<()> {
 
 /// Runs a command once, and prints what it has printed and changed, and its status.
 pub fn run_once(rt: &HostRuntime, row: &Row) -> io::Result<()> {
-    let whole = row.run(rt.alloc(), Failing::None)?;
+    let whole = row.run(rt.alloc(), None)?;
     say(rt, row, &whole)?;
     println!(rt; "status {}", whole.status.code())
 }
@@ -85,11 +83,11 @@ pub fn run_once(rt: &HostRuntime, row: &Row) -> io::Result<()> {
 /// how many bytes of the source it leaves. Each of the calls is failed once; where something then stands that should not, a
 /// line more says so.
 pub fn try_calls(rt: &HostRuntime, row: &Row) -> io::Result<()> {
-    let mut whole = row.run(rt.alloc(), Failing::None)?;
+    let mut whole = row.run(rt.alloc(), None)?;
     say(rt, row, &whole)?;
-    let files = fail_each(rt, row, &whole, Failing::Desk)?;
-    let source = fail_each(rt, row, &whole, Failing::Source)?;
-    let sink = fail_each(rt, row, &whole, Failing::Sink)?;
+    let files = fail_each(rt, row, &whole, Called::Files)?;
+    let source = fail_each(rt, row, &whole, Called::Source)?;
+    let sink = fail_each(rt, row, &whole, Called::Sink)?;
     let left = whole.left();
     println!(rt;
         "status {}, calls {files} {source} {sink}, left {left}",

@@ -8,21 +8,51 @@ use rule_solver::RuleSolver;
 use std::alloc::Global;
 use std::io;
 
+/// What stands before under a name, if there is a file.
+#[derive(Drop)]
+pub struct RowFile {
+    pub name: String,
+    text: Option<Vec<u8>>,
+}
+
+impl RowFile {
+    /// Its bytes.
+    pub fn text(&self) -> Option<&[u8]> {
+        match &self.text {
+            Some(text) => Some(text.as_slice()),
+            None => None,
+        }
+    }
+}
+
 /// A command, the files that its words name, and the bytes of its source.
 #[derive(Drop)]
 pub struct Row {
     words: Vec<String>,
-    files: Vec<Option<Vec<u8>>>,
+    files: Vec<RowFile>,
     events: Vec<u8>,
 }
 
-/// The call that fails, counted from 0 on each of the three.
+fn copy_of(alloc: Global, text: Option<&[u8]>) -> io::Result<Option<Vec<u8>>> {
+    Ok(match text {
+        Some(text) => Some(Vec::from_slice(alloc, text)?),
+        None => None,
+    })
+}
+
+/// What is called: the files, the source or the sink.
+#[derive(Clone, Copy, Debug, PartialEq, Eq)]
+pub enum Called {
+    Files,
+    Source,
+    Sink,
+}
+
+/// The call that fails, counted from 0 for each of the three.
 #[derive(Clone, Copy, Debug)]
-pub enum Failing {
-    None,
-    Desk(u64),
-    Source(u64),
-    Sink(u64),
+pub struct Failing {
+    pub called: Called,
+    pub call: u64,
 }
 
 /// What a run has left.
@@ -56,10 +86,13 @@ impl Ended {
     }
 }
 
-fn one_call(alloc: Global, call: Option<u64>) -> io::Result<Vec<u64>> {
+/// The list of the calls of one of the three that fail.
+fn calls(alloc: Global, called: Called, failing: Option<Failing>) -> io::Result<Vec<u64>> {
     let mut calls = Vec::new(alloc);
-    if let Some(call) = call {
-        calls.push(call)?;
+    if let Some(failing) = failing
+        && failing.called == called
+    {
+        calls.push(failing.call)?;
     }
     Ok(calls)
 }
@@ -75,9 +108,9 @@ impl Row {
         let mut files = Vec::new(alloc);
         for word in command.split(' ') {
             words.push(String::from_str(alloc, word)?)?;
-            files.push(match texts.get(word) {
-                Some(text) => Some(Vec::from_slice(alloc, text)?),
-                None => None,
+            files.push(RowFile {
+                name: String::from_str(alloc, word)?,
+                text: copy_of(alloc, texts.get(word))?,
             })?;
         }
         let events = Vec::from_slice(alloc, source)?;
@@ -88,32 +121,22 @@ impl Row {
         })
     }
 
-    /// Each name that a word says, with what stands there before.
-    pub fn files(&self) -> impl Iterator<Item = (&str, Option<&[u8]>)> {
-        let texts = self
-            .files
-            .iter()
-            .map(|text| text.as_ref().map(Vec::as_slice));
-        self.words.iter().map(String::as_str).zip(texts)
+    /// The file of each word.
+    pub fn files(&self) -> &[RowFile] {
+        &self.files
     }
 
-    /// Runs the command, with a call that fails.
-    pub fn run(&self, alloc: Global, failing: Failing) -> io::Result<Ended> {
-        let (on_desk, on_source, on_sink) = match failing {
-            Failing::None => (None, None, None),
-            Failing::Desk(call) => (Some(call), None, None),
-            Failing::Source(call) => (None, Some(call), None),
-            Failing::Sink(call) => (None, None, Some(call)),
-        };
-        let mut desk = DeskMem::new(one_call(alloc, on_desk)?);
-        for (name, text) in self.files() {
-            if let Some(text) = text {
-                desk.put(name, text).map_err(no_memory)?;
+    /// Runs the command, with a call that fails, if one is to.
+    pub fn run(&self, alloc: Global, failing: Option<Failing>) -> io::Result<Ended> {
+        let mut desk = DeskMem::new(calls(alloc, Called::Files, failing)?);
+        for file in &self.files {
+            if let Some(text) = file.text() {
+                desk.put(&file.name, text).map_err(no_memory)?;
             }
         }
         let events = Vec::from_slice(alloc, &self.events)?;
-        let mut source = SourceMem::new(events, one_call(alloc, on_source)?);
-        let mut sink = SinkMem::new(one_call(alloc, on_sink)?);
+        let mut source = SourceMem::new(events, calls(alloc, Called::Source, failing)?);
+        let mut sink = SinkMem::new(calls(alloc, Called::Sink, failing)?);
         let status = run(
             alloc,
             &self.words,
