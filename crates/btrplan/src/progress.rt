@@ -141,4 +141,9 @@ impl<D: Desk + Drop, R: Clock + Eprint> Desk for TellingDesk<'_, D, R> {
         self.progress.done.see(piece);
         self.desk.append(name, piece)
     }
+
+    fn sync(&mut self) -> Result<(), OutFault> {
+        self.progress.tell();
+        self.desk.sync()
+    }
 }

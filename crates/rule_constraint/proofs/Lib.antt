@@ -6,3 +6,4 @@ mod IndexLemmas
 mod KeptLemmas
 mod DirtyLemmas
 mod SettingLemmas
+mod LeavingLemmas

@@ -5,6 +5,7 @@
 pub mod disturb;
 pub mod index;
 pub mod kinds;
+pub mod leaving;
 pub mod machines;
 pub mod watcher;
 

@@ -1,9 +1,6 @@
 -- A machine that loses choices and gives its host up no later than before needs it no longer.
-use Rattle.rule_place.proofs.Prelude.{IsTrue, ◌≡◌, ◌≢◌, ◌⊎◌, inl, inr, ℕ, ◌+◌, ◌<◌, ◌≤◌, ◌&&◌, Bool, true, false, nat_lt, cond, List, [], ◌∷◌, refl, sym, ap, ◌∙◌, arith, nat_tests, cases_lt, false≢true, Contains, Place, IsMachineLess, Stay, surely_each, arrival, arrived, kept_law, numbers, of_one, last_of, least_of_each, contains_here, later_in, lowest_before, Some}
-use Rattle.rule_place.specs.Prelude.{Act, AreFewer, At, base, Choice, choices, comes_by, DomainView, gain, GivesUp, has_come, held_at, hosted_in, Instance, IsEnd, IsInstance, IsLess, IsStill, least, leave_climbs, leave_of, lost_choices, lowest, never, Nowhere, one, Presence, present_at, restored, state_of, surely, usable_watch, Vm, VmId, Weight}
-use Rattle.base.proofs.Public.{None, Option, unwrap_or}
-use Rattle.domains.specs.declared.undo.Lost.{Lost}
-use Rattle.profiles.specs.Prelude.{lower_option}
+use Rattle.rule_place.proofs.Prelude.{IsTrue, ◌≡◌, ◌≢◌, inl, inr, ℕ, ◌<◌, ◌≤◌, ◌&&◌, Bool, true, false, nat_lt, cond, List, [], ◌∷◌, refl, ◌∙◌, arith, nat_tests, cases_lt, Contains, IsMachineLess, Stay, surely_each, arrival, arrived, kept_law, numbers, of_one, last_of, least_of_each, contains_here, later_in}
+use Rattle.rule_place.specs.Prelude.{Act, AreFewer, base, Choice, choices, comes_by, gain, GivesUp, held_at, hosted_in, Instance, IsEnd, IsInstance, IsStill, least, leave_climbs, leave_of, never, one, Presence, present_at, state_of, surely, usable_watch, Vm, VmId, Weight}
 
 -- ---- the least of a measure over choices
 
@@ -19,24 +16,6 @@ least-attained f c (d ∷ ds) =
 least-above : (f : Choice → ℕ) (m : ℕ) (cs : List Choice) (c : Choice) → Contains cs c → ((d : Choice) → Contains cs d → m ≤ f d) → m ≤ least f cs
 least-above f m [] c h each = absurd (omega (arith, h.1))
 least-above f m (x ∷ xs) c h each = let one = least-attained f x xs in omega (arith, each one.0 one.1, one.2)
-
--- with what was lost
-pub none_lost : (f : Choice → ℕ) (lost : Lost) (d : DomainView) → AreFewer (choices d) (choices (restored lost d)) → lowest f (lost_choices lost) ≡ None → least f (choices d) ≤ least f (choices (restored lost d))
-none_lost f lost d fewer none = at (lowest f (choices d)) refl
-  where
-    at : (o : Option ℕ) → lowest f (choices d) ≡ o → least f (choices d) ≤ least f (choices (restored lost d))
-    at None e = rw (lowest_before f lost d fewer, none, e) (omega arith)
-    at (Some a) e = rw (lowest_before f lost d fewer, none, e) (omega arith)
-
-pub as_soon : (f : Choice → ℕ) (lost : Lost) (d : DomainView) (c : Choice) (first : ℕ) → AreFewer (choices d) (choices (restored lost d)) → lowest f (lost_choices lost) ≡ Some first → Contains (choices d) c → f c ≤ first → least f (choices d) ≤ least f (choices (restored lost d))
-as_soon f lost d c first fewer is there soon = at (lowest f (choices d)) refl
-  where
-    low : least f (choices d) ≤ first
-    low = omega (arith, least_of_each f (choices d) c there, soon)
-
-    at : (o : Option ℕ) → lowest f (choices d) ≡ o → least f (choices d) ≤ least f (choices (restored lost d))
-    at None e = rw (lowest_before f lost d fewer, is, e) (rw e at low)
-    at (Some a) e = let few : a ≤ first = rw e at low in rw (lowest_before f lost d fewer, is, e) (omega (arith, few))
 
 -- ---- the host
 

@@ -1,13 +1,11 @@
 //! Which watches of nodes are dirty.
-ghost use Rattle.std.specs.Prelude.{◌≡◌, ◌≢◌, ◌⊎◌, ◌<◌, ◌≤◌, false, IfNone, IfSome, IsTrue, [], length};
+ghost use Rattle.std.specs.Prelude.{◌≡◌, ◌≢◌, ◌⊎◌, ◌<◌, false, IfNone, IfSome, IsTrue, [], length};
 ghost use Rattle.std.specs.List.{Contains};
-ghost use Rattle.rule_place.specs.Prelude.{AreDirtyUpTo, AreFewer, AreNodesDirty, AreSpared, Choice as AnyChoice, choices, domain_at, domain_before, GivesUp, goes_in, hosted_in, IsElement, IsRegionOf, IsSized, least, leave_of, machine_count, node_count, one, sets, state_of};
+ghost use Rattle.rule_place.specs.Prelude.{AreDirtyUpTo, AreFewer, AreNodesDirty, AreSpared, Choice as AnyChoice, choices, domain_at, domain_before, GivesUp, goes_in, hosted_in, IsElement, IsRegionOf, IsSized, machine_count, node_count, one, sets, state_of};
 
 use crate::shutdowns::goes_elsewhere;
-use domains::measure::{Measure, lowest_lost};
-use profiles::standing::leaves::leaves_of;
-use profiles::standing::numbers::Leaving;
 use rule_constraint::host;
+use rule_constraint::leaving::leaves_as_soon;
 use rule_frame::{Before, Choice, DirtySet, Domain, Element, NodeId, Place, Problem, Region, VmId};
 
 // sets dirty each watch
@@ -38,47 +36,6 @@ fn set_place_dirty(p: &Problem, place: Place, dirty: &mut DirtySet)
     match place {
         Place::Nowhere => {}
         Place::At(n) => set_node_dirty(p, n, dirty),
-    }
-}
-
-// the first start at the last place of a domain: where place after place is taken away, that one stands longest
-fn start_at_last_place(domain: &Domain) -> Option<Choice>
-    ensures { IfSome result (Contains (choices domain.now)) }
-{
-    let rows = domain.rows();
-    let count = rows.len();
-    if count == 0 {
-        return None;
-    }
-    let row = rows[count - 1];
-    Some(Choice::Act {
-        place: row.place,
-        start: row.lo,
-    })
-}
-
-// whether it is seen that a machine gives its host up no later than before it lost some choices
-#[tactic(auto, using(crate::proofs::KeepLemmas::as_soon, crate::proofs::KeepLemmas::none_lost))]
-fn leaves_as_soon(p: &Problem, v: VmId, domain: &Domain, before: Before, _kept: &Domain) -> bool
-    requires machine { v.0 < machine_count p.now.given }
-    requires fewer { AreFewer (choices domain.now) (choices (domain_before before _kept.now domain.now)) }
-    requires some { choices domain.now ≢ [] }
-    ensures { IsTrue result → least (leave_of p.now.given v.0) (choices domain.now) ≤ least (leave_of p.now.given v.0) (choices (domain_before before _kept.now domain.now)) }
-{
-    let Before::Lost(lost) = before else {
-        return false;
-    };
-    let leaving = Leaving {
-        problem: p,
-        machine: v,
-        leaves: leaves_of(p, v),
-    };
-    let Some(first) = lowest_lost(lost, &leaving) else {
-        return true;
-    };
-    match start_at_last_place(domain) {
-        None => false,
-        Some(c) => leaving.value(c) <= first,
     }
 }
 

@@ -1,13 +1,14 @@
 //! Nodes that shut down after what is there has left, told for all instants up to the horizon at once.
-ghost use Rattle.std.specs.Prelude.{◌≡◌, ℕ, ◌<◌, ◌≤◌, false, [], IfSome, IsTrue};
+ghost use Rattle.std.specs.Prelude.{◌≡◌, ℕ, ◌<◌, ◌≤◌, false, IfSome, IsTrue};
 ghost use Rattle.std.specs.List.{Contains};
-ghost use Rattle.rule_place.specs.Prelude.{Choice as AnyChoice, choices, has_come, IsClean, IsShutdown, IsSized, leave_of, LetsGo, machine_count, node_count, sets, usable_watch};
+ghost use Rattle.rule_place.specs.Prelude.{Choice as AnyChoice, has_come, IsClean, IsShutdown, IsSized, leave_of, LetsGo, machine_count, node_count, sets, usable_watch};
 
 use crate::leaving::leaves_by;
 use domains::measure::Measure;
 use profiles::host::is_host;
 use profiles::standing::leaves::leaves_of;
 use profiles::standing::numbers::Leaving;
+use rule_constraint::leaving::may_leave_by;
 use rule_frame::{
     Change, Choice, Domain, Element, Instant, NodeId, Part, Place, Problem, Region, Row, Side, VmId,
 };
@@ -57,20 +58,6 @@ pub fn leave_at(p: &Problem, v: VmId, row: Row, start: Instant) -> u64
     })
 }
 
-// whether a machine leaves its host by an instant under one of its choices
-fn may_leave_by(p: &Problem, v: VmId, domain: &Domain, end: Instant) -> bool
-    requires { v.0 < machine_count p.now.given }
-    ensures { IsTrue result → (c : AnyChoice) × Contains (choices domain.now) c × (leave_of p.now.given v.0 c ≤ end) }
-{
-    let rows = domain.rows();
-    for i in 0..rows.len() {
-        if leave_at(p, v, rows[i], rows[i].lo) <= u64::from(end) {
-            return true;
-        }
-    }
-    false
-}
-
 /// Whether a machine has come to a node by no instant up to the horizon.
 pub(crate) fn goes_elsewhere(p: &Problem, g: &Region, v: VmId, n: NodeId) -> bool
     requires region { IsSized p.now.given g.now }
@@ -97,7 +84,7 @@ fn lets_go(p: &Problem, g: &Region, v: VmId, n: NodeId, x: Shutdown) -> bool
     if !is_host(p, v, n) {
         return true;
     }
-    may_leave_by(p, v, domain, x.first) && leaves_by(p, v, domain, x.last)
+    may_leave_by(p, v, domain, u64::from(x.first)) && leaves_by(p, v, domain, x.last)
 }
 
 // whether none is

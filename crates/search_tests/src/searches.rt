@@ -337,7 +337,7 @@ fn a_failed_append_leaves_a_front(rt: HostRuntime) -> Result<(), Fail> {
     rules.push(Box::new(alloc, Ends::new())?)?;
     let mut brancher: Box<dyn Brancher> = Box::new(alloc, LeastStart)?;
     let whole = run_last(alloc, &mut rules, &mut brancher, Vec::new(alloc))?;
-    let cut = run_last(alloc, &mut rules, &mut brancher, vec![in alloc; 3]?)?;
+    let cut = run_last(alloc, &mut rules, &mut brancher, vec![in alloc; 4]?)?;
     assert_eq!(rt; cut.outcome, Outcome::Failed);
     assert!(rt; whole.text.starts_with(&cut.text));
     assert_eq!(rt;

@@ -26,17 +26,18 @@ fn write(alloc: Global, desk: &mut DeskMem) -> Result<Result<(), OutFault>, Fail
 
 #[test]
 fn a_certificate_is_written_up_to_the_failed_call(rt: HostRuntime) -> Result<(), Fail> {
-    let cases: [(u64, Result<(), OutFault>, Option<&str>); 5] = [
+    let cases: [(u64, Result<(), OutFault>, Option<&str>); 6] = [
         (0, Err(OutFault::Failed), None),
         (1, Err(OutFault::Failed), Some("")),
         (2, Err(OutFault::Failed), Some("btrplan certificate 1\n")),
+        (3, Err(OutFault::Failed), Some("btrplan certificate 1\n")),
         (
-            3,
+            4,
             Err(OutFault::Failed),
             Some("btrplan certificate 1\nfail bound\n"),
         ),
         (
-            4,
+            5,
             Ok(()),
             Some("btrplan certificate 1\nfail bound\nend optimal 0\n"),
         ),

@@ -1,5 +1,5 @@
-//! The command `demo`, and single calls of the desk and of the sink that fail on the seed 1. Of its 1,008
-//! calls of the desk two write the instance, six read it, 988 write the certificate, two write the plan,
+//! The command `demo`, and single calls of the desk and of the sink that fail on the seed 1. Of its 1,011
+//! calls of the desk three write the instance, six read it, 989 write the certificate, three write the plan,
 //! two read it, and eight read the certificate.
 
 use crate::tests::{calls, runs_on};
@@ -46,7 +46,7 @@ fn demonstrates(
 
 /// Demonstrates a seed with no call failing, or with calls that are past the last.
 fn accepts(rt: &impl Abort, alloc: Global, line: &str, printed: &[u8]) -> Result<(), Fail> {
-    let past = ((Some(1_008), Some(1)), Status::Good, WHOLE);
+    let past = ((Some(1_011), Some(1)), Status::Good, WHOLE);
     demonstrates(rt, alloc, line, past, printed)
 }
 
@@ -68,15 +68,16 @@ fn seed_41(rt: HostRuntime) -> Result<(), Fail> {
 #[test]
 fn first_calls_fail(rt: HostRuntime) -> Result<(), Fail> {
     let alloc = rt.alloc();
-    let table: [Case; 8] = [
+    let table: [Case; 9] = [
         ((Some(0), None), Status::WriteFault, [3, 3, 3]),
         ((Some(1), None), Status::WriteFault, [0, 3, 3]),
-        ((Some(2), None), Status::ReadFault, [18_017, 3, 3]),
+        ((Some(2), None), Status::WriteFault, [18_017, 3, 3]),
         ((Some(3), None), Status::ReadFault, [18_017, 3, 3]),
         ((Some(4), None), Status::ReadFault, [18_017, 3, 3]),
-        ((Some(7), None), Status::ReadFault, [18_017, 3, 3]),
-        ((Some(8), None), Status::WriteFault, [18_017, 3, 3]),
-        ((Some(9), None), Status::WriteFault, [18_017, 3, 0]),
+        ((Some(5), None), Status::ReadFault, [18_017, 3, 3]),
+        ((Some(8), None), Status::ReadFault, [18_017, 3, 3]),
+        ((Some(9), None), Status::WriteFault, [18_017, 3, 3]),
+        ((Some(10), None), Status::WriteFault, [18_017, 3, 0]),
     ];
     for case in table {
         demonstrates(&rt, alloc, "demo 1", case, b"")?;
@@ -88,8 +89,8 @@ fn first_calls_fail(rt: HostRuntime) -> Result<(), Fail> {
 fn late_writes_fail(rt: HostRuntime) -> Result<(), Fail> {
     let alloc = rt.alloc();
     let table: [Case; 2] = [
-        ((Some(990), None), Status::WriteFault, [18_017, 3, 26_622]),
-        ((Some(997), None), Status::WriteFault, [18_017, 0, 26_692]),
+        ((Some(992), None), Status::WriteFault, [18_017, 3, 26_622]),
+        ((Some(999), None), Status::WriteFault, [18_017, 0, 26_692]),
     ];
     for case in table {
         demonstrates(&rt, alloc, "demo 1", case, b"")?;
@@ -101,7 +102,7 @@ fn late_writes_fail(rt: HostRuntime) -> Result<(), Fail> {
 fn last_calls_fail(rt: HostRuntime) -> Result<(), Fail> {
     let alloc = rt.alloc();
     let table: [Case; 2] = [
-        ((Some(1_007), None), Status::ReadFault, WHOLE),
+        ((Some(1_010), None), Status::ReadFault, WHOLE),
         ((None, Some(0)), Status::WriteFault, WHOLE),
     ];
     for case in table {

@@ -75,6 +75,10 @@ impl Desk for OneByteDesk {
     fn append(&mut self, name: &str, piece: &[u8]) -> Result<(), OutFault> {
         self.desk.append(name, piece)
     }
+
+    fn sync(&mut self) -> Result<(), OutFault> {
+        self.desk.sync()
+    }
 }
 
 #[test]

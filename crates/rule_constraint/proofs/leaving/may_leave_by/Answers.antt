@@ -1,6 +1,8 @@
-use Rattle.rule_pair.proofs.Prelude.{◌≤◌, slice_index_or, arith, nat_tests, choices, end_is_choice, no_row, row_end}
-use Rattle.rule_pair.specs.Prelude.{Act, Choice}
-use Rattle.rule_pair.proofs.unmoved.may_leave_by.Goals as goal
+use Rattle.reasons.proofs.Public.{end_is_choice}
+use Rattle.rule_constraint.proofs.Prelude.{◌≤◌, slice_index_or, arith, nat_tests, choices, no_row}
+use Rattle.rule_constraint.proofs.SettingLemmas.{row_end}
+use Rattle.rule_constraint.specs.Prelude.{Act, Choice}
+use Rattle.rule_constraint.proofs.leaving.may_leave_by.Goals as goal
 
 pub returns-then-value-by : goal.returns-then-value-by
 returns-then-value-by c = λ _.
