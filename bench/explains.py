@@ -6,8 +6,11 @@ and the two files, byte for byte.
 
 What is wanted comes from `plan` alone, which is asked of the instance with each choice of its constraints: the order in
 which they are tried, what each search finds within the budget, and the certificate of the last one. Each core is
-checked too, strictly. The first difference is printed, and ends with status 1.
+checked too, strictly. A planner that goes over all plans then looks at the core and at all smaller ones: the core has no
+valid plan, and each that lacks one constraint has one that costs no more than was said. So has each that lacks more,
+unless a wish, a `preserve` or an `overbook` is among them. The first difference is printed, and ends with status 1.
 """
+import itertools
 import json
 import os
 import random
@@ -138,6 +141,19 @@ def explained(room, given, budget):
         return (*asked, None, None)
     return (*asked, *map(read, files))
 
+def core_fault(given, kept, costs):
+    """What the planner that goes over all plans says of a core that is none, or that is not least."""
+    if plain.least_cost(plain.Instance(sub(given, kept))) is not None:
+        return "the core has a valid plan"
+    for size in range(1, len(kept) + 1):
+        for lost in itertools.combinations(range(len(kept)), size):
+            if size > 1 and any(given["constraints"][kept[i]]["kind"] in SETTLED for i in lost):
+                continue
+            least = plain.least_cost(plain.Instance(sub(given, [c for i, c in enumerate(kept) if i not in lost])))
+            if least is None or size == 1 and least > costs[lost[0]]:
+                return f"without {[kept[i] for i in lost]} of {kept} the cheapest plan costs {least}"
+    return None
+
 
 def fault(room, given, budget, answer):
     lines, status, kept, cert = answer
@@ -150,6 +166,8 @@ def fault(room, given, budget, answer):
         verdict = run("check", os.path.join(room, "core"), none, os.path.join(room, "certificate"), "strict")[0]
         if not verdict.startswith("yes infeasible\n" if status == 0 else f"yes undecided {budget}"):
             return f"a strict check says {verdict!r}"
+        if status == 0:
+            return core_fault(given, kept, [int(line.split()[3]) for line in lines.splitlines()[:-1]])
     return None
 
 

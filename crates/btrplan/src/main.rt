@@ -7,10 +7,12 @@ mod finding;
 mod last_line;
 mod meaning;
 mod progress;
+mod searches;
 
 use crate::advice::advise;
 use crate::last_line::KeepingSink;
 use crate::progress::TellingDesk;
+use crate::searches::TellingSolver;
 use commands::run::run;
 use commands::status::Status;
 use plan_io::{FileDesk, StdSink, StdSource};
@@ -38,7 +40,8 @@ fn main(rt: HostRuntime) -> ExitCode {
     let mut desk = TellingDesk::new(FileDesk::new(&rt, alloc), &rt, &words);
     let mut input = StdSource::new(rt.stdin());
     let mut out = KeepingSink::new(alloc, StdSink::new(io::writer(&rt)));
-    let status = run(alloc, &words, &mut desk, &mut input, &mut out, &RuleSolver);
+    let solver = TellingSolver::new(RuleSolver, &rt);
+    let status = run(alloc, &words, &mut desk, &mut input, &mut out, &solver);
     // what cannot be said changes nothing
     let _ = advise(&rt, &words, status, out.last_line());
     ExitCode::from(status.code())
