@@ -1,6 +1,6 @@
 -- What `demo` answers and leaves.
 use Rattle.base.proofs.Public.{◌≡◌, ◌≢◌, ◌∙◌, ℕ, true, false, List, ◌++◌, Option, Some, Ok, refl, sym, ap, subst, inl, inr, append_assoc, bytes_eq-Decides, decimal, Result, Err, codes}
-use Rattle.commands.specs.Prelude.{Command, demo, DEMO_BUDGET, demo_certificate, demo_instance, demo_line, demo_plan, Ending, Ends, EndsAnyhow, Fault, Files, Follows, Found, found_line, found_status, HasGenerated, Infeasible, Instance, instance_in, IsAnswer, IsChecked, IsConcluded, IsDemonstrated, IsPlannedAndChecked, IsWritten, LeavesDemo, LeavesGenerated, LeavesPlanned, Optimal, optimal_line, Outside, outside, Status, Takes, Taking, Undecided}
+use Rattle.commands.specs.Prelude.{Command, demo, demo_certificate, demo_decisions, demo_instance, demo_line, demo_plan, Ending, Ends, EndsAnyhow, Fault, Files, Follows, Found, found_line, found_status, HasGenerated, Infeasible, Instance, instance_in, IsAnswer, IsChecked, IsConcluded, IsDemonstrated, IsPlannedAndChecked, IsWritten, LeavesDemo, LeavesGenerated, LeavesPlanned, Optimal, optimal_line, Outside, outside, Status, Takes, Taking, Undecided}
 use Rattle.commands.proofs.{Ends.says, Ends.answers_well, Ends.answers_refused, Ends.ends_more, LastLines.always_anyhow}
 
 -- ---- its files and its line
@@ -51,7 +51,7 @@ followed seed p Infeasible before after result some is = absurd (some refl)
 followed seed p (Undecided best least) before after result some is = is
 
 -- that there is no plan
-pub none_there : (seed : ℕ) (p : Instance) (found : Found) (before between after : Files) (printed line : List ℕ) (said : Status) → IsWritten demo_plan demo_certificate DEMO_BUDGET p before between found → found ≡ Infeasible → after ≡ between →
+pub none_there : (seed : ℕ) (p : Instance) (found : Found) (before between after : Files) (printed line : List ℕ) (said : Status) → IsWritten demo_plan demo_certificate demo_decisions p before between found → found ≡ Infeasible → after ≡ between →
     line ≡ found_line p found → said ≡ found_status found → IsPlannedAndChecked seed p (outside before printed) (outside after (printed ++ line)) said
 none_there seed p found before between after printed line said written none same text status_is = record {
   found = found;
@@ -65,7 +65,7 @@ none_there seed p found before between after printed line said written none same
 }
 
 -- what was found and checked
-pub checked_then : (seed : ℕ) (p : Instance) (found : Found) (before between after : Files) (printed : List ℕ) (ended : Result Ending Fault) → IsWritten demo_plan demo_certificate DEMO_BUDGET p before between found → (found ≡ Infeasible → ⊥) →
+pub checked_then : (seed : ℕ) (p : Instance) (found : Found) (before between after : Files) (printed : List ℕ) (ended : Result Ending Fault) → IsWritten demo_plan demo_certificate demo_decisions p before between found → (found ≡ Infeasible → ⊥) →
     Ends (IsConcluded seed p found (outside between printed)) (outside after printed) ended → Ends (IsPlannedAndChecked seed p (outside before printed)) (outside after printed) ended
 checked_then seed p found before between after printed ended written some ends =
     ends_more (IsConcluded seed p found (outside between printed)) (IsPlannedAndChecked seed p (outside before printed)) (outside after printed) ended
@@ -101,7 +101,7 @@ pub leaves_unread : (seed : ℕ) (before between after : Files) → LeavesGenera
 leaves_unread seed before between after left same = record { between = between; generated_cut = left; then = inl same }
 
 pub leaves_planned : (seed : ℕ) (before between middle after : Files) (p : Instance) → LeavesGenerated seed demo_instance before between → HasGenerated seed demo_instance before between → middle ≡ between → instance_in between demo_instance ≡ Ok p →
-    LeavesPlanned demo_plan demo_certificate DEMO_BUDGET p middle after → LeavesDemo seed before after
+    LeavesPlanned demo_plan demo_certificate demo_decisions p middle after → LeavesDemo seed before after
 leaves_planned seed before between middle after p left is same read planned = record { between = between; generated_cut = left; then = inr (is, rw read (rw same at planned)) }
 
 -- what is said of the source, which the command does not read

@@ -1,7 +1,7 @@
 -- What `explain` answers and leaves, by what was found of its problem.
 use Rattle.base.proofs.Public.{◌≡◌, ◌⊎◌, ◌∙◌, ℕ, List, [], ◌∷◌, ◌++◌, length, Option, Some, Ok, refl, sym, ap, subst, inl, inr, append_assoc, append-nil, Result, Err, OnOk, IfErr, ◌≤◌}
 use Rattle.explain.specs.Prelude.{IsCore, IsLeftOpen, sub}
-use Rattle.commands.specs.Prelude.{bytes_of, core_lines, Ending, Ends, explain, Fault, feasible_line, Files, Instance, instance_in, instance_of, HasTexts, instance_text, IsAnswer, IsExplained, IsInstance, IsOfWriting, IsValidPlan, LeavesBy, LeavesExplained, MAX_TEXT_BYTES, needed_line, needed_lines, open_line, Outside, outside, plan_cost, PlanChoices, SaysCore, SaysFeasible, SaysOpen, Status, WritesKept}
+use Rattle.commands.specs.Prelude.{bytes_of, core_lines, Ending, Ends, explain, Fault, feasible_line, Files, Instance, instance_in, instance_of, HasTexts, instance_text, IsAnswer, IsExplained, IsInstance, IsOfWriting, IsValidPlan, LeavesBy, LeavesExplained, max_text_bytes, needed_line, needed_lines, open_line, Outside, outside, plan_cost, PlanChoices, SaysCore, SaysFeasible, SaysOpen, Status, WritesKept}
 use Rattle.commands.proofs.{Ends.says, Ends.answers_well, Ends.answers_refused, Ends.ends_more, Ends.left_same}
 
 -- ---- the lines
@@ -29,11 +29,11 @@ all_said text whole kept costs so_far none = sym (append-nil text) ∙ sym (ap (
 
 -- the problem of the constraints that are kept is written, where nothing was refused
 pub kept_written : {T E : Type 0} (core certificate : List ℕ) (p q : Instance) (kept text core_text : List ℕ) (before after : Files) (result : Result T E) → IsInstance q → q ≡ sub p kept → core_text ≡ instance_text q →
-    (length core_text ≤ MAX_TEXT_BYTES → instance_of core_text ≡ Ok q) → OnOk result (HasTexts core core_text certificate text before after) → OnOk result (WritesKept core certificate p kept text before after)
+    (length core_text ≤ max_text_bytes → instance_of core_text ≡ Ok q) → OnOk result (HasTexts core core_text certificate text before after) → OnOk result (WritesKept core certificate p kept text before after)
 kept_written core certificate p q kept text core_text before after (Ok x) sound is text_is reads written = record {
   sound = subst IsInstance is sound;
   written = subst (λ (t : List ℕ). HasTexts core t certificate text before after) whole written;
-  reads = λ few. ap (λ file. instance_of (bytes_of file)) written.first_whole ∙ reads (subst (λ (t : List ℕ). length t ≤ MAX_TEXT_BYTES) (sym whole) few) ∙ ap Ok is;
+  reads = λ few. ap (λ file. instance_of (bytes_of file)) written.first_whole ∙ reads (subst (λ (t : List ℕ). length t ≤ max_text_bytes) (sym whole) few) ∙ ap Ok is;
 }
   where
     whole : core_text ≡ instance_text (sub p kept)

@@ -5,35 +5,35 @@ use Rattle.rule_script.specs.Reads.{ReadsScript}
 use Rattle.rule_script.specs.Script.{at}
 use Rattle.rule_script.specs.declared.faults.{Mistake.Mistake, ScriptFault.ScriptFault}
 use Rattle.rule_script.proofs.Public.{scripts_add}
-use Rattle.commands.specs.Prelude.{AddsTo, any_plan_lined, any_plan_reading_of, Choices, choices_handed, choices_of, Fails, Fault, input_line, Instance, instance_fault_of, instance_line, instance_of, InstanceFault, inventory_of, lined, MAX_TEXT_BYTES, needed, plan_fault_of, plan_line, plan_of, PlanChoices, reading_of, Reads, script_line, script_lined, script_reading_of, whole_of, wrong_text}
+use Rattle.commands.specs.Prelude.{AddsTo, any_plan_lined, any_plan_reading_of, Choices, choices_handed, choices_of, Fails, Fault, input_line, Instance, instance_fault_of, instance_line, instance_of, InstanceFault, inventory_of, lined, max_text_bytes, needed, plan_fault_of, plan_line, plan_of, PlanChoices, reading_of, Reads, script_line, script_lined, script_reading_of, whole_of, wrong_text}
 use Rattle.instance_json.specs.Texts.{fault_text as instance_fault_text}
 use Rattle.plan_json.specs.{Texts.fault_text as plan_fault_text, declared.fault.PlanFault.PlanFault}
 
 -- ---- all bytes of an input
 
 -- more bytes than an input may have
-pub long_input : (input bytes : List ℕ) → MAX_TEXT_BYTES < length bytes → whole_of input bytes ≡ Err (input_line input (codes "too long"))
+pub long_input : (input bytes : List ℕ) → max_text_bytes < length bytes → whole_of input bytes ≡ Err (input_line input (codes "too long"))
 unfolding whole_of
 long_input input bytes long =
-    let past : nat_le (length bytes) MAX_TEXT_BYTES ≡ false = grind (arith, nat_tests) in
+    let past : nat_le (length bytes) max_text_bytes ≡ false = grind (arith, nat_tests) in
     rw past refl
 
 -- no more bytes than an input may have
-pub short_input : (input bytes : List ℕ) → length bytes ≤ MAX_TEXT_BYTES → whole_of input bytes ≡ Ok bytes
+pub short_input : (input bytes : List ℕ) → length bytes ≤ max_text_bytes → whole_of input bytes ≡ Ok bytes
 unfolding whole_of
 short_input input bytes short =
-    let within : nat_le (length bytes) MAX_TEXT_BYTES ≡ true = grind (arith, nat_tests) in
+    let within : nat_le (length bytes) max_text_bytes ≡ true = grind (arith, nat_tests) in
     rw within refl
 
 -- a line that refuses the bytes of an input says that they are too many, and so they are
 abbrev pub IsLong : (input bytes line : List ℕ) → Type 0
-IsLong input bytes line = (nat_le (length bytes) MAX_TEXT_BYTES ≡ false) × (line ≡ input_line input (codes "too long"))
+IsLong input bytes line = (nat_le (length bytes) max_text_bytes ≡ false) × (line ≡ input_line input (codes "too long"))
 
 long_line : (input bytes line : List ℕ) → whole_of input bytes ≡ Err line → IsLong input bytes line
 unfolding whole_of
-long_line input bytes line = by_size (nat_le (length bytes) MAX_TEXT_BYTES) refl
+long_line input bytes line = by_size (nat_le (length bytes) max_text_bytes) refl
   where
-    by_size : (within : Bool) → nat_le (length bytes) MAX_TEXT_BYTES ≡ within → (if within then Ok bytes else Err (input_line input (codes "too long"))) ≡ Err line → IsLong input bytes line
+    by_size : (within : Bool) → nat_le (length bytes) max_text_bytes ≡ within → (if within then Ok bytes else Err (input_line input (codes "too long"))) ≡ Err line → IsLong input bytes line
     by_size true is e = absurd (cc)
     by_size false is e = (is, cc)
 

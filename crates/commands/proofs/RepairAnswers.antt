@@ -7,7 +7,7 @@ use Rattle.repair.specs.Events.{point}
 use Rattle.executor.specs.declared.phase.Phase.TheVariants.{Running}
 use Rattle.repair.specs.declared.following.Ending.{Ending as Followed}
 use Rattle.commands.specs.declared.fault.Outcome.{Outcome}
-use Rattle.commands.specs.Prelude.{Broken, broken_line, bytes_of, Choices, choices_of, Element, Ending, Ends, EndsAnyhow, EndsFrom, Fault, Files, first_event, first_phases, FollowGives, HasTexts, Instance, instance_in, instance_of, instance_text, IsAnswer, IsExecution, IsFirst, IsFirstBroken, IsGoingOn, IsMonitor, IsOfReading, IsRefusal, IsRepaired, IsValid, LastEnds, Leaves, LeavesBy, LeavesEnding, LeavesRepaired, LeavesRest, LineEnds, MAX_TEXT_BYTES, Outside, outside, outcome_status, Phases, phases_of, plan_cost, plan_in, plan_of, plan_text, PlanChoices, printed_with, repair, repaired_line, Repairs, RepairsBy, RepairsPlan, RepairsTold, running_line, Says, SaysEnding, SaysRest, Starts, Status, StopsAtEnding, StopsInLine, Takes, TakesEvents, TakesNothing, Taking, told, TookEvents, TookEventsBy}
+use Rattle.commands.specs.Prelude.{Broken, broken_line, bytes_of, Choices, choices_of, Element, Ending, Ends, EndsAnyhow, EndsFrom, Fault, Files, first_event, first_phases, FollowGives, HasTexts, Instance, instance_in, instance_of, instance_text, IsAnswer, IsExecution, IsFirst, IsFirstBroken, IsGoingOn, IsMonitor, IsOfReading, IsRefusal, IsRepaired, IsValid, LastEnds, Leaves, LeavesBy, LeavesEnding, LeavesRepaired, LeavesRest, LineEnds, max_text_bytes, Outside, outside, outcome_status, Phases, phases_of, plan_cost, plan_in, plan_of, plan_text, PlanChoices, printed_with, repair, repaired_line, Repairs, RepairsBy, RepairsPlan, RepairsTold, running_line, Says, SaysEnding, SaysRest, Starts, Status, StopsAtEnding, StopsInLine, Takes, TakesEvents, TakesNothing, Taking, told, TookEvents, TookEventsBy}
 use Rattle.commands.proofs.{Ends.says, Ends.answers_well, Ends.answers_refused, Ends.ends_more, Ends.left_same, Ends.left_well, ExecuteAnswers.broken_is_not_valid, LastLines.always_anyhow, LastLines.anyhow_more}
 
 -- ---- what is left is written
@@ -16,7 +16,7 @@ use Rattle.commands.proofs.{Ends.says, Ends.answers_well, Ends.answers_refused, 
 pub repaired : (p : Instance) (plan : Choices) (phases : Phases) (new_instance new_plan : List ℕ) (problem : SoundInstance) (kept : PlanChoices) (before after : Files) (printed line : List ℕ) →
     ((e : Element) → phases e ≢ Running) → IsGoingOn p plan phases problem.given kept →
     HasTexts new_instance (instance_text problem.given) new_plan (plan_text problem.given (Some kept)) before after →
-    (length (instance_text problem.given) ≤ MAX_TEXT_BYTES → instance_of (instance_text problem.given) ≡ Ok problem.given) →
+    (length (instance_text problem.given) ≤ max_text_bytes → instance_of (instance_text problem.given) ≡ Ok problem.given) →
     plan_of problem.given (plan_text problem.given (Some kept)) ≡ Ok (Some kept) → line ≡ repaired_line (plan_cost problem.given kept) →
     Repairs p plan phases new_instance new_plan (outside before printed) (outside after (printed ++ line)) Status.Good
 repaired p plan phases new_instance new_plan problem kept before after printed line nothing goes_on written instance_reads plan_reads text = record {

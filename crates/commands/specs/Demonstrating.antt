@@ -4,9 +4,13 @@ use Rattle.std.specs.Fmt.{decimal}
 use Rattle.cert_write.specs.Prelude.{Files, Instance}
 use Rattle.search.specs.declared.found.Found.{Found, TheVariants.Optimal, TheVariants.Infeasible, TheVariants.Undecided}
 use Rattle.commands.specs.Answer.{Outside, Says, AnswersBy, LeavesBy, outside}
-use Rattle.commands.specs.{Inputs.Instance.instance_in, Checking.IsChecked, Generating.HasGenerated, Generating.LeavesGenerated, declared.demonstrating.TheConstants.DEMO_BUDGET, declared.status.Status.Status}
+use Rattle.commands.specs.{Inputs.Instance.instance_in, Checking.IsChecked, Generating.HasGenerated, Generating.LeavesGenerated, declared.status.Status.Status}
 use Rattle.solver.specs.Prelude.{plan_cost}
 use Rattle.commands.specs.Planning.{IsWritten, LeavesPlanned, found_line, found_status}
+
+-- How many decisions it may take.
+abbrev pub demo_decisions : ℕ
+demo_decisions = 10000
 
 -- ---- its files
 
@@ -49,7 +53,7 @@ Follows seed p (Undecided best least) before after result = IsConcluded seed p (
 pub record IsPlannedAndChecked (seed : ℕ) (p : Instance) (before after : Outside) (result : Status) : Type 0 where
   pub found : Found
   pub between : Files
-  pub written : IsWritten demo_plan demo_certificate DEMO_BUDGET p before.files between found
+  pub written : IsWritten demo_plan demo_certificate demo_decisions p before.files between found
   pub follows : Follows seed p found (outside between before.printed) after result
 
 -- `demo`: the problem of a seed is written, read back, planned and checked.
@@ -65,4 +69,4 @@ pub record LeavesDemo (seed : ℕ) (before after : Files) : Type 0 where
   pub between : Files
   pub generated_cut : LeavesGenerated seed demo_instance before between
   pub then : (after ≡ between)
-      ⊎ (HasGenerated seed demo_instance before between × LeavesBy (LeavesPlanned demo_plan demo_certificate DEMO_BUDGET) (instance_in between demo_instance) between after)
+      ⊎ (HasGenerated seed demo_instance before between × LeavesBy (LeavesPlanned demo_plan demo_certificate demo_decisions) (instance_in between demo_instance) between after)

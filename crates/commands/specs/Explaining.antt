@@ -4,7 +4,7 @@ use Rattle.std.specs.{Fmt.decimal, List.flat_map, List.zip}
 use Rattle.plan_io.specs.Files.{bytes_of, Files}
 use Rattle.catalogue.specs.Instance.{Instance}
 use Rattle.search.specs.Prelude.{IsInstance, IsValidPlan, PlanChoices}
-use Rattle.instance_make.specs.Prelude.{instance_of, instance_text, MAX_TEXT_BYTES}
+use Rattle.instance_make.specs.Prelude.{instance_of, instance_text, max_text_bytes}
 use Rattle.explain.specs.Prelude.{IsCore, IsLeftOpen, sub}
 use Rattle.solver.specs.Prelude.{plan_cost}
 use Rattle.commands.specs.{Answer.Outside, Answer.Says, Outputs.AreTextsCut, Outputs.HasTexts, declared.status.Status.Status}
@@ -38,7 +38,7 @@ open_line count = codes "undecided " ++ decimal count ++ codes "\n"
 pub record WritesKept (core certificate : List ℕ) (p : Instance) (kept text : List ℕ) (before after : Files) : Type 0 where
   pub sound : IsInstance (sub p kept)
   pub written : HasTexts core (instance_text (sub p kept)) certificate text before after
-  pub reads : length (instance_text (sub p kept)) ≤ MAX_TEXT_BYTES → instance_of (bytes_of (after core)) ≡ Ok (sub p kept)
+  pub reads : length (instance_text (sub p kept)) ≤ max_text_bytes → instance_of (bytes_of (after core)) ≡ Ok (sub p kept)
 
 -- ---- the answer
 

@@ -3,7 +3,7 @@ pub mod Instance
 pub mod Plan
 pub mod Script
 use Rattle.std.specs.Prelude.{ℕ, List, ◌++◌, length, nat_le, Result, Ok, Err, if◌then◌else◌, codes}
-use Rattle.json_walk.specs.declared.reading.TheConstants.{MAX_TEXT_BYTES}
+use Rattle.json_walk.specs.Json.{max_text_bytes}
 
 -- The line that refuses an input.
 abbrev pub input_line : (input text : List ℕ) → List ℕ
@@ -11,4 +11,4 @@ input_line input text = codes "input " ++ input ++ codes " " ++ text ++ codes "\
 
 -- All bytes of an input, or the line that refuses more than the most.
 unfoldable pub whole_of : (input bytes : List ℕ) → Result (List ℕ) (List ℕ)
-whole_of input bytes = if nat_le (length bytes) MAX_TEXT_BYTES then Ok bytes else Err (input_line input (codes "too long"))
+whole_of input bytes = if nat_le (length bytes) max_text_bytes then Ok bytes else Err (input_line input (codes "too long"))

@@ -2,7 +2,7 @@
 use Rattle.std.specs.Prelude.{◌≡◌, ◌≢◌, ℕ, ◌<◌, ◌≤◌, ◌^◌, Bool, List, length, Option, Some, None, Ok}
 use Rattle.search.specs.Prelude.{bytes_of, goal_in, Instance, least_in, plan_in}
 use Rattle.plan_io.specs.Files.{Files}
-use Rattle.instance_make.specs.Prelude.{instance_text, MAX_TEXT_BYTES}
+use Rattle.instance_make.specs.Prelude.{instance_text, max_text_bytes}
 use Rattle.explain.specs.Prelude.{sub}
 use Rattle.trees.specs.declared.steps.Goal.TheVariants.{Infeasible}
 use Rattle.cert_model.specs.Walks.{choices_handed}
@@ -38,6 +38,6 @@ PlannedIsChecked =
 -- The core is read where it has no more bytes than an instance may have.
 abbrev pub ExplainedIsChecked : Type 0
 ExplainedIsChecked =
-    (core certificate : List ℕ) (budget : ℕ) → budget < 2 ^ 64 → (p : Instance) (before between : Outside) (said : Status) → (is : SaysCore core certificate budget p before between said) → length (instance_text (sub p is.kept)) ≤ MAX_TEXT_BYTES →
+    (core certificate : List ℕ) (budget : ℕ) → budget < 2 ^ 64 → (p : Instance) (before between : Outside) (said : Status) → (is : SaysCore core certificate budget p before between said) → length (instance_text (sub p is.kept)) ≤ max_text_bytes →
     (plan_file : List ℕ) (start after : Outside) (source : Option (List ℕ)) (strict : Bool) (result : Status) → start.files core ≡ between.files core → start.files certificate ≡ between.files certificate → any_plan_in (sub p is.kept) start.files plan_file ≡ Ok None →
     IsAnswer (Some (check core plan_file certificate strict)) source start after result → Says (verdict_line (Yes Infeasible None)) Status.Good start after result

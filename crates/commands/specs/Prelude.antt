@@ -17,7 +17,7 @@ pub use Rattle.search.specs.Prelude.{choices_of, CountsWrites, goal_in, IsTrueOf
 unfoldable pub use Rattle.search.specs.Prelude.{IsValid}
 pub use Rattle.cert_check.specs.Prelude.{bytes_of, CheckGives, Choices, choices_handed, CountsCheck, Instance, inventory_of, IsInstance, IsPlanOf, IsSound, IsYesUnlessOutside}
 pub use Rattle.cluster.specs.declared.ids.Element.{Element}
-pub use Rattle.json_walk.specs.declared.reading.TheConstants.{MAX_TEXT_BYTES}
+pub use Rattle.json_walk.specs.Json.{max_text_bytes}
 pub use Rattle.slices.specs.{Rules.IsFirstBroken, declared.rule.Broken.Broken}
 pub use Rattle.trees.specs.declared.steps.Goal.{Goal}
 pub use Rattle.transcript.specs.declared.conclusion.{Conclusion.Conclusion, Conclusion.TheVariants.Done, Conclusion.TheVariants.Refused, Conclusion.TheVariants.StoppedEnd, Conclusion.TheVariants.StoppedFail, ExecuteFault.ExecuteFault}
@@ -30,7 +30,7 @@ pub use Rattle.commands.specs.Causes.{Causes, CommandCauses, Counts, counts, Not
 pub use Rattle.commands.specs.Checking.{Checks, IsChecked, IsLineRefusal, no_line, not_a_line, SaysGiven, short_line, too_long_line, undecided_line, verdict_status, why_text}
 unfoldable pub use Rattle.commands.specs.{Checking.verdict_line, Commands.IsAnswer, Demonstrating.demo_line, Endings.Ends, Endings.EndsAnyhow, Executing.conclusion_line, Executing.Executes, Executing.Starts, Executing.TakesRead, Repairing.repaired_line, Repairing.RepairsPlan, Repairing.running_line, Repairing.SaysRest, Repairing.TakesEvents}
 pub use Rattle.commands.specs.Commands.{KeepsDeskReads, KeepsDeskWrites, KeepsSource, Leaves, LeavesAtFailedRead, MayRun, ReadsInput, Takes}
-pub use Rattle.commands.specs.Demonstrating.{demo_certificate, demo_instance, demo_plan, Follows, IsConcluded, IsDemonstrated, IsPlannedAndChecked, LeavesDemo, optimal_line}
+pub use Rattle.commands.specs.Demonstrating.{demo_certificate, demo_decisions, demo_instance, demo_plan, Follows, IsConcluded, IsDemonstrated, IsPlannedAndChecked, LeavesDemo, optimal_line}
 pub use Rattle.commands.specs.Endings.{fault_status, IsAnswered, IsLastLine, IsOfExecuting, IsOfReading, IsOfWriting, IsRefusal, LastEnds, line_of, LineEnds, out_fault, outcome_status, printed_with, Reads}
 pub use Rattle.commands.specs.Executing.{conclusion_status, events_line, IsExecuted, IsPartOfAnswer, refused_line, TakesNothing, Taking, taking, Took, TookBy}
 pub use Rattle.commands.specs.Repairing.{first_event, IsRepairCut, IsRepaired, LeavesEnding, LeavesRepaired, LeavesRest, Repairs, RepairsBy, RepairsSome, RepairsTold, SaysEnding, StopsAtEnding, StopsReading, TookEvents, TookEventsBy}
@@ -40,7 +40,7 @@ pub use Rattle.commands.specs.{Generating.HasGenerated, Generating.LeavesGenerat
 unfoldable pub use Rattle.commands.specs.{Generating.generated_line, Inputs.whole_of, Inputs.Instance.reading_of, Inputs.Plan.any_plan_reading_of, Planning.found_line, Printed.PrintsPrefix, Scripting.scripted_line, Words.number_of}
 pub use Rattle.commands.specs.Inputs.Plan.{any_plan_in, any_plan_lined, needed, plan_in, plan_line}
 pub use Rattle.commands.specs.Inputs.Script.{script_in, script_line, script_lined, script_reading_of}
-pub use Rattle.commands.specs.{Laws.AreAccepted, Laws.ExplainedIsChecked, Laws.PlannedIsChecked, Laws.WrittenIsAccepted, Laws.yes_to, Meaning.HasFilesApart, Meaning.meaning, Outputs.AreTextsCut, Outputs.HasText, Outputs.HasTexts, Outputs.IsTextCut, Outputs.RestStays, Picturing.HasPicture, Picturing.IsPictureCut, Picturing.IsPictured, Picturing.LeavesPictured, Picturing.Pictures, Replaying.IsReplayed, Replaying.Replays, Scripting.IsScripted, Scripting.LeavesScripted, Scripting.Scripts, Showing.IsListed, Showing.Lists, declared.demonstrating.TheConstants.DEMO_BUDGET}
+pub use Rattle.commands.specs.{Laws.AreAccepted, Laws.ExplainedIsChecked, Laws.PlannedIsChecked, Laws.WrittenIsAccepted, Laws.yes_to, Meaning.HasFilesApart, Meaning.meaning, Outputs.AreTextsCut, Outputs.HasText, Outputs.HasTexts, Outputs.IsTextCut, Outputs.RestStays, Picturing.HasPicture, Picturing.IsPictureCut, Picturing.IsPictured, Picturing.LeavesPictured, Picturing.Pictures, Replaying.IsReplayed, Replaying.Replays, Scripting.IsScripted, Scripting.LeavesScripted, Scripting.Scripts, Showing.IsListed, Showing.Lists}
 unfoldable pub use Rattle.commands.specs.Explaining.{core_lines, feasible_line, IsExplained, needed_lines, open_line}
 pub use Rattle.commands.specs.Explaining.{LeavesExplained, needed_line, SaysCore, SaysFeasible, SaysOpen, WritesKept}
 pub use Rattle.solver.specs.Prelude.{IsCertificateCut, IsCertified, IsToStay, plan_cost}

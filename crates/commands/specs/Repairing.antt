@@ -7,7 +7,7 @@ use Rattle.plan_io.specs.Files.{bytes_of, Files}
 use Rattle.slices.specs.{Rules.IsFirstBroken, declared.rule.Broken.Broken}
 use Rattle.executor.specs.Prelude.{Choices, first_phases, Instance, inventory_of, IsExecution, IsFirst, IsInstance, IsValid, Phases, PlanChoices}
 use Rattle.executor.specs.declared.phase.Phase.TheVariants.{Running}
-use Rattle.instance_make.specs.Prelude.{instance_of, instance_text, MAX_TEXT_BYTES}
+use Rattle.instance_make.specs.Prelude.{instance_of, instance_text, max_text_bytes}
 use Rattle.plan_json.specs.Prelude.{plan_of, plan_text}
 use Rattle.replay.specs.Lines.{broken_line}
 use Rattle.repair.specs.{Events.EndsFrom, Events.Point, Events.point, Events.StopsInLine, Rest.IsGoingOn, declared.following.Ending.Ending, declared.following.Ending.TheVariants.AllRead, declared.following.Ending.TheVariants.Refused}
@@ -35,7 +35,7 @@ pub record Repairs (p : Instance) (plan : Choices) (phases : Phases) (new_instan
   pub sound : IsInstance problem
   pub goes_on : IsGoingOn p plan phases problem kept
   pub written : HasTexts new_instance (instance_text problem) new_plan (plan_text problem (Some kept)) before.files after.files
-  pub instance_reads : length (instance_text problem) ≤ MAX_TEXT_BYTES → instance_of (bytes_of (after.files new_instance)) ≡ Ok problem
+  pub instance_reads : length (instance_text problem) ≤ max_text_bytes → instance_of (bytes_of (after.files new_instance)) ≡ Ok problem
   pub plan_reads : plan_of problem (bytes_of (after.files new_plan)) ≡ Ok (Some kept)
   pub printed : after.printed ≡ before.printed ++ repaired_line (plan_cost problem kept)
   pub status : result ≡ Status.Good

@@ -1,7 +1,6 @@
 -- What the words of the command line ask for.
 use Rattle.std.specs.Prelude.{◌&&◌, ◌==◌, ◌^◌, Bool, true, false, not, ℕ, List, [], ◌∷◌, length, nat_le, nat_lt, Option, Some, None, if◌then◌else◌, map, codes, String, string_bytes, bytes_eq, option_map}
 use Rattle.std.specs.{List.list_all, Fmt.decimal, Str.Parse.digits_value, declared.alloc.Global.Global}
-use Rattle.commands.specs.declared.words.TheConstants.{BUDGET, EXPLAIN_BUDGET, LONGEST_NAME}
 
 -- A command, with the names of its files, and its seed, its budget of decisions, or whether the check is strict.
 pub data Command : Type 0 where
@@ -17,9 +16,9 @@ pub data Command : Type 0 where
   generate : (seed : ℕ) (instance : List ℕ) → Command
   demo : (seed : ℕ) → Command
 
--- A file's name has a byte, and no more than the longest.
+-- A file's name has a byte, and no more than 4,096.
 abbrev pub is_name : List ℕ → Bool
-is_name word = nat_le 1 (length word) && nat_le (length word) LONGEST_NAME
+is_name word = nat_le 1 (length word) && nat_le (length word) 4096
 
 -- Names of files, no two of them the same.
 abbrev pub are_names : List (List ℕ) → Bool
@@ -36,14 +35,22 @@ is_plain [] = false
 is_plain (x ∷ []) = not (x == 43)
 is_plain (x ∷ y ∷ rest) = not (x == 43) && not (x == 48)
 
+-- How many decisions a plan may take where the words do not say it.
+abbrev pub plan_decisions : ℕ
+plan_decisions = 100000
+
+-- How many each search of an explanation may take where the words do not say it.
+abbrev pub explain_decisions : ℕ
+explain_decisions = 10000
+
 -- The command that these words are, if any.
 abbrev pub command_of : List (List ℕ) → Option Command
 command_of (word ∷ first ∷ second ∷ third ∷ []) =
-    if bytes_eq word (codes "plan") && are_names (first ∷ second ∷ third ∷ []) then Some (plan first second third BUDGET) else
+    if bytes_eq word (codes "plan") && are_names (first ∷ second ∷ third ∷ []) then Some (plan first second third plan_decisions) else
     if bytes_eq word (codes "check") && are_names (first ∷ second ∷ third ∷ []) then Some (check first second third false) else
     if bytes_eq word (codes "picture") && are_names (first ∷ second ∷ third ∷ []) then Some (picture first second third) else
     if bytes_eq word (codes "script") && are_names (first ∷ second ∷ third ∷ []) then Some (script first second third) else
-    if bytes_eq word (codes "explain") && are_names (first ∷ second ∷ third ∷ []) then Some (explain first second third EXPLAIN_BUDGET) else None
+    if bytes_eq word (codes "explain") && are_names (first ∷ second ∷ third ∷ []) then Some (explain first second third explain_decisions) else None
 command_of (word ∷ first ∷ second ∷ third ∷ last ∷ []) =
     if bytes_eq word (codes "check") && bytes_eq last (codes "strict") && are_names (first ∷ second ∷ third ∷ []) then Some (check first second third true) else
     if bytes_eq word (codes "repair") && are_names (first ∷ second ∷ third ∷ last ∷ []) then Some (repair first second third last) else None

@@ -1,7 +1,7 @@
 //! The command `demo`.
 
 ghost use Rattle.std.specs.Prelude.{◌≡◌, ◌≢◌, ℕ, false, List, Option, Some, Err, IsTrue, IfErr, IfOk, IfSome, string_bytes};
-ghost use Rattle.commands.specs.Prelude.{demo, demo_certificate, demo_line, demo_plan, Ends, Found as AnyFound, IsAnswer, IsChecked, IsConcluded, IsOfReading, IsPlannedAndChecked, IsPlanOf, Leaves, LeavesPlanned, MayRun, OnlyReads, optimal_line, Outside, outside, PartCauses};
+ghost use Rattle.commands.specs.Prelude.{demo, demo_certificate, demo_decisions, demo_line, demo_plan, Ends, Found as AnyFound, IsAnswer, IsChecked, IsConcluded, IsOfReading, IsPlannedAndChecked, IsPlanOf, Leaves, LeavesPlanned, MayRun, OnlyReads, optimal_line, Outside, outside, PartCauses};
 ghost use Rattle.search.specs.Answers.{plan_in};
 
 use crate::checking::check_problem;
@@ -128,7 +128,7 @@ fn plan_and_check<D: Desk, S: Solver>(
     ensures ends { let planned = IsPlannedAndChecked seed p.now.given in
         IsTrue D.tells → (printed : List ℕ) → Ends (planned (outside (D.files desk.old) printed))
         (outside (D.files desk.new) printed) result }
-    ensures left { let leaves = LeavesPlanned demo_plan demo_certificate DEMO_BUDGET p.now.given in
+    ensures left { let leaves = LeavesPlanned demo_plan demo_certificate demo_decisions p.now.given in
         IsTrue D.tells → leaves (D.files desk.old) (D.files desk.new) }
     ensures causes { PartCauses (D.read_faults desk.old) (D.read_faults desk.new)
         (D.write_faults desk.old) (D.write_faults desk.new) result }

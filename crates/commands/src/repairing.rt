@@ -5,7 +5,7 @@ ghost use Rattle.cluster.specs.declared.ids.Element.{Element as AnElement};
 ghost use Rattle.event_lines.specs.Reading.{LineCauses};
 ghost use Rattle.executor.specs.Prelude.{IsElement};
 ghost use Rattle.executor.specs.declared.phase.Phase.TheVariants as Phase;
-ghost use Rattle.commands.specs.Prelude.{AreTextsCut, Choices, choices_of, CommandCauses, counts, CountsWrites, Ends, EndsAnyhow, first_event, first_phases, FollowGives, HasTexts, Instance, instance_of, instance_text, IsAnswer, IsExecution, IsGoingOn, IsLastLine, IsOfExecuting, IsOfWriting, IsPlanOf, IsValid, KeepsSource, Leaves, LeavesAtFailedRead, LeavesRepaired, LeavesRest, MAX_TEXT_BYTES, MayRun, outside, PartCauses, Phases, phases_of, plan_of, plan_text, repair, repaired_line, Repairs, RepairsPlan, RepairsTold, running_line, SaysRest, Takes, taking, told, TookEvents, TookEventsBy, WriteCauses};
+ghost use Rattle.commands.specs.Prelude.{AreTextsCut, Choices, choices_of, CommandCauses, counts, CountsWrites, Ends, EndsAnyhow, first_event, first_phases, FollowGives, HasTexts, Instance, instance_of, instance_text, IsAnswer, IsExecution, IsGoingOn, IsLastLine, IsOfExecuting, IsOfWriting, IsPlanOf, IsValid, KeepsSource, Leaves, LeavesAtFailedRead, LeavesRepaired, LeavesRest, max_text_bytes, MayRun, outside, PartCauses, Phases, phases_of, plan_of, plan_text, repair, repaired_line, Repairs, RepairsPlan, RepairsTold, running_line, SaysRest, Takes, taking, told, TookEvents, TookEventsBy, WriteCauses};
 ghost use Rattle.commands.specs.declared.status.Status.TheVariants as Status;
 
 use crate::events::{refused_event, say_broken};
@@ -65,7 +65,7 @@ fn write_left<D: Desk>(
         let has = HasTexts new_instance.now (instance_text problem.now.given) new_plan.now plan in
         IsTrue D.tells → OnOk result (has (D.files desk.old) (D.files desk.new)) }
     ensures instance_reads { let text = instance_text problem.now.given in
-        OnOk result (length text ≤ MAX_TEXT_BYTES → instance_of text ≡ Ok problem.now.given) }
+        OnOk result (length text ≤ max_text_bytes → instance_of text ≡ Ok problem.now.given) }
     ensures plan_reads { let text = plan_text problem.now.given (Some kept.now) in
         OnOk result (plan_of problem.now.given text ≡ Ok (Some kept.now)) }
     ensures cut { let plan = plan_text problem.now.given (Some kept.now) in

@@ -1,6 +1,6 @@
 -- Of all bytes one line is taken, and one alone.
 use Rattle.base.proofs.Public.{◌≡◌, ◌≢◌, inl, inr, ℕ, zero, suc, ◌+◌, ◌<◌, ◌≤◌, List, [], ◌∷◌, ◌++◌, length, refl, sym, ap, ◌∙◌, append_assoc, arith, Contains, cases_eq, Contains-append_cases, length-append}
-use Rattle.event_lines.specs.Prelude.{BeginsLine, IsOneLine, Line, MAX_LINE_BYTES, Nothing, ReadsLine, Short, TooLong, Whole}
+use Rattle.event_lines.specs.Prelude.{BeginsLine, IsOneLine, Line, max_line_bytes, Nothing, ReadsLine, Short, TooLong, Whole}
 
 -- ---- which line
 
@@ -21,7 +21,7 @@ none_in : IsOneLine []
 none_in c = omega (arith, c.1)
 
 -- a line was begun, and one byte more of it was taken
-pub begins_more : (bytes text rest rest' : List ℕ) (b : ℕ) → bytes ≡ text ++ rest → rest ≡ b ∷ rest' → IsOneLine text → b ≢ 10 → length text ≤ MAX_LINE_BYTES → BeginsLine bytes rest'
+pub begins_more : (bytes text rest rest' : List ℕ) (b : ℕ) → bytes ≡ text ++ rest → rest ≡ b ∷ rest' → IsOneLine text → b ≢ 10 → length text ≤ max_line_bytes → BeginsLine bytes rest'
 begins_more bytes text rest rest' b all next one other few = record {
   text = text ++ b ∷ [];
   taken = all ∙ ap (λ (l : List ℕ). text ++ l) next ∙ sym (append_assoc text (b ∷ []) rest');
@@ -65,13 +65,13 @@ pub record TakesLine (bytes : List ℕ) : Type 0 where
   pub reads : ReadsLine bytes found text rest
 
 pub takes_line : (bytes : List ℕ) → TakesLine bytes
-takes_line bytes = by (taken_within MAX_LINE_BYTES bytes)
+takes_line bytes = by (taken_within max_line_bytes bytes)
   where
-    last : (bytes : List ℕ) → IsOneLine bytes → length bytes ≤ MAX_LINE_BYTES → TakesLine bytes
+    last : (bytes : List ℕ) → IsOneLine bytes → length bytes ≤ max_line_bytes → TakesLine bytes
     last [] one few = record { found = Nothing; text = []; rest = []; reads = (refl, refl, refl) }
     last (x ∷ bytes) one few = record { found = Short; text = x ∷ bytes; rest = []; reads = (refl, refl, one, omega arith, few) }
 
-    by : Taken MAX_LINE_BYTES bytes → TakesLine bytes
+    by : Taken max_line_bytes bytes → TakesLine bytes
     by (IsWhole text rest is one few) = record { found = Whole; text = text; rest = rest; reads = (is, one, few) }
     by (IsLong text rest is one few) = record { found = TooLong; text = text; rest = rest; reads = (is, one, few) }
     by (IsLast one few) = last bytes one few

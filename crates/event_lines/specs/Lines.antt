@@ -3,9 +3,13 @@ use Rattle.std.specs.Prelude.{◌≡◌, ℕ, ◌+◌, ◌<◌, ◌≤◌, List,
 use Rattle.std.specs.List.{Contains}
 use Rattle.cluster.specs.Names.{is_name}
 use Rattle.event_lines.specs.declared.faults.EventFault.{EventFault}
-use Rattle.event_lines.specs.declared.lines.{Line.Line, Line.TheVariants.Whole, Line.TheVariants.TooLong, Line.TheVariants.Short, Line.TheVariants.Nothing, TheConstants.MAX_LINE_BYTES}
+use Rattle.event_lines.specs.declared.lines.{Line.Line, Line.TheVariants.Whole, Line.TheVariants.TooLong, Line.TheVariants.Short, Line.TheVariants.Nothing}
 
 -- ---- bytes that are taken for a line
+
+-- the most bytes of a line, without its newline
+abbrev pub max_line_bytes : ℕ
+max_line_bytes = 65536
 
 -- no byte of the text ends a line
 abbrev pub IsOneLine : List ℕ → Type 0
@@ -13,9 +17,9 @@ IsOneLine text = ¬ Contains text 10
 
 -- of the bytes this text is taken for a line, with its newline where it is whole, and the rest is left
 abbrev pub ReadsLine : List ℕ → Line → List ℕ → List ℕ → Type 0
-ReadsLine bytes Whole text rest = (bytes ≡ text ++ 10 ∷ rest) × IsOneLine text × (length text ≤ MAX_LINE_BYTES)
-ReadsLine bytes TooLong text rest = (bytes ≡ text ++ rest) × IsOneLine text × (length text ≡ MAX_LINE_BYTES + 1)
-ReadsLine bytes Short text rest = (bytes ≡ text) × (rest ≡ []) × IsOneLine text × (0 < length text) × (length text ≤ MAX_LINE_BYTES)
+ReadsLine bytes Whole text rest = (bytes ≡ text ++ 10 ∷ rest) × IsOneLine text × (length text ≤ max_line_bytes)
+ReadsLine bytes TooLong text rest = (bytes ≡ text ++ rest) × IsOneLine text × (length text ≡ max_line_bytes + 1)
+ReadsLine bytes Short text rest = (bytes ≡ text) × (rest ≡ []) × IsOneLine text × (0 < length text) × (length text ≤ max_line_bytes)
 ReadsLine bytes Nothing text rest = (bytes ≡ []) × (rest ≡ []) × (text ≡ [])
 
 -- no more than the beginning of one line is taken of the bytes
@@ -23,7 +27,7 @@ pub record BeginsLine (bytes rest : List ℕ) : Type 0 where
   pub text : List ℕ
   pub taken : bytes ≡ text ++ rest
   pub one : IsOneLine text
-  pub few : length text ≤ MAX_LINE_BYTES + 1
+  pub few : length text ≤ max_line_bytes + 1
 
 -- ---- what a line says
 

@@ -3,7 +3,7 @@ use Rattle.std.specs.Prelude.{ℕ, List, [], length, map, nat_le, Ok, codes}
 use Rattle.std.specs.Option.{ok_or}
 use Rattle.json_walk.specs.Prelude.{field_by, json_of, number_field, only_keys, root, wants, ◌>>=◌, ◌>>◌}
 use Rattle.catalogue.specs.Prelude.{Instance, Inventory, max_horizon}
-use Rattle.json_walk.specs.declared.reading.TheConstants.{MAX_TEXT_BYTES}
+use Rattle.json_walk.specs.Json.{max_text_bytes}
 use Rattle.serde_json.specs.Data.{Data}
 use Rattle.instance_json.specs.declared.keys.TheConstants.{ROOT_KEYS}
 use Rattle.instance_json.specs.declared.fault.InstanceFault.TheVariants.{Field, TooLong, NotJson}
@@ -48,6 +48,6 @@ walk d = do
 -- not too many bytes, which are JSON, and its walk
 unfoldable pub instance_of : List ℕ → Walk Instance
 instance_of bytes = do
-  wants (nat_le (length bytes) MAX_TEXT_BYTES) TooLong
+  wants (nat_le (length bytes) max_text_bytes) TooLong
   d ← ok_or (json_of bytes) NotJson
   walk d

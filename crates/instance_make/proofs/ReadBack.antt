@@ -1,7 +1,7 @@
 -- A printed problem is read again.
 use Rattle.std.proofs.Common.{map, codes}
 use Rattle.base.proofs.Public.{◌≡◌, ℕ, ◌≤◌, true, List, [], ◌∷◌, ◌++◌, length, nat_le, Some, Ok, refl, ap, ◌∙◌, arith, le-leb, length-map}
-use Rattle.instance_make.specs.Prelude.{base_from, constraint_data, constraint_step, constraints_from, field_of, Instance, instance_data, instance_of, inventory_from, inventory_of, is_rule, IsInstance, item_path, json_of, key_path, list_data, list_of, max_constraints, max_horizon, MAX_TEXT_BYTES, number_field_of, number_of, only_of, problem_from, root, walk}
+use Rattle.instance_make.specs.Prelude.{base_from, constraint_data, constraint_step, constraints_from, field_of, Instance, instance_data, instance_of, inventory_from, inventory_of, is_rule, IsInstance, item_path, json_of, key_path, list_data, list_of, max_constraints, max_horizon, max_text_bytes, number_field_of, number_of, only_of, problem_from, root, walk}
 use Rattle.catalogue.specs.declared.constraint.Constraint.{Constraint}
 use Rattle.serde_json.specs.Data.{Data, depth}
 use Rattle.serde_json.specs.Read.{max_depth}
@@ -51,9 +51,9 @@ walk_again p sound =
     ) refl
 
 -- bytes that have a printed problem's value, and are no more than can be read
-pub bytes_again : (p : Instance) (d : Data) (bytes : List ℕ) → IsInstance p → d ≡ instance_data p → (depth d ≤ max_depth → json_of bytes ≡ Some d) → length bytes ≤ MAX_TEXT_BYTES
+pub bytes_again : (p : Instance) (d : Data) (bytes : List ℕ) → IsInstance p → d ≡ instance_data p → (depth d ≤ max_depth → json_of bytes ≡ Some d) → length bytes ≤ max_text_bytes
     → instance_of bytes ≡ Ok p
 unfolding instance_of
 bytes_again p d bytes sound same reads le =
     let value : json_of bytes ≡ Some (instance_data p) = reads (rw same (small_instance p)) ∙ ap Some same in
-    rw (le-leb (length bytes) MAX_TEXT_BYTES le, value) (walk_again p sound)
+    rw (le-leb (length bytes) max_text_bytes le, value) (walk_again p sound)

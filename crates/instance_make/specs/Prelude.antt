@@ -21,7 +21,7 @@ pub use Rattle.cluster.specs.declared.machines.Machine.{Machine}
 pub use Rattle.cluster.specs.declared.sets.NodeSet.{NodeSet}
 pub use Rattle.cluster.specs.declared.states.State.{State}
 pub use Rattle.cluster.specs.declared.states.State.TheVariants.{Running}
-pub use Rattle.json_walk.specs.declared.reading.TheConstants.{MAX_TEXT_BYTES}
+pub use Rattle.json_walk.specs.Json.{max_text_bytes}
 pub use Rattle.catalogue.specs.declared.constraint.RuleFault.TheVariants.{NoSuch, TooGreat, TooMany, Twice}
 pub use Rattle.catalogue.specs.declared.targets.Target.TheVariants.{Offline, Online}
 pub use Rattle.catalogue.specs.declared.targets.Wish.{Wish}

@@ -1,7 +1,7 @@
 //! From a problem to its text.
 
 ghost use Rattle.std.specs.Prelude.{◌≡◌, ◌≤◌, Ok, IfOk, length, map};
-ghost use Rattle.instance_make.specs.Prelude.{constraint_data, instance_data, instance_of, instance_text, list_data, machine_data, MAX_TEXT_BYTES, node_data};
+ghost use Rattle.instance_make.specs.Prelude.{constraint_data, instance_data, instance_of, instance_text, list_data, machine_data, max_text_bytes, node_data};
 ghost use Rattle.serde_json.specs.Data.{string};
 ghost use Rattle.serde_json.specs.View.{view};
 
@@ -89,7 +89,7 @@ fn instance_value(alloc: Global, p: &Problem) -> Result<Value, Memory>
 #[tactic(auto, using(crate::proofs::Printed::plain_instance), unfolding(crate::specs::Text::instance_text))]
 pub fn print_instance(alloc: Global, p: &Problem) -> Result<Vec<u8>, Memory>
     ensures text { IfOk result (λ b. b.items ≡ instance_text p.now.given) }
-    ensures reads_back { IfOk result (λ b. length b.items ≤ MAX_TEXT_BYTES
+    ensures reads_back { IfOk result (λ b. length b.items ≤ max_text_bytes
         → instance_of b.items ≡ Ok p.now.given) }
 {
     let value = instance_value(alloc, p)?;

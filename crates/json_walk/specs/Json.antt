@@ -6,6 +6,10 @@ use Rattle.serde_json.specs.Read.{read}
 use Rattle.json_walk.specs.declared.fault.JsonFault.{JsonFault}
 use Rattle.json_walk.specs.declared.fault.JsonFault.TheVariants.{NotJson, Memory}
 
+-- the most bytes of a text that is read
+abbrev pub max_text_bytes : ℕ
+max_text_bytes = 67108864
+
 -- UTF-8 that serde_json reads as a value
 abbrev pub json_of : List ℕ → Option Data
 json_of bytes = if is_utf8 bytes then read bytes else None

@@ -1,7 +1,7 @@
 -- What is cited together of this crate and of those below it, passed on from one place. Declares nothing.
 pub use Rattle.base.specs.Sums.{sum_to}
 unfoldable pub use Rattle.json_walk.specs.Each.{each}
-pub use Rattle.json_walk.specs.Json.{json_fault_of, json_of}
+pub use Rattle.json_walk.specs.Json.{json_fault_of, json_of, max_text_bytes}
 pub use Rattle.json_walk.specs.Members.{as_walk, field_by, number_field, only_keys, optional_by, optional_flag, optional_number}
 unfoldable pub use Rattle.json_walk.specs.Members.{map_walk, word_field}
 pub use Rattle.json_walk.specs.Path.{root}
@@ -15,4 +15,3 @@ pub use Rattle.json_walk.specs.declared.fault.FaultKind.TheVariants.{Missing, Ou
 pub use Rattle.json_walk.specs.declared.fault.JsonFault.TheVariants.{NotJson}
 pub use Rattle.json_walk.specs.declared.fault.WalkFault.{WalkFault}
 pub use Rattle.json_walk.specs.declared.fault.WalkFault.TheVariants.{Bad}
-pub use Rattle.json_walk.specs.declared.reading.TheConstants.{MAX_TEXT_BYTES}

@@ -2,7 +2,7 @@
 use Rattle.std.proofs.Common.{option_map, IfSome, IsTrue, codes, Bor}
 use Rattle.std.proofs.lemmas.List.{append-nil}
 use Rattle.base.proofs.Public.{◌≡◌, ℕ, zero, suc, ◌+◌, ◌<◌, ◌≤◌, ◌&&◌, ◌==◌, Bool, true, false, not, List, [], ◌∷◌, ◌++◌, length, take, drop, get_or, nat_le, Option, Some, None, Ok, refl, sym, ap, ap₂, ◌∙◌, arith, ⊎_elim, append_assoc, max, max-le, common_steps, cases_eq, le-leb, length-take, length-drop, get_or-take, get_or-drop, ext_get_or, find-append, find, range_with_len, flat_map, option_copied, option_map_or, option_or}
-use Rattle.plan_json.specs.Prelude.{Act, Action, action_data, action_for, action_step, actions_data, actions_from, as_choice, At, Choice, choice_data, choice_for, choices_for, choices_of, each, Element, element_at, element_count, element_data, element_number, field_of, first_to_act, Idle, Instance, inventory_of, is_idle, is_legal, is_same, IsElement, IsInstance, IsPlanOf, json_of, key_path, list_of, machine_count, max_machines, max_nodes, MAX_TEXT_BYTES, must_act, node, Node as TheNode, node_count, Nowhere, only_of, parted, plan_data, plan_of, plan_or_none, plan_with, PlanChoices, root, Vm, vm, walk}
+use Rattle.plan_json.specs.Prelude.{Act, Action, action_data, action_for, action_step, actions_data, actions_from, as_choice, At, Choice, choice_data, choice_for, choices_for, choices_of, each, Element, element_at, element_count, element_data, element_number, field_of, first_to_act, Idle, Instance, inventory_of, is_idle, is_legal, is_same, IsElement, IsInstance, IsPlanOf, json_of, key_path, list_of, machine_count, max_machines, max_nodes, max_text_bytes, must_act, node, Node as TheNode, node_count, Nowhere, only_of, parted, plan_data, plan_of, plan_or_none, plan_with, PlanChoices, root, Vm, vm, walk}
 use Rattle.serde_json.specs.Data.{Data, depth, items_depth}
 use Rattle.serde_json.specs.Read.{max_depth}
 use Rattle.serde_json.specs.View.{items_of}
@@ -177,9 +177,9 @@ plan_again p None is plan_is = refl
 plan_again p (Some plan) is plan_is = rw (walk_again p plan is plan_is) refl
 
 -- the bytes of a value give what the value gives
-plan_of-value : (p : Instance) (bytes : List ℕ) (d : Data) → json_of bytes ≡ Some d → length bytes ≤ MAX_TEXT_BYTES → plan_of p bytes ≡ plan_or_none p d
+plan_of-value : (p : Instance) (bytes : List ℕ) (d : Data) → json_of bytes ≡ Some d → length bytes ≤ max_text_bytes → plan_of p bytes ≡ plan_or_none p d
 unfolding plan_of
-plan_of-value p bytes d is le = rw (le-leb (length bytes) MAX_TEXT_BYTES le, is) refl
+plan_of-value p bytes d is le = rw (le-leb (length bytes) max_text_bytes le, is) refl
 
 -- ---- how deep a printed plan nests
 
@@ -210,6 +210,6 @@ lent P (Some a) h = h
 
 -- bytes that have a printed plan's value, and are no more than can be read
 pub bytes_again : (p : Instance) (plan : Option PlanChoices) (d : Data) (bytes : List ℕ) → IsInstance p → IfSome plan (IsPlanOf p) → d ≡ plan_data p plan
-    → (depth d ≤ max_depth → json_of bytes ≡ Some d) → length bytes ≤ MAX_TEXT_BYTES → plan_of p bytes ≡ Ok plan
+    → (depth d ≤ max_depth → json_of bytes ≡ Some d) → length bytes ≤ max_text_bytes → plan_of p bytes ≡ Ok plan
 bytes_again p plan d bytes is plan_is same reads le =
     plan_of-value p bytes d (reads (rw same (flat_plan p plan))) le ∙ ap (plan_or_none p) same ∙ plan_again p plan is plan_is

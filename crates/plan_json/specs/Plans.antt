@@ -5,7 +5,7 @@ use Rattle.std.specs.Option.{ok_or, option_map_or}
 use Rattle.json_text.specs.Prelude.{as_walk, each, fault_at, field_by, item_path, json_of, key_path, list_of, only_keys, root, wants, ◌>>=◌, ◌>>◌}
 use Rattle.slices.specs.Prelude.{element_at, element_count, Instance, inventory_of, is_legal, kind_number, kind_of, max_machines, max_nodes, parted, PlanChoices}
 use Rattle.json_walk.specs.declared.fault.FaultKind.TheVariants.{OutOfRange}
-use Rattle.json_walk.specs.declared.reading.TheConstants.{MAX_TEXT_BYTES}
+use Rattle.json_walk.specs.Json.{max_text_bytes}
 use Rattle.cluster.specs.declared.choices.Choice.{Choice}
 use Rattle.cluster.specs.declared.choices.Choice.TheVariants.{Idle, Act}
 use Rattle.cluster.specs.declared.ids.Element.{Element}
@@ -105,6 +105,6 @@ plan_or_none p d = if is_some (as_null d) then Ok None else (walk p d >>= λ pla
 
 unfoldable pub plan_of : Instance → List ℕ → Walk (Option PlanChoices)
 plan_of p bytes = do
-  wants (nat_le (length bytes) MAX_TEXT_BYTES) TooLong
+  wants (nat_le (length bytes) max_text_bytes) TooLong
   d ← ok_or (json_of bytes) NotJson
   plan_or_none p d

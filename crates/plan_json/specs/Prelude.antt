@@ -16,7 +16,7 @@ pub use Rattle.cluster.specs.declared.kinds.Kind.{Kind}
 pub use Rattle.cluster.specs.declared.kinds.Kind.TheVariants.{Allocate, Boot, Forge, Kill, Migrate, NodeBoot, NodeShutdown, Resume, Shutdown, Suspend}
 pub use Rattle.cluster.specs.declared.sets.MachineSet.{MachineSet}
 pub use Rattle.cluster.specs.declared.sets.NodeSet.{NodeSet}
-pub use Rattle.json_walk.specs.declared.reading.TheConstants.{MAX_TEXT_BYTES}
+pub use Rattle.json_walk.specs.Json.{max_text_bytes}
 pub use Rattle.catalogue.specs.declared.targets.Target.{Target}
 pub use Rattle.catalogue.specs.declared.targets.Target.TheVariants.{Killed, Offline, Online, Ready, Running, Sleeping}
 pub use Rattle.catalogue.specs.declared.targets.Wish.{Wish}
