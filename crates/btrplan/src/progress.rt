@@ -45,6 +45,9 @@ impl Done {
     }
 
     fn say<R: Eprint>(&self, rt: &R) -> io::Result<()> {
+        if self.written == 0 && self.read < BYTES_OF_MEGABYTE {
+            return Ok(());
+        }
         if self.written == 0 {
             return eprintln!(rt; "btrplan: {} MB read", self.read / BYTES_OF_MEGABYTE);
         }

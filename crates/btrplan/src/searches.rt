@@ -38,7 +38,11 @@ impl Seen {
         Seen {
             searches: self.searches.saturating_add(1),
             constraints: if is_first { count } else { self.constraints },
-            left: if is_first || is_refuted { count } else { self.left },
+            left: if is_first || is_refuted {
+                count
+            } else {
+                self.left
+            },
         }
     }
 

@@ -4,11 +4,11 @@ use Rattle.search.specs.Prelude.{bytes_of, goal_in, Instance, least_in, plan_in}
 use Rattle.plan_io.specs.Files.{Files}
 use Rattle.instance_make.specs.Prelude.{instance_text, max_text_bytes}
 use Rattle.explain.specs.Prelude.{sub}
-use Rattle.trees.specs.declared.steps.Goal.TheVariants.{Infeasible}
+use Rattle.trees.specs.declared.steps.Goal.TheVariants.{Infeasible, Undecided}
 use Rattle.cert_model.specs.Walks.{choices_handed}
 use Rattle.cert_check.specs.{Laws.IsAccepted, declared.verdict.Verdict.Verdict, declared.verdict.Verdict.TheVariants.Yes}
 use Rattle.search.specs.declared.found.Found.{Found}
-use Rattle.commands.specs.{Words.check, Answer.Outside, Answer.Says, Inputs.Instance.instance_in, Inputs.Plan.any_plan_in, Commands.IsAnswer, Checking.verdict_line, Explaining.SaysCore, Planning.IsPlanned, Planning.IsWritten, declared.status.Status.Status}
+use Rattle.commands.specs.{Words.check, Answer.Outside, Answer.Says, Inputs.Instance.instance_in, Inputs.Plan.any_plan_in, Commands.IsAnswer, Checking.verdict_line, Explaining.SaysCore, Explaining.SaysOpen, Planning.IsPlanned, Planning.IsWritten, declared.status.Status.Status}
 
 -- The files of an answer, read for its problem: the plan's has the plan that is answered, or none. For it the certificate has the verdict yes,
 -- with the goal and the least of the answer, and no other; strictly or not.
@@ -41,3 +41,10 @@ ExplainedIsChecked =
     (core certificate : List ℕ) (budget : ℕ) → budget < 2 ^ 64 → (p : Instance) (before between : Outside) (said : Status) → (is : SaysCore core certificate budget p before between said) → length (instance_text (sub p is.kept)) ≤ max_text_bytes →
     (plan_file : List ℕ) (start after : Outside) (source : Option (List ℕ)) (strict : Bool) (result : Status) → start.files core ≡ between.files core → start.files certificate ≡ between.files certificate → any_plan_in (sub p is.kept) start.files plan_file ≡ Ok None →
     IsAnswer (Some (check core plan_file certificate strict)) source start after result → Says (verdict_line (Yes Infeasible None)) Status.Good start after result
+
+-- After `explain` has stayed undecided, it is that so many decisions were made, with the least cost that no valid plan undercuts.
+abbrev pub LeftOpenIsChecked : Type 0
+LeftOpenIsChecked =
+    (core certificate : List ℕ) (budget : ℕ) → budget < 2 ^ 64 → (p : Instance) (before between : Outside) (said : Status) → (is : SaysOpen core certificate budget p before between said) → length (instance_text (sub p is.kept)) ≤ max_text_bytes →
+    (plan_file : List ℕ) (start after : Outside) (source : Option (List ℕ)) (strict : Bool) (result : Status) → start.files core ≡ between.files core → start.files certificate ≡ between.files certificate → any_plan_in (sub p is.kept) start.files plan_file ≡ Ok None →
+    IsAnswer (Some (check core plan_file certificate strict)) source start after result → Says (verdict_line (Yes (Undecided budget) (Some is.is_open.left.least))) Status.Good start after result

@@ -40,7 +40,7 @@ pub use Rattle.commands.specs.{Generating.HasGenerated, Generating.LeavesGenerat
 unfoldable pub use Rattle.commands.specs.{Generating.generated_line, Inputs.whole_of, Inputs.Instance.reading_of, Inputs.Plan.any_plan_reading_of, Planning.found_line, Printed.PrintsPrefix, Scripting.scripted_line, Words.number_of}
 pub use Rattle.commands.specs.Inputs.Plan.{any_plan_in, any_plan_lined, needed, plan_in, plan_line}
 pub use Rattle.commands.specs.Inputs.Script.{script_in, script_line, script_lined, script_reading_of}
-pub use Rattle.commands.specs.{Laws.AreAccepted, Laws.ExplainedIsChecked, Laws.PlannedIsChecked, Laws.WrittenIsAccepted, Laws.yes_to, Meaning.HasFilesApart, Meaning.meaning, Outputs.AreTextsCut, Outputs.HasText, Outputs.HasTexts, Outputs.IsTextCut, Outputs.RestStays, Picturing.HasPicture, Picturing.IsPictureCut, Picturing.IsPictured, Picturing.LeavesPictured, Picturing.Pictures, Replaying.IsReplayed, Replaying.Replays, Scripting.IsScripted, Scripting.LeavesScripted, Scripting.Scripts, Showing.IsListed, Showing.Lists}
+pub use Rattle.commands.specs.{Laws.AreAccepted, Laws.ExplainedIsChecked, Laws.LeftOpenIsChecked, Laws.PlannedIsChecked, Laws.WrittenIsAccepted, Laws.yes_to, Meaning.HasFilesApart, Meaning.meaning, Outputs.AreTextsCut, Outputs.HasText, Outputs.HasTexts, Outputs.IsTextCut, Outputs.RestStays, Picturing.HasPicture, Picturing.IsPictureCut, Picturing.IsPictured, Picturing.LeavesPictured, Picturing.Pictures, Replaying.IsReplayed, Replaying.Replays, Scripting.IsScripted, Scripting.LeavesScripted, Scripting.Scripts, Showing.IsListed, Showing.Lists}
 unfoldable pub use Rattle.commands.specs.Explaining.{core_lines, feasible_line, IsExplained, needed_lines, open_line}
 pub use Rattle.commands.specs.Explaining.{LeavesExplained, needed_line, SaysCore, SaysFeasible, SaysOpen, WritesKept}
 pub use Rattle.solver.specs.Prelude.{IsCertificateCut, IsCertified, IsToStay, plan_cost}

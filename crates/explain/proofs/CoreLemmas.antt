@@ -33,7 +33,7 @@ none_is_refuted p budget found text is h certified = record {
 pub none_met_is_open : (p : Instance) (budget : ℕ) (found : Found) (least : ℕ) (text : List ℕ) → found ≡ Undecided None least → IsTrueOf p budget found → IsCertifiedText p budget found text → IsOpen p budget text
 none_met_is_open p budget found least text is h certified =
     let so : IsTrueOf p budget (Undecided None least) = subst (IsTrueOf p budget) is h in
-    record { least = least; certified = subst (λ (f : Found). IsCertifiedText p budget f text) is certified; large = so.large }
+    record { least = least; least_is = so.least_is; certified = subst (λ (f : Found). IsCertifiedText p budget f text) is certified; large = so.large }
 
 -- ---- numbers
 

@@ -3,7 +3,7 @@ use Rattle.std.specs.Prelude.{◌≡◌, ◌⊎◌, ⊤, ℕ, ◌+◌, ◌<◌, 
 use Rattle.slices.specs.Prelude.{choices_of, cost_of, Instance, IsInfeasible, machine_count, node_count, PlanChoices}
 use Rattle.search.specs.Prelude.{IsValidPlan, start_sets}
 use Rattle.search.specs.declared.found.Found.TheVariants.{Infeasible, Undecided}
-use Rattle.cert_write.specs.Prelude.{size}
+use Rattle.cert_write.specs.Prelude.{NoneUndercuts, size}
 use Rattle.solver.specs.Prelude.{IsCertifiedText}
 use Rattle.explain.specs.Subs.{all_numbers, AreNumbers, sub, without}
 use Rattle.explain.specs.declared.explaining.Explained.{Explained}
@@ -26,9 +26,10 @@ pub record IsRefuted (p : Instance) (budget : ℕ) (certificate : List ℕ) : Ty
 abbrev pub plan_count : Instance → ℕ
 plan_count p = size (machine_count p) (node_count p) (start_sets p)
 
--- it has more plans than the budget can tell apart; the text of a tree shows how far the search came, which met no valid plan
+-- it has more plans than the budget can tell apart; the text of a tree shows how far the search came, which met no valid plan, and a cost that none undercuts
 pub record IsOpen (p : Instance) (budget : ℕ) (certificate : List ℕ) : Type 0 where
   pub least : ℕ
+  pub least_is : NoneUndercuts p least
   pub certified : IsCertifiedText p budget (Undecided None least) certificate
   pub large : budget + 1 < plan_count p
 
