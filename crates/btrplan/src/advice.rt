@@ -3,8 +3,9 @@
 use crate::finding::say_place;
 use crate::meaning::{say_broken, say_infeasible};
 use commands::status::Status;
-use std::fs::File;
+use std::fs::{self, File, OpenOptions};
 use std::io;
+use std::path::Path;
 
 const USAGE: &str = "\
 usage: btrplan COMMAND, with names of files
@@ -52,6 +53,29 @@ fn say_unread(rt: &HostRuntime, words: &[String]) -> io::Result<()> {
     eprintln!(rt; "btrplan: a file, or standard input, cannot be read to its end")
 }
 
+// whether the folder of a file is there, as far as that can be seen
+fn has_folder(rt: &HostRuntime, name: &str) -> bool {
+    match Path::new(name).parent() {
+        Some(folder) if !folder.as_str().is_empty() => fs::exists(rt, folder).unwrap_or(true),
+        _ => true,
+    }
+}
+
+// why a file cannot be written, as far as that can be seen afterwards
+fn say_unwritten(rt: &HostRuntime, name: &str) -> io::Result<()> {
+    eprint!(rt; "btrplan: {name} cannot be written: ")?;
+    match fs::metadata(rt, name) {
+        Err(_) if !has_folder(rt, name) => eprintln!(rt; "its folder is not there"),
+        Err(_) => eprintln!(rt; "its folder takes no new file"),
+        Ok(found) if found.is_dir() => eprintln!(rt; "it is a folder"),
+        Ok(found) if found.is_file() => match OpenOptions::new().write(true).open(rt, name) {
+            Ok(_) => eprintln!(rt; "its disk may be full"),
+            Err(fault) => eprintln!(rt; "{}", fault.kind()),
+        },
+        Ok(_) => eprintln!(rt; "whoever reads it has closed it"),
+    }
+}
+
 // what a negative answer means, by its line
 fn say_negative(rt: &HostRuntime, words: &[String], line: &str) -> io::Result<()> {
     match words {
@@ -71,17 +95,25 @@ fn say_negative(rt: &HostRuntime, words: &[String], line: &str) -> io::Result<()
     }
 }
 
-/// Says what helps after an answer of a status, by its last line, if anything does. What cannot be said is left out.
-pub fn advise(rt: &HostRuntime, words: &[String], status: Status, line: &str) -> io::Result<()> {
+/// Says what helps after an answer of a status, if anything does, by its last line and the file of which a write has failed.
+/// What cannot be said is left out.
+pub fn advise(
+    rt: &HostRuntime,
+    words: &[String],
+    status: Status,
+    line: &str,
+    unwritten: Option<&str>,
+) -> io::Result<()> {
     match status {
         Status::Good | Status::Undecided => Ok(()),
         Status::Negative => say_negative(rt, words, line),
         Status::Input => say_place(rt, rt.alloc(), words, line),
         Status::Words => say_usage(rt, words),
         Status::ReadFault => say_unread(rt, words),
-        Status::WriteFault => eprintln!(rt;
-            "btrplan: a file, or standard output, cannot be written: its folder may be missing, or its disk full"
-        ),
+        Status::WriteFault => match unwritten {
+            Some(name) => say_unwritten(rt, name),
+            None => eprintln!(rt; "btrplan: standard output cannot be written: it is closed, or its disk is full"),
+        },
         Status::Memory => eprintln!(rt; "btrplan: there is not enough memory"),
     }
 }

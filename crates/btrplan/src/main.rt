@@ -37,12 +37,12 @@ fn main(rt: HostRuntime) -> ExitCode {
         // A word that is no text is in no command, and neither is no word.
         Err(_) => (),
     }
-    let mut desk = TellingDesk::new(FileDesk::new(&rt, alloc), &rt, &words);
+    let mut desk = TellingDesk::new(alloc, FileDesk::new(&rt, alloc), &rt, &words);
     let mut input = StdSource::new(rt.stdin());
     let mut out = KeepingSink::new(alloc, StdSink::new(io::writer(&rt)));
     let solver = TellingSolver::new(RuleSolver, &rt);
     let status = run(alloc, &words, &mut desk, &mut input, &mut out, &solver);
     // what cannot be said changes nothing
-    let _ = advise(&rt, &words, status, out.last_line());
+    let _ = advise(&rt, &words, status, out.last_line(), desk.unwritten());
     ExitCode::from(status.code())
 }

@@ -1,6 +1,7 @@
 //! How far a long command is: told on standard error from two seconds on, and then every two seconds.
 
 use plan_io::{Desk, Failed, OutFault};
+use std::alloc::Global;
 use std::io;
 use std::rt::Clock;
 use std::time::Instant;
@@ -87,16 +88,20 @@ impl<R: Clock + Eprint> Progress<'_, R> {
     }
 }
 
-/// A desk that is another one, and tells on standard error how far the command is that uses it.
+/// A desk that is another one, and tells on standard error how far the command is that uses it. It keeps the name of the file
+/// that was to be created last, and whether a write of it has failed.
 #[derive(Drop)]
 pub struct TellingDesk<'a, D: Desk + Drop, R: Clock + Eprint> {
+    alloc: Global,
     desk: D,
     progress: Progress<'a, R>,
+    last: Option<String>,
+    has_failed: bool,
 }
 
 impl<'a, D: Desk + Drop, R: Clock + Eprint> TellingDesk<'a, D, R> {
     /// The desk, of which no call was made yet, for the command of these words. Where there is no clock nothing is told.
-    pub fn new(desk: D, rt: &'a R, words: &[String]) -> TellingDesk<'a, D, R> {
+    pub fn new(alloc: Global, desk: D, rt: &'a R, words: &[String]) -> TellingDesk<'a, D, R> {
         let done = Done {
             budget: budget_of(words),
             ..Done::default()
@@ -106,7 +111,21 @@ impl<'a, D: Desk + Drop, R: Clock + Eprint> TellingDesk<'a, D, R> {
             told: Instant::now(rt).ok(),
             done,
         };
-        TellingDesk { desk, progress }
+        TellingDesk {
+            alloc,
+            desk,
+            progress,
+            last: None,
+            has_failed: false,
+        }
+    }
+
+    /// The file of which a write has failed, if one has.
+    pub fn unwritten(&self) -> Option<&str> {
+        match &self.last {
+            Some(name) if self.has_failed => Some(name.as_str()),
+            _ => None,
+        }
     }
 }
 
@@ -136,17 +155,25 @@ impl<D: Desk + Drop, R: Clock + Eprint> Desk for TellingDesk<'_, D, R> {
 
     fn create(&mut self, name: &str) -> Result<(), OutFault> {
         self.progress.tell();
-        self.desk.create(name)
+        // a name that there is no memory for is not told
+        self.last = String::from_str(self.alloc, name).ok();
+        let created = self.desk.create(name);
+        self.has_failed = created.is_err();
+        created
     }
 
     fn append(&mut self, name: &str, piece: &[u8]) -> Result<(), OutFault> {
         self.progress.tell();
         self.progress.done.see(piece);
-        self.desk.append(name, piece)
+        let appended = self.desk.append(name, piece);
+        self.has_failed = appended.is_err();
+        appended
     }
 
     fn sync(&mut self) -> Result<(), OutFault> {
         self.progress.tell();
-        self.desk.sync()
+        let synced = self.desk.sync();
+        self.has_failed = synced.is_err();
+        synced
     }
 }
