@@ -1,5 +1,4 @@
 pub mod Public
-mod NumberLemmas
 mod NodeLemmas
 mod SpacedLemmas
 mod ReadingLemmas

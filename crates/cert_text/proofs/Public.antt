@@ -1,6 +1,6 @@
 -- What crates above may cite. All else under proofs/ is private.
 -- ---- numbers are read from their decimal texts
-pub use Rattle.cert_text.proofs.NumberLemmas.{number_of-decimal, decimal-number_of}
+pub use Rattle.numerals.proofs.Public.{number_of-decimal, decimal-number_of}
 -- ---- a reason that names what the instance has can be written
 pub use Rattle.cert_text.proofs.StepLemmas.{named_reason}
 -- ---- the laws of lines

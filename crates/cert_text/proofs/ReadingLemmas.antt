@@ -4,7 +4,7 @@ use Rattle.base.proofs.Public.{◌≡◌, ◌∙◌, ℕ, ◌≢◌, Bool, true,
 use Rattle.cert_text.specs.Prelude.{Cut as TheCut, Decide as TheDecide, Fail as TheFail, From as TheFrom, give, goal_kind, GOAL_KINDS, goal_word, GoalKind, goes_on, Idle as TheIdle, Infeasible as TheInfeasible, is_name, IsName, IsNumber, IsPlace, Left as TheLeft, line_kind, LINE_KINDS, line_word, LineKind, name, name_in, named, number, number_of, one, Optimal as TheOptimal, part_kind, PART_KINDS, part_word, PartKind, place, place_in, place_word, Plan as ThePlan, Reading, reason_kind, REASON_KINDS, reason_word, ReasonKind, Undecided as TheUndecided, Upto as TheUpto, Word, ◌>>=◌}
 use Rattle.reasons.specs.declared.reason.ReasonKind.TheVariants.{Empty as TheEmpty, Bound as TheBound, Load as TheLoad, Pair as ThePair, Place as ThePlace, Group as TheGroup, SetLoad as TheSetLoad, Power as ThePower, Usable as TheUsable, Hall as TheHall}
 use Rattle.cert_text.specs.declared.kinds.LineKind.TheVariants.{End as TheEnd}
-use Rattle.cert_text.proofs.NumberLemmas.{decimal-number_of, number_of-decimal}
+use Rattle.numerals.proofs.Public.{decimal-number_of, number_of-decimal}
 
 -- ---- readings of two steps, and of one word
 

@@ -7,7 +7,7 @@ use Rattle.trees.specs.declared.steps.Goal.TheVariants.{Optimal, Infeasible, Und
 use Rattle.cert_text.specs.declared.kinds.LineKind.TheVariants.{End as TheEnd}
 use Rattle.cert_text.specs.declared.text.PartText.TheVariants.{Idle, Upto, From}
 use Rattle.cert_text.specs.declared.text.StepText.TheVariants.{Decide, Cut, Fail, Plan, Left}
-use Rattle.cert_text.proofs.NumberLemmas.{own}
+use Rattle.numerals.proofs.Public.{digits_of-decimal}
 
 -- ---- words without blanks and newlines
 
@@ -67,7 +67,7 @@ unfolding plain
 number_plain n is =
     let few = length-decimal-le 20 n (lit< tt) (lt_trans is (lit< tt)) is in
     let short : nat_le (length (decimal n)) 64 ≡ true = short_enough (length (decimal n)) few in
-    and_from _ _ (each_passes is_ascii_digit (nat_lt 32) digit_plain (decimal n) (digits_decimal own n is)) short
+    and_from _ _ (each_passes is_ascii_digit (nat_lt 32) digit_plain (decimal n) (digits_of-decimal n is)) short
 
 dash_plain : plain (codes "-") ≡ true
 unfolding plain

@@ -4,7 +4,6 @@ pub mod Texts
 pub mod Spelling
 -- what the contracts say beside it: the reading of a line, which the laws show to be exact
 pub mod Faults
-pub mod Numbers
 pub mod Reading
 pub mod Spaced
 pub mod Laws

@@ -11,7 +11,7 @@ pub use Rattle.trees.specs.declared.steps.Goal.{Goal}
 pub use Rattle.cert_text.specs.Kinds.{named, Word}
 unfoldable pub use Rattle.cert_text.specs.Kinds.{goal_word, line_word, part_word, reason_word}
 pub use Rattle.cert_text.specs.Laws.{LinesFit, LinesHaveNoNewline, LinesHaveOneReading, ReadingsAreExact, StepsAreLines}
-unfoldable pub use Rattle.cert_text.specs.Numbers.{number_of}
+unfoldable pub use Rattle.numerals.specs.Numbers.{number_of}
 pub use Rattle.cert_text.specs.Reading.{all_read, give, goes_on, listed_in, name_in, names_of, nodes_in, one, part_of, place_in, Reading, words_of, ◌>>=◌}
 unfoldable pub use Rattle.cert_text.specs.Reading.{goal, goal_kind, goal_of, line, line_kind, line_of, name, nodes, number, part, part_kind, place, reading, reason, reason_kind, reason_of}
 pub use Rattle.cert_text.specs.Spaced.{all_spaced, spaced, spaced_if_in}

@@ -26,7 +26,7 @@ use Rattle.cert_text.specs.declared.text.ReasonText.{ReasonText}
 use Rattle.cert_text.specs.declared.text.ReasonText.TheVariants.{Empty, Bound, Load, Pair, Place, Group, SetLoad, Power, Usable, Hall}
 use Rattle.cert_text.specs.declared.text.StepText.TheVariants.{Decide, Cut, Fail, Plan, Left}
 use Rattle.cert_text.specs.Kinds.{Word, goal_word, line_word, named, part_word, reason_word}
-use Rattle.cert_text.specs.Numbers.{number_of}
+use Rattle.numerals.specs.Numbers.{number_of}
 
 -- ---- readings: of the first words of a list, with the words after them
 

@@ -3,7 +3,6 @@
 
 pub mod kinds;
 pub mod laws;
-pub mod number;
 pub mod parsing;
 pub mod printing;
 pub mod text;

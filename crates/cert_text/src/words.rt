@@ -3,9 +3,9 @@ ghost use Rattle.std.specs.Prelude.{◌≡◌, ◌↔◌, [], ◌∷◌, IsTrue,
 ghost use Rattle.cert_text.specs.Reading.{Takes, goal_kind, line_kind, name, number, part_kind, place, reason_kind};
 
 use crate::kinds::{GoalKind, LineKind, PartKind, reason_of_word};
-use crate::number::number;
 use crate::parsing::TextFault;
 use cluster::Name;
+use numerals::number;
 use reasons::ReasonKind;
 use std::alloc::Global;
 use std::marker::Model;

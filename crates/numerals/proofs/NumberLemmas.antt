@@ -1,9 +1,9 @@
 -- A number is read from its decimal text, and from no other.
 use Rattle.std.proofs.Common.{◌^◌, Result, Err}
 use Rattle.base.proofs.Public.{◌≡◌, ◌∙◌, ℕ, ◌<◌, true, false, List, length, slice_index, Some, None, Ok, sym, ap, arith, rules, lit<, inl, inr, cases_Bool, cases_eq, cases_lt, nat_tests, decimal-digits_value, digits_decimal, digits_value-decimal, decimal_nonempty, first_decimal, decimal_digit, IsAscii-from_digits, common_steps, OkIff-at_err, OkIff-at_ok, IsUtf8-from_ascii, IsNumeralModel, numerals_by_value, parse_digits, is_ascii_digit, decimal, list_all, IsUtf8, ParsesUnsigned, digits_value}
-use Rattle.cert_text.specs.Numbers.{is_numeral, number_of}
+use Rattle.numerals.specs.Numbers.{is_numeral, number_of}
 
-pub own : IsNumeralModel (λ ds. list_all is_ascii_digit ds ≡ true) (digits_value 10)
+own : IsNumeralModel (λ ds. list_all is_ascii_digit ds ≡ true) (digits_value 10)
 own = numerals_by_value _ (search rules)
 
 -- what a numeral is
@@ -56,7 +56,11 @@ refused word r e is parses bad =
     let says = OkIff-at_err r _ (digits_value 10 word) e (parse_digits own 64 word r parses (numeral word is).digits) bad in
     sym (large word (λ small. says ((numeral word is).some, small)))
 
--- the text of a number is a numeral
+-- the text of a number is digits alone
+pub digits_of-decimal : (n : ℕ) → n < 2 ^ 64 → list_all is_ascii_digit (decimal n) ≡ true
+digits_of-decimal n small = digits_decimal own n small
+
+-- and a numeral
 IsNumeral-decimal : (n : ℕ) → n < 2 ^ 64 → is_numeral (decimal n) ≡ true
 IsNumeral-decimal n small = from_numeral (decimal n) (record {
   some = decimal_nonempty n small;
@@ -64,7 +68,7 @@ IsNumeral-decimal n small = from_numeral (decimal n) (record {
     | inl above ↦ let high = first_decimal n above small in absurd (omega arith)
     | inr none ↦ let is : n ≡ 0 = omega arith in rw is (ap length (decimal_digit 0 (lit< tt)))
   ];
-  digits = digits_decimal own n small;
+  digits = digits_of-decimal n small;
 })
 
 -- the text of a number is read as the number

@@ -1,6 +1,6 @@
 use Rattle.std.proofs.Common.{sym, ◌∙◌}
-use Rattle.cert_text.proofs.NumberLemmas.{IsUtf8-is_numeral, none_read, one_read, refused}
-use Rattle.cert_text.proofs.number.number.Goals as goal
+use Rattle.numerals.proofs.NumberLemmas.{IsUtf8-is_numeral, none_read, one_read, refused}
+use Rattle.numerals.proofs.number.Goals as goal
 
 pub unreachable-requires : goal.unreachable-requires
 unreachable-requires c = c.in-Err.ensures.cases.0 (IsUtf8-is_numeral _ (sym c.is_numeral.ensures ∙ c.if-not-is_numeral.false))

@@ -1,8 +1,12 @@
 //! Numbers in texts: decimal, without a leading zero, below 2^64.
-ghost use Rattle.std.specs.Prelude.{◌≡◌, IsTrue};
+#![tactic(auto)]
+
+ghost use Rattle.std.specs.Prelude.{◌≡◌};
 ghost use Rattle.std.specs.Char.{is_ascii_digit};
 ghost use Rattle.std.specs.List.{list_all};
-ghost use Rattle.cert_text.specs.Numbers.{is_numeral, number_of};
+ghost use Rattle.numerals.specs.Numbers.{is_numeral, number_of};
+
+pub mod laws;
 
 fn are_digits(word: &[u8]) -> bool
     ensures { result ≡ list_all is_ascii_digit word.now }
