@@ -1,8 +1,9 @@
 -- The least of a measure over the choices of a domain, beside the least with those that it has lost.
-use Rattle.rule_constraint.proofs.Prelude.{◌≡◌, ℕ, ◌≤◌, Option, Some, None, refl, arith, Contains, AreFewer, Choice, choices, DomainView, least}
+use Rattle.rule_constraint.proofs.Prelude.{◌≡◌, ℕ, ◌≤◌, Option, Some, None, refl, arith, Contains, AreFewer, Choice, choices, DomainView}
 use Rattle.domains.proofs.Public.{least_of_each, lowest_before}
 use Rattle.domains.specs.declared.undo.Lost.{Lost}
 use Rattle.domains.specs.Prelude.{lost_choices, lowest, restored}
+use Rattle.rule_constraint.specs.Prelude.{least}
 
 -- nothing was lost that has one
 pub none_lost : (f : Choice → ℕ) (lost : Lost) (d : DomainView) → AreFewer (choices d) (choices (restored lost d)) → lowest f (lost_choices lost) ≡ None → least f (choices d) ≤ least f (choices (restored lost d))
