@@ -1,5 +1,4 @@
 pub mod Public
-mod NumberLemmas
 mod PieceLemmas
 mod RangeLemmas
 mod SetLemmas

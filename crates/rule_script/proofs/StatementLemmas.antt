@@ -15,7 +15,7 @@ use Rattle.rule_script.specs.declared.statement.Statement.TheVariants.{Nothing, 
 use Rattle.rule_script.specs.declared.tokens.Token.{Token}
 use Rattle.rule_script.specs.declared.tokens.Token.TheVariants.{Word, Variable, Opens, Closes, Colon, Comma, Bar, Equals}
 use Rattle.rule_script.proofs.LawLemmas.{sets_are_exact}
-use Rattle.rule_script.proofs.NumberLemmas.{number_of-decimal}
+use Rattle.numerals.proofs.Public.{number_of-decimal}
 use Rattle.rule_script.proofs.ReadingLemmas.{first_set}
 use Rattle.rule_script.proofs.WordLemmas.{bar_is, closes_is, colon_is, comma_is, equals_is, keyword_is, kind_is, kind_read, name_is, no_kind, number_is, opens_is, variable_is, with_bar, with_word}
 

@@ -4,7 +4,7 @@ use Rattle.catalogue.specs.declared.constraint.TheConstants.{CONSTRAINT_WORDS}
 use Rattle.cluster.specs.Prelude.{is_name}
 use Rattle.rule_script.specs.Grammar.{bar, closes_in, colon_in, comma_in, equals_in, keyword, kind_in, name_in, name_of_word, number_in, opens_in, variable_in, word_in}
 use Rattle.rule_script.specs.Kinds.{kind_of, kind_word}
-use Rattle.rule_script.specs.Numbers.{number_of}
+use Rattle.numerals.specs.Numbers.{number_of}
 use Rattle.rule_script.specs.Spelling.{numeral}
 use Rattle.rule_script.specs.declared.kinds.RuleKind.{RuleKind}
 use Rattle.rule_script.specs.declared.kinds.RuleKind.TheVariants as kind
@@ -12,7 +12,7 @@ use Rattle.rule_script.specs.declared.kinds.TheConstants.{RULE_KINDS}
 use Rattle.rule_script.specs.declared.tokens.Token.{Token}
 use Rattle.rule_script.specs.declared.tokens.Token.TheVariants.{Word, Variable, Span, Sign, Opens, Closes, From, Upto, Colon, Comma, Bar, Equals, Other}
 use Rattle.rule_script.proofs.BindingLemmas.{same_bytes}
-use Rattle.rule_script.proofs.NumberLemmas.{decimal-number_of}
+use Rattle.numerals.proofs.Public.{decimal-number_of}
 
 pub variable_is : (t : Token) (x : List ℕ) → variable_in t ≡ Some x → t ≡ Variable x
 variable_is (Word y) x is = absurd (cc)

@@ -3,7 +3,7 @@ use Rattle.std.specs.Prelude.{◌≡◌, ℕ, zero, suc, Bool, true, false, not,
 use Rattle.std.specs.Str.{bytes_eq}
 use Rattle.cluster.specs.Prelude.{is_name}
 use Rattle.rule_script.specs.Kinds.{kind_of}
-use Rattle.rule_script.specs.Numbers.{number_of}
+use Rattle.numerals.specs.Numbers.{number_of}
 use Rattle.rule_script.specs.Sets.{Set, set_at}
 use Rattle.rule_script.specs.declared.faults.LineFault.{LineFault}
 use Rattle.rule_script.specs.declared.faults.LineFault.TheVariants.{NotALine, Memory}

@@ -1,4 +1,3 @@
-pub mod Numbers
 pub mod Tokens
 pub mod Sets
 pub mod SetCode

@@ -3,7 +3,7 @@ use Rattle.std.specs.Prelude.{ℕ, Bool, ◌&&◌, ◌||◌, ◌==◌, ◌-◌, 
 use Rattle.std.specs.List.{fold, position}
 use Rattle.std.specs.Str.{bytes_eq}
 use Rattle.cluster.specs.Prelude.{is_name}
-use Rattle.rule_script.specs.Numbers.{number_of}
+use Rattle.numerals.specs.Numbers.{number_of}
 use Rattle.rule_script.specs.declared.tokens.Operator.TheVariants.{Plus, Minus, Both}
 use Rattle.rule_script.specs.declared.tokens.Token.{Token}
 use Rattle.rule_script.specs.declared.tokens.Token.TheVariants.{Word, Variable, Span, Sign, Opens, Closes, From, Upto, Colon, Comma, Bar, Equals, Other}

@@ -5,11 +5,11 @@ ghost use Rattle.rule_script.specs.Sets.{set_at};
 
 use crate::faults::LineFault;
 use crate::kinds::{RuleKind, kind_of};
-use crate::number::number;
 use crate::sets::SetText;
 use crate::text::Text;
 use crate::tokens::Token;
 use cluster::names::is_name_text;
+use numerals::number;
 use std::marker::Model;
 
 /// The tokens of a line that are left. Contracts see them as their list.

@@ -9,7 +9,6 @@ pub mod faults;
 mod gathered;
 pub mod kinds;
 pub mod laws;
-mod number;
 pub mod pass;
 mod pieces;
 mod places;

@@ -1,13 +1,13 @@
 //! The tokens of a line.
-ghost use Rattle.std.specs.Prelude.{◌≡◌, ◌≤◌, ◌==◌, IfOk, IfSome, OnOk, length};
+ghost use Rattle.std.specs.Prelude.{◌≡◌, ◌≤◌, ◌==◌, ◌++◌, ◌∷◌, [], IfOk, IfSome, OnOk, length};
 ghost use Rattle.std.specs.List.{position};
 ghost use Rattle.rule_script.specs.Tokens.{content, mark_of, range_in, range_of, span_of, token_of, tokens_of, variable_of, with_piece, with_token};
 
-use crate::number::number;
 use crate::pieces::{goes_on, piece_len};
 use crate::text::Text;
 use base::Memory;
 use cluster::names::is_name_text;
+use numerals::number;
 use std::alloc::Global;
 
 /// How two sets are put together.
@@ -152,6 +152,18 @@ fn range_in<'a>(tokens: &[Token<'a>]) -> Option<Token<'a>>
     range_of(&tokens[0], &tokens[1], &tokens[2], &tokens[3], &tokens[4])
 }
 
+/// Puts a token at the end. There mostly is room for it.
+fn put<'a>(found: &mut Vec<Token<'a>>, token: Token<'a>) -> Result<(), Memory>
+    ensures { OnOk result (found.new.items ≡ found.old.items ++ token.entry ∷ []) }
+{
+    if found.len() < found.capacity() {
+        found.push_reserved(token);
+    } else {
+        found.push(token)?;
+    }
+    Ok(())
+}
+
 /// Adds a token; with the `]` of a range, the five before it become one.
 fn add_token<'a>(found: &mut Vec<Token<'a>>, token: Token<'a>) -> Result<(), Memory>
     ensures { OnOk result (found.new.items ≡ with_token found.old.items token.entry) }
@@ -160,22 +172,20 @@ fn add_token<'a>(found: &mut Vec<Token<'a>>, token: Token<'a>) -> Result<(), Mem
         let kept = found.len().saturating_sub(5);
         if let Some(range) = range_in(&found[kept..]) {
             found.truncate(kept);
-            found.push(range)?;
-            return Ok(());
+            return put(found, range);
         }
     }
-    found.push(token)?;
-    Ok(())
+    put(found, token)
 }
 
 /// Adds the token of a piece, unless it is a blank.
 fn add_piece<'a>(found: &mut Vec<Token<'a>>, piece: &'a [u8]) -> Result<(), Memory>
     ensures { OnOk result (found.new.items ≡ with_piece found.old.items piece.now) }
 {
-    if piece == b" ".as_slice() {
-        return Ok(());
+    match piece {
+        [b' '] => Ok(()),
+        _ => add_token(found, token_of(piece)),
     }
-    add_token(found, token_of(piece))
 }
 
 /// The place of the first `#`.
