@@ -183,8 +183,12 @@ pub ruleset number_rules = (one_more_number, no_such_number, all_numbers)
 
 -- ---- the element of a name
 
--- a listed element that has a name is found by it
-pub named_so : (k : Inventory) (e : Element) (name : List ℕ) → IsInventory k → IsListed k e → bytes_eq (name_of k e) name ≡ true → element_named k name ≡ Some e
-named_so k e name sound listed same = ap (element_named k) (sym (same_bytes (name_of k e) name same)) ∙ element_named-name_of k e sound listed
+-- what is cut into a name and digits is the two put together
+pub joined_so : (text front rest name digits : List ℕ) → text ≡ front ++ rest → bytes_eq front name ≡ true → bytes_eq rest digits ≡ true → text ≡ name ++ digits
+joined_so text front rest name digits cut first second = cut ∙ ap (λ (l : List ℕ). l ++ rest) (same_bytes front name first) ∙ ap (λ (l : List ℕ). name ++ l) (same_bytes rest digits second)
 
-pub ruleset named_rules = (named_so)
+pub ruleset joined_rules = (joined_so)
+
+-- a listed element that has a name is found by it
+pub named_so : (k : Inventory) (e : Element) (name digits : List ℕ) → IsInventory k → IsListed k e → name_of k e ≡ name ++ digits → element_named k (name ++ digits) ≡ Some e
+named_so k e name digits sound listed same = ap (element_named k) (sym same) ∙ element_named-name_of k e sound listed

@@ -168,37 +168,71 @@ fn next_of(cluster: &Cluster, element: Element) -> Option<Element>
     }
 }
 
-/// Whether a listed element has the name.
-#[tactic(auto, using(crate::proofs::PassLemmas::named_rules))]
-fn is_named(cluster: &Cluster, element: Element, name: &[u8]) -> bool
-    requires { IsListed cluster.now.given element }
-    ensures { result ≡ true → element_named cluster.now.given name.now ≡ Some element }
+/// Whether a text is a name with these digits after it.
+#[tactic(auto, using(crate::proofs::PassLemmas::joined_rules))]
+fn is_joined(text: &[u8], name: &[u8], digits: &[u8]) -> bool
+    ensures { result ≡ true → text.now ≡ name.now ++ digits.now }
 {
-    cluster.name(element).as_bytes() == name
+    if text.len() < name.len() {
+        return false;
+    }
+    let (front, rest) = text.split_at(name.len());
+    front == name && rest == digits
 }
 
-/// The one after the last of these, if it has the name.
-fn guessed(cluster: &Cluster, before: &[Element], name: &[u8]) -> Option<Element>
-    ensures element { IfSome result (λ e. element_named cluster.now.given name.now ≡ Some e) }
+/// Whether a listed element has that name with these digits after it.
+fn is_named(cluster: &Cluster, element: Element, name: &[u8], digits: &[u8]) -> bool
+    requires { IsListed cluster.now.given element }
+    ensures { result ≡ true → element_named cluster.now.given (name.now ++ digits.now) ≡ Some element }
+{
+    is_joined(cluster.name(element).as_bytes(), name, digits)
+}
+
+/// The one after the last of these, if it has that name with these digits after it.
+fn guessed(cluster: &Cluster, before: &[Element], name: &[u8], digits: &[u8]) -> Option<Element>
+    ensures element { IfSome result (λ e. element_named cluster.now.given (name.now ++ digits.now) ≡ Some e) }
     ensures small { IfSome result (λ e. is_small e ≡ true) }
 {
     let next = next_of(cluster, *before.last()?)?;
-    if is_named(cluster, next, name) {
+    if is_named(cluster, next, name, digits) {
         Some(next)
     } else {
         None
     }
 }
 
-/// The element of that name, if there is one. Elements of one range mostly stand side by side, so
-/// the one after the last before it is looked at first.
-fn found_after(cluster: &Cluster, before: &[Element], name: &[u8]) -> Option<Element>
-    ensures element { result ≡ element_named cluster.now.given name.now }
-    ensures small { IfSome result (λ e. is_small e ≡ true) }
+/// The element of that name with these digits after it, if there is one. The name is left as it was.
+fn found_joined(
+    cluster: &Cluster,
+    name: &mut Vec<u8>,
+    digits: &[u8],
+) -> Result<Option<Element>, Memory>
+    ensures element { IfOk result (λ e. e ≡ element_named cluster.now.given (name.old.items ++ digits.now)) }
+    ensures small { IfOk result (λ o. IfSome o (λ e. is_small e ≡ true)) }
+    ensures name { OnOk result (name.new.items ≡ name.old.items) }
 {
-    match guessed(cluster, before, name) {
-        Some(element) => Some(element),
-        None => found(cluster, name),
+    let len = name.len();
+    name.extend_from_slice(digits)?;
+    let element = found(cluster, name);
+    name.truncate(len);
+    Ok(element)
+}
+
+/// The element of that name with these digits after it, if there is one. Elements of one range
+/// mostly stand side by side, so the one after the last before it is looked at first.
+fn found_after(
+    cluster: &Cluster,
+    before: &[Element],
+    name: &mut Vec<u8>,
+    digits: &[u8],
+) -> Result<Option<Element>, Memory>
+    ensures element { IfOk result (λ e. e ≡ element_named cluster.now.given (name.old.items ++ digits.now)) }
+    ensures small { IfOk result (λ o. IfSome o (λ e. is_small e ≡ true)) }
+    ensures name { OnOk result (name.new.items ≡ name.old.items) }
+{
+    match guessed(cluster, before, name, digits) {
+        Some(element) => Ok(Some(element)),
+        None => found_joined(cluster, name, digits),
     }
 }
 
@@ -213,12 +247,8 @@ fn found_numbered(
     ensures small { IfOk result (λ o. IfSome o (λ e. is_small e ≡ true)) }
     ensures name { OnOk result (name.new.items ≡ name.old.items) }
 {
-    let len = name.len();
     let mut digits = Buffer::new();
-    name.extend_from_slice(digits.format(number).as_bytes())?;
-    let element = found_after(cluster, before, name);
-    name.truncate(len);
-    Ok(element)
+    found_after(cluster, before, name, digits.format(number).as_bytes())
 }
 
 /// The elements of that name with so many numbers after it, from the first on.
