@@ -1,5 +1,7 @@
 mod AxisLemmas
 mod Drawn
+mod HeatLemmas
+mod HeatPrinted
 mod Lists
 mod Placed
 mod Printed

@@ -3,26 +3,26 @@ use Rattle.std.specs.Prelude.{◌≡◌, ℕ, ◌<◌, List, [], length, map, sl
 use Rattle.std.specs.List.{All, range_with_len}
 use Rattle.judge.specs.Prelude.{cell, loads_of, snapshot_at}
 use Rattle.show.specs.Prelude.{Choices, Instance}
-use Rattle.picture.specs.declared.marks.Curve.{Curve}
+use Rattle.picture.specs.declared.marks.LoadCurve.{LoadCurve}
 use Rattle.picture.specs.declared.marks.Step.{Step}
 
 -- the load of a node for a resource from an instant on, as a report has it
 abbrev pub step_at : Instance → Choices → ℕ → ℕ → ℕ → Step
-step_at p plan n r t = record { at = t; load = loads_of p (snapshot_at p plan t) n r }
+step_at p plan n r t = record { at = t; amount = loads_of p (snapshot_at p plan t) n r }
 
 -- a step for each instant
 abbrev pub steps_of : Instance → Choices → ℕ → ℕ → List ℕ → List Step
 steps_of p plan n r instants = map (step_at p plan n r) instants
 
 -- the heights of a curve are the loads of the node at each instant
-abbrev pub IsCurve : Instance → Choices → ℕ → List ℕ → Curve → Type 0
-IsCurve p plan n instants curve = curve.steps.items ≡ steps_of p plan n curve.resource instants
+abbrev pub IsCurve : Instance → Choices → ℕ → List ℕ → LoadCurve → Type 0
+IsCurve p plan n instants load = load.curve.steps.items ≡ steps_of p plan n load.resource instants
 
-abbrev pub resource_of_curve : Curve → ℕ
-resource_of_curve curve = curve.resource
+abbrev pub resource_of_curve : LoadCurve → ℕ
+resource_of_curve load = load.resource
 
 -- one curve for each resource, in order
-pub record AreCurves (p : Instance) (plan : Choices) (n : ℕ) (instants : List ℕ) (curves : List Curve) : Type 0 where
+pub record AreCurves (p : Instance) (plan : Choices) (n : ℕ) (instants : List ℕ) (curves : List LoadCurve) : Type 0 where
   pub resources : map resource_of_curve curves ≡ range_with_len 0 (length p.resources)
   pub loads : All (IsCurve p plan n instants) curves
 

@@ -1,7 +1,13 @@
 pub mod Axis
 pub mod Bars
+pub mod Counts
 pub mod Curves
+pub mod Drawn
+pub mod HeatMap
+pub mod Heats
+pub mod HeatText
 pub mod Looks
 pub mod Picture
+pub mod Shades
 pub mod Text
 pub mod Prelude

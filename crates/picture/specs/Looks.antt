@@ -1,7 +1,8 @@
 -- How marks look: the classes of each style.
 use Rattle.std.specs.Prelude.{ℕ, List, codes}
+use Rattle.picture.specs.Shades.{class_of_shade}
 use Rattle.picture.specs.declared.style.Style.{Style}
-use Rattle.picture.specs.declared.style.Style.TheVariants.{Arrives, BadPeak, BadVerdict, Beside, BesideLeft, Broken, Busy, Capacity, Changes, Dark, End, Full, Grid, Leaves, Moves, Name, Off, OffKey, Over, Power, Separator, Small, Tick, TickLeft, TickMiddle, Unusable, Verdict, White, WhiteEnd}
+use Rattle.picture.specs.declared.style.Style.TheVariants.{Arrives, BadPeak, BadVerdict, Beside, BesideLeft, Broken, Busy, Capacity, Changes, Dark, End, Full, Grid, Heat, Leaves, Moves, Name, Off, OffKey, Over, Power, Separator, Small, Tick, TickLeft, TickMiddle, Unusable, Verdict, White, WhiteEnd}
 
 abbrev pub class_of : Style → List ℕ
 class_of Moves = codes "moves"
@@ -33,3 +34,4 @@ class_of Beside = codes "beside"
 class_of BesideLeft = codes "beside left"
 class_of End = codes "end"
 class_of WhiteEnd = codes "end white"
+class_of (Heat shade) = class_of_shade shade

@@ -1,14 +1,17 @@
 //! The curves of the nodes: their loads at each instant at which something starts or ends.
 ghost use Rattle.std.specs.Prelude.{◌≡◌, ◌^◌, ◌<◌, length, IfOk};
-ghost use Rattle.picture.specs.Prelude.{AreCurves, AreLoads, choices_of, IsCurve, IsPlanOf, max_nodes, rise, steps_of};
+ghost use Rattle.picture.specs.Prelude.{AreCurves, AreLoads, choices_of, height_at, IsCurve, IsPlanOf, max_nodes, steps_of};
 
-use crate::marks::{Curve, Step};
+use crate::marks::{Curve, LoadCurve, Step};
 use base::Memory;
 use catalogue::Problem;
 use cluster::{Instant, NodeId};
 use judge::{Loads, loads_at};
 use slices::Plan;
 use std::alloc::Global;
+
+/// How high the curve of a load is.
+const LOAD_TALL: u64 = 18;
 
 /// The loads of all nodes at each of some instants, by one pass over the machines for each.
 pub(crate) fn tables(
@@ -48,22 +51,23 @@ fn steps(
         let load = tables[i][n.0 as usize][r as usize];
         steps.push(Step {
             at: instants[i],
-            load,
+            amount: load,
         })?;
     }
     Ok(steps)
 }
 
-/// The greatest load of some steps.
+/// The greatest amount of some steps.
 pub(crate) fn peak_of(steps: &[Step]) -> u64 {
-    steps.iter().fold(0, |peak, step| step.load.max(peak))
+    steps.iter().fold(0, |peak, step| step.amount.max(peak))
 }
 
-/// How high a load is, in a strip of 18 that the most fills.
-pub(crate) fn rise(most: u64, load: u64) -> u64
-    ensures { result ≡ rise most load }
+/// Where an amount is drawn.
+pub(crate) fn height_at(curve: &Curve, amount: u64) -> u64
+    ensures { result ≡ height_at curve.now amount }
 {
-    load.saturating_mul(18) / most.max(1)
+    let rise = amount.saturating_mul(curve.tall) / curve.most.max(1);
+    curve.base.saturating_sub(rise)
 }
 
 /// The greatest of a capacity, a peak and 1: what takes the whole height of a strip.
@@ -84,7 +88,7 @@ fn curve(
     n: NodeId,
     r: u8,
     base: u64,
-) -> Result<Curve, Memory>
+) -> Result<LoadCurve, Memory>
     requires tables { AreLoads p.now.given (choices_of plan.now) instants.now tables.now }
     requires node { n.0 < length p.now.given.nodes }
     requires resource { r < length p.now.given.resources }
@@ -93,11 +97,14 @@ fn curve(
 {
     let steps = steps(alloc, p, plan, instants, tables, n, r)?;
     let most = most_of(p, n, r, &steps);
-    Ok(Curve {
+    Ok(LoadCurve {
         resource: r,
-        base,
-        most,
-        steps,
+        curve: Curve {
+            base,
+            tall: LOAD_TALL,
+            most,
+            steps,
+        },
     })
 }
 
@@ -111,7 +118,7 @@ pub(crate) fn curves_of(
     tables: &[Loads],
     n: NodeId,
     top: u64,
-) -> Result<Vec<Curve>, Memory>
+) -> Result<Vec<LoadCurve>, Memory>
     requires tables { AreLoads p.now.given (choices_of plan.now) instants.now tables.now }
     requires node { n.0 < length p.now.given.nodes }
     requires top { top < 2 ^ 42 }

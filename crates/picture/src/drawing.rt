@@ -100,7 +100,7 @@ fn lower(y: u64, by: u64, is_there: bool) -> u64
 
 /// What stands below the bands: the nodes that have none, and the axis once more where the body is
 /// high. Where the picture ends.
-fn finish(
+pub(crate) fn finish(
     sheet: &mut Sheet,
     p: &Problem,
     plan: &Plan,
@@ -127,7 +127,7 @@ fn finish(
 }
 
 /// The line at the first broken instant, if there is one.
-fn broken_line(
+pub(crate) fn broken_line(
     sheet: &mut Sheet,
     answer: Option<Broken>,
     span: Instant,

@@ -4,6 +4,7 @@ ghost use Rattle.std.specs.List.{All};
 ghost use Rattle.picture.specs.Prelude.{choices_of, InRange, IsActionOf, IsPlanOf};
 
 use crate::labels::kind_of_action;
+use crate::shade::Shade;
 use crate::sheet::{MARGIN, Sheet};
 use crate::style::Style;
 use crate::words::cut;
@@ -136,14 +137,54 @@ fn legend(sheet: &mut Sheet, counts: Counts, is_off: bool, is_broken: bool) -> R
     Ok(())
 }
 
-/// The head of the picture.
-pub(crate) fn head(
+/// The shades of a heat map, and what each says.
+const SHADES: [(Shade, &str); 6] = [
+    (Shade::Faint, "< 25 %"),
+    (Shade::Light, "50"),
+    (Shade::Medium, "75"),
+    (Shade::Strong, "90"),
+    (Shade::Packed, "100 %"),
+    (Shade::Overfull, "over"),
+];
+
+/// The legend of a heat map.
+fn heat_legend(sheet: &mut Sheet, counts: Counts, is_off: bool) -> Result<(), Memory> {
+    let mut x = MARGIN;
+    for (shade, words) in SHADES {
+        x = key(sheet, x, Style::Heat(shade), words)?;
+    }
+    if is_off {
+        x = key(sheet, x, Style::Heat(Shade::Hatched), "off")?;
+    }
+    if occurs(counts, &[Kind::NodeBoot, Kind::NodeShutdown]) {
+        x = key(sheet, x, Style::Heat(Shade::Edged), "boots, stops")?;
+    }
+    if occurs(counts, &[Kind::Migrate]) {
+        x = key(sheet, x, Style::Moves, "migrates to")?;
+    }
+    if occurs(counts, &[Kind::Boot, Kind::Resume]) {
+        x = key(sheet, x, Style::Arrives, "boot, resume")?;
+    }
+    if occurs(
+        counts,
+        &[Kind::Migrate, Kind::Shutdown, Kind::Suspend, Kind::Kill],
+    ) {
+        x = key(sheet, x, Style::Leaves, "leaves, ends")?;
+    }
+    if occurs(counts, &[Kind::Forge, Kind::Allocate]) {
+        key(sheet, x, Style::Changes, "forge, allocate")?;
+    }
+    Ok(())
+}
+
+/// The verdict and the counts. How many actions there are of each kind.
+fn verdict_and_counts(
     sheet: &mut Sheet,
     p: &Problem,
     plan: &Plan,
     actions: &[Action],
     answer: Option<Broken>,
-) -> Result<(), Memory>
+) -> Result<Counts, Memory>
     requires plan { IsPlanOf p.now.given plan.now }
     requires actions { All (IsActionOf p.now.given (choices_of plan.now)) actions.now }
     requires rule { IfSome answer (λ b. InRange p.now.given b.rule) }
@@ -159,7 +200,43 @@ pub(crate) fn head(
     let counts = counts(p, plan, actions);
     let words = count_words(sheet.alloc, p, counts, last_end(actions))?;
     sheet.words(Style::Small, MARGIN, 46, words)?;
-    let turns = occurs(counts, &[Kind::NodeBoot, Kind::NodeShutdown]);
-    let is_off = turns || p.cluster().nodes().iter().any(|n| !n.online);
-    legend(sheet, counts, is_off, answer.is_some())
+    Ok(counts)
+}
+
+/// Whether a node is off at some time.
+fn is_some_off(p: &Problem, counts: Counts) -> bool {
+    occurs(counts, &[Kind::NodeBoot, Kind::NodeShutdown])
+        || p.cluster().nodes().iter().any(|n| !n.online)
+}
+
+/// The head of a picture in bands.
+pub(crate) fn head(
+    sheet: &mut Sheet,
+    p: &Problem,
+    plan: &Plan,
+    actions: &[Action],
+    answer: Option<Broken>,
+) -> Result<(), Memory>
+    requires plan { IsPlanOf p.now.given plan.now }
+    requires actions { All (IsActionOf p.now.given (choices_of plan.now)) actions.now }
+    requires rule { IfSome answer (λ b. InRange p.now.given b.rule) }
+{
+    let counts = verdict_and_counts(sheet, p, plan, actions, answer)?;
+    legend(sheet, counts, is_some_off(p, counts), answer.is_some())
+}
+
+/// The head of a heat map.
+pub(crate) fn heat_head(
+    sheet: &mut Sheet,
+    p: &Problem,
+    plan: &Plan,
+    actions: &[Action],
+    answer: Option<Broken>,
+) -> Result<(), Memory>
+    requires plan { IsPlanOf p.now.given plan.now }
+    requires actions { All (IsActionOf p.now.given (choices_of plan.now)) actions.now }
+    requires rule { IfSome answer (λ b. InRange p.now.given b.rule) }
+{
+    let counts = verdict_and_counts(sheet, p, plan, actions, answer)?;
+    heat_legend(sheet, counts, is_some_off(p, counts))
 }

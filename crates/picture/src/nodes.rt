@@ -4,6 +4,7 @@ ghost use Rattle.std.specs.List.{All, list_any};
 ghost use Rattle.picture.specs.Prelude.{choices_of, IsActionOf, IsPlanOf, is_shown, touches};
 
 use crate::bars::{Row, stands};
+use crate::marks::Power;
 use catalogue::Problem;
 use cluster::{Choice, Element, Instant, NodeId};
 use show::Action;
@@ -35,15 +36,6 @@ pub(crate) fn is_shown(p: &Problem, plan: &Plan, actions: &[Action], n: NodeId) 
     ensures { result ≡ is_shown p.now.given (choices_of plan.now) actions.now n.0 }
 {
     p.cluster().nodes().len() <= ALL_SHOWN || has_bar(p, plan, actions, n)
-}
-
-/// What a node is for a while.
-#[derive(Clone, Copy, Debug, PartialEq, Eq)]
-pub(crate) enum Power {
-    On,
-    Off,
-    /// It boots or shuts down.
-    Turning,
 }
 
 /// What a node is from an instant to another one.

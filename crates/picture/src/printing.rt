@@ -1,19 +1,15 @@
 //! A picture, printed as SVG.
-ghost use Rattle.std.specs.Prelude.{◌≡◌, ◌++◌, IfOk, IfSome, OnOk};
+ghost use Rattle.std.specs.Prelude.{◌≡◌, ◌++◌, IfOk, OnOk};
 ghost use Rattle.std.specs.List.{flat_map};
-ghost use Rattle.picture.specs.Prelude.{band_text, bar_text, choices_of, curve_text, head_text, height_at, InRange, IsDrawn, IsPlanOf, mark_text, picture_text, step_text, steps_text, styles_text, twin_text};
+ghost use Rattle.picture.specs.Prelude.{band_text, bar_text, curve_text, head_text, height_at, load_text, mark_text, picture_text, step_text, steps_text, styles_text, twin_text};
 
 use crate::axis::place_at;
-use crate::curves::rise;
-use crate::drawing::picture_of;
-use crate::marks::{Band, Bar, Curve, Mark, Picture, Step};
+use crate::curves::height_at;
+use crate::marks::{Band, Bar, Curve, LoadCurve, Mark, Picture, Step};
 use crate::sheet::{LEFT, RIGHT};
 use crate::style::STYLES;
 use base::Memory;
-use catalogue::Problem;
 use cluster::Instant;
-use judge::Broken;
-use slices::Plan;
 use std::alloc::Global;
 use svg::{Frame, Paper};
 
@@ -67,13 +63,6 @@ fn put_twins(paper: &mut Paper, twins: &[Bar]) -> Result<(), Memory>
     Ok(())
 }
 
-/// Where a load is drawn.
-fn height_at(curve: &Curve, load: u64) -> u64
-    ensures { result ≡ height_at curve.now load }
-{
-    curve.base.saturating_sub(rise(curve.most, load))
-}
-
 /// One step of a curve, which was at a height before. The height at which it is then.
 fn put_step(
     paper: &mut Paper,
@@ -82,10 +71,10 @@ fn put_step(
     y: u64,
     step: Step,
 ) -> Result<u64, Memory>
-    ensures height { IfOk result (λ height. height ≡ height_at curve.now step.load) }
+    ensures height { IfOk result (λ height. height ≡ height_at curve.now step.amount) }
     ensures text { OnOk result (paper.new.text.items ≡ paper.old.text.items ++ step_text span curve.now y step) }
 {
-    let height = height_at(curve, step.load);
+    let height = height_at(curve, step.amount);
     if height != y {
         paper.turn(place_at(span, step.at.min(span)), height)?;
     }
@@ -106,7 +95,7 @@ fn put_steps(paper: &mut Paper, curve: &Curve, span: Instant) -> Result<(), Memo
 
 /// A curve, from its base up and, at the end of the axis, down to it.
 #[tactic(auto, unfolding(crate::specs::Text::curve_text))]
-fn put_curve(paper: &mut Paper, curve: &Curve, span: Instant) -> Result<(), Memory>
+pub(crate) fn put_curve(paper: &mut Paper, curve: &Curve, span: Instant) -> Result<(), Memory>
     ensures { OnOk result (paper.new.text.items ≡ paper.old.text.items ++ curve_text span curve.now) }
 {
     paper.path("load", LEFT, curve.base)?;
@@ -117,11 +106,11 @@ fn put_curve(paper: &mut Paper, curve: &Curve, span: Instant) -> Result<(), Memo
 }
 
 #[tactic(auto, using(svg::proofs::Lists::flat_more))]
-fn put_curves(paper: &mut Paper, curves: &[Curve], span: Instant) -> Result<(), Memory>
-    ensures { OnOk result (paper.new.text.items ≡ paper.old.text.items ++ flat_map (curve_text span) curves.now) }
+fn put_curves(paper: &mut Paper, curves: &[LoadCurve], span: Instant) -> Result<(), Memory>
+    ensures { OnOk result (paper.new.text.items ≡ paper.old.text.items ++ flat_map (load_text span) curves.now) }
 {
-    for curve in curves {
-        put_curve(paper, curve, span)?;
+    for load in curves {
+        put_curve(paper, &load.curve, span)?;
     }
     Ok(())
 }
@@ -181,7 +170,7 @@ fn put_mark(paper: &mut Paper, mark: &Mark) -> Result<(), Memory>
 }
 
 #[tactic(auto, using(svg::proofs::Lists::flat_more))]
-fn put_marks(paper: &mut Paper, marks: &[Mark]) -> Result<(), Memory>
+pub(crate) fn put_marks(paper: &mut Paper, marks: &[Mark]) -> Result<(), Memory>
     ensures { OnOk result (paper.new.text.items ≡ paper.old.text.items ++ flat_map mark_text marks.now) }
 {
     for mark in marks {
@@ -200,7 +189,7 @@ fn put_styles(paper: &mut Paper) -> Result<(), Memory>
 
 /// What stands before all marks: the size, the title, how the classes look, and a white ground.
 #[tactic(auto, unfolding(crate::specs::Text::head_text))]
-fn put_head(paper: &mut Paper, title: &str, tall: u64) -> Result<(), Memory>
+pub(crate) fn put_head(paper: &mut Paper, title: &str, tall: u64) -> Result<(), Memory>
     ensures { OnOk result (paper.new.text.items ≡ paper.old.text.items ++ head_text title.now tall) }
 {
     paper.open(1000, tall)?;
@@ -229,20 +218,4 @@ pub fn picture_text(alloc: Global, picture: &Picture) -> Result<Vec<u8>, Memory>
     put_marks(&mut paper, &picture.over)?;
     paper.close()?;
     Ok(paper.text)
-}
-
-/// The text of the picture of a plan: of bars and curves as `picture_of` makes them.
-pub fn draw_plan(
-    alloc: Global,
-    p: &Problem,
-    plan: &Plan,
-    answer: Option<Broken>,
-) -> Result<Vec<u8>, Memory>
-    requires plan { IsPlanOf p.now.given plan.now }
-    requires rule { IfSome answer (λ b. InRange p.now.given b.rule) }
-    ensures { IfOk result (λ text. IsDrawn p.now.given (choices_of plan.now) text.items) }
-{
-    let picture = picture_of(alloc, p, plan, answer)?;
-    let text = picture_text(alloc, &picture)?;
-    Ok(text)
 }

@@ -3,9 +3,9 @@ ghost use Rattle.std.specs.Prelude.{◌<◌, ◌≤◌, ◌^◌, length};
 ghost use Rattle.picture.specs.Prelude.{IsPlanOf};
 
 use crate::axis::place_at;
-use crate::curves::{peak_of, rise};
-use crate::marks::{Curve, Step};
-use crate::nodes::{Phase, Power, phases};
+use crate::curves::{height_at, peak_of};
+use crate::marks::{Curve, LoadCurve, Power, Step};
+use crate::nodes::{Phase, phases};
 use crate::sheet::{LEFT, MARGIN, PAGE, RIGHT, Sheet};
 use crate::style::Style;
 use crate::words::cut;
@@ -63,7 +63,7 @@ fn excess(
 ) -> Result<(), Memory> {
     let x = place_at(span, step.at.min(span));
     let right = place_at(span, to.min(span));
-    let y = curve.base.saturating_sub(rise(curve.most, step.load));
+    let y = height_at(curve, step.amount);
     if y < line {
         let width = right.saturating_sub(x).max(2);
         sheet.rect(Style::Over, x, y, width, line - y)?;
@@ -73,14 +73,14 @@ fn excess(
 
 /// What is above the capacity, step by step.
 fn excesses(sheet: &mut Sheet, curve: &Curve, capacity: u64, span: Instant) -> Result<(), Memory> {
-    let line = curve.base.saturating_sub(rise(curve.most, capacity));
+    let line = height_at(curve, capacity);
     for i in 0..curve.steps.len() {
         let step = curve.steps[i];
         let to = match curve.steps.get(i.saturating_add(1)) {
             Some(next) => next.at,
             None => span,
         };
-        if step.load > capacity {
+        if step.amount > capacity {
             excess(sheet, curve, step, to, span, line)?;
         }
     }
@@ -98,7 +98,7 @@ fn peak_words(alloc: Global, peak: u64, capacity: u64) -> Result<String, Memory>
 }
 
 /// How the words of a peak look: bold above 90 hundredths of the capacity.
-fn peak_style(peak: u64, capacity: u64) -> Style {
+pub(crate) fn peak_style(peak: u64, capacity: u64) -> Style {
     if peak > capacity {
         Style::BadPeak
     } else if peak.saturating_mul(10) > capacity.saturating_mul(9) {
@@ -113,16 +113,17 @@ fn beside_curve(
     sheet: &mut Sheet,
     p: &Problem,
     phases: [Phase; 3],
-    curve: &Curve,
+    load: &LoadCurve,
     capacity: u64,
     span: Instant,
 ) -> Result<(), Memory> {
+    let curve = &load.curve;
     let foot = curve.base.saturating_sub(4);
-    if let Some(resource) = p.cluster().resources().get(curve.resource as usize) {
+    if let Some(resource) = p.cluster().resources().get(load.resource as usize) {
         let name = cut(sheet.alloc, resource.as_text(), 16)?;
         sheet.words(Style::TickLeft, LEFT - 8, foot, name)?;
     }
-    let line = curve.base.saturating_sub(rise(curve.most, capacity));
+    let line = height_at(curve, capacity);
     excesses(sheet, curve, capacity, span)?;
     for phase in phases {
         capacity_line(sheet, phase, span, line)?;
@@ -137,16 +138,16 @@ fn beside_curves(
     sheet: &mut Sheet,
     p: &Problem,
     phases: [Phase; 3],
-    curves: &[Curve],
+    curves: &[LoadCurve],
     n: NodeId,
     span: Instant,
 ) -> Result<(), Memory>
     requires { n.0 < length p.now.given.nodes }
 {
-    for curve in curves {
-        if (curve.resource as usize) < p.cluster().resources().len() {
-            let capacity = p.capacity(n, curve.resource);
-            beside_curve(sheet, p, phases, curve, capacity, span)?;
+    for load in curves {
+        if (load.resource as usize) < p.cluster().resources().len() {
+            let capacity = p.capacity(n, load.resource);
+            beside_curve(sheet, p, phases, load, capacity, span)?;
         }
     }
     Ok(())
@@ -183,7 +184,7 @@ pub(crate) fn surround(
     p: &Problem,
     plan: &Plan,
     n: NodeId,
-    curves: &[Curve],
+    curves: &[LoadCurve],
     span: Instant,
     top: u64,
     tall: u64,

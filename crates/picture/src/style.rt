@@ -1,4 +1,5 @@
 //! How marks look.
+use crate::shade::Shade;
 
 /// How a mark looks.
 #[derive(Clone, Copy, Debug, PartialEq, Eq)]
@@ -48,6 +49,8 @@ pub enum Style {
     /// The end of an action, on a light bar and on a dark one.
     End,
     WhiteEnd,
+    /// A shade of a heat map, in the legend.
+    Heat(Shade),
 }
 
 impl Style {
@@ -88,6 +91,7 @@ impl Style {
             Style::BesideLeft => "beside left",
             Style::End => "end",
             Style::WhiteEnd => "end white",
+            Style::Heat(shade) => shade.class(),
         }
     }
 }
