@@ -112,7 +112,9 @@ pub fn advise(
         Status::ReadFault => say_unread(rt, words),
         Status::WriteFault => match unwritten {
             Some(name) => say_unwritten(rt, name),
-            None => eprintln!(rt; "btrplan: standard output cannot be written: it is closed, or its disk is full"),
+            None => eprintln!(rt;
+                "btrplan: standard output cannot be written: it is closed, or its disk is full"
+            ),
         },
         Status::Memory => eprintln!(rt; "btrplan: there is not enough memory"),
     }

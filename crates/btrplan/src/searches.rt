@@ -102,9 +102,11 @@ impl<S: Solver + Drop, R: Clock + Eprint> Solver for TellingSolver<'_, S, R> {
         certificate: &str,
     ) -> Result<Found, OutFault> {
         self.tell();
-        let found = self.solver.certify(alloc, desk, p, budget, certificate)?;
-        self.seen.set(self.seen.get().after(p, &found));
-        Ok(found)
+        let certified = self.solver.certify(alloc, desk, p, budget, certificate);
+        if let Ok(found) = &certified {
+            self.seen.set(self.seen.get().after(p, found));
+        }
+        certified
     }
 
     fn check<D: Desk>(
