@@ -11,6 +11,8 @@ returns-then-not-is_host c =
 
 pub returns-then-may_leave_by : goal.returns-then-may_leave_by
 returns-then-may_leave_by c =
-    λ yes. host_goes c.args.p.now.given (sets c.args.g.now) c.args.v.0 c.args.n.0 c.args.x (omega (arith, c.args.p.now.sound.horizon)) (c.goes_elsewhere.ensures c.if-not-goes_elsewhere.false)
-    (rw c.domain-domain.ensures.domain at (c.may_leave_by.ensures c.if-may_leave_by.true))
+    λ yes.
+    let soon = c.may_leave_by.ensures c.if-may_leave_by.true in
+    host_goes c.args.p.now.given (sets c.args.g.now) c.args.v.0 c.args.n.0 c.args.x (omega (arith, c.args.p.now.sound.horizon)) (c.goes_elsewhere.ensures c.if-not-goes_elsewhere.false)
+    (soon.0, rw c.domain-domain.ensures.domain at soon.1, omega (arith, soon.2, c.from.ensures))
     (rw c.domain-domain.ensures.domain at (c.leaves_by.ensures yes))
