@@ -1,5 +1,5 @@
 -- What the picture of a large plan is: lines for its actions, and how full the nodes are.
-use Rattle.std.specs.Prelude.{◌≡◌, ℕ, ◌+◌, ◌||◌, Bool, nat_le, List, length, map}
+use Rattle.std.specs.Prelude.{◌≡◌, ℕ, ◌+◌, ◌||◌, Bool, nat_lt, List, length, map}
 use Rattle.std.specs.List.{All, filter, range_with_len}
 use Rattle.replay.specs.Events.{events}
 use Rattle.show.specs.Prelude.{Choices, Instance, IsListing}
@@ -23,7 +23,7 @@ shown_nodes p plan actions = filter (is_shown p plan actions) (range_with_len 0 
 
 -- more than 120 actions, or more than 40 nodes to show
 abbrev pub is_large : Instance → Choices → List Action → Bool
-is_large p plan actions = nat_le 121 (length actions) || nat_le 41 (length (shown_nodes p plan actions))
+is_large p plan actions = nat_lt 120 (length actions) || nat_lt 40 (length (shown_nodes p plan actions))
 
 -- ---- lines of actions
 

@@ -47,7 +47,6 @@ fn draw_as_heat_map(
 
 /// The text of the picture of a plan: a heat map of a large one, as `heat_map_of` makes it, and
 /// else bands with bars and curves, as `picture_of` makes them.
-#[tactic(auto, using(crate::proofs::Drawn::drawn_large, crate::proofs::Drawn::drawn_small))]
 pub fn draw_plan(
     alloc: Global,
     p: &Problem,

@@ -63,6 +63,13 @@ pub(crate) fn is_large(p: &Problem, plan: &Plan, actions: &[Action]) -> bool
     actions.len() > MANY_ACTIONS || shown_count(p, plan, actions) > MANY_NODES
 }
 
+/// How tall the heat of so many rows is.
+fn tall_of(rows: usize) -> u64
+    ensures { result ≤ 8 }
+{
+    if rows <= TALL_ROWS { 8 } else { 4 }
+}
+
 /// The lines of what acts on no node, and where they end.
 #[derive(Drop)]
 struct Loose {
@@ -126,7 +133,7 @@ fn draw(
     axis(&mut sheet, span, 88)?;
     sheet.text(Style::Tick, MARGIN, 88, "instant")?;
     let shown = shown_count(p, plan, actions);
-    let tall = if shown <= TALL_ROWS { 8 } else { 4 };
+    let tall = tall_of(shown);
     let acting = acting(alloc, actions, instants, ACTING_BASE)?;
     beside_count(&mut sheet, &acting, "acting")?;
     let powered = powered_curve(alloc, p, plan, instants, POWERED_BASE)?;

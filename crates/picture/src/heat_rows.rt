@@ -73,7 +73,9 @@ fn beside(
     n: NodeId,
     heats: &[Heat],
     foot: u64,
-) -> Result<(), Memory> {
+) -> Result<(), Memory>
+    requires { n.0 < length p.now.given.nodes }
+{
     let name = cut(sheet.alloc, p.cluster().name(Element::Node(n)), NAMED)?;
     sheet.words(Style::TickLeft, LEFT - 8, foot, name)?;
     let peak = most_of(heats);
