@@ -56,11 +56,10 @@ planned_is_checked instance plan_file certificate budget few not_plan not_certif
 
 -- for what was found of a problem, without a plan, `check` of its text, of the text of its certificate and of no plan says that yes
 module _ (core certificate : List ℕ) (budget : ℕ) (few : budget < 2 ^ 64) (q : Instance) (found : Found) (text : List ℕ) (so : IsTrueOf q budget found) (certified : IsCertifiedText q budget found text) where
-  unfolding IsAnswer reading_of
-
   kept_is_checked : (p : Instance) (kept : List ℕ) (before between : Files) → q ≡ sub p kept → WritesKept core certificate p kept text before between → length (instance_text (sub p kept)) ≤ max_text_bytes → plan_in found ≡ None →
       (plan_file : List ℕ) (start after : Outside) (source : Option (List ℕ)) (strict : Bool) (result : Status) → start.files core ≡ between core → start.files certificate ≡ between certificate → any_plan_in q start.files plan_file ≡ Ok None →
       IsAnswer (Some (check core plan_file certificate strict)) source start after result → Says (verdict_line (yes_to q budget found)) Status.Good start after result
+  unfolding IsAnswer reading_of
   kept_is_checked p kept before between same written fits no_plan plan_file start after source strict result core_stays certificate_stays none answer =
       let there : bytes_of (start.files certificate) ≡ text = ap bytes_of (certificate_stays ∙ written.written.second_whole) in
       let read : instance_in start.files core ≡ Ok q = ap (λ file. reading_of (bytes_of file)) core_stays ∙ ap lined (written.reads fits) ∙ ap Ok (sym same) in
