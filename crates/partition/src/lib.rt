@@ -1,0 +1,4 @@
+//! Independent parts of a problem, taken apart and put together.
+#![tactic(auto)]
+
+mod piles;
