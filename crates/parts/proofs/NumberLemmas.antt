@@ -6,15 +6,15 @@ use Rattle.parts.specs.Numbers.{new_number, old_number, passing}
 
 -- ---- one number more
 
-passing_more : (test : ℕ → Bool) (n : ℕ) → passing test (suc n) ≡ passing test n ++ filter test (n ∷ [])
+pub passing_more : (test : ℕ → Bool) (n : ℕ) → passing test (suc n) ≡ passing test n ++ filter test (n ∷ [])
 passing_more test n =
     let one_more : suc n ≡ n + 1 = omega arith in
     ap (passing test) one_more ∙ ap (filter test) (range_more n) ∙ filter-append test (range_with_len 0 n) (n ∷ [])
 
-last_passes : (test : ℕ → Bool) (n : ℕ) → test n ≡ true → passing test (suc n) ≡ passing test n ++ n ∷ []
+pub last_passes : (test : ℕ → Bool) (n : ℕ) → test n ≡ true → passing test (suc n) ≡ passing test n ++ n ∷ []
 last_passes test n pass = passing_more test n ∙ rw pass refl
 
-last_fails : (test : ℕ → Bool) (n : ℕ) → test n ≡ false → passing test (suc n) ≡ passing test n
+pub last_fails : (test : ℕ → Bool) (n : ℕ) → test n ≡ false → passing test (suc n) ≡ passing test n
 last_fails test n fail = passing_more test n ∙ rw fail (append-nil (passing test n))
 
 pub new_passes : (test : ℕ → Bool) (n : ℕ) → test n ≡ true → new_number test (suc n) ≡ new_number test n + 1

@@ -21,7 +21,7 @@ use Rattle.slices.specs.Rules.{IsValid}
 use Rattle.parts.specs.Cuts.{renumbered_choice}
 use Rattle.parts.specs.Embeds.{Embeds, node_at, vm_at}
 use Rattle.parts.specs.Groups.{in_group, machine_group, node_group}
-use Rattle.parts.specs.Laws.{CostsAddUp, LeastsAddUp, PartIsInfeasible, PartOfUnion, PartsAreValid, PlanIsUnion, Split, UnionIsOptimal, UnionsAreValid}
+use Rattle.parts.specs.Laws.{ArePlans, CostsAddUp, LeastsAddUp, PartIsInfeasible, PartOfUnion, PartsAreValid, PlanIsUnion, Split, UnionIsOptimal, UnionsAreValid}
 use Rattle.parts.specs.Numbers.{new_number}
 use Rattle.parts.specs.Parts.{has_form, in_part, part_of}
 use Rattle.parts.specs.Unions.{part_choices, Stays, StaysIn, union_of, whole_choice}
@@ -31,9 +31,9 @@ use Rattle.parts.proofs.HoldLemmas.{end_agrees, node_end_agrees}
 use Rattle.parts.proofs.KeepLemmas.{keeps_groups}
 use Rattle.parts.proofs.NumberLemmas.{new_old, old_new, sum_to-passing}
 use Rattle.parts.proofs.SplitLemmas.{covered, group_in, part_embeds}
-use Rattle.parts.proofs.ValidLemmas.{legal_down, legal_up, valid_down, valid_up}
+use Rattle.parts.proofs.ValidLemmas.{legal_down, legal_up, part_legal, valid_down, valid_up}
 use Rattle.parts.proofs.ViewLemmas.{node_back, node_in, node_new, node_ours, vm_back, vm_in, vm_mine, vm_new}
-use Rattle.parts.proofs.WholeLemmas.{AllFit}
+use Rattle.parts.proofs.WholeLemmas.{AllFit, Fits}
 
 -- ---- a node acts at no place
 
@@ -116,17 +116,25 @@ module _ (p : Instance) (groups : List NodeSet) (split : Split p groups) where
   choice_forth i (Act Nowhere start) there = refl
   choice_forth i (Act (At n) start) there = ap (λ (x : ℕ). Act (At (record { 0 = x })) start) (new_old (in_group groups i) (node_count p) n.0 (subst (λ (m : ℕ). n.0 < m) (emb i).nodes (there n start refl)))
 
-  pub parts_fit : (plan : Choices) → IsPlan p plan → Stays p groups plan → AllFit p groups plan (λ i. part_choices p groups i plan)
+  -- a plan whose machines of the part stay there
+  pub part_fits : (plan : Choices) → IsPlan p plan → (i : ℕ) → ((v : ℕ) → v < machine_count p → IsTrue (in_part p groups i v) → StaysIn groups i (plan (vm v))) → Fits p (part_of p groups i) (in_part p groups i) (in_group groups i) plan (part_choices p groups i plan)
   unfolding part_choices
-  parts_fit plan legal stays i li = record {
+  part_fits plan legal i stays = record {
     machines = λ k l.
         let v_in = vm_in p (part_of p groups i) (in_part p groups i) (in_group groups i) (has_form p groups i) (emb i) k l in
         let mine = vm_mine p (part_of p groups i) (in_part p groups i) (in_group groups i) (has_form p groups i) (emb i) k l in
-        sym (choice_back i (plan (vm (vm_at p (in_part p groups i) k))) (subst (λ (j : ℕ). StaysIn groups j (plan (vm (vm_at p (in_part p groups i) k)))) (eqb-true _ _ mine) (stays (vm_at p (in_part p groups i) k) v_in)));
+        sym (choice_back i (plan (vm (vm_at p (in_part p groups i) k))) (stays (vm_at p (in_part p groups i) k) v_in mine));
     nodes = λ m l.
         let n_in = node_in p (part_of p groups i) (in_part p groups i) (in_group groups i) (has_form p groups i) (emb i) m l in
         sym (choice_back i (plan (node (node_at p (in_group groups i) m))) (node_stays p groups i (node_at p (in_group groups i) m) (plan (node (node_at p (in_group groups i) m))) (legal (node (node_at p (in_group groups i) m)) n_in)));
   }
+
+  -- its choices of the part are a plan of the part
+  pub part_is_plan : (plan : Choices) → IsPlan p plan → (i : ℕ) → ((v : ℕ) → v < machine_count p → IsTrue (in_part p groups i v) → StaysIn groups i (plan (vm v))) → IsPlan (part_of p groups i) (part_choices p groups i plan)
+  part_is_plan plan legal i stays = part_legal p groups split i plan (part_choices p groups i plan) (part_fits plan legal i stays) legal
+
+  pub parts_fit : (plan : Choices) → IsPlan p plan → Stays p groups plan → AllFit p groups plan (λ i. part_choices p groups i plan)
+  parts_fit plan legal stays i li = part_fits plan legal i (λ v l mine. subst (λ (j : ℕ). StaysIn groups j (plan (vm v))) (eqb-true _ _ mine) (stays v l))
 
   pub union_fits : (plans : ℕ → Choices) → AllFit p groups (union_of p groups plans) plans
   unfolding union_of
@@ -201,9 +209,13 @@ module _ (p : Instance) (groups : List NodeSet) (split : Split p groups) where
 pub parts_are_valid : PartsAreValid
 parts_are_valid p groups split plan legal valid i li = (parts_plan p groups split plan legal valid i li, parts_valid p groups split plan legal valid i li)
 
+-- the union of plans of all parts is a plan
+pub union_is_plan : (p : Instance) (groups : List NodeSet) → Split p groups → (plans : ℕ → Choices) → ArePlans p groups plans → IsPlan p (union_of p groups plans)
+union_is_plan p groups split plans legal = legal_up p groups split (union_of p groups plans) plans (union_fits p groups split plans) legal
+
 pub unions_are_valid : UnionsAreValid
 unions_are_valid p groups split plans legal valid =
-    (legal_up p groups split (union_of p groups plans) plans (union_fits p groups split plans) legal, valid_up p groups split (union_of p groups plans) plans (union_fits p groups split plans) valid)
+    (union_is_plan p groups split plans legal, valid_up p groups split (union_of p groups plans) plans (union_fits p groups split plans) valid)
 
 pub costs_add_up : CostsAddUp
 costs_add_up p groups split plans = fitting_costs p groups split (union_of p groups plans) plans (union_fits p groups split plans)

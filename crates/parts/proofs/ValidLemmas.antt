@@ -33,7 +33,7 @@ use Rattle.parts.proofs.InsideLemmas.{home_in, inside_home}
 use Rattle.parts.proofs.NumberLemmas.{old_apart}
 use Rattle.parts.proofs.SplitLemmas.{covered, group_in, part_embeds}
 use Rattle.parts.proofs.ViewLemmas.{allowed_up, held_one, IsInside, IsView, kept_down, kept_up, node_back, node_in, node_new, node_ours, present_at, total_agrees, unjoint_down, vm_back, vm_in, vm_new}
-use Rattle.parts.proofs.WholeLemmas.{AllFit, view}
+use Rattle.parts.proofs.WholeLemmas.{AllFit, Fits, view}
 
 -- the part has a joint form at its home alone
 pub at_home : (p : Instance) (groups : List NodeSet) (i : ℕ) (f : Form) → is_joint f ≡ true → has_form p groups i f ≡ true → home p groups f ≡ i
@@ -170,6 +170,17 @@ module _ (p : Instance) (groups : List NodeSet) (split : Split p groups) where
 
   -- ---- plans
 
+  -- a plan of a part that fits a plan of the whole
+  pub part_legal : (i : ℕ) (plan part : Choices) → Fits p (part_of p groups i) (in_part p groups i) (in_group groups i) plan part → IsPlan p plan → IsPlan (part_of p groups i) part
+  part_legal i plan part fits legal (Vm v) l =
+      sym (legal_agrees p (part_of p groups i) (in_part p groups i) (in_group groups i) (has_form p groups i) (emb i) v.0 l (part (Vm v)))
+      ∙ ap (is_legal p (vm (vm_at p (in_part p groups i) v.0))) (sym (fits.machines v.0 l))
+      ∙ legal (vm (vm_at p (in_part p groups i) v.0)) (vm_in p (part_of p groups i) (in_part p groups i) (in_group groups i) (has_form p groups i) (emb i) v.0 l)
+  part_legal i plan part fits legal (TheNode n) l =
+      sym (node_legal_agrees p (part_of p groups i) (in_part p groups i) (in_group groups i) (has_form p groups i) (emb i) n.0 l (part (TheNode n)))
+      ∙ ap (is_legal p (node (node_at p (in_group groups i) n.0))) (sym (fits.nodes n.0 l))
+      ∙ legal (node (node_at p (in_group groups i) n.0)) (node_in p (part_of p groups i) (in_part p groups i) (in_group groups i) (has_form p groups i) (emb i) n.0 l)
+
   module _ (plan : Choices) (plans : ℕ → Choices) (fits : AllFit p groups plan plans) where
     pub valid_down : IsValid p plan → (i : ℕ) → i < length groups → IsValid (part_of p groups i) (plans i)
     unfolding IsValid
@@ -192,14 +203,7 @@ module _ (p : Instance) (groups : List NodeSet) (split : Split p groups) where
         r range)
 
     pub legal_down : IsPlan p plan → (i : ℕ) → i < length groups → IsPlan (part_of p groups i) (plans i)
-    legal_down legal i li (Vm v) l =
-        sym (legal_agrees p (part_of p groups i) (in_part p groups i) (in_group groups i) (has_form p groups i) (emb i) v.0 l (plans i (Vm v)))
-        ∙ ap (is_legal p (vm (vm_at p (in_part p groups i) v.0))) (sym ((fits i li).machines v.0 l))
-        ∙ legal (vm (vm_at p (in_part p groups i) v.0)) (vm_in p (part_of p groups i) (in_part p groups i) (in_group groups i) (has_form p groups i) (emb i) v.0 l)
-    legal_down legal i li (TheNode n) l =
-        sym (node_legal_agrees p (part_of p groups i) (in_part p groups i) (in_group groups i) (has_form p groups i) (emb i) n.0 l (plans i (TheNode n)))
-        ∙ ap (is_legal p (node (node_at p (in_group groups i) n.0))) (sym ((fits i li).nodes n.0 l))
-        ∙ legal (node (node_at p (in_group groups i) n.0)) (node_in p (part_of p groups i) (in_part p groups i) (in_group groups i) (has_form p groups i) (emb i) n.0 l)
+    legal_down legal i li = part_legal i plan (plans i) (fits i li) legal
 
     pub legal_up : ((i : ℕ) → i < length groups → IsPlan (part_of p groups i) (plans i)) → IsPlan p plan
     legal_up legal (Vm v) l = machine (machine_group p groups v.0) (group_in p groups split v.0) v.0 l (eq-eqb (machine_group p groups v.0) (machine_group p groups v.0) refl)
