@@ -3,6 +3,7 @@ ghost use Rattle.std.specs.Prelude.{◌≡◌};
 
 use base::Memory;
 use cluster::{NodeId, VmId};
+use std::alloc::AllocFailed;
 
 /// Why a problem is not split along groups of nodes. Where several hold, the first in this order is the answer.
 #[derive(Clone, Copy, Debug, PartialEq, Eq)]
@@ -23,6 +24,17 @@ impl From<Memory> for SplitFault {
     ghost from_gives = { λ _ e. e ≡ NoMemory };
 
     fn from(_error: Memory) -> SplitFault {
+        SplitFault::Memory
+    }
+}
+
+/// The value that found no room is dropped.
+impl<T: Drop> From<AllocFailed<T>> for SplitFault {
+    ghost use Rattle.parts.specs.declared.fault.SplitFault.TheVariants.{Memory as NoMemory};
+
+    ghost from_gives = { λ _ e. e ≡ NoMemory };
+
+    fn from(_error: AllocFailed<T>) -> SplitFault {
         SplitFault::Memory
     }
 }
