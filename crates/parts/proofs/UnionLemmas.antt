@@ -55,7 +55,7 @@ no_node_kind false (To ToReady) n = refl
 no_node_kind false (To ToKilled) n = refl
 no_node_kind false Clash n = refl
 
-never_legal : (p : Instance) (x : ℕ) (n : NodeId) (start : ℕ) → IsTrue (is_legal p (node x) (Act (At n) start)) → ⊥
+pub never_legal : (p : Instance) (x : ℕ) (n : NodeId) (start : ℕ) → IsTrue (is_legal p (node x) (Act (At n) start)) → ⊥
 unfolding is_legal kind_of
 never_legal p x n start legal =
     let some : is_some (node_kind (is_online p.nodes x) (wanted_of p (node x)) (At n)) ≡ true = (and_parts _ _ legal).0 in
@@ -67,7 +67,7 @@ node_stays p groups i x (Act Nowhere start) legal = tt
 node_stays p groups i x (Act (At n) start) legal = absurd (never_legal p x n start legal)
 
 -- a machine acts at nodes of the instance
-legal_place : (p : Instance) (v : ℕ) (n : NodeId) (start : ℕ) → IsTrue (is_legal p (vm v) (Act (At n) start)) → n.0 < node_count p
+pub legal_place : (p : Instance) (v : ℕ) (n : NodeId) (start : ℕ) → IsTrue (is_legal p (vm v) (Act (At n) start)) → n.0 < node_count p
 unfolding is_legal kind_of
 legal_place p v n start legal = ltb-true n.0 (node_count p) (at (is_place p (At n)) (machine_kind (state_of p v) (wanted_state p v) (is_raised p v) (At n)) (and_parts _ _ legal).0)
   where
