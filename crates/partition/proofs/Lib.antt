@@ -1,1 +1,1 @@
-pub mod PileLemmas
+pub mod ApartLemmas

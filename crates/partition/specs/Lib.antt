@@ -1,0 +1,2 @@
+pub mod GroupsWalk
+pub mod GroupsText
