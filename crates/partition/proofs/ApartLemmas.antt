@@ -1,11 +1,10 @@
 -- Groups that share no node, one more at a time.
 use Rattle.std.proofs.Common.{IsTrue}
 use Rattle.std.proofs.lemmas.List.{get_or_push}
-use Rattle.base.proofs.Public.{◌≡◌, ◌≢◌, inl, inr, ◌⊎◌, ℕ, ◌+◌, ◌<◌, ◌≤◌, Bool, true, false, ◌||◌, ◌==◌, List, [], ◌∷◌, ◌++◌, length, refl, sym, ap, subst, ◌∙◌, arith, cases_Bool, cases_eq, cases_lt, eqb-true, false≢true, get_or_append_left, get_or_past, length-append, list_any, list_any_at, ne_eqb, slice_index_or}
+use Rattle.base.proofs.Public.{◌≡◌, inl, inr, ◌⊎◌, ℕ, ◌<◌, Bool, true, false, ◌||◌, ◌==◌, List, [], ◌∷◌, ◌++◌, length, sym, ap, subst, ◌∙◌, arith, cases_eq, cases_lt, false≢true, get_or_append_left, get_or_past, length-append, list_any, list_any_at, ne_eqb}
 use Rattle.cluster.specs.declared.sets.NodeSet.{NodeSet}
 use Rattle.cluster.proofs.Public.{has_node-no_nodes, has_node-with_node}
 use Rattle.catalogue.specs.Prelude.{has_node, Instance, max_nodes, no_nodes, with_node}
-use Rattle.slices.specs.Elements.{node_count}
 use Rattle.parts.specs.Groups.{AreGroups, in_group}
 use Rattle.partition.specs.GroupsText.{AreApart, IsNew}
 
