@@ -6,7 +6,7 @@ use Rattle.json_walk.specs.Prelude.{as_walk, each, fault_at, field_by, item_path
 use Rattle.json_walk.specs.Texts.{kind_text}
 use Rattle.catalogue.specs.Prelude.{element_named, has_node, Inventory, is_name, max_groups, no_nodes, with_node}
 use Rattle.json_walk.specs.declared.fault.FaultKind.TheVariants.{OutOfRange}
-use Rattle.json_walk.specs.declared.reading.TheConstants.{MAX_TEXT_BYTES}
+use Rattle.json_walk.specs.Json.{max_text_bytes}
 use Rattle.cluster.specs.declared.ids.Element.{Element}
 use Rattle.cluster.specs.declared.ids.Element.TheVariants.{Vm, Node}
 use Rattle.cluster.specs.declared.ids.NodeId.{NodeId}
@@ -60,7 +60,7 @@ walk k d = do
 
 unfoldable pub groups_of : Inventory → List ℕ → Walk (List NodeSet)
 groups_of k bytes = do
-  wants (nat_le (length bytes) MAX_TEXT_BYTES) TooLong
+  wants (nat_le (length bytes) max_text_bytes) TooLong
   d ← ok_or (json_of bytes) NotJson
   walk k d
 
