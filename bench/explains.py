@@ -26,6 +26,8 @@ SEED = int(sys.argv[2]) if len(sys.argv) > 2 else 1
 PROGRAM = sys.argv[3] if len(sys.argv) > 3 else differential.PROGRAM
 BUDGETS = (10_000, 0, 1, 2, 3)
 OLD = b"old"
+# where the legal choices of a core make more plans than this, the planner is not asked
+MOST_CORE_PLANS = 50_000
 # where one of these is lost, plans that were valid may not be legal, and all trials are made anew
 SETTLED = ("online", "offline", "running", "sleeping", "ready", "killed", "preserve", "overbook")
 
@@ -143,13 +145,17 @@ def explained(room, given, budget):
 
 def core_fault(given, kept, costs):
     """What the planner that goes over all plans says of a core that is none, or that is not least."""
-    if plain.least_cost(plain.Instance(sub(given, kept))) is not None:
+    whole = plain.Instance(sub(given, kept))
+    if plain.plan_count(whole) <= MOST_CORE_PLANS and plain.least_cost(whole) is not None:
         return "the core has a valid plan"
     for size in range(1, len(kept) + 1):
         for lost in itertools.combinations(range(len(kept)), size):
             if size > 1 and any(given["constraints"][kept[i]]["kind"] in SETTLED for i in lost):
                 continue
-            least = plain.least_cost(plain.Instance(sub(given, [c for i, c in enumerate(kept) if i not in lost])))
+            smaller = plain.Instance(sub(given, [c for i, c in enumerate(kept) if i not in lost]))
+            if plain.plan_count(smaller) > MOST_CORE_PLANS:
+                continue
+            least = plain.least_cost(smaller)
             if least is None or size == 1 and least > costs[lost[0]]:
                 return f"without {[kept[i] for i in lost]} of {kept} the cheapest plan costs {least}"
     return None
