@@ -4,7 +4,7 @@ use Rattle.search.specs.Prelude.{Best, choices_of, cost_kept, Progress, Decide, 
 use Rattle.reasons.proofs.Public.{only_closed, only_costs}
 use Rattle.trees.proofs.Public.{IsAbove, above_cheapest}
 use Rattle.prop_core.proofs.Public.{Rise-trans}
-use Rattle.search.proofs.{RegionLemmas.sets_fixed, StepLemmas.step_decide, StepLemmas.step_left, StepLemmas.step_plan, WorkLemmas.rise_less, WorkLemmas.rise_rule}
+use Rattle.search.proofs.{RegionLemmas.sets_fixed, StepLemmas.step_decide, StepLemmas.step_left, StepLemmas.step_plan, TextLemmas.one_named, WorkLemmas.rise_less, WorkLemmas.rise_rule}
 
 above_some : (n : ℕ) (known : Option ℕ) → IfSome known (λ m. n < m) → IsAbove n known
 above_some n None h = tt
@@ -26,6 +26,7 @@ module _ (p : Instance) (budget : ℕ) (tells : Bool) (k l : Progress) (old new 
       let best : Best = record { plan = plan; cost = sum } in
       record {
         step = Plan sum;
+        named = number;
         text = text;
         given = refl;
         runs = λ e rest u. step_plan p budget k e (sets g) rest u l best
@@ -37,6 +38,7 @@ module _ (p : Instance) (budget : ℕ) (tells : Bool) (k l : Progress) (old new 
   pub leaf_left : IsSized p g → ¬ IsFixed g → budget ≤ k.spent → (least : ℕ) → least ≡ lower sum k.least → l ≡ record { spent = k.spent; best = k.best; least = Some least } → (IsTrue tells → new ≡ old ++ lines p (Left ∷ [])) → IsLeaf p budget tells k l old new (sets g)
   leaf_left sized free full least low now text = record {
     step = Left;
+    named = tt;
     text = text;
     given = refl;
     runs = λ e rest u.
@@ -50,6 +52,7 @@ pub split_works : {B : Type 0} (m : B → Meaning) (p : Instance) (tells : Bool)
     Works m p budget tells k l old new xs zs (sets g) (inside x part (sets g) ∷ outside x part (sets g) ∷ [])
 split_works m p tells k l old new xs ys zs g x part sized clear free split named now text r q budget room = record {
   more = Decide x part ∷ [];
+  named = one_named p (Decide x part) named;
   text = text;
   given = rise_less m (0 + 0) 0 xs zs (omega arith) (Rise-trans m 0 0 xs ys zs r.count q.count (rise_rule m xs ys r) (rise_rule m ys zs q));
   runs = λ e rest u. step_decide p budget k e (sets g) rest u l x part split named (undecided_of p budget k g e rest sized clear free u) room (ap (λ (c : Progress). c.spent) now) (ap (λ (c : Progress). c.best) now) (ap (λ (c : Progress). c.least) now);

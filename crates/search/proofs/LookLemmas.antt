@@ -5,7 +5,7 @@ use Rattle.reasons.specs.declared.reason.Reason.TheVariants.{Empty, Bound}
 use Rattle.trees.proofs.Public.{upto_cheapest}
 use Rattle.cert_text.proofs.Public.{named_reason}
 use Rattle.prop_core.proofs.Public.{closed_when_quiet, covered_after, Rise-trans}
-use Rattle.search.proofs.{StepLemmas.step_cut, StepLemmas.step_fail, WorkLemmas.by_rule_once, WorkLemmas.cover_asked, WorkLemmas.rise_less, WorkLemmas.rise_rule}
+use Rattle.search.proofs.{StepLemmas.step_cut, StepLemmas.step_fail, TextLemmas.one_named, TextLemmas.two_named, WorkLemmas.by_rule_once, WorkLemmas.cover_asked, WorkLemmas.rise_less, WorkLemmas.rise_rule}
 
 -- without a plan the bound refutes nothing
 not_bound : (p : Instance) (s : Sets) (reason : Reason) → Refutes p None s reason → reason ≢ Bound
@@ -21,6 +21,7 @@ module _ {B : Type 0} (m : B → Meaning) (p : Instance) (tells : Bool) (k : Pro
   pub look_bound : (sum : ℕ) → sum ≡ least_cost p s → IsSomeAnd (cost_kept k.best) (λ known. known ≤ sum) → (IsTrue tells → new ≡ old ++ lines p (Fail Bound ∷ [])) → Rise m 0 xs ys → (budget : ℕ) → Works m p budget tells k k old new xs ys s []
   look_bound sum is reached text rise budget = record {
     more = Fail Bound ∷ [];
+    named = one_named p (Fail Bound) tt;
     text = text;
     given = rise;
     runs = λ e rest u. step_fail p budget k e s rest u Bound (record {
@@ -33,6 +34,7 @@ module _ {B : Type 0} (m : B → Meaning) (p : Instance) (tells : Bool) (k : Pro
   pub look_fail : IsInstance p → (reason : Reason) → FailHolds p s reason → (IsTrue tells → new ≡ old ++ lines p (Fail reason ∷ [])) → Rise m 1 xs ys → (budget : ℕ) → Works m p budget tells k k old new xs ys s []
   look_fail sound reason holds text rise budget = record {
     more = Fail reason ∷ [];
+    named = one_named p (Fail reason) (named_reason p sound reason holds.refuted.named);
     text = text;
     given = rise_less m 1 (by_rule reason + 0) xs ys (let l = by_rule_once reason in omega arith) rise;
     runs = λ e rest u. step_fail p budget k e s rest u reason (record {
@@ -45,6 +47,7 @@ module _ {B : Type 0} (m : B → Meaning) (p : Instance) (tells : Bool) (k : Pro
   pub look_cut : (x : Element) (part : Part) (reason : Reason) (t : Sets) → CutHolds p s x part reason → HasStep p (Cut x part reason) → t ≡ outside x part s → (IsTrue tells → new ≡ old ++ lines p (cut_steps true x part reason)) → Rise m 1 xs ys → (budget : ℕ) → Works m p budget tells k k old new xs ys s (t ∷ [])
   look_cut x part reason t holds named is text rise budget = record {
     more = Cut x part reason ∷ [];
+    named = one_named p (Cut x part reason) named;
     text = text;
     given = rise;
     runs = λ e rest u. subst (λ (r : Sets). Underway p budget k (e ++ Cut x part reason ∷ []) (r ∷ rest)) (sym is) (step_cut p budget k e s rest u x part reason (record { element = holds.exists; refuted = holds.refuted }) named);
@@ -54,6 +57,7 @@ module _ {B : Type 0} (m : B → Meaning) (p : Instance) (tells : Bool) (k : Pro
   pub look_empty : (x : Element) (part : Part) (reason : Reason) (t : Sets) → CutHolds p s x part reason → HasStep p (Cut x part reason) → t ≡ outside x part s → t x ≡ [] → (IsTrue tells → new ≡ old ++ lines p (cut_steps false x part reason)) → Rise m 1 xs ys → (budget : ℕ) → Works m p budget tells k k old new xs ys s []
   look_empty x part reason t holds named is none text rise budget = record {
     more = Cut x part reason ∷ Fail (Empty x) ∷ [];
+    named = two_named p (Cut x part reason) (Fail (Empty x)) named holds.exists;
     text = text;
     given = rise;
     runs = λ e rest u.

@@ -3,7 +3,7 @@ use Rattle.base.proofs.Public.{◌≡◌, ℕ, ◌+◌, ◌<◌, Bool, List, [],
 use Rattle.search.specs.Prelude.{ArePaired, Progress, Element, Ends, Enters, Goes, GoesOn, inside, Instance, IsDue, IsLeaf, IsParted, lines, Marked, Meaning, open_sets, outer_sides, outside, Pairs, Part, RegionView, Rise, SameRule, Sets, sets, Splits, Works}
 use Rattle.trees.proofs.Public.{same_sets}
 use Rattle.prop_core.proofs.Public.{Rise-trans}
-use Rattle.search.proofs.RegionLemmas.{some_inside, some_outside}
+use Rattle.search.proofs.{RegionLemmas.some_inside, RegionLemmas.some_outside, TextLemmas.one_named}
 use Rattle.search.proofs.WorkLemmas.{goes_none, rise_less, rise_none, rise_rule, works_goes, works_same, works_then}
 
 -- ---- the stack
@@ -56,6 +56,7 @@ module _ {B : Type 0} (m : B → Meaning) (p : Instance) (budget : ℕ) (tells :
     spent = spent;
     works = works_then m p budget tells k k l old mid new xs ys ys (sets t.region) (sets u.region) [] c refl w (record {
       more = leaf.step ∷ [];
+      named = one_named p leaf.step leaf.named;
       text = leaf.text;
       given = subst (λ n. Rise m n ys ys) (sym leaf.given) (rise_none m ys);
       runs = λ steps rest h. leaf.runs steps rest h;
@@ -79,6 +80,7 @@ module _ {B : Type 0} (m : B → Meaning) (p : Instance) (budget : ℕ) (tells :
         works = subst (λ (r : Sets). Works m p budget tells k l old new xs zs (sets t.region) (r ∷ outside s.0 s.1 (sets v.region) ∷ [])) (sym q.region)
             (works_then m p budget tells k k l old mid new xs ys zs (sets t.region) (sets v.region) (inside s.0 s.1 (sets v.region) ∷ outside s.0 s.1 (sets v.region) ∷ []) c d w (record {
               more = go.more;
+              named = go.named;
               text = λ h. go.text h ∙ ap (λ a. a ++ lines p go.more) (due.text h);
               given = go.given;
               runs = λ steps rest h. go.runs steps rest h;

@@ -1,6 +1,7 @@
 -- How what was done composes.
+use Rattle.base.proofs.Public.{All-append, All-nil}
 use Rattle.std.proofs.Common.{◌≡◌, ℕ, ◌+◌, ◌≤◌, Bool, List, [], ◌∷◌, ◌++◌, length, refl, sym, subst, ◌∙◌, append_assoc, append-nil, arith}
-use Rattle.search.specs.Prelude.{answered, by_rule, Progress, Cut, Decide, Fail, Goes, Instance, IsAsked, LeavesLines, Left, Meaning, Pairs, Plan, Reason, Rise, SameCover, SameRule, Sets, Step, Underway, Works}
+use Rattle.search.specs.Prelude.{answered, by_rule, Progress, Cut, Decide, Fail, Goes, HasStep, Instance, IsAsked, LeavesLines, Left, Meaning, Pairs, Plan, Reason, Rise, SameCover, SameRule, Sets, Step, Underway, Works}
 use Rattle.reasons.specs.declared.reason.Reason.TheVariants.{Empty, Bound, Load, Pair, Place, Group, SetLoad, Power, Usable, Hall}
 use Rattle.prop_core.proofs.Public.{Pairs-same, Pairs-trans, Pairs-weaker, Rise-from_same, Rise-trans}
 use Rattle.search.proofs.TextLemmas.{leaves_then, lines_then}
@@ -64,6 +65,7 @@ module _ {B : Type 0} (m : B → Meaning) (p : Instance) (budget : ℕ) (tells :
   pub works_none : (k : Progress) (old : List ℕ) (xs ys : List B) (s : Sets) → Rise m 0 xs ys → Works m p budget tells k k old old xs ys s (s ∷ [])
   works_none k old xs ys s r = record {
     more = [];
+    named = All-nil (HasStep p);
     text = λ t. sym (append-nil old);
     given = r;
     runs = λ e rest u. subst (λ a. Underway p budget k a (s ∷ rest)) (sym (append-nil e)) u;
@@ -74,6 +76,7 @@ module _ {B : Type 0} (m : B → Meaning) (p : Instance) (budget : ℕ) (tells :
       Works m p budget tells k l old mid xs ys s (t ∷ []) → Works m p budget tells l n mid new ys zs t now → Works m p budget tells k n old new xs zs s now
   works_then k l n old mid new xs ys zs s t now c d a b = record {
     more = a.more ++ b.more;
+    named = All-append (HasStep p) a.more b.more a.named b.named;
     text = λ h. lines_then p old mid new a.more b.more (a.text h) (b.text h);
     given = rise_then m a.more b.more xs ys zs c d a.given b.given;
     runs = λ e rest u. subst (λ x. Underway p budget n x (now ++ rest)) (append_assoc e a.more b.more) (b.runs (e ++ a.more) rest (a.runs e rest u));
@@ -84,17 +87,19 @@ module _ {B : Type 0} (m : B → Meaning) (p : Instance) (budget : ℕ) (tells :
       Works m p budget tells k l old new xs ys s now → Rise m 0 ys zs → Works m p budget tells k l old new xs zs s now
   works_same k l old new xs ys zs s now c d a r = record {
     more = a.more;
+    named = a.named;
     text = a.text;
     given = subst (λ n. Rise m n xs zs) (let e : answered a.more + 0 ≡ answered a.more = omega arith in e) (Rise-trans m (answered a.more) 0 xs ys zs c d a.given r);
     runs = a.runs;
   }
 
   pub works_goes : (k l : Progress) (old new : List ℕ) (xs ys : List B) (s : Sets) (rest now : List Sets) → Works m p budget tells k l old new xs ys s now → Goes m p budget tells k l old new xs ys (s ∷ rest) (now ++ rest)
-  works_goes k l old new xs ys s rest now a = record { more = a.more; text = a.text; given = a.given; runs = λ e u. a.runs e rest u }
+  works_goes k l old new xs ys s rest now a = record { more = a.more; named = a.named; text = a.text; given = a.given; runs = λ e u. a.runs e rest u }
 
   pub goes_none : (k : Progress) (old : List ℕ) (xs : List B) (open_now : List Sets) → Goes m p budget tells k k old old xs xs open_now open_now
   goes_none k old xs open_now = record {
     more = [];
+    named = All-nil (HasStep p);
     text = λ t. sym (append-nil old);
     given = rise_none m xs;
     runs = λ e u. subst (λ a. Underway p budget k a open_now) (sym (append-nil e)) u;
@@ -104,6 +109,7 @@ module _ {B : Type 0} (m : B → Meaning) (p : Instance) (budget : ℕ) (tells :
       Goes m p budget tells k l old mid xs ys from mids → Goes m p budget tells l n mid new ys zs mids now → Goes m p budget tells k n old new xs zs from now
   goes_then k l n old mid new xs ys zs from mids now c d a b = record {
     more = a.more ++ b.more;
+    named = All-append (HasStep p) a.more b.more a.named b.named;
     text = λ h. lines_then p old mid new a.more b.more (a.text h) (b.text h);
     given = rise_then m a.more b.more xs ys zs c d a.given b.given;
     runs = λ e u. subst (λ x. Underway p budget n x now) (append_assoc e a.more b.more) (b.runs (e ++ a.more) (a.runs e u));
@@ -111,7 +117,7 @@ module _ {B : Type 0} (m : B → Meaning) (p : Instance) (budget : ℕ) (tells :
 
   -- a front behind the lines of the work
   pub works_front : (k l : Progress) (old mid new : List ℕ) (xs ys : List B) (s : Sets) (now : List Sets) → Works m p budget tells k l old mid xs ys s now → LeavesLines p tells mid new → LeavesLines p tells old new
-  works_front k l old mid new xs ys s now w f = leaves_then p tells old mid new w.more w.text f
+  works_front k l old mid new xs ys s now w f = leaves_then p tells old mid new w.more w.named w.text f
 
   pub goes_front : (k l : Progress) (old mid new : List ℕ) (xs ys : List B) (from now : List Sets) → Goes m p budget tells k l old mid xs ys from now → LeavesLines p tells mid new → LeavesLines p tells old new
-  goes_front k l old mid new xs ys from now g f = leaves_then p tells old mid new g.more g.text f
+  goes_front k l old mid new xs ys from now g f = leaves_then p tells old mid new g.more g.named g.text f

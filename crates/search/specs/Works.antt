@@ -1,7 +1,7 @@
 -- What the parts of a search do to its steps, to the file and to the propagators.
 use Rattle.std.specs.Prelude.{All, ◌≡◌, ℕ, ◌+◌, ◌<◌, ◌≤◌, List, [], ◌∷◌, ◌++◌, map, reverse, Option, Some, None, Bool, true, false, IfSome, IsTrue}
 use Rattle.prop_core.specs.Prelude.{given_sum, IsTrailOf, Marked, Meaning, most, Rise}
-use Rattle.cert_write.specs.Prelude.{end_line, HaveChoices, inside, Instance, IsClosed, IsFixed, IsSplit, least_cost, outside, RegionView, Sets, sets, steps_of, Tree}
+use Rattle.cert_write.specs.Prelude.{end_line, HasStep, HaveChoices, inside, Instance, IsClosed, IsFixed, IsSplit, least_cost, outside, RegionView, Sets, sets, steps_of, Tree}
 use Rattle.cluster.specs.declared.ids.Element.{Element}
 use Rattle.domains.specs.declared.parts.Part.{Part}
 use Rattle.trees.specs.declared.steps.Step.{Step}
@@ -45,10 +45,11 @@ open_sets t splits = sets t.region ∷ outer_sides t.marks (reverse splits)
 
 -- ---- what was done
 
--- The first of the open sets was worked on until these are open in its place, by more steps: their lines are in the file, and each that a
--- propagator answered is counted. k, old and xs are from before; l, new and ys from after
+-- The first of the open sets was worked on until these are open in its place, by more steps: each is one of the instance, their lines are in
+-- the file, and each that a propagator answered is counted. k, old and xs are from before; l, new and ys from after
 pub record Works {B : Type 0} (m : B → Meaning) (p : Instance) (budget : ℕ) (tells : Bool) (k l : Progress) (old new : List ℕ) (xs ys : List B) (s : Sets) (now : List Sets) : Type 0 where
   pub more : List Step
+  pub named : All (HasStep p) more
   pub text : IsTrue tells → new ≡ old ++ lines p more
   pub given : Rise m (answered more) xs ys
   pub runs : (steps : List Step) (rest : List Sets) → Underway p budget k steps (s ∷ rest) → Underway p budget l (steps ++ more) (now ++ rest)
@@ -56,6 +57,7 @@ pub record Works {B : Type 0} (m : B → Meaning) (p : Instance) (budget : ℕ) 
 -- the same for all that is open
 pub record Goes {B : Type 0} (m : B → Meaning) (p : Instance) (budget : ℕ) (tells : Bool) (k l : Progress) (old new : List ℕ) (xs ys : List B) (from now : List Sets) : Type 0 where
   pub more : List Step
+  pub named : All (HasStep p) more
   pub text : IsTrue tells → new ≡ old ++ lines p more
   pub given : Rise m (answered more) xs ys
   pub runs : (steps : List Step) → Underway p budget k steps from → Underway p budget l (steps ++ more) now
@@ -74,6 +76,7 @@ open_after Refuted s = []
 -- a leaf was written
 pub record IsLeaf (p : Instance) (budget : ℕ) (tells : Bool) (k l : Progress) (old new : List ℕ) (s : Sets) : Type 0 where
   pub step : Step
+  pub named : HasStep p step
   pub text : IsTrue tells → new ≡ old ++ lines p (step ∷ [])
   pub given : answered (step ∷ []) ≡ 0
   pub runs : (steps : List Step) (rest : List Sets) → Underway p budget k steps (s ∷ rest) → Underway p budget l (steps ++ step ∷ []) rest

@@ -1,9 +1,10 @@
 -- What a search leaves in the file of its certificate.
-use Rattle.std.specs.Prelude.{◌≡◌, ℕ, ◌+◌, List, [], ◌∷◌, ◌++◌, Option, Result, Bool, true, false, IsTrue}
+use Rattle.std.specs.Prelude.{All, ◌≡◌, ℕ, ◌+◌, List, [], ◌∷◌, ◌++◌, Option, Result, Bool, true, false, IsTrue}
 use Rattle.std.specs.{Io.StartsWith, List.flat_map}
 use Rattle.plan_io.specs.Prelude.{bytes_of, CountsWrites}
 use Rattle.plan_io.specs.declared.faults.OutFault.{OutFault}
-use Rattle.cert_write.specs.Prelude.{end_line, Files, Instance, OthersStay, step_line}
+use Rattle.cert_write.specs.Prelude.{end_line, Files, HasStep, Instance, OthersStay, step_line}
+use Rattle.cert_text.specs.Prelude.{IsGoal}
 use Rattle.cluster.specs.declared.ids.Element.{Element}
 use Rattle.domains.specs.declared.parts.Part.{Part}
 use Rattle.reasons.specs.declared.reason.Reason.{Reason}
@@ -30,16 +31,19 @@ pub record WritesOn {D T : Type 0} (tells : Bool) (files : D → Files) (current
   pub cause : CountsWrites (write_faults old) (write_faults new) result
   pub front : leaves (bytes_of (files old file)) (bytes_of (files new file))
 
--- the file has its old bytes, and then a front of the lines of some steps
+-- the file has its old bytes, and then a front of the lines of some steps of the instance
 pub record LeavesLines (p : Instance) (tells : Bool) (old new : List ℕ) : Type 0 where
   pub some : List Step
+  pub named : All (HasStep p) some
   pub front : IsTrue tells → StartsWith (old ++ lines p some) new
   pub stays : IsTrue tells → StartsWith new old
 
--- and of an end line after them
+-- and of an end line after them, whose goal can be written
 pub record LeavesText (p : Instance) (tells : Bool) (old new : List ℕ) : Type 0 where
   pub some : List Step
+  pub named : All (HasStep p) some
   pub goal : Goal
+  pub goal_is : IsGoal goal
   pub front : IsTrue tells → StartsWith (old ++ lines p some ++ end_line goal) new
   pub stays : IsTrue tells → StartsWith new old
 

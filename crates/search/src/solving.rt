@@ -1,5 +1,6 @@
 //! The whole search.
 ghost use Rattle.std.specs.Prelude.{◌≡◌, ◌∷◌, [], Some, IfOk, IfSome, IsTrue, MatchOption};
+ghost use Rattle.cert_text.specs.Prelude.{IsGoal};
 ghost use Rattle.search.specs.Prelude.{bytes_of, Covered, found_of, goal_in, Goes, HaveChoices, IsElement, IsPlanOf, IsShown, IsSized, IsStayed, IsTrueOf, LeavesLines, LeavesText, MayStay, none_yet, Pairs, plan_in, SameCover, sets, start_sets, WritesOn};
 
 use crate::found::Found;
@@ -110,7 +111,8 @@ fn found_of(progress: Progress) -> Found
 // the goal of an answer
 fn goal_of(p: &Problem, budget: u64, found: &Found) -> Goal
     requires { IfSome (plan_in found.now) (IsPlanOf p.now.given) }
-    ensures { result ≡ goal_in p.now.given budget found.now }
+    ensures is { result ≡ goal_in p.now.given budget found.now }
+    ensures fits { IsGoal result }
 {
     match found {
         Found::Optimal(plan) => Goal::Optimal(cost(p, plan)),

@@ -1,21 +1,24 @@
 -- What a search leaves of its certificate, and what its answer is.
-use Rattle.base.proofs.Public.{◌≡◌, ◌∙◌, ◌+◌, ℕ, List, [], ◌++◌, Option, Some, None, Bool, refl, ap, subst, inl, inr, IfSome, StartsWith, flat_map, longer_text, sum_to-none, IsTrue}
+use Rattle.base.proofs.Public.{All-nil, ◌≡◌, ◌∙◌, ◌+◌, ℕ, List, [], ◌++◌, Option, Some, None, Bool, refl, ap, subst, inl, inr, IfSome, StartsWith, flat_map, longer_text, sum_to-none, IsTrue}
 use Rattle.solver.specs.Prelude.{bytes_of, certificate_text, choices_of, Element, end_line, end_of, Found, goal_in, header_line, Idle, Infeasible, Instance, IsCertificateCut, IsCertified, IsCut, IsPlanOf, IsShown, IsStayed, IsToStay, IsTrueOf, LeavesText, machine_count, Meaning, node, node_count, Optimal, plan_cost, plan_in, PlanChoices, step_line, steps_of, sum_to, Undecided, vm}
+use Rattle.search.specs.Prelude.{HasStep}
 use Rattle.trees.specs.declared.steps.Goal.TheVariants.{Infeasible as NonePlanned}
 
 -- ---- the certificate
 
 -- what is left where it was not touched
 pub untouched : (p : Instance) (file : Option (List ℕ)) → IsCertificateCut p file file
-untouched p file = record { steps = []; goal = NonePlanned; cut = inl refl }
+untouched p file = record { steps = []; named = All-nil (HasStep p); goal = NonePlanned; goal_is = tt; cut = inl refl }
 
 -- what is left where the header was not written whole
 pub cut_in_header : (p : Instance) (before after : Option (List ℕ)) → IsCut before header_line after → IsCertificateCut p before after
 unfolding certificate_text
-cut_in_header p before after (inl same) = record { steps = []; goal = NonePlanned; cut = inl same }
+cut_in_header p before after (inl same) = record { steps = []; named = All-nil (HasStep p); goal = NonePlanned; goal_is = tt; cut = inl same }
 cut_in_header p before after (inr cut) = record {
   steps = [];
+  named = All-nil (HasStep p);
   goal = NonePlanned;
+  goal_is = tt;
   cut = inr (longer_text (header_line ++ flat_map (step_line p) []) (end_line NonePlanned) (bytes_of after) (longer_text header_line (flat_map (step_line p) []) (bytes_of after) cut));
 }
 
@@ -24,7 +27,9 @@ pub cut_in_lines : (p : Instance) (tells : Bool) (before middle after : Option (
 unfolding certificate_text
 cut_in_lines p tells before middle after told is left = record {
   steps = left.some;
+  named = left.named;
   goal = left.goal;
+  goal_is = left.goal_is;
   cut = inr (subst (λ (file : Option (List ℕ)). StartsWith (bytes_of file ++ flat_map (step_line p) left.some ++ end_line left.goal) (bytes_of after)) is (left.front told));
 }
 

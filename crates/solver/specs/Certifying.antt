@@ -1,9 +1,9 @@
 -- What a solver does that certifies an answer to a problem.
-use Rattle.std.specs.Prelude.{◌≡◌, Bool, ℕ, List, Option, Some, Result, IfOk, IsTrue}
-use Rattle.search.specs.Prelude.{choices_of, cost_of, CountsWrites, goal_in, Instance, IsStayingPlan, IsTreeOf, IsTrueOf, MayStay, PlanChoices, steps_of, Tree}
+use Rattle.std.specs.Prelude.{All, ◌≡◌, Bool, ℕ, List, Option, Some, Result, IfOk, IsTrue}
+use Rattle.search.specs.Prelude.{choices_of, cost_of, CountsWrites, goal_in, HasStep, Instance, IsStayingPlan, IsTreeOf, IsTrueOf, MayStay, PlanChoices, steps_of, Tree}
 use Rattle.plan_io.specs.{Prelude.Files, Prelude.IsCut, Prelude.OthersStay, declared.faults.OutFault.OutFault}
 use Rattle.trees.specs.declared.steps.{Goal.Goal, Step.Step}
-use Rattle.cert_text.specs.Spelling.{certificate_text}
+use Rattle.cert_text.specs.{Prelude.IsGoal, Spelling.certificate_text}
 use Rattle.search.specs.declared.found.Found.{Found, TheVariants.Optimal}
 
 abbrev pub plan_cost : Instance → PlanChoices → ℕ
@@ -23,10 +23,12 @@ pub record IsCertified (p : Instance) (budget : ℕ) (found : Found) (certificat
   pub shows : IsCertifiedText p budget found text
   pub whole : certificate ≡ Some text
 
--- The certificate is as before, absent, empty or a prefix of the text of some steps and a goal.
+-- The certificate is as before, absent, empty or a prefix of the text of some steps of the problem and a goal that can be written.
 pub record IsCertificateCut (p : Instance) (before after : Option (List ℕ)) : Type 0 where
   pub steps : List Step
+  pub named : All (HasStep p) steps
   pub goal : Goal
+  pub goal_is : IsGoal goal
   pub cut : IsCut before (certificate_text p steps goal) after
 
 -- ---- the answer

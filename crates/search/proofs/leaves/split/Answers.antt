@@ -8,19 +8,27 @@ pub step-requires-clause-step : goal.step-requires-clause-step
 step-requires-clause-step g c = split_named _ _ c.choose-element.result.0 c.choose-element.result.1 c.requires.ground.trail.region.legal (rw c.region.ensures at c.choose-element.ensures) (search rules)
 
 pub returns-in_err-step-clause-writes : goal.returns-in_err-step-clause-writes
-returns-in_err-step-clause-writes g c = record { name = search rules; kept = search rules; cause = search rules; front = leaves_line _ _ _ _ (Decide c.choose-element.result.0 c.choose-element.result.1) c.step.ensures.cut c.step.ensures.stays }
+returns-in_err-step-clause-writes g c =
+    let named = split_named _ _ c.choose-element.result.0 c.choose-element.result.1 c.requires.ground.trail.region.legal (rw c.region.ensures at c.choose-element.ensures) (search rules) in
+    record { name = search rules; kept = search rules; cause = search rules; front = leaves_line _ _ _ _ (Decide c.choose-element.result.0 c.choose-element.result.1) named c.step.ensures.cut c.step.ensures.stays }
 
 pub returns-in_err-mark_levels-clause-writes : goal.returns-in_err-mark_levels-clause-writes
-returns-in_err-mark_levels-clause-writes g c = record { name = search rules; kept = search rules; cause = search rules; front = leaves_lined _ _ _ _ (Decide c.choose-element.result.0 c.choose-element.result.1) (λ t. ap bytes_of (c.in_ok-step.ensures.grown t)) }
+returns-in_err-mark_levels-clause-writes g c =
+    let named = split_named _ _ c.choose-element.result.0 c.choose-element.result.1 c.requires.ground.trail.region.legal (rw c.region.ensures at c.choose-element.ensures) (search rules) in
+    record { name = search rules; kept = search rules; cause = search rules; front = leaves_lined _ _ _ _ (Decide c.choose-element.result.0 c.choose-element.result.1) named (λ t. ap bytes_of (c.in_ok-step.ensures.grown t)) }
 
 pub returns-in_err-narrow_all-clause-writes : goal.returns-in_err-narrow_all-clause-writes
-returns-in_err-narrow_all-clause-writes g c = record { name = search rules; kept = search rules; cause = search rules; front = leaves_lined _ _ _ _ (Decide c.choose-element.result.0 c.choose-element.result.1) (λ t. ap bytes_of (c.in_ok-step.ensures.grown t)) }
+returns-in_err-narrow_all-clause-writes g c =
+    let named = split_named _ _ c.choose-element.result.0 c.choose-element.result.1 c.requires.ground.trail.region.legal (rw c.region.ensures at c.choose-element.ensures) (search rules) in
+    record { name = search rules; kept = search rules; cause = search rules; front = leaves_lined _ _ _ _ (Decide c.choose-element.result.0 c.choose-element.result.1) named (λ t. ap bytes_of (c.in_ok-step.ensures.grown t)) }
 
 pub returns-in_err-narrow_all-clause-same : goal.returns-in_err-narrow_all-clause-same
 returns-in_err-narrow_all-clause-same g c = rule_trans _ _ _ _ c.in_ok-mark_levels.ensures.same c.narrow_all.ensures.same
 
 pub returns-clause-writes : goal.returns-clause-writes
-returns-clause-writes g c = record { name = search rules; kept = search rules; cause = search rules; front = leaves_lined _ _ _ _ (Decide c.choose-element.result.0 c.choose-element.result.1) (λ t. ap bytes_of (c.in_ok-step.ensures.grown t)) }
+returns-clause-writes g c =
+    let named = split_named _ _ c.choose-element.result.0 c.choose-element.result.1 c.requires.ground.trail.region.legal (rw c.region.ensures at c.choose-element.ensures) (search rules) in
+    record { name = search rules; kept = search rules; cause = search rules; front = leaves_lined _ _ _ _ (Decide c.choose-element.result.0 c.choose-element.result.1) named (λ t. ap bytes_of (c.in_ok-step.ensures.grown t)) }
 
 pub returns-clause-same : goal.returns-clause-same
 returns-clause-same g c = rule_trans _ _ _ _ c.in_ok-mark_levels.ensures.same c.in_ok-narrow_all.ensures.same

@@ -7,10 +7,10 @@ pub returns-in_err-plan-clause-writes : goal.returns-in_err-plan-clause-writes
 returns-in_err-plan-clause-writes g c = record { name = search rules; kept = search rules; cause = search rules; front = leaves_none _ _ _ }
 
 pub returns-in_err-step-clause-writes : goal.returns-in_err-step-clause-writes
-returns-in_err-step-clause-writes g c = record { name = search rules; kept = search rules; cause = search rules; front = leaves_line _ _ _ _ (Plan c.sum-sum.result) c.step.ensures.cut c.step.ensures.stays }
+returns-in_err-step-clause-writes g c = record { name = search rules; kept = search rules; cause = search rules; front = leaves_line _ _ _ _ (Plan c.sum-sum.result) (search rules) c.step.ensures.cut c.step.ensures.stays }
 
 pub returns-then-is_fixed-clause-writes : goal.returns-then-is_fixed-clause-writes
-returns-then-is_fixed-clause-writes g c = record { name = search rules; kept = search rules; cause = search rules; front = leaves_lined _ _ _ _ (Plan c.sum-sum.result) (λ t. ap bytes_of (c.in_ok-step.ensures.grown t)) }
+returns-then-is_fixed-clause-writes g c = record { name = search rules; kept = search rules; cause = search rules; front = leaves_lined _ _ _ _ (Plan c.sum-sum.result) (search rules) (λ t. ap bytes_of (c.in_ok-step.ensures.grown t)) }
 
 pub returns-then-is_fixed-clause-leaf : goal.returns-then-is_fixed-clause-leaf
 returns-then-is_fixed-clause-leaf g c =
@@ -18,10 +18,10 @@ returns-then-is_fixed-clause-leaf g c =
     (λ t. text_line _ _ _ (Plan c.sum-sum.result) (ap bytes_of (c.in_ok-step.ensures.grown t)))
 
 pub returns-in_err-step-2-clause-writes : goal.returns-in_err-step-2-clause-writes
-returns-in_err-step-2-clause-writes g c = record { name = search rules; kept = search rules; cause = search rules; front = leaves_line _ _ _ _ Left c.step-then-progress-budget.ensures.cut c.step-then-progress-budget.ensures.stays }
+returns-in_err-step-2-clause-writes g c = record { name = search rules; kept = search rules; cause = search rules; front = leaves_line _ _ _ _ Left tt c.step-then-progress-budget.ensures.cut c.step-then-progress-budget.ensures.stays }
 
 pub returns-then-progress-budget-clause-writes : goal.returns-then-progress-budget-clause-writes
-returns-then-progress-budget-clause-writes g c = record { name = search rules; kept = search rules; cause = search rules; front = leaves_lined _ _ _ _ Left (λ t. ap bytes_of (c.in_ok-step-2.ensures.grown t)) }
+returns-then-progress-budget-clause-writes g c = record { name = search rules; kept = search rules; cause = search rules; front = leaves_lined _ _ _ _ Left tt (λ t. ap bytes_of (c.in_ok-step-2.ensures.grown t)) }
 
 pub returns-then-progress-budget-clause-leaf : goal.returns-then-progress-budget-clause-leaf
 returns-then-progress-budget-clause-leaf g c =
