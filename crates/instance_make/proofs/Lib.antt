@@ -14,3 +14,6 @@ mod Counting
 mod Problem
 mod Emptied
 mod Valid
+mod Lengths
+mod ShortText
+pub mod Public

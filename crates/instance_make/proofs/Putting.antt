@@ -77,7 +77,7 @@ module _ {X : Type 0} (key : X → List ℕ) (value : X → Option Data) where
 
 -- ---- the keys
 
-either_way : (P : Members → Type 0) (o : Ordering) (a b c : Members) → P a → P b → P c → P (match_ordering o a b c)
+pub either_way : (P : Members → Type 0) (o : Ordering) (a b c : Members) → P a → P b → P c → P (match_ordering o a b c)
 either_way P Less a b c x y z = x
 either_way P Equal a b c x y z = y
 either_way P Greater a b c x y z = z

@@ -4,5 +4,6 @@ pub mod Rules
 pub mod Text
 pub mod Generated
 pub mod Emptying
+pub mod Laws
 pub mod Building
 pub mod Prelude

@@ -43,6 +43,7 @@ pub use Rattle.instance_make.specs.Emptying.{EmptyingIsValid, goes_to, IsFeasibl
 unfoldable pub use Rattle.instance_make.specs.Emptying.{emptying}
 pub use Rattle.instance_make.specs.Generated.{amounts, emptied, from, generated_duration, host_of, machine_text, machine_total, node_text, node_total, others, set_of, spread_of, vms}
 unfoldable pub use Rattle.instance_make.specs.Generated.{cpu_of, generated, generated_constraints, generated_machine, generated_node, mem_of}
+pub use Rattle.instance_make.specs.Laws.{GeneratedTextIsShort, most_generated_bytes}
 pub use Rattle.instance_make.specs.Members.{put_if}
 unfoldable pub use Rattle.instance_make.specs.Members.{members_by}
 pub use Rattle.instance_make.specs.Rules.{list_data, node_name_at, object_by}
