@@ -37,7 +37,7 @@ yes_is_said goal least (Err (Line ReadFault)) before after result is says = absu
 yes_is_said goal least (Err (Line NoRoom)) before after result is says = absurd says
 yes_is_said goal least (Err Memory) before after result is says = absurd says
 
-checked_is_yes : (plan_file certificate : List ℕ) (budget : ℕ) (p : Instance) (found : Found) (strict : Bool) (before after : Outside) (result : Status) → AreAccepted plan_file certificate budget p found before.files → IsChecked plan_file certificate strict p before after result →
+pub checked_is_yes : (plan_file certificate : List ℕ) (budget : ℕ) (p : Instance) (found : Found) (strict : Bool) (before after : Outside) (result : Status) → AreAccepted plan_file certificate budget p found before.files → IsChecked plan_file certificate strict p before after result →
     Says (verdict_line (yes_to p budget found)) Status.Good before after result
 checked_is_yes plan_file certificate budget p found strict before after result are checked =
     let checks : Checks p certificate strict (choices_handed (plan_in found)) before after result = subst (λ reading. AnswersBy (Checks p certificate strict) reading before after result) are.plan checked in

@@ -1,7 +1,13 @@
 -- What `demo` answers and leaves.
+use Rattle.std.proofs.Common.{lit<}
 use Rattle.base.proofs.Public.{◌≡◌, ◌≢◌, ◌∙◌, ℕ, true, false, List, ◌++◌, Option, Some, Ok, refl, sym, ap, subst, inl, inr, append_assoc, bytes_eq-Decides, decimal, Result, Err, codes}
-use Rattle.commands.specs.Prelude.{Command, demo, demo_certificate, demo_decisions, demo_instance, demo_line, demo_plan, Ending, Ends, EndsAnyhow, Fault, Files, Follows, Found, found_line, found_status, HasGenerated, Infeasible, Instance, instance_in, IsAnswer, IsChecked, IsConcluded, IsDemonstrated, IsPlannedAndChecked, IsWritten, LeavesDemo, LeavesGenerated, LeavesPlanned, Optimal, optimal_line, Outside, outside, Status, Takes, Taking, Undecided}
-use Rattle.commands.proofs.{Ends.says, Ends.answers_well, Ends.answers_refused, Ends.ends_more, LastLines.always_anyhow}
+use Rattle.instance_make.specs.Prelude.{generated}
+use Rattle.instance_make.proofs.Public.{is_feasible}
+use Rattle.search.specs.Prelude.{IsTrueOf, PlanChoices}
+use Rattle.slices.specs.Prelude.{IsInfeasible}
+use Rattle.commands.specs.Prelude.{bytes_of, Command, demo, demo_certificate, demo_decisions, demo_instance, demo_plan, Ending, Ends, EndsAnyhow, Fault, Files, Found, HasAnswer, HasGenerated, Infeasible, Instance, instance_in, instance_of, instance_text, IsAnswer, IsChecked, IsConcluded, IsDemonstrated, IsOfReading, IsPlannedAndChecked, IsWritten, LeavesDemo, LeavesDemoUnread, LeavesGenerated, LeavesPlanned, lined, Optimal, optimal_line, out_fault, OutFault, Outside, outside, plan_cost, printed_with, reading_of, Reads, SaysDemo, Status, Takes, Taking, Undecided, unsettled_line}
+use Rattle.commands.specs.Endings.{outcome_status}
+use Rattle.commands.proofs.{AcceptAnswers.checked_is_yes, AcceptAnswers.written_is_accepted, Ends.ends_more, LastLines.always_anyhow}
 
 -- ---- its files and its line
 
@@ -16,16 +22,35 @@ optimal_text seed cost line is = is ∙ sym
     ∙ append_assoc (codes "demo " ++ decimal seed) (codes " optimal ") (decimal cost ++ codes " yes\n")
     ∙ append_assoc (codes "demo ") (decimal seed) (codes " optimal " ++ (decimal cost ++ codes " yes\n")))
 
+-- ---- where the check said yes
+
+-- an optimal plan is said
+pub optimal_said : (seed : ℕ) (p : Instance) (found : Found) (plan : PlanChoices) (before : Outside) (line : List ℕ) → found ≡ Optimal plan → line ≡ optimal_line seed (plan_cost p plan) →
+    SaysDemo seed p found before (outside before.files (before.printed ++ line)) Status.Good
+unfolding SaysDemo
+optimal_said seed p found plan before line is text =
+    subst (λ (f : Found). SaysDemo seed p f before (outside before.files (before.printed ++ line)) Status.Good) (sym is)
+    (record { printed = ap (λ l. before.printed ++ l) text; status = refl; files = refl })
+
+-- and what stayed undecided
+pub unsettled_said : (seed : ℕ) (p : Instance) (found : Found) (best : Option PlanChoices) (least : ℕ) (before : Outside) (line : List ℕ) → found ≡ Undecided best least → line ≡ unsettled_line seed →
+    SaysDemo seed p found before (outside before.files (before.printed ++ line)) Status.Undecided
+unfolding SaysDemo
+unsettled_said seed p found best least before line is text =
+    subst (λ (f : Found). SaysDemo seed p f before (outside before.files (before.printed ++ line)) Status.Undecided) (sym is)
+    (record { printed = ap (λ l. before.printed ++ l) text; status = refl; files = refl })
+
 -- ---- after the check
 
 -- a yes
-pub said_yes : (seed : ℕ) (p : Instance) (found : Found) (before after checked : Outside) (line : List ℕ) (said result : Status) → after ≡ before → IsChecked demo_plan demo_certificate false p before checked said → said ≡ Status.Good →
-    line ≡ demo_line seed p found → result ≡ found_status found → IsConcluded seed p found before (outside after.files (after.printed ++ line)) result
-said_yes seed p found before after checked line said result same is good text status_is = record {
+pub said_yes : (seed : ℕ) (p : Instance) (found : Found) (before after checked : Outside) (said : Status) (ending : Ending) → after ≡ before → IsChecked demo_plan demo_certificate false p before checked said → said ≡ Status.Good →
+    ((start : Outside) → Ends (SaysDemo seed p found start) start (Ok ending)) → Ends (IsConcluded seed p found before) after (Ok ending)
+unfolding Ends
+said_yes seed p found before after checked said ending same is good says = record {
   checked = checked;
   said = said;
   check_is = is;
-  yes = λ _. record { printed = ap (λ (o : Outside). o.printed ++ line) same ∙ ap (λ l. before.printed ++ l) text; status = status_is; files = ap (λ (o : Outside). o.files) same };
+  yes = λ _. subst (λ (start : Outside). SaysDemo seed p found start (outside after.files (printed_with after.printed ending.line)) (outcome_status ending.outcome)) same (says after);
   other = λ bad. absurd (bad good);
 }
 
@@ -42,55 +67,68 @@ said_fault seed p found before after Fault.ReadFault is = tt
 said_fault seed p found before after Fault.WriteFault is = tt
 said_fault seed p found before after Fault.Memory is = tt
 
--- ---- by the problem
+-- ---- by the generated problem
 
--- what follows an answer that is checked
-pub followed : (seed : ℕ) (p : Instance) (found : Found) (before after : Outside) (result : Status) → (found ≡ Infeasible → ⊥) → IsConcluded seed p found before after result → Follows seed p found before after result
-followed seed p (Optimal plan) before after result some is = is
-followed seed p Infeasible before after result some is = absurd (some refl)
-followed seed p (Undecided best least) before after result some is = is
+-- it reads back
+pub read_back : (seed : ℕ) (before between : Files) → HasGenerated seed demo_instance before between → instance_of (instance_text (generated seed)) ≡ Ok (generated seed) → instance_in between demo_instance ≡ Ok (generated seed)
+unfolding reading_of
+read_back seed before between is reads = ap (λ file. lined (instance_of (bytes_of file))) is.whole ∙ ap lined reads
 
--- that there is no plan
-pub none_there : (seed : ℕ) (p : Instance) (found : Found) (before between after : Files) (printed line : List ℕ) (said : Status) → IsWritten demo_plan demo_certificate demo_decisions p before between found → found ≡ Infeasible → after ≡ between →
-    line ≡ found_line p found → said ≡ found_status found → IsPlannedAndChecked seed p (outside before printed) (outside after (printed ++ line)) said
-none_there seed p found before between after printed line said written none same text status_is = record {
-  found = found;
-  between = between;
-  written = written;
-  follows = subst (λ (f : Found). Follows seed p f (outside between printed) (outside after (printed ++ line)) said) (sym none) (record {
-    printed = ap (λ l. printed ++ l) (text ∙ ap (found_line p) none);
-    status = status_is ∙ ap found_status none;
-    files = same;
-  });
-}
+-- so what is read is no other problem
+pub no_other : (seed : ℕ) (before between : Files) (p : Instance) → HasGenerated seed demo_instance before between → instance_of (instance_text (generated seed)) ≡ Ok (generated seed) → instance_in between demo_instance ≡ Ok p → p ≡ generated seed
+no_other seed before between p is reads read = same (instance_in between demo_instance) (read_back seed before between is reads) read
+  where
+    same : (reading : Result Instance (List ℕ)) → reading ≡ Ok (generated seed) → reading ≡ Ok p → p ≡ generated seed
+    same reading one two = cc
 
--- what was found and checked
-pub checked_then : (seed : ℕ) (p : Instance) (found : Found) (before between after : Files) (printed : List ℕ) (ended : Result Ending Fault) → IsWritten demo_plan demo_certificate demo_decisions p before between found → (found ≡ Infeasible → ⊥) →
-    Ends (IsConcluded seed p found (outside between printed)) (outside after printed) ended → Ends (IsPlannedAndChecked seed p (outside before printed)) (outside after printed) ended
-checked_then seed p found before between after printed ended written some ends =
-    ends_more (IsConcluded seed p found (outside between printed)) (IsPlannedAndChecked seed p (outside before printed)) (outside after printed) ended
-    (λ then result is. record { found = found; between = between; written = written; follows = followed seed p found (outside between printed) then result some is }) ends
+-- and it is not refused
+pub not_refused : {T : Type 0} (answer : Outside → Status → Type 0) (after : Outside) (view : T → Instance) (reading : Result Instance (List ℕ)) (p : Instance) (fault : Fault) → reading ≡ Ok p → IsOfReading fault →
+    (¬ (◌≡◌ {A = Result T Fault} (Err fault) (Err Fault.ReadFault)) → Reads view (Err fault) reading) → Ends answer after (Err fault)
+unfolding Ends
+not_refused answer after view reading p Fault.Words read kind reads = absurd kind
+not_refused answer after view reading p (Fault.Input line) read kind reads = let refused = reads (λ e. cc) in absurd (cc)
+not_refused answer after view reading p Fault.ReadFault read kind reads = tt
+not_refused answer after view reading p Fault.WriteFault read kind reads = absurd kind
+not_refused answer after view reading p Fault.Memory read kind reads = tt
+
+-- that it has no plan is never found
+pub never_infeasible : (seed : ℕ) (p : Instance) (found : Found) (before between : Files) → p ≡ generated seed → IsWritten demo_plan demo_certificate demo_decisions p before between found → found ≡ Infeasible → ⊥
+never_infeasible seed p found before between same written none =
+    let no_plan : IsInfeasible p = subst (λ (f : Found). IsTrueOf p demo_decisions f) none written.true_of in
+    is_feasible seed (subst IsInfeasible same no_plan)
+
+-- the check of what was written says yes, and what was found is said
+accepted : (seed : ℕ) (found : Found) (before between : Files) (printed : List ℕ) (then : Outside) (result : Status) → IsWritten demo_plan demo_certificate demo_decisions (generated seed) before between found →
+    IsConcluded seed (generated seed) found (outside between printed) then result → IsPlannedAndChecked seed (outside before printed) then result
+accepted seed found before between printed then result written is =
+    let are = written_is_accepted demo_plan demo_certificate demo_decisions (lit< tt) (generated seed) before between found written in
+    let good : is.said ≡ Status.Good = (checked_is_yes demo_plan demo_certificate demo_decisions (generated seed) found false (outside between printed) is.checked is.said are is.check_is).status in
+    record {
+      found = found;
+      between = between;
+      checked = is.checked;
+      written = written;
+      accepted = subst (λ (said : Status). IsChecked demo_plan demo_certificate false (generated seed) (outside between printed) is.checked said) good is.check_is;
+      says = is.yes good;
+    }
+
+pub checked_then : (seed : ℕ) (p : Instance) (found : Found) (before between after : Files) (printed : List ℕ) (ended : Result Ending Fault) → p ≡ generated seed → IsWritten demo_plan demo_certificate demo_decisions p before between found →
+    Ends (IsConcluded seed p found (outside between printed)) (outside after printed) ended → Ends (IsPlannedAndChecked seed (outside before printed)) (outside after printed) ended
+checked_then seed p found before between after printed ended same written ends =
+    let sound : IsWritten demo_plan demo_certificate demo_decisions (generated seed) before between found = subst (λ (q : Instance). IsWritten demo_plan demo_certificate demo_decisions q before between found) same written in
+    ends_more (IsConcluded seed p found (outside between printed)) (IsPlannedAndChecked seed (outside before printed)) (outside after printed) ended
+    (λ then result is. accepted seed found before between printed then result sound (subst (λ (q : Instance). IsConcluded seed q found (outside between printed) then result) same is)) ends
 
 -- ---- by the seed
 
--- the generated instance is refused
-pub refused_instance : (seed : ℕ) (source : Option (List ℕ)) (before between after : Files) (printed line : List ℕ) → HasGenerated seed demo_instance before between → after ≡ between → instance_in between demo_instance ≡ Err line →
-    IsAnswer (Some (demo seed)) source (outside before printed) (outside after (printed ++ line)) Status.Input
+pub answered : (seed : ℕ) (source : Option (List ℕ)) (before between middle after : Files) (printed : List ℕ) (p : Instance) (ended : Result Ending Fault) → HasGenerated seed demo_instance before between →
+    instance_of (instance_text (generated seed)) ≡ Ok (generated seed) → middle ≡ between → instance_in between demo_instance ≡ Ok p →
+    (p ≡ generated seed → Ends (IsPlannedAndChecked seed (outside middle printed)) (outside after printed) ended) → Ends (IsAnswer (Some (demo seed)) source (outside before printed)) (outside after printed) ended
 unfolding IsAnswer
-refused_instance seed source before between after printed line is same read = record {
-  between = between;
-  generated_is = is;
-  ends = answers_refused (IsPlannedAndChecked seed) _ line (outside between printed) (outside after (printed ++ line)) Status.Input read (says line Status.Input between after printed same);
-}
-
--- it is planned
-pub answered : (seed : ℕ) (source : Option (List ℕ)) (before between middle after : Files) (printed : List ℕ) (p : Instance) (ended : Result Ending Fault) → HasGenerated seed demo_instance before between → middle ≡ between → instance_in between demo_instance ≡ Ok p →
-    Ends (IsPlannedAndChecked seed p (outside middle printed)) (outside after printed) ended → Ends (IsAnswer (Some (demo seed)) source (outside before printed)) (outside after printed) ended
-unfolding IsAnswer
-answered seed source before between middle after printed p ended is same read ends =
-    ends_more (IsPlannedAndChecked seed p (outside between printed)) (IsDemonstrated seed (outside before printed)) (outside after printed) ended
-    (λ then result planned. record { between = between; generated_is = is; ends = answers_well (IsPlannedAndChecked seed) _ p (outside between printed) then result read planned })
-    (rw same at ends)
+answered seed source before between middle after printed p ended is reads same read ends =
+    ends_more (IsPlannedAndChecked seed (outside between printed)) (IsDemonstrated seed (outside before printed)) (outside after printed) ended
+    (λ then result answer. record { between = between; generated_is = is; reads_back = read_back seed before between is reads; answer = answer })
+    (subst (λ (files : Files). Ends (IsPlannedAndChecked seed (outside files printed)) (outside after printed) ended) same (ends (no_other seed before between p is reads read)))
 
 -- ---- what is left
 
@@ -100,9 +138,31 @@ leaves_generated seed before after left = record { between = after; generated_cu
 pub leaves_unread : (seed : ℕ) (before between after : Files) → LeavesGenerated seed demo_instance before between → after ≡ between → LeavesDemo seed before after
 leaves_unread seed before between after left same = record { between = between; generated_cut = left; then = inl same }
 
-pub leaves_planned : (seed : ℕ) (before between middle after : Files) (p : Instance) → LeavesGenerated seed demo_instance before between → HasGenerated seed demo_instance before between → middle ≡ between → instance_in between demo_instance ≡ Ok p →
-    LeavesPlanned demo_plan demo_certificate demo_decisions p middle after → LeavesDemo seed before after
-leaves_planned seed before between middle after p left is same read planned = record { between = between; generated_cut = left; then = inr (is, rw read (rw same at planned)) }
+pub leaves_planned : (seed : ℕ) (before between middle after : Files) (p : Instance) → LeavesGenerated seed demo_instance before between → HasGenerated seed demo_instance before between →
+    instance_of (instance_text (generated seed)) ≡ Ok (generated seed) → middle ≡ between → instance_in between demo_instance ≡ Ok p → LeavesPlanned demo_plan demo_certificate demo_decisions p middle after → LeavesDemo seed before after
+leaves_planned seed before between middle after p left is reads same read planned =
+    let started = subst (λ (files : Files). LeavesPlanned demo_plan demo_certificate demo_decisions p files after) same planned in
+    record { between = between; generated_cut = left; then = inr (is, subst (λ (q : Instance). LeavesPlanned demo_plan demo_certificate demo_decisions q between after) (no_other seed before between p is reads read) started) }
+
+-- ---- after a failed read
+
+-- a refused write is no failed read
+pub no_read : (refused : OutFault) → ¬ (out_fault refused ≡ Fault.ReadFault)
+no_read OutFault.Failed = λ e. cc
+no_read OutFault.Memory = λ e. cc
+
+-- the answer stood already
+pub has_answer : (p : Instance) (found : Found) (before between after : Files) → IsWritten demo_plan demo_certificate demo_decisions p before between found → after ≡ between → HasAnswer p before after
+has_answer p found before between after written same = record { found = found; written = subst (λ (files : Files). IsWritten demo_plan demo_certificate demo_decisions p before files found) (sym same) written }
+
+pub unread : (seed : ℕ) (before between after : Files) → HasGenerated seed demo_instance before between → after ≡ between → LeavesDemoUnread seed before after
+unread seed before between after is same = record { between = between; generated_is = is; then = inl same }
+
+pub unread_planned : (seed : ℕ) (before between middle after : Files) (p : Instance) → HasGenerated seed demo_instance before between → instance_of (instance_text (generated seed)) ≡ Ok (generated seed) →
+    middle ≡ between → instance_in between demo_instance ≡ Ok p → HasAnswer p middle after → LeavesDemoUnread seed before after
+unread_planned seed before between middle after p is reads same read has =
+    let started = subst (λ (files : Files). HasAnswer p files after) same has in
+    record { between = between; generated_is = is; then = inr (subst (λ (q : Instance). HasAnswer q between after) (no_other seed before between p is reads read) started) }
 
 -- what is said of the source, which the command does not read
 pub demo_takes : (command : Option Command) (seed : ℕ) (taking : Taking) (before after : Outside) (ended : Result Ending Fault) → command ≡ Some (demo seed) → EndsAnyhow (Takes command taking before) after ended

@@ -4,7 +4,7 @@ use Rattle.plan_io.specs.Files.{Files}
 use Rattle.commands.specs.Words.{Command, plan, check, replay, show, picture, script, execute, repair, explain, generate, demo}
 use Rattle.commands.specs.{Inputs.Instance.instance_in, Inputs.Plan.plan_in, Answer.Outside, Answer.Says, Answer.AnswersBy, Answer.LeavesBy, Planning.IsPlanned, Planning.LeavesPlanned, Checking.IsChecked, Replaying.IsReplayed, Showing.IsListed, Picturing.IsPictured, Picturing.LeavesPictured, Scripting.IsScripted, Scripting.LeavesScripted}
 use Rattle.commands.specs.{Executing.IsExecuted, Executing.Starts, Executing.Taking, Executing.TakesRead, Generating.IsGenerated, Generating.LeavesGenerated, Explaining.IsExplained, Explaining.LeavesExplained, Repairing.IsRepaired, Repairing.LeavesRepaired, Repairing.TakesEvents, declared.status.Status.Status}
-use Rattle.commands.specs.Demonstrating.{IsDemonstrated, LeavesDemo, demo_certificate, demo_instance, demo_plan}
+use Rattle.commands.specs.Demonstrating.{IsDemonstrated, LeavesDemo, LeavesDemoUnread, demo_certificate, demo_instance, demo_plan}
 
 -- The desk reads the files that the command reads, and writes those that it creates.
 abbrev pub MayRun : (reads writes : List ℕ → Bool) → Option Command → Type 0
@@ -75,7 +75,7 @@ LeavesAtFailedRead (Some (execute instance plan_file)) before after = after ≡ 
 LeavesAtFailedRead (Some (repair instance plan_file new_instance new_plan)) before after = after ≡ before
 LeavesAtFailedRead (Some (explain instance core certificate budget)) before after = after ≡ before
 LeavesAtFailedRead (Some (generate seed instance)) before after = ⊥
-LeavesAtFailedRead (Some (demo seed)) before after = LeavesDemo seed before after
+LeavesAtFailedRead (Some (demo seed)) before after = LeavesDemoUnread seed before after
 
 -- Where a command leaves the source as it was. `execute` and `repair` do so where the files are told and an input is refused, or the plan is not valid.
 abbrev pub KeepsSource : {S : Type 0} → Bool → Files → Option Command → S → S → Type 0

@@ -28,9 +28,9 @@ pub use Rattle.cert_check.specs.declared.verdict.{CheckFault.CheckFault, CheckFa
 pub use Rattle.commands.specs.Answer.{AnswersBy, LeavesBy, Outside, outside, Says, told}
 pub use Rattle.commands.specs.Causes.{Causes, CommandCauses, Counts, counts, NothingFailed, OnlyReads, PartCauses, ReadCauses, WriteCauses}
 pub use Rattle.commands.specs.Checking.{Checks, IsChecked, IsLineRefusal, no_line, not_a_line, SaysGiven, short_line, too_long_line, undecided_line, verdict_status, why_text}
-unfoldable pub use Rattle.commands.specs.{Checking.verdict_line, Commands.IsAnswer, Demonstrating.demo_line, Endings.Ends, Endings.EndsAnyhow, Executing.conclusion_line, Executing.Executes, Executing.Starts, Executing.TakesRead, Repairing.repaired_line, Repairing.RepairsPlan, Repairing.running_line, Repairing.SaysRest, Repairing.TakesEvents}
+unfoldable pub use Rattle.commands.specs.{Checking.verdict_line, Commands.IsAnswer, Demonstrating.SaysDemo, Endings.Ends, Endings.EndsAnyhow, Executing.conclusion_line, Executing.Executes, Executing.Starts, Executing.TakesRead, Repairing.repaired_line, Repairing.RepairsPlan, Repairing.running_line, Repairing.SaysRest, Repairing.TakesEvents}
 pub use Rattle.commands.specs.Commands.{KeepsDeskReads, KeepsDeskWrites, KeepsSource, Leaves, LeavesAtFailedRead, MayRun, ReadsInput, Takes}
-pub use Rattle.commands.specs.Demonstrating.{demo_certificate, demo_decisions, demo_instance, demo_plan, Follows, IsConcluded, IsDemonstrated, IsPlannedAndChecked, LeavesDemo, optimal_line}
+pub use Rattle.commands.specs.Demonstrating.{demo_certificate, demo_decisions, demo_instance, demo_plan, HasAnswer, IsConcluded, IsDemonstrated, IsPlannedAndChecked, LeavesDemo, LeavesDemoUnread, optimal_line, unsettled_line}
 pub use Rattle.commands.specs.Endings.{fault_status, IsAnswered, IsLastLine, IsOfExecuting, IsOfReading, IsOfWriting, IsRefusal, LastEnds, line_of, LineEnds, out_fault, outcome_status, printed_with, Reads}
 pub use Rattle.commands.specs.Executing.{conclusion_status, events_line, IsExecuted, IsPartOfAnswer, refused_line, TakesNothing, Taking, taking, Took, TookBy}
 pub use Rattle.commands.specs.Repairing.{first_event, IsRepairCut, IsRepaired, LeavesEnding, LeavesRepaired, LeavesRest, Repairs, RepairsBy, RepairsSome, RepairsTold, SaysEnding, StopsAtEnding, StopsReading, TookEvents, TookEventsBy}

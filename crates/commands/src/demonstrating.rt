@@ -1,7 +1,8 @@
 //! The command `demo`.
 
-ghost use Rattle.std.specs.Prelude.{◌≡◌, ◌≢◌, ℕ, false, List, Option, Some, Err, IsTrue, IfErr, IfOk, IfSome, string_bytes};
-ghost use Rattle.commands.specs.Prelude.{demo, demo_certificate, demo_decisions, demo_line, demo_plan, Ends, Found as AnyFound, IsAnswer, IsChecked, IsConcluded, IsOfReading, IsPlannedAndChecked, IsPlanOf, Leaves, LeavesPlanned, MayRun, OnlyReads, optimal_line, Outside, outside, PartCauses};
+ghost use Rattle.std.specs.Prelude.{◌≡◌, ◌≢◌, ℕ, false, List, Option, Some, Ok, Err, IsTrue, IfErr, IfOk, IfSome, string_bytes};
+ghost use Rattle.commands.specs.Prelude.{demo, demo_certificate, demo_decisions, demo_plan, Ends, Found as AnyFound, HasAnswer, IsAnswer, IsChecked, IsConcluded, IsOfReading, IsPlannedAndChecked, IsPlanOf, Leaves, LeavesAtFailedRead, LeavesPlanned, MayRun, OnlyReads, optimal_line, Outside, outside, PartCauses, SaysDemo, unsettled_line};
+ghost use Rattle.instance_make.specs.Prelude.{generated};
 ghost use Rattle.search.specs.Answers.{plan_in};
 
 use crate::checking::check_problem;
@@ -37,16 +38,38 @@ fn optimal_line(alloc: Global, seed: u64, cost: u64) -> Result<String, Memory>
     Ok(format!(in alloc; "demo {seed} optimal {cost} yes\n")?)
 }
 
-/// The line of what was found, once it was checked.
-#[tactic(auto, unfolding(crate::specs::Demonstrating::demo_line))]
-fn demo_line(alloc: Global, p: &Problem, found: &Found, seed: u64) -> Result<String, Memory>
-    requires { IfSome (plan_in found.now) (IsPlanOf p.now.given) }
-    ensures { IfOk result (λ line. string_bytes line ≡ demo_line seed p.now.given found.now) }
+/// The line of what stayed undecided.
+fn unsettled_line(alloc: Global, seed: u64) -> Result<String, Memory>
+    ensures { IfOk result (λ line. string_bytes line ≡ unsettled_line seed) }
+{
+    Ok(format!(in alloc; "demo {seed} undecided\n")?)
+}
+
+/// How the demonstration ends where the check of what was found said yes. That there is no plan is
+/// not checked.
+#[tactic(auto, using(crate::proofs::DemoAnswers::optimal_said, crate::proofs::DemoAnswers::unsettled_said), unfolding(crate::specs::Endings::Ends))]
+fn ending_of(alloc: Global, p: &Problem, found: &Found, seed: u64) -> Result<Ending, Memory>
+    requires plan { IfSome (plan_in found.now) (IsPlanOf p.now.given) }
+    requires some { found.now ≢ AnyFound.Infeasible }
+    ensures { let says = SaysDemo seed p.now.given found.now in
+        IfOk result (λ ending. (before : Outside) → Ends (says before) before (Ok ending)) }
 {
     match found {
-        Found::Optimal(plan) => optimal_line(alloc, seed, cost(p, plan)),
-        Found::Infeasible => found_line(alloc, p, found),
-        Found::Undecided { .. } => Ok(format!(in alloc; "demo {seed} undecided\n")?),
+        Found::Optimal(plan) => {
+            let line = optimal_line(alloc, seed, cost(p, plan))?;
+            Ok(Ending {
+                line: Some(line),
+                outcome: Outcome::Good,
+            })
+        }
+        Found::Infeasible => unreachable!(),
+        Found::Undecided { .. } => {
+            let line = unsettled_line(alloc, seed)?;
+            Ok(Ending {
+                line: Some(line),
+                outcome: Outcome::Undecided,
+            })
+        }
     }
 }
 
@@ -60,6 +83,7 @@ fn conclude(
     checked: Result<Ending, Fault>,
 ) -> Result<Ending, Fault>
     requires plan { IfSome (plan_in found.now) (IsPlanOf p.now.given) }
+    requires some { found.now ≢ AnyFound.Infeasible }
     requires kind { IfErr checked IsOfReading }
     ensures ends { (before after : Outside) → after ≡ before
         → Ends (IsChecked demo_plan demo_certificate false p.now.given before) after checked
@@ -70,13 +94,7 @@ fn conclude(
 {
     match checked {
         Ok(ending) => match ending.outcome {
-            Outcome::Good => {
-                let line = demo_line(alloc, p, found, seed)?;
-                Ok(Ending {
-                    line: Some(line),
-                    outcome: outcome_of(found),
-                })
-            }
+            Outcome::Good => Ok(ending_of(alloc, p, found, seed)?),
             Outcome::Negative | Outcome::Undecided => Ok(ending),
         },
         Err(fault) => Err(fault),
@@ -93,6 +111,7 @@ fn check_found<D: Desk, S: Solver>(
     seed: u64,
 ) -> Result<Ending, Fault>
     requires plan { IfSome (plan_in found.now) (IsPlanOf p.now.given) }
+    requires some { found.now ≢ AnyFound.Infeasible }
     requires reads_plan { IsTrue (D.reads demo_plan) }
     requires reads_certificate { IsTrue (D.reads demo_certificate) }
     ensures ends { let concluded = IsConcluded seed p.now.given found.now in
@@ -116,7 +135,7 @@ fn is_infeasible(found: &Found) -> bool
 }
 
 /// Plans the problem of a seed, and checks what was found, if it is not that there is no plan.
-#[tactic(auto, using(crate::proofs::DemoAnswers::files_apart, crate::proofs::DemoAnswers::none_there, crate::proofs::DemoAnswers::checked_then, crate::proofs::Ends::refused_write), unfolding(crate::specs::Endings::Ends))]
+#[tactic(auto, using(crate::proofs::DemoAnswers::files_apart, crate::proofs::DemoAnswers::no_read, crate::proofs::Ends::refused_write), unfolding(crate::specs::Endings::Ends))]
 fn plan_and_check<D: Desk, S: Solver>(
     alloc: Global,
     desk: &mut D,
@@ -125,11 +144,13 @@ fn plan_and_check<D: Desk, S: Solver>(
     seed: u64,
 ) -> Result<Ending, Fault>
     requires names { MayRun D.reads D.writes (Some (demo seed)) }
-    ensures ends { let planned = IsPlannedAndChecked seed p.now.given in
-        IsTrue D.tells → (printed : List ℕ) → Ends (planned (outside (D.files desk.old) printed))
-        (outside (D.files desk.new) printed) result }
+    ensures ends { let planned = IsPlannedAndChecked seed in
+        IsTrue D.tells → p.now.given ≡ generated seed → (printed : List ℕ)
+        → Ends (planned (outside (D.files desk.old) printed)) (outside (D.files desk.new) printed) result }
     ensures left { let leaves = LeavesPlanned demo_plan demo_certificate demo_decisions p.now.given in
         IsTrue D.tells → leaves (D.files desk.old) (D.files desk.new) }
+    ensures failed_read { let has = HasAnswer p.now.given in
+        IsTrue D.tells → result ≡ Err Fault.ReadFault → has (D.files desk.old) (D.files desk.new) }
     ensures causes { PartCauses (D.read_faults desk.old) (D.read_faults desk.new)
         (D.write_faults desk.old) (D.write_faults desk.new) result }
     ensures words { result ≢ Err Fault.Words }
@@ -155,7 +176,7 @@ fn plan_and_check<D: Desk, S: Solver>(
 
 /// Generates the problem of a seed, plans it, and checks the certificate, over the three files of the
 /// demonstration. The instance is read back from its file, and so are the plan and the certificate.
-#[tactic(auto, using(crate::proofs::DemoAnswers::refused_instance, crate::proofs::DemoAnswers::leaves_generated, crate::proofs::DemoAnswers::leaves_unread, crate::proofs::DemoAnswers::leaves_planned, crate::proofs::Ends::refused_write), unfolding(crate::specs::Endings::Ends))]
+#[tactic(auto, using(crate::proofs::DemoAnswers::leaves_generated, crate::proofs::DemoAnswers::leaves_unread, crate::proofs::DemoAnswers::leaves_planned, crate::proofs::DemoAnswers::unread, crate::proofs::DemoAnswers::unread_planned, crate::proofs::DemoAnswers::no_read, crate::proofs::Ends::refused_write), unfolding(crate::specs::Endings::Ends))]
 pub fn demo<D: Desk, S: Solver>(
     alloc: Global,
     desk: &mut D,
@@ -168,6 +189,8 @@ pub fn demo<D: Desk, S: Solver>(
         (outside (D.files desk.new) printed) result }
     ensures left { IsTrue D.tells
         → Leaves (Some (demo seed)) (D.files desk.old) (D.files desk.new) }
+    ensures failed_read { IsTrue D.tells → result ≡ Err Fault.ReadFault
+        → LeavesAtFailedRead (Some (demo seed)) (D.files desk.old) (D.files desk.new) }
     ensures causes { PartCauses (D.read_faults desk.old) (D.read_faults desk.new)
         (D.write_faults desk.old) (D.write_faults desk.new) result }
     ensures words { result ≢ Err Fault.Words }

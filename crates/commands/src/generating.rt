@@ -1,7 +1,8 @@
 //! The command `generate`.
 
-ghost use Rattle.std.specs.Prelude.{◌≡◌, ◌≢◌, ℕ, List, Option, Some, Err, IsTrue, IfOk, OnOk, string_bytes};
-ghost use Rattle.commands.specs.Prelude.{CountsWrites, Ends, generate, generated_line, HasGenerated, IsAnswer, Leaves, LeavesGenerated, MayRun, outside, PartCauses};
+ghost use Rattle.std.specs.Prelude.{◌≡◌, ◌≢◌, ℕ, List, Option, Some, Ok, Err, IsTrue, IfOk, OnOk, string_bytes};
+ghost use Rattle.instance_make.specs.Prelude.{generated};
+ghost use Rattle.commands.specs.Prelude.{CountsWrites, Ends, generate, generated_line, HasGenerated, instance_of, instance_text, IsAnswer, Leaves, LeavesGenerated, MayRun, outside, PartCauses};
 
 use crate::fault::{Ending, Fault, Outcome};
 use crate::outputs::write_problem;
@@ -18,6 +19,7 @@ fn generated_line(alloc: Global, seed: u64) -> Result<String, Memory>
 }
 
 /// Writes the text of the generated problem of a seed.
+#[tactic(auto, using(crate::proofs::GenerateAnswers::reads_back))]
 pub fn write_generated<D: Desk>(
     alloc: Global,
     desk: &mut D,
@@ -29,6 +31,7 @@ pub fn write_generated<D: Desk>(
         → OnOk result (HasGenerated seed instance.now (D.files desk.old) (D.files desk.new)) }
     ensures cut { IsTrue D.tells
         → LeavesGenerated seed instance.now (D.files desk.old) (D.files desk.new) }
+    ensures reads_back { OnOk result (instance_of (instance_text (generated seed)) ≡ Ok (generated seed)) }
     ensures cause { CountsWrites (D.write_faults desk.old) (D.write_faults desk.new) result }
     ensures reads_kept { D.read_faults desk.new ≡ D.read_faults desk.old }
 {

@@ -1,7 +1,7 @@
 //! The outputs that more than one command writes.
 
-ghost use Rattle.std.specs.Prelude.{◌≡◌, ◌≢◌, IsTrue, OnOk};
-ghost use Rattle.commands.specs.Prelude.{AreTextsCut, CountsWrites, HasText, HasTexts, instance_text, IsTextCut};
+ghost use Rattle.std.specs.Prelude.{◌≡◌, ◌≢◌, ◌≤◌, IsTrue, length, Ok, OnOk};
+ghost use Rattle.commands.specs.Prelude.{AreTextsCut, CountsWrites, HasText, HasTexts, instance_of, instance_text, IsTextCut, max_text_bytes};
 
 use catalogue::Problem;
 use instance_make::print_instance;
@@ -9,7 +9,7 @@ use plan_io::{Desk, OutFault, write_whole};
 use std::alloc::Global;
 
 /// Writes the text of a problem into a file.
-#[tactic(auto, using(crate::proofs::OutputLemmas::has_text))]
+#[tactic(auto, using(crate::proofs::OutputLemmas::has_text, crate::proofs::OutputLemmas::reads_back))]
 pub fn write_problem<D: Desk>(
     alloc: Global,
     desk: &mut D,
@@ -21,6 +21,8 @@ pub fn write_problem<D: Desk>(
         IsTrue D.tells → OnOk result (has (D.files desk.old) (D.files desk.new)) }
     ensures cut { let cut = IsTextCut name.now (instance_text p.now.given) in
         IsTrue D.tells → cut (D.files desk.old) (D.files desk.new) }
+    ensures reads_back { let text = instance_text p.now.given in
+        OnOk result (length text ≤ max_text_bytes → instance_of text ≡ Ok p.now.given) }
     ensures cause { CountsWrites (D.write_faults desk.old) (D.write_faults desk.new) result }
     ensures reads_kept { D.read_faults desk.new ≡ D.read_faults desk.old }
 {
