@@ -1,8 +1,9 @@
 -- What `plan` answers and leaves, by what was found of its problem.
-use Rattle.base.proofs.Public.{◌≡◌, ◌≢◌, ◌⊎◌, ◌∙◌, ◌+◌, ℕ, List, [], ◌++◌, Option, Some, Ok, sym, ap, subst, inl, inr, append_assoc, decimal, Result, Err, codes}
+use Rattle.base.proofs.Public.{◌≡◌, ◌≢◌, ◌⊎◌, ◌∙◌, ℕ, List, [], ◌++◌, Option, Some, Ok, sym, ap, subst, inl, inr, append_assoc, All-nil, decimal, Result, Err, codes}
 use Rattle.commands.specs.Prelude.{Ending, Ends, Fault, Files, Found, found_line, found_status, Instance, instance_in, IsAnswer, IsCertificateCut, IsCertified, IsCut, IsInstance, IsPlanCut, IsPlanned, IsToStay, IsTrueOf, IsWritten, LeavesBy, LeavesPlanned, MayStay, OthersStay, Outside, outside, plan, plan_of, plan_text, RestStays, Status}
 use Rattle.trees.specs.declared.steps.Goal.TheVariants.{Infeasible as NonePlanned}
 use Rattle.search.specs.Answers.{plan_in}
+use Rattle.search.specs.Prelude.{HasStep}
 use Rattle.commands.specs.Planning.{undecided_line}
 use Rattle.commands.proofs.{Ends.says, Ends.answers_well, Ends.answers_refused, Ends.ends_more, OutputLemmas.rest_of_both}
 
@@ -96,7 +97,7 @@ answered instance plan_file certificate budget source before between after print
 -- what is left where nothing was written
 pub leaves_nothing : (plan_file certificate : List ℕ) (budget : ℕ) (reading : Result Instance (List ℕ)) (before after : Files) → after ≡ before → LeavesBy (LeavesPlanned plan_file certificate budget) reading before after
 leaves_nothing plan_file certificate budget (Ok p) before after same = record {
-  certificate_cut = record { steps = []; goal = NonePlanned; cut = inl (λ i. same i certificate) };
+  certificate_cut = record { steps = []; named = All-nil (HasStep p); goal = NonePlanned; goal_is = tt; cut = inl (λ i. same i certificate) };
   plan_cut = inl (λ i. same i plan_file);
   others = λ other _ _ i. same i other;
 }
