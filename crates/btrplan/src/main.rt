@@ -5,18 +5,19 @@
 mod advice;
 mod finding;
 mod last_line;
+mod least;
 mod meaning;
 mod progress;
 mod searches;
 
 use crate::advice::advise;
 use crate::last_line::KeepingSink;
+use crate::least::{Least, LeastSolver};
 use crate::progress::TellingDesk;
 use crate::searches::TellingSolver;
 use commands::run::run;
 use commands::status::Status;
 use plan_io::{FileDesk, StdSink, StdSource};
-use rule_solver::RuleSolver;
 use std::process::ExitCode;
 use std::{env, io};
 
@@ -37,10 +38,11 @@ fn main(rt: HostRuntime) -> ExitCode {
         // A word that is no text is in no command, and neither is no word.
         Err(_) => (),
     }
-    let mut desk = TellingDesk::new(alloc, FileDesk::new(&rt, alloc), &rt, &words);
+    let least = Least::new(alloc);
+    let mut desk = TellingDesk::new(alloc, FileDesk::new(&rt, alloc), &rt, &words, least.share());
     let mut input = StdSource::new(rt.stdin());
     let mut out = KeepingSink::new(alloc, StdSink::new(io::writer(&rt)));
-    let solver = TellingSolver::new(RuleSolver, &rt);
+    let solver = TellingSolver::new(LeastSolver::new(least), &rt);
     let status = run(alloc, &words, &mut desk, &mut input, &mut out, &solver);
     // what cannot be said changes nothing
     let _ = advise(&rt, &words, status, out.last_line(), desk.unwritten());

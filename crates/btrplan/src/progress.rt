@@ -1,5 +1,6 @@
 //! How far a long command is: told on standard error from two seconds on, and then every two seconds.
 
+use crate::least::Least;
 use plan_io::{Desk, Failed, OutFault};
 use std::alloc::Global;
 use std::io;
@@ -45,7 +46,7 @@ impl Done {
         }
     }
 
-    fn say<R: Eprint>(&self, rt: &R) -> io::Result<()> {
+    fn say<R: Eprint>(&self, rt: &R, least: Option<u64>) -> io::Result<()> {
         if self.written == 0 && self.read < BYTES_OF_MEGABYTE {
             return Ok(());
         }
@@ -59,6 +60,9 @@ impl Done {
         if let Some(cost) = self.best {
             eprint!(rt; ", best {cost}")?;
         }
+        if let Some(cost) = least {
+            eprint!(rt; ", least {cost}")?;
+        }
         eprintln!(rt; ", {} MB written", self.written / BYTES_OF_MEGABYTE)
     }
 }
@@ -69,6 +73,7 @@ struct Progress<'a, R: Clock + Eprint> {
     rt: &'a R,
     told: Option<Instant>,
     done: Done,
+    least: Least,
 }
 
 impl<R: Clock + Eprint> Progress<'_, R> {
@@ -83,7 +88,7 @@ impl<R: Clock + Eprint> Progress<'_, R> {
         {
             self.told = Instant::now(self.rt).ok();
             // what cannot be said changes nothing
-            let _ = self.done.say(self.rt);
+            let _ = self.done.say(self.rt, self.least.get());
         }
     }
 }
@@ -100,8 +105,15 @@ pub struct TellingDesk<'a, D: Desk + Drop, R: Clock + Eprint> {
 }
 
 impl<'a, D: Desk + Drop, R: Clock + Eprint> TellingDesk<'a, D, R> {
-    /// The desk, of which no call was made yet, for the command of these words. Where there is no clock nothing is told.
-    pub fn new(alloc: Global, desk: D, rt: &'a R, words: &[String]) -> TellingDesk<'a, D, R> {
+    /// The desk, of which no call was made yet, for the command of these words. What a search knows of the least cost it
+    /// finds in `least`. Where there is no clock nothing is told.
+    pub fn new(
+        alloc: Global,
+        desk: D,
+        rt: &'a R,
+        words: &[String],
+        least: Least,
+    ) -> TellingDesk<'a, D, R> {
         let done = Done {
             budget: budget_of(words),
             ..Done::default()
@@ -110,6 +122,7 @@ impl<'a, D: Desk + Drop, R: Clock + Eprint> TellingDesk<'a, D, R> {
             rt,
             told: Instant::now(rt).ok(),
             done,
+            least,
         };
         TellingDesk {
             alloc,
