@@ -1,1 +1,5 @@
 pub mod ApartLemmas
+pub mod ReachLemmas
+pub mod TableLemmas
+pub mod DivisionLemmas
+pub mod FaultLemmas

@@ -1,2 +1,4 @@
 pub mod GroupsWalk
 pub mod GroupsText
+pub mod Reach
+pub mod Division

@@ -1,0 +1,8 @@
+use Rattle.base.proofs.Public.{◌≡◌, ℕ, ◌<◌, ◌||◌, false, length, get_or, take}
+use Rattle.slices.specs.Elements.{state_of}
+use Rattle.parts.specs.Splits.{is_running}
+use Rattle.partition.specs.Division.{is_marked}
+use Rattle.partition.proofs.kept.mark_rooted.Given as goal
+
+abbrev pub invariant-loop-v : goal.invariant-loop-v
+invariant-loop-v l = (w : ℕ) → w < length l.kept → get_or l.kept w false ≡ (get_or l.initial.kept w false || is_marked (take l.v-index l.members) (λ v. is_running (state_of l.p.given v)) w)
