@@ -7,6 +7,7 @@ mod CursorLemmas
 mod LawLemmas
 mod BindingLemmas
 mod ElementLemmas
+mod DigitLemmas
 mod PassLemmas
 mod CallLemmas
 mod ScriptLemmas

@@ -183,9 +183,9 @@ pub ruleset number_rules = (one_more_number, no_such_number, all_numbers)
 
 -- ---- the element of a name
 
--- what is cut into a name and digits is the two put together
-pub joined_so : (text front rest name digits : List ℕ) → text ≡ front ++ rest → bytes_eq front name ≡ true → bytes_eq rest digits ≡ true → text ≡ name ++ digits
-joined_so text front rest name digits cut first second = cut ∙ ap (λ (l : List ℕ). l ++ rest) (same_bytes front name first) ∙ ap (λ (l : List ℕ). name ++ l) (same_bytes rest digits second)
+-- what is cut into a name and a number is the two put together
+pub joined_so : (text front rest name : List ℕ) (number : ℕ) → text ≡ front ++ rest → bytes_eq front name ≡ true → rest ≡ decimal number → text ≡ name ++ decimal number
+joined_so text front rest name number cut first second = cut ∙ ap (λ (l : List ℕ). l ++ rest) (same_bytes front name first) ∙ ap (λ (l : List ℕ). name ++ l) second
 
 pub ruleset joined_rules = (joined_so)
 

@@ -11,6 +11,7 @@ use std::alloc::Global;
 use std::marker::Model;
 
 /// Whether two elements are the same.
+#[inline(always)]
 fn is_same(a: Element, b: Element) -> bool
     ensures { result ≡ is_same a b }
 {
@@ -22,6 +23,7 @@ fn is_same(a: Element, b: Element) -> bool
 }
 
 /// Whether the element is in the list.
+#[inline(always)]
 #[tactic(auto, unfolding(crate::specs::Marks::in_list))]
 fn is_listed(list: &[Element], e: Element) -> bool
     ensures { result ≡ in_list list.now e }
@@ -88,11 +90,16 @@ impl Elements {
     }
 
     /// Puts one more at the end.
+    #[inline(always)]
     pub(crate) fn push(&mut self, e: Element) -> Result<(), Memory>
         requires { is_small e ≡ true }
         ensures { IfOk result (λ _. self.new ≡ self.old ++ e ∷ []) }
     {
-        self.list.push(e)?;
+        if self.list.len() < self.list.capacity() {
+            self.list.push_reserved(e);
+        } else {
+            self.list.push(e)?;
+        }
         Ok(())
     }
 
@@ -135,6 +142,7 @@ impl Elements {
     }
 
     /// Whether the element is in the list. It goes through the list.
+    #[inline(always)]
     pub(crate) fn has(&self, e: Element) -> bool
         ensures { result ≡ in_list self.now e }
     {

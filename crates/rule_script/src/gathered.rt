@@ -17,14 +17,23 @@ use std::marker::Model;
 /// At most so many pairs of elements are compared one by one.
 const FEW: usize = 512;
 
+/// What stands left of an operator is gone through for each element right of it, if it has at most
+/// so many. A longer list mostly grows on, so its places are worth their making.
+const SHORT: usize = 128;
+
 /// A list with more entries than this is written anew, without those that do not count.
-const CROWDED: usize = 2 * (MAX_MACHINES + MAX_NODES);
+const CROWDED: usize = 4 * (MAX_MACHINES + MAX_NODES);
 
 /// Whether an entry of that number counts, where those of its element do from one number on.
 fn counts(first: usize, number: usize) -> bool
     ensures { result ≡ counts first number }
 {
     0 < first && first <= number
+}
+
+/// Whether a list of that length is gone through for each of so many elements.
+fn is_few(len: usize, count: usize) -> bool {
+    len <= SHORT && len.saturating_mul(count) <= FEW
 }
 
 /// The entries of a list that count.
@@ -34,7 +43,7 @@ fn counted(alloc: Global, list: &[Element], places: &Places) -> Result<Elements,
     ensures { IfOk result (λ e. e ≡ standing (entry_of places.now) 1 list.now) }
 {
     let mut number = 0;
-    let mut found = Elements::none(alloc);
+    let mut found = Elements::with_room(alloc, MAX_MACHINES + MAX_NODES)?;
     for e in list {
         number += 1;
         if counts(places.entry(*e), number) {
@@ -183,7 +192,7 @@ impl Gathered {
     {
         match self.held {
             Held::Short(list) => {
-                if list.len().saturating_mul(count) <= FEW {
+                if is_few(list.len(), count) {
                     Ok(Gathered::new(list))
                 } else {
                     Gathered::long(list)

@@ -4,6 +4,7 @@
 pub mod bindings;
 pub mod calls;
 mod cursor;
+mod digits;
 pub mod elements;
 pub mod faults;
 mod gathered;

@@ -11,6 +11,7 @@ ghost use Rattle.rule_script.specs.declared.pass.Next.TheVariants.{On};
 ghost use Rattle.rule_script.specs.declared.pass.Waiting.TheVariants.{Nothing};
 
 use crate::bindings::Bindings;
+use crate::digits::is_decimal;
 use crate::elements::Elements;
 use crate::faults::{Mistake, Refusal};
 use crate::gathered::Gathered;
@@ -98,6 +99,7 @@ impl Brackets {
 }
 
 /// Two values put together: the first that has none from the left decides.
+#[inline(always)]
 fn joined(
     operator: Operator,
     left: Result<Gathered, Mistake>,
@@ -114,6 +116,7 @@ fn joined(
     }
 }
 
+#[inline(always)]
 fn with_term(
     waiting: Waiting,
     term: Result<Gathered, Mistake>,
@@ -168,33 +171,33 @@ fn next_of(cluster: &Cluster, element: Element) -> Option<Element>
     }
 }
 
-/// Whether a text is a name with these digits after it.
+/// Whether a text is a name with a number after it.
 #[tactic(auto, using(crate::proofs::PassLemmas::joined_rules))]
-fn is_joined(text: &[u8], name: &[u8], digits: &[u8]) -> bool
-    ensures { result ≡ true → text.now ≡ name.now ++ digits.now }
+fn is_joined(text: &[u8], name: &[u8], number: u64) -> bool
+    ensures { result ≡ true → text.now ≡ name.now ++ decimal number }
 {
     if text.len() < name.len() {
         return false;
     }
     let (front, rest) = text.split_at(name.len());
-    front == name && rest == digits
+    is_decimal(rest, number) && front == name
 }
 
-/// Whether a listed element has that name with these digits after it.
-fn is_named(cluster: &Cluster, element: Element, name: &[u8], digits: &[u8]) -> bool
+/// Whether a listed element has that name with a number after it.
+fn is_named(cluster: &Cluster, element: Element, name: &[u8], number: u64) -> bool
     requires { IsListed cluster.now.given element }
-    ensures { result ≡ true → element_named cluster.now.given (name.now ++ digits.now) ≡ Some element }
+    ensures { result ≡ true → element_named cluster.now.given (name.now ++ decimal number) ≡ Some element }
 {
-    is_joined(cluster.name(element).as_bytes(), name, digits)
+    is_joined(cluster.name(element).as_bytes(), name, number)
 }
 
-/// The one after the last of these, if it has that name with these digits after it.
-fn guessed(cluster: &Cluster, before: &[Element], name: &[u8], digits: &[u8]) -> Option<Element>
-    ensures element { IfSome result (λ e. element_named cluster.now.given (name.now ++ digits.now) ≡ Some e) }
+/// The one after the last of these, if it has that name with a number after it.
+fn guessed(cluster: &Cluster, before: &[Element], name: &[u8], number: u64) -> Option<Element>
+    ensures element { IfSome result (λ e. element_named cluster.now.given (name.now ++ decimal number) ≡ Some e) }
     ensures small { IfSome result (λ e. is_small e ≡ true) }
 {
     let next = next_of(cluster, *before.last()?)?;
-    if is_named(cluster, next, name, digits) {
+    if is_named(cluster, next, name, number) {
         Some(next)
     } else {
         None
@@ -218,26 +221,23 @@ fn found_joined(
     Ok(element)
 }
 
-/// The element of that name with these digits after it, if there is one. Elements of one range
-/// mostly stand side by side, so the one after the last before it is looked at first.
-fn found_after(
+/// The element of that name with a number after it, if there is one. The name is left as it was.
+fn found_numbered(
     cluster: &Cluster,
-    before: &[Element],
     name: &mut Vec<u8>,
-    digits: &[u8],
+    number: u64,
 ) -> Result<Option<Element>, Memory>
-    ensures element { IfOk result (λ e. e ≡ element_named cluster.now.given (name.old.items ++ digits.now)) }
+    ensures element { IfOk result (λ e. e ≡ element_named cluster.now.given (name.old.items ++ decimal number)) }
     ensures small { IfOk result (λ o. IfSome o (λ e. is_small e ≡ true)) }
     ensures name { OnOk result (name.new.items ≡ name.old.items) }
 {
-    match guessed(cluster, before, name, digits) {
-        Some(element) => Ok(Some(element)),
-        None => found_joined(cluster, name, digits),
-    }
+    let mut digits = Buffer::new();
+    found_joined(cluster, name, digits.format(number).as_bytes())
 }
 
-/// The element of that name with a number after it, if there is one. The name is left as it was.
-fn found_numbered(
+/// The element of that name with a number after it, if there is one. Elements of one range mostly
+/// stand side by side, so the one after the last before it is looked at first.
+fn found_after(
     cluster: &Cluster,
     before: &[Element],
     name: &mut Vec<u8>,
@@ -247,8 +247,10 @@ fn found_numbered(
     ensures small { IfOk result (λ o. IfSome o (λ e. is_small e ≡ true)) }
     ensures name { OnOk result (name.new.items ≡ name.old.items) }
 {
-    let mut digits = Buffer::new();
-    found_after(cluster, before, name, digits.format(number).as_bytes())
+    match guessed(cluster, before, name, number) {
+        Some(element) => Ok(Some(element)),
+        None => found_numbered(cluster, name, number),
+    }
 }
 
 /// The elements of that name with so many numbers after it, from the first on.
@@ -266,7 +268,7 @@ fn numbered(
     text.extend_from_slice(name)?;
     let mut elements = Elements::with_room(alloc, count as usize)?;
     for step in 0..count {
-        match found_numbered(cluster, elements.items(), &mut text, first + step)? {
+        match found_after(cluster, elements.items(), &mut text, first + step)? {
             Some(element) => elements.push(element)?,
             None => return Ok(Err(Mistake::NoSuch)),
         }
@@ -292,6 +294,7 @@ fn span(
 }
 
 /// What is due after a term.
+#[inline(always)]
 fn after(waiting: Waiting, term: Result<Gathered, Mistake>) -> Result<Next, Memory>
     ensures { IfOk result (λ n. n ≡ On (More (with_term waiting term))) }
 {
@@ -299,6 +302,7 @@ fn after(waiting: Waiting, term: Result<Gathered, Mistake>) -> Result<Next, Memo
 }
 
 /// What is due after a term that is a list.
+#[inline(always)]
 fn after_list(waiting: Waiting, term: Result<Elements, Mistake>) -> Result<Next, Memory>
     ensures { IfOk result (λ n. n ≡ On (More (with_term waiting term))) }
 {
@@ -309,6 +313,7 @@ fn after_list(waiting: Waiting, term: Result<Elements, Mistake>) -> Result<Next,
 }
 
 /// After a token where a term is due.
+#[inline(always)]
 #[tactic(auto, unfolding(crate::specs::Values::value_of))]
 fn term_next(
     cluster: &Cluster,
@@ -343,6 +348,7 @@ fn term_next(
 }
 
 /// After a closing bracket.
+#[inline(always)]
 fn closed(worth: Result<Gathered, Mistake>, brackets: &mut Brackets) -> Result<Next, Memory>
     ensures { IfOk result (λ n. closed worth brackets.old ≡ (n, brackets.new)) }
 {
@@ -353,6 +359,7 @@ fn closed(worth: Result<Gathered, Mistake>, brackets: &mut Brackets) -> Result<N
 }
 
 /// After a token that stands after a term.
+#[inline(always)]
 fn more_next(
     worth: Result<Gathered, Mistake>,
     brackets: &mut Brackets,
@@ -378,6 +385,7 @@ fn more_next(
 }
 
 /// After one more token.
+#[inline(always)]
 #[tactic(auto, unfolding(crate::specs::Pass::advance))]
 fn advance(
     cluster: &Cluster,

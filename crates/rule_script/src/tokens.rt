@@ -3,11 +3,11 @@ ghost use Rattle.std.specs.Prelude.{◌≡◌, ◌≤◌, ◌==◌, ◌++◌, �
 ghost use Rattle.std.specs.List.{position};
 ghost use Rattle.rule_script.specs.Tokens.{content, mark_of, range_in, range_of, span_of, token_of, tokens_of, variable_of, with_piece, with_token};
 
+use crate::digits::read_number;
 use crate::pieces::{goes_on, piece_len};
 use crate::text::Text;
 use base::Memory;
 use cluster::names::is_name_text;
-use numerals::number;
 use std::alloc::Global;
 
 /// How two sets are put together.
@@ -107,7 +107,7 @@ fn span_of<'a>(name: &Text<'a>, first: &Text, last: &Text) -> Token<'a>
     if !is_name_text(name.bytes()) {
         return Token::Other;
     }
-    match (number(first.bytes()), number(last.bytes())) {
+    match (read_number(first.bytes()), read_number(last.bytes())) {
         (Some(first), Some(last)) => Token::Span(name.again(), first, last),
         _ => Token::Other,
     }
@@ -153,6 +153,7 @@ fn range_in<'a>(tokens: &[Token<'a>]) -> Option<Token<'a>>
 }
 
 /// Puts a token at the end. There mostly is room for it.
+#[inline(always)]
 fn put<'a>(found: &mut Vec<Token<'a>>, token: Token<'a>) -> Result<(), Memory>
     ensures { OnOk result (found.new.items ≡ found.old.items ++ token.entry ∷ []) }
 {
