@@ -3,3 +3,4 @@ pub mod ReachLemmas
 pub mod TableLemmas
 pub mod DivisionLemmas
 pub mod FaultLemmas
+pub mod NumberingLemmas

@@ -2,3 +2,4 @@ pub mod GroupsWalk
 pub mod GroupsText
 pub mod Reach
 pub mod Division
+pub mod Numbering

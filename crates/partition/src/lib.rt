@@ -6,6 +6,7 @@ mod division;
 mod faults;
 mod groups_fault;
 mod kept;
+mod numbering;
 mod reach;
 mod reading;
 
