@@ -1,0 +1,5 @@
+pub mod Public
+mod LineLemmas
+mod SectionLemmas
+mod FoundLemmas
+mod CertificateLemmas
