@@ -4,3 +4,6 @@ pub mod TableLemmas
 pub mod DivisionLemmas
 pub mod FaultLemmas
 pub mod NumberingLemmas
+pub mod CutLemmas
+pub mod PartLemmas
+pub mod DealLemmas

@@ -1,12 +1,10 @@
 -- Numbers by a table of groups are those that the definitions give.
-use Rattle.base.specs.Sums.{sum_to}
-use Rattle.base.proofs.Public.{◌≡◌, ℕ, zero, suc, ◌+◌, ◌<◌, ◌≤◌, Bool, ◌==◌, List, [], ◌∷◌, ◌++◌, length, map, if◌then◌else◌, refl, sym, ap, ap₂, ◌∙◌, arith, get_or-map-range_with_len, length-map-range_with_len, range_with_len, subst, sum_to-same}
+use Rattle.base.proofs.Public.{◌≡◌, ℕ, zero, suc, ◌+◌, ◌<◌, ◌≤◌, Bool, ◌==◌, List, [], ◌∷◌, ◌++◌, length, map, if◌then◌else◌, refl, sym, ap, ap₂, ◌∙◌, arith, length-map-range_with_len, range_with_len, subst, sum_to-same}
 use Rattle.cluster.specs.declared.sets.NodeSet.{NodeSet}
 use Rattle.catalogue.specs.Prelude.{Instance, IsInstance, max_machines}
 use Rattle.slices.specs.Elements.{machine_count, node_count}
-use Rattle.parts.specs.Groups.{in_group, machine_group}
+use Rattle.parts.specs.Groups.{machine_group}
 use Rattle.parts.specs.Numbers.{new_number}
-use Rattle.parts.specs.Parts.{in_part}
 use Rattle.parts.proofs.Public.{new-le}
 use Rattle.partition.specs.Division.{Divides, group_number}
 use Rattle.partition.specs.Numbering.{AreNumbers, machine_number, node_number, number_by, numbers_by}
@@ -55,12 +53,12 @@ module _ (p : Instance) (groups : List NodeSet) (nodes machines : List ℕ) (d :
   node_as : (n : ℕ) → n < node_count p → number_by nodes n ≡ node_number groups n
   node_as n l =
       same_number _ _ n (λ y below.
-        ap (λ (i : ℕ). at nodes y == i) (at_node p groups nodes d.covers n l) ∙ in_as_number p groups nodes d.covers y (group_number groups n) (omega (arith, below, l)))
+      ap (λ (i : ℕ). at nodes y == i) (at_node p groups nodes d.covers n l) ∙ in_as_number p groups nodes d.covers y (group_number groups n) (omega (arith, below, l)))
 
   machine_as : (v : ℕ) → v < machine_count p → number_by machines v ≡ machine_number p groups v
   machine_as v l =
       same_number _ _ v (λ y below.
-        ap₂ ◌==◌ (at_machine p groups nodes machines d y (omega (arith, below, l))) (at_machine p groups nodes machines d v l))
+      ap₂ ◌==◌ (at_machine p groups nodes machines d y (omega (arith, below, l))) (at_machine p groups nodes machines d v l))
 
   pub are_numbers : (node_numbers machine_numbers : List ℕ) → node_numbers ≡ numbers_by nodes → machine_numbers ≡ numbers_by machines → AreNumbers p groups node_numbers machine_numbers
   are_numbers node_numbers machine_numbers are_nodes are_machines = record {

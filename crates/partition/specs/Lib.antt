@@ -3,3 +3,4 @@ pub mod GroupsText
 pub mod Reach
 pub mod Division
 pub mod Numbering
+pub mod Cutting

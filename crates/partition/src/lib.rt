@@ -1,7 +1,10 @@
 //! Independent parts of a problem, taken apart and put together.
 #![tactic(auto)]
 
+mod building;
 mod covering;
+mod cutting;
+mod dealing;
 mod division;
 mod faults;
 mod groups_fault;
@@ -9,7 +12,9 @@ mod kept;
 mod numbering;
 mod reach;
 mod reading;
+mod splitting;
 
 pub use faults::find_fault;
 pub use groups_fault::GroupsFault;
 pub use reading::read_groups;
+pub use splitting::split;

@@ -1,4 +1,4 @@
-use Rattle.base.proofs.Public.{◌∙◌, ap}
+use Rattle.base.proofs.Public.{◌∙◌}
 use Rattle.partition.specs.Reach.{at}
 use Rattle.partition.proofs.NumberingLemmas.{counted_more, few_before, number_more}
 use Rattle.partition.proofs.numbering.count_all.Goals as goal

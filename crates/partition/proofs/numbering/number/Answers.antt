@@ -1,4 +1,4 @@
-use Rattle.base.proofs.Public.{◌≡◌, ◌∙◌, ℕ, ◌<◌, ◌≤◌, List, ap, length, subst, sym}
+use Rattle.base.proofs.Public.{◌∙◌, ℕ, ◌<◌, ◌≤◌, List, ap, length, subst, sym}
 use Rattle.cluster.specs.Limits.{max_machines}
 use Rattle.partition.specs.Numbering.{numbers_by}
 use Rattle.partition.specs.Reach.{at}
