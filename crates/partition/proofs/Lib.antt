@@ -7,3 +7,5 @@ pub mod NumberingLemmas
 pub mod CutLemmas
 pub mod PartLemmas
 pub mod DealLemmas
+pub mod PlanLemmas
+pub mod UnionLemmas

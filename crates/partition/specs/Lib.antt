@@ -4,3 +4,4 @@ pub mod Reach
 pub mod Division
 pub mod Numbering
 pub mod Cutting
+pub mod Plans

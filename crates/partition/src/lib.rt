@@ -10,6 +10,7 @@ mod faults;
 mod groups_fault;
 mod kept;
 mod numbering;
+mod plans;
 mod reach;
 mod reading;
 mod splitting;
