@@ -9,3 +9,4 @@ pub mod PartLemmas
 pub mod DealLemmas
 pub mod PlanLemmas
 pub mod UnionLemmas
+pub mod ShareLemmas

@@ -84,6 +84,56 @@ has_by d i f = is_home i (home_by d f)
 abbrev pub constraints_by : Division → Numbers → ℕ → List Constraint → List Constraint
 constraints_by d numbers i cs = map (cut_by d numbers i) (filter (λ c. has_by d i (form_of c)) cs)
 
+-- ---- constraints that speak of each machine and node by itself
+
+-- the machines that such a one lists
+abbrev pub listed_machines : Constraint → List VmId
+listed_machines (Spread vs b) = []
+listed_machines (Ban vs ns b) = vs
+listed_machines (Fence vs ns b) = vs
+listed_machines (Gather vs b) = []
+listed_machines (Lonely vs b) = []
+listed_machines (Among vs sets b) = []
+listed_machines (Split parts b) = []
+listed_machines (Root vs) = vs
+listed_machines (Precedence before after) = []
+listed_machines (Serialize vs) = []
+listed_machines (Preserve vs r amount) = vs
+listed_machines (ResourceCapacity ns r amount b) = []
+listed_machines (RunningCapacity ns amount b) = []
+listed_machines (MaxOnline ns amount b) = []
+listed_machines (Overbook ns r num den) = []
+listed_machines (Online ns) = []
+listed_machines (Offline ns) = []
+listed_machines (WantedRunning vs) = vs
+listed_machines (WantedSleeping vs) = vs
+listed_machines (WantedReady vs) = vs
+listed_machines (Killed vs) = vs
+
+-- and its nodes
+abbrev pub listed_nodes : Constraint → NodeSet
+listed_nodes (Spread vs b) = no_nodes
+listed_nodes (Ban vs ns b) = ns
+listed_nodes (Fence vs ns b) = ns
+listed_nodes (Gather vs b) = no_nodes
+listed_nodes (Lonely vs b) = no_nodes
+listed_nodes (Among vs sets b) = no_nodes
+listed_nodes (Split parts b) = no_nodes
+listed_nodes (Root vs) = no_nodes
+listed_nodes (Precedence before after) = no_nodes
+listed_nodes (Serialize vs) = no_nodes
+listed_nodes (Preserve vs r amount) = no_nodes
+listed_nodes (ResourceCapacity ns r amount b) = no_nodes
+listed_nodes (RunningCapacity ns amount b) = no_nodes
+listed_nodes (MaxOnline ns amount b) = no_nodes
+listed_nodes (Overbook ns r num den) = ns
+listed_nodes (Online ns) = ns
+listed_nodes (Offline ns) = ns
+listed_nodes (WantedRunning vs) = no_nodes
+listed_nodes (WantedSleeping vs) = no_nodes
+listed_nodes (WantedReady vs) = no_nodes
+listed_nodes (Killed vs) = no_nodes
+
 -- ---- nodes and machines
 
 abbrev pub part_nodes : Division → ℕ → List Node → List Node

@@ -25,7 +25,7 @@ pub(crate) fn number_at(numbers: &[u32], x: usize) -> u32
 }
 
 /// A machine with its number in its part.
-fn numbered(numbers: &[u32], v: VmId) -> VmId
+pub(crate) fn numbered(numbers: &[u32], v: VmId) -> VmId
     ensures { result ≡ the_numbered numbers.now v }
 {
     VmId(number_at(numbers, v.0 as usize))

@@ -8,6 +8,7 @@ use crate::cutting::cut;
 use crate::faults::Division;
 use crate::numbering::Numbers;
 use crate::reach::form_reach;
+use crate::sharing::put_all;
 use base::Memory;
 use catalogue::{Constraint, Problem};
 use slices::Form;
@@ -30,7 +31,11 @@ fn is_joint(form: &Form) -> bool
 }
 
 /// Puts a constraint at the end of the list of a number, if there is one.
-fn put(lists: &mut [Vec<Constraint>], i: usize, constraint: Constraint) -> Result<(), Memory>
+pub(crate) fn put(
+    lists: &mut [Vec<Constraint>],
+    i: usize,
+    constraint: Constraint,
+) -> Result<(), Memory>
     ensures each { OnOk result ((j : ℕ) → j < length lists.old → list_at lists.new j ≡ list_at lists.old j ++ (if i == j then constraint ∷ [] else [])) }
 {
     if i < lists.len() {
@@ -68,8 +73,8 @@ fn put_home(
     Ok(())
 }
 
-/// Puts a constraint into each list, cut down to the part of the list.
-fn put_all(
+/// Puts a constraint that speaks of each machine and node by itself into each list.
+fn put_alone(
     alloc: Global,
     d: &Division,
     numbers: &Numbers,
@@ -79,10 +84,7 @@ fn put_all(
     requires { home_by d.now (the_form_of constraint.now) ≡ None }
     ensures each { OnOk result ((j : ℕ) → j < length lists.old → list_at lists.new j ≡ list_at lists.old j ++ constraints_by d.now numbers.now j (constraint.now ∷ [])) }
 {
-    for i in 0..lists.len() {
-        let share = cut(alloc, d, numbers, i, constraint)?;
-        put(lists, i, share)?;
-    }
+    put_all(alloc, d, numbers, constraint, lists)?;
     Ok(())
 }
 
@@ -98,7 +100,7 @@ fn put_shares(
 {
     match home_of(d, constraint) {
         Some(home) => put_home(alloc, d, numbers, home, constraint, lists),
-        None => put_all(alloc, d, numbers, constraint, lists),
+        None => put_alone(alloc, d, numbers, constraint, lists),
     }
 }
 

@@ -13,6 +13,7 @@ mod numbering;
 mod plans;
 mod reach;
 mod reading;
+mod sharing;
 mod splitting;
 
 pub use faults::find_fault;
