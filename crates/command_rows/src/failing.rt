@@ -1,5 +1,6 @@
 //! A command with each of its calls failing in turn.
 
+use crate::files::Files;
 use crate::rows::{Called, Ended, Failing, Row};
 use commands::status::Status;
 use std::io;
@@ -72,11 +73,37 @@ fn say(rt: &HostRuntime, row: &Row, whole: &Ended) -> io::Result<()> {
     Ok(())
 }
 
-/// Runs a command once, and prints what it has printed and changed, and its status.
-pub fn run_once(rt: &HostRuntime, row: &Row) -> io::Result<()> {
-    let whole = row.run(rt.alloc(), None)?;
+/// Runs a command once, with a call that fails, if one is to, and prints what it has printed and changed, and its status.
+fn run_once(rt: &HostRuntime, row: &Row, failing: Option<Failing>) -> io::Result<Ended> {
+    let whole = row.run(rt.alloc(), failing)?;
     say(rt, row, &whole)?;
-    println!(rt; "status {}", whole.status.code())
+    println!(rt; "status {}", whole.status.code())?;
+    Ok(whole)
+}
+
+/// Runs a command once.
+pub fn run_alone(rt: &HostRuntime, row: &Row) -> io::Result<()> {
+    run_once(rt, row, None)?;
+    Ok(())
+}
+
+/// Runs a command once, and keeps the files that it leaves.
+pub fn run_and_keep(rt: &HostRuntime, row: &Row, files: &mut Files) -> io::Result<()> {
+    let whole = run_once(rt, row, None)?;
+    for file in row.files() {
+        if let Some(text) = whole.desk.get(&file.name) {
+            files.put(&file.name, text)?;
+        }
+    }
+    Ok(())
+}
+
+/// Runs a command once with the one call failing that stands before its words.
+pub fn fail_one(rt: &HostRuntime, files: &Files, rest: &str) -> io::Result<()> {
+    if let Some((failing, command)) = Failing::read(rest) {
+        run_once(rt, &Row::read(rt.alloc(), files, command)?, Some(failing))?;
+    }
+    Ok(())
 }
 
 /// Prints what a command prints and changes, its status, how many calls it makes of its files, its source and its sink, and

@@ -41,6 +41,11 @@ impl Files {
         self.texts.get(name)
     }
 
+    /// This text stands under this name from here on.
+    pub fn put(&mut self, name: &str, text: &[u8]) -> io::Result<()> {
+        self.texts.put(name, text).map_err(no_memory)
+    }
+
     fn begin(&mut self, name: &str) -> io::Result<()> {
         self.name = String::from_str(self.alloc, name)?;
         self.texts.put(name, b"").map_err(no_memory)
@@ -68,6 +73,15 @@ impl Files {
         self.texts.put(name, text.as_bytes()).map_err(no_memory)
     }
 
+    // bytes in hexadecimal digits, with a blank between them
+    fn add_bytes(&mut self, bytes: &str) -> io::Result<()> {
+        let mut text = Vec::from_slice(self.alloc, self.get(&self.name).unwrap_or_default())?;
+        for byte in bytes.split(' ') {
+            text.push(u8::from_str_radix(byte, 16).unwrap_or(0))?;
+        }
+        self.texts.put(&self.name, &text).map_err(no_memory)
+    }
+
     fn add_lines(&mut self, line: &str, count: usize) -> io::Result<()> {
         let mut whole = String::from_str(self.alloc, line)?;
         whole.push('\n')?;
@@ -80,6 +94,7 @@ impl Files {
             Some(("= ", name)) => self.begin(name),
             Some(("| ", text)) => self.add(text, 1),
             Some(("~ ", rest)) => self.edit(rest),
+            Some(("\\ ", bytes)) => self.add_bytes(bytes),
             Some(("% ", rest)) => {
                 let (count, text) = counted(rest);
                 self.add(text, count)

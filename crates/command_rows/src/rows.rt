@@ -55,6 +55,21 @@ pub struct Failing {
     pub call: u64,
 }
 
+impl Failing {
+    /// `files`, `source` or `sink` and the number of a call, with the command after them.
+    pub fn read(rest: &str) -> Option<(Failing, &str)> {
+        let (called, rest) = rest.split_once(' ')?;
+        let (call, command) = rest.split_once(' ')?;
+        let called = match called {
+            "files" => Called::Files,
+            "source" => Called::Source,
+            _ => Called::Sink,
+        };
+        let call = call.parse().unwrap_or(0);
+        Some((Failing { called, call }, command))
+    }
+}
+
 /// What a run has left.
 #[derive(Drop)]
 pub struct Ended {
@@ -97,22 +112,37 @@ fn calls(alloc: Global, called: Called, failing: Option<Failing>) -> io::Result<
     Ok(calls)
 }
 
+/// Adds the file of each name, of which one stands after each blank.
+fn add_files(
+    alloc: Global,
+    texts: &Files,
+    names: &str,
+    files: &mut Vec<RowFile>,
+) -> io::Result<()> {
+    for name in names.split(' ') {
+        files.push(RowFile {
+            name: String::from_str(alloc, name)?,
+            text: copy_of(alloc, texts.get(name))?,
+        })?;
+    }
+    Ok(())
+}
+
 impl Row {
-    /// The words of a command, one after each blank; after ` < ` the name of its source.
+    /// The words of a command, one after each blank; after ` + ` the names of more files, and after ` < ` that of its source.
     pub fn read(alloc: Global, texts: &Files, command: &str) -> io::Result<Row> {
         let (command, source) = match command.split_once(" < ") {
             Some((command, name)) => (command, texts.get(name).unwrap_or_default()),
             None => (command, b"".as_slice()),
         };
+        let (command, names) = command.split_once(" + ").unwrap_or((command, ""));
         let mut words = Vec::new(alloc);
-        let mut files = Vec::new(alloc);
         for word in command.split(' ') {
             words.push(String::from_str(alloc, word)?)?;
-            files.push(RowFile {
-                name: String::from_str(alloc, word)?,
-                text: copy_of(alloc, texts.get(word))?,
-            })?;
         }
+        let mut files = Vec::new(alloc);
+        add_files(alloc, texts, command, &mut files)?;
+        add_files(alloc, texts, names, &mut files)?;
         let events = Vec::from_slice(alloc, source)?;
         Ok(Row {
             words,
@@ -121,7 +151,7 @@ impl Row {
         })
     }
 
-    /// The file of each word.
+    /// The files that the row names.
     pub fn files(&self) -> &[RowFile] {
         &self.files
     }
