@@ -5,7 +5,6 @@ use solver::Solver;
 use std::alloc::Global;
 use std::test::Fail;
 
-mod demonstrating;
 mod instances;
 mod planning;
 mod reading;
@@ -18,15 +17,6 @@ fn words(alloc: Global, line: &str) -> Result<Vec<String>, Fail> {
         words.push(String::from_str(alloc, word)?)?;
     }
     Ok(words)
-}
-
-/// The list of a call that fails, if one does.
-fn calls(alloc: Global, call: Option<u64>) -> Result<Vec<u64>, Fail> {
-    let mut calls = Vec::new(alloc);
-    if let Some(call) = call {
-        calls.push(call)?;
-    }
-    Ok(calls)
 }
 
 /// Runs the words of a line over a desk and a sink by a solver; the source has nothing.

@@ -1,12 +1,13 @@
-//! The command `check` on a desk that gives one byte at each read, and that it reads no further than the line that decides.
+//! The command `check` on a desk that gives one byte at each read.
 
-use crate::tests::instances::{CROSSED, SWAP};
+use crate::tests::instances::SWAP;
 use crate::tests::solvers::NoMemory;
-use crate::tests::{runs_on, words};
+use crate::tests::words;
 use commands::run::run;
 use commands::status::Status;
-use plan_io::{Desk, DeskMem, DeskSure, Failed, OutFault, SinkMem, SourceMem};
+use plan_io::{Desk, DeskSure, Failed, OutFault, SinkMem, SourceMem};
 use std::alloc::Global;
+use std::process::Abort;
 use std::test::Fail;
 
 /// The second machine moves, and then the first one.
@@ -81,60 +82,45 @@ impl Desk for OneByteDesk {
     }
 }
 
-#[test]
-fn a_byte_at_each_read(rt: HostRuntime) -> Result<(), Fail> {
-    let alloc = rt.alloc();
-    let table = [
-        (0, "", Status::Good, "yes optimal 9\n"),
-        (
-            6,
-            "cut v0 upto n1 2 load 3 cpu n1\n",
-            Status::Negative,
-            "no 6 reason\n",
-        ),
-        (8, "", Status::Input, "input certificate short\n"),
-        (
-            8,
-            "end optimal 9\n\n",
-            Status::Input,
-            "input certificate line 9\n",
-        ),
-    ];
-    for (number, text, status, printed) in table {
-        let mut desk = OneByteDesk {
-            desk: DeskSure::new(alloc),
-        };
-        desk.desk.put("i", SWAP)?;
-        desk.desk.put("p", ONE_BY_ONE)?;
-        desk.desk.put("c", &forged(alloc, number, text)?)?;
-        let words = words(alloc, "check i p c")?;
-        let mut input = SourceMem::new(Vec::new(alloc), Vec::new(alloc));
-        let mut out = SinkMem::new(Vec::new(alloc));
-        let answer = run(alloc, &words, &mut desk, &mut input, &mut out, &NoMemory);
-        assert_eq!(rt; (answer, out.written()), (status, printed.as_bytes()));
-    }
+/// Checks the certificate of `LINES` with this text in place of the line of this number, and sees the status and what is
+/// printed.
+fn reads(
+    rt: &impl Abort,
+    alloc: Global,
+    (number, text): (usize, &str),
+    (status, printed): (Status, &[u8]),
+) -> Result<(), Fail> {
+    let mut desk = OneByteDesk {
+        desk: DeskSure::new(alloc),
+    };
+    desk.desk.put("i", SWAP)?;
+    desk.desk.put("p", ONE_BY_ONE)?;
+    desk.desk.put("c", &forged(alloc, number, text)?)?;
+    let words = words(alloc, "check i p c")?;
+    let mut input = SourceMem::new(Vec::new(alloc), Vec::new(alloc));
+    let mut out = SinkMem::new(Vec::new(alloc));
+    let answer = run(alloc, &words, &mut desk, &mut input, &mut out, &NoMemory);
+    assert_eq!(rt; (answer, out.written()), (status, printed));
     Ok(())
 }
 
 #[test]
-fn no_read_after_the_line_that_decides(rt: HostRuntime) -> Result<(), Fail> {
+fn a_byte_at_each_read(rt: HostRuntime) -> Result<(), Fail> {
     let alloc = rt.alloc();
-    let mut certificate = Vec::from_slice(alloc, b"btrplan certificate 1\nend infeasible\n")?;
-    certificate.extend_from_slice("left\n".repeat(alloc, 838_860)?.as_bytes())?;
-    let mut fails = Vec::new(alloc);
-    for call in 30..1_200 {
-        fails.push(call)?;
-    }
-    let mut desk = DeskMem::new(fails);
-    desk.put("i", CROSSED)?;
-    desk.put("p", b"null")?;
-    desk.put("c", &certificate)?;
-    let mut out = SinkMem::new(Vec::new(alloc));
-    let status = runs_on(alloc, "check i p c", &mut desk, &mut out, &NoMemory)?;
-    assert_eq!(rt;
-        (status, out.written()),
-        (Status::Negative, b"no 2 structure\n".as_slice())
-    );
-    assert_eq!(rt; desk.read_faults(), 0);
-    Ok(())
+    let other = "cut v0 upto n1 2 load 3 cpu n1\n";
+    let longer = "end optimal 9\n\n";
+    reads(&rt, alloc, (0, ""), (Status::Good, b"yes optimal 9\n"))?;
+    reads(&rt, alloc, (6, other), (Status::Negative, b"no 6 reason\n"))?;
+    reads(
+        &rt,
+        alloc,
+        (8, ""),
+        (Status::Input, b"input certificate short\n"),
+    )?;
+    reads(
+        &rt,
+        alloc,
+        (8, longer),
+        (Status::Input, b"input certificate line 9\n"),
+    )
 }
