@@ -1,40 +1,23 @@
-//! What constraints say of a problem, and the faults of those that it refuses.
+//! Constraints that a problem refuses, and those that apply at the horizon alone. Readers find these faults before.
 
 use catalogue::constraint::RuleFault;
 use catalogue::lists::{Groups, Parts};
-use catalogue::targets::{Target, Wish};
-use catalogue::{Constraint, Problem, Vms};
-use cluster::{Element, NodeId, NodeSet, VmId};
+use catalogue::{Constraint, Vms};
+use cluster::{NodeId, NodeSet, VmId};
 use fixtures::problem;
 use std::alloc::Global;
 use std::test::Fail;
 
-/// A node of capacity 7, and machines that run on it, with use 3.
-const INSTANCE: &str = r#"{"horizon":20,"resources":["cpu"],
-"nodes":[{"name":"n0","capacity":{"cpu":7}}],
-"machines":[{"name":"v0","state":"running","node":"n0","use":{"cpu":3}},
-{"name":"v1","state":"running","node":"n0","use":{"cpu":3}}],
+/// Two machines on a node, and two constraints that say nothing of instants.
+const INSTANCE: &str = r#"{"horizon":20,"resources":["cpu"],"nodes":[{"name":"n0"}],
+"machines":[{"name":"v0","state":"running","node":"n0"},{"name":"v1","state":"running","node":"n0"}],
 "constraints":[{"kind":"overbook","nodes":["n0"],"resource":"cpu","num":5,"den":4},
-{"kind":"preserve","machines":["v0","v1"],"resource":"cpu","amount":5},
-{"kind":"ready","machines":["v0"]},
-{"kind":"among","machines":["v0"],"groups":[["n0"]]},
-{"kind":"split","parts":[["v0"],["v1"]],"continuous":true},
-{"kind":"precedence","before":"v0","after":"v1"},
-{"kind":"serialize","machines":["v0","v1"]}]}"#;
+{"kind":"preserve","machines":["v0","v1"],"resource":"cpu","amount":5}]}"#;
 
-/// A constraint that is refused, by the fields that matter here.
-#[derive(Clone, Copy)]
-enum Refused {
-    /// Of resource 0.
-    Preserve(&'static [u32], u64),
-    /// Of node 0 and resource 0.
-    Overbook(u64, u64),
-    /// Of no group.
-    Among,
-    /// Machine 0 in the first part, and these in the second.
-    Split(&'static [u32]),
-    Precedence(u32, u32),
-    Serialize(&'static [u32]),
+/// Why the problem refuses a constraint, if it does.
+fn fault_of(alloc: Global, constraint: Constraint) -> Result<Option<RuleFault>, Fail> {
+    let mut p = problem(alloc, INSTANCE)?;
+    Ok(p.add(constraint).err())
 }
 
 fn vms(alloc: Global, ids: &[u32]) -> Result<Vms, Fail> {
@@ -45,117 +28,81 @@ fn vms(alloc: Global, ids: &[u32]) -> Result<Vms, Fail> {
     Ok(Vms::new(list))
 }
 
-fn parts(alloc: Global, second: &[u32]) -> Result<Parts, Fail> {
+fn split(alloc: Global) -> Result<Constraint, Fail> {
     let mut parts = Vec::new(alloc);
-    for ids in [&[0], second] {
-        parts.push(vms(alloc, ids)?)?;
-    }
-    Ok(Parts::new(parts))
-}
-
-fn first_node() -> NodeSet {
-    let mut set = NodeSet::new();
-    set.insert(NodeId(0));
-    set
-}
-
-fn constraint(alloc: Global, refused: Refused) -> Result<Constraint, Fail> {
-    Ok(match refused {
-        Refused::Preserve(ids, amount) => Constraint::Preserve {
-            machines: vms(alloc, ids)?,
-            resource: 0,
-            amount,
-        },
-        Refused::Overbook(num, den) => Constraint::Overbook {
-            nodes: first_node(),
-            resource: 0,
-            num,
-            den,
-        },
-        Refused::Among => Constraint::Among {
-            machines: vms(alloc, &[0])?,
-            groups: Groups::new(Vec::new(alloc)),
-            continuous: false,
-        },
-        Refused::Split(second) => Constraint::Split {
-            parts: parts(alloc, second)?,
-            continuous: true,
-        },
-        Refused::Precedence(before, after) => Constraint::Precedence {
-            before: VmId(before),
-            after: VmId(after),
-        },
-        Refused::Serialize(ids) => Constraint::Serialize {
-            machines: vms(alloc, ids)?,
-        },
+    parts.push(vms(alloc, &[0])?)?;
+    parts.push(vms(alloc, &[1, 0])?)?;
+    Ok(Constraint::Split {
+        parts: Parts::new(parts),
+        continuous: true,
     })
 }
 
-/// Constraints that are refused, each with its fault.
-const REFUSED: [(Refused, RuleFault); 6] = [
-    (Refused::Overbook(1, 0), RuleFault::TooGreat),
-    (Refused::Among, RuleFault::TooGreat),
-    (Refused::Split(&[1, 0]), RuleFault::Twice),
-    (Refused::Precedence(1, 1), RuleFault::Twice),
-    (Refused::Serialize(&[1, 0, 1]), RuleFault::Twice),
-    (Refused::Preserve(&[0, 0, 2], 1), RuleFault::NoSuch),
-];
+fn preserve(alloc: Global) -> Result<Constraint, Fail> {
+    Ok(Constraint::Preserve {
+        machines: vms(alloc, &[0, 0, 2])?,
+        resource: 0,
+        amount: 1,
+    })
+}
+
+fn among(alloc: Global) -> Result<Constraint, Fail> {
+    Ok(Constraint::Among {
+        machines: vms(alloc, &[0])?,
+        groups: Groups::new(Vec::new(alloc)),
+        continuous: false,
+    })
+}
+
+fn serialize(alloc: Global) -> Result<Constraint, Fail> {
+    Ok(Constraint::Serialize {
+        machines: vms(alloc, &[1, 0, 1])?,
+    })
+}
+
+fn overbook() -> Constraint {
+    let mut nodes = NodeSet::new();
+    nodes.insert(NodeId(0));
+    Constraint::Overbook {
+        nodes,
+        resource: 0,
+        num: 1,
+        den: 0,
+    }
+}
 
 #[test]
-fn constraints_are_taken_or_refused(rt: HostRuntime) -> Result<(), Fail> {
+fn too_great(rt: HostRuntime) -> Result<(), Fail> {
     let alloc = rt.alloc();
-    let read = problem(alloc, INSTANCE)?;
-    let mut p = problem(alloc, INSTANCE)?;
-    for constraint in read.constraints() {
-        assert_eq!(rt; p.add(constraint.copy()?), Ok(()));
-    }
-    for (refused, fault) in REFUSED {
-        assert_eq!(rt; p.add(constraint(alloc, refused)?), Err(fault));
-    }
+    assert_eq!(rt; fault_of(alloc, overbook())?, Some(RuleFault::TooGreat));
+    assert_eq!(rt; fault_of(alloc, among(alloc)?)?, Some(RuleFault::TooGreat));
     Ok(())
 }
 
-/// What a problem answers of elements and constraints that are there.
-#[derive(Clone, Copy)]
-struct Answers {
-    demand: u64,
-    capacity: u64,
-    wishes: [Wish; 2],
-    applies: [bool; 3],
-    word: &'static str,
-}
-
-fn answers_of(p: &Problem) -> Option<Answers> {
-    let k = p.cluster();
-    if k.machines().is_empty()
-        || k.nodes().is_empty()
-        || k.resources().is_empty()
-        || p.constraints().len() < 2
-    {
-        return None;
-    }
-    Some(Answers {
-        demand: p.demand(VmId(0), 0),
-        capacity: p.capacity(NodeId(0), 0),
-        wishes: [
-            p.wanted(Element::Vm(VmId(0))),
-            p.wanted(Element::Node(NodeId(0))),
-        ],
-        applies: [
-            p.applies(0, 19),
-            p.applies(1, 19),
-            p.applies(1, p.horizon()),
-        ],
-        word: p.constraints()[1].word(),
-    })
+#[test]
+fn named_twice(rt: HostRuntime) -> Result<(), Fail> {
+    let alloc = rt.alloc();
+    let same = Constraint::Precedence {
+        before: VmId(1),
+        after: VmId(1),
+    };
+    assert_eq!(rt; fault_of(alloc, same)?, Some(RuleFault::Twice));
+    assert_eq!(rt; fault_of(alloc, split(alloc)?)?, Some(RuleFault::Twice));
+    assert_eq!(rt; fault_of(alloc, serialize(alloc)?)?, Some(RuleFault::Twice));
+    Ok(())
 }
 
 #[test]
-fn constraints_say_what_they_mean(rt: HostRuntime) -> Result<(), Fail> {
+fn no_such_machine(rt: HostRuntime) -> Result<(), Fail> {
+    let alloc = rt.alloc();
+    assert_eq!(rt; fault_of(alloc, preserve(alloc)?)?, Some(RuleFault::NoSuch));
+    Ok(())
+}
+
+#[test]
+fn applies_at_instants(rt: HostRuntime) -> Result<(), Fail> {
     let p = problem(rt.alloc(), INSTANCE)?;
-    let answers = answers_of(&p).expect(&rt, "elements and constraints");
-    assert!(rt; answers.demand == 5 && answers.capacity == 8);
-    assert!(rt; answers.wishes == [Wish::To(Target::Ready), Wish::Keep]);
-    assert!(rt; answers.applies == [true, false, true] && answers.word == "preserve");
+    assert_eq!(rt; p.constraints().len(), 2);
+    assert!(rt; p.applies(0, 19) && !p.applies(1, 19) && p.applies(1, p.horizon()));
     Ok(())
 }

@@ -1,4 +1,4 @@
-//! Tests of clusters, problems and plans, of the judge and the monitor, of regions, and of what is kept beside them.
+//! Tests of what no command shows of sets, problems, regions and what is kept beside them.
 #![tactic(auto)]
 
 #[cfg(test)]
@@ -10,15 +10,9 @@ mod constraints;
 #[cfg(test)]
 mod costs;
 #[cfg(test)]
-mod judging;
-#[cfg(test)]
-mod monitoring;
-#[cfg(test)]
 mod node_profiles;
 #[cfg(test)]
 mod parts;
-#[cfg(test)]
-mod plans;
 #[cfg(test)]
 mod refuted;
 #[cfg(test)]

@@ -51,30 +51,65 @@ fn check(
     Ok(())
 }
 
+const NOWHERE_ROW: Row = Row {
+    place: Place::Nowhere,
+    lo: 2,
+    hi: 2,
+};
+
+const HERE_ROW: Row = Row {
+    place: HERE,
+    lo: 3,
+    hi: 7,
+};
+
+const LAST_ROW: Row = Row {
+    place: LAST,
+    lo: 0,
+    hi: 9,
+};
+
+const ALL: [Row; 3] = [NOWHERE_ROW, HERE_ROW, LAST_ROW];
+
 #[test]
-fn edges_of_rows(rt: HostRuntime) -> Result<(), Fail> {
+fn parts_without_a_row(rt: HostRuntime) -> Result<(), Fail> {
     let alloc = rt.alloc();
-    let nowhere = row(Place::Nowhere, 2, 2);
-    let here = row(HERE, 3, 7);
-    let last = row(LAST, 0, 9);
-    let all = [nowhere, here, last];
-    let cases: [(Part, &[Row], &[Row]); 7] = [
-        (Part::Idle, &[], &all),
-        (Part::Upto(HERE, 2), &[], &all),
-        (
-            Part::Upto(HERE, 3),
-            &[row(HERE, 3, 3)],
-            &[nowhere, row(HERE, 4, 7), last],
-        ),
-        (Part::From(HERE, 3), &[here], &[nowhere, last]),
-        (Part::From(Place::Nowhere, 2), &[nowhere], &[here, last]),
-        (Part::Upto(LAST, 9), &[last], &[nowhere, here]),
-        (Part::From(Place::At(NodeId(1)), 0), &[], &all),
-    ];
-    for (part, inside, outside) in cases {
-        check(&rt, alloc, part, inside, outside)?;
-    }
-    Ok(())
+    check(&rt, alloc, Part::Idle, &[], &ALL)?;
+    check(&rt, alloc, Part::Upto(HERE, 2), &[], &ALL)?;
+    check(&rt, alloc, Part::From(Place::At(NodeId(1)), 0), &[], &ALL)
+}
+
+#[test]
+fn parts_of_whole_rows(rt: HostRuntime) -> Result<(), Fail> {
+    let alloc = rt.alloc();
+    let nowhere = Part::From(Place::Nowhere, 2);
+    check(
+        &rt,
+        alloc,
+        Part::From(HERE, 3),
+        &[HERE_ROW],
+        &[NOWHERE_ROW, LAST_ROW],
+    )?;
+    check(&rt, alloc, nowhere, &[NOWHERE_ROW], &[HERE_ROW, LAST_ROW])?;
+    check(
+        &rt,
+        alloc,
+        Part::Upto(LAST, 9),
+        &[LAST_ROW],
+        &[NOWHERE_ROW, HERE_ROW],
+    )
+}
+
+#[test]
+fn a_part_of_a_row(rt: HostRuntime) -> Result<(), Fail> {
+    let rest = [NOWHERE_ROW, row(HERE, 4, 7), LAST_ROW];
+    check(
+        &rt,
+        rt.alloc(),
+        Part::Upto(HERE, 3),
+        &[row(HERE, 3, 3)],
+        &rest,
+    )
 }
 
 #[test]

@@ -1,4 +1,4 @@
-//! Tests of the rules, of branchers and searches, and of the verdict on certificates.
+//! Tests of what no command shows of rules, branchers and searches, and of strict verdicts.
 #![tactic(auto)]
 
 #[cfg(test)]

@@ -5,8 +5,6 @@ ghost use Rattle.domains.specs.Sets.{sets};
 ghost use Rattle.prop_core.specs.Levels.{AllFollow, IsTrailOf};
 ghost use Rattle.prop_core.specs.Lists.{AllRight};
 
-use crate::rules::plain::is_there;
-use crate::rules::shown::left_text;
 use base::Memory;
 use catalogue::Problem;
 use domains::{Change, Domain, Side};
@@ -15,7 +13,6 @@ use prop_core::asking::ask_all;
 use prop_core::propagator::{Answer, Propagator};
 use relax::start::start_region;
 use std::alloc::Global;
-use std::test::Fail;
 use trail::Trail;
 
 /// A trail of the start region, on which the rules are posted.
@@ -53,28 +50,6 @@ fn narrow(
     Ok(())
 }
 
-/// Makes the changes, as far as their elements are there.
-fn narrow_by(
-    p: &Problem,
-    trail: &mut Trail,
-    rules: &mut Vec<Box<dyn Propagator>>,
-    kept: &mut Domain,
-    changes: &[Change],
-) -> Result<(), Memory>
-    requires trail { IsTrailOf p.now.given trail.old }
-    requires follow { AllFollow (λ b. meaning b) p.now.given trail.old rules.old.items }
-    ensures trail { OnOk result (IsTrailOf p.now.given trail.new) }
-    ensures marks { OnOk result (trail.new.marks ≡ trail.old.marks) }
-    ensures follow { OnOk result (AllFollow (λ b. meaning b) p.now.given trail.new rules.new.items) }
-{
-    for change in changes {
-        if is_there(p, change.element) {
-            narrow(p, trail, rules, kept, *change)?;
-        }
-    }
-    Ok(())
-}
-
 /// Makes the first mark.
 fn mark(p: &Problem, trail: &mut Trail, rules: &mut Vec<Box<dyn Propagator>>) -> Result<(), Memory>
     requires trail { IsTrailOf p.now.given trail.old }
@@ -104,8 +79,7 @@ fn back(p: &Problem, trail: &mut Trail, rules: &mut Vec<Box<dyn Propagator>>)
 /// What one question has led to.
 #[derive(Clone, Copy)]
 enum Answered {
-    Quiet,
-    Refuted,
+    Settled,
     Narrowed(Change),
 }
 
@@ -133,8 +107,7 @@ fn step(
     ensures follow { OnOk result (AllFollow (λ b. meaning b) p.now.given trail.new rules.new.items) }
 {
     match ask(p, trail, rules)? {
-        Answer::Quiet => Ok(Answered::Quiet),
-        Answer::Fail(_) => Ok(Answered::Refuted),
+        Answer::Quiet | Answer::Fail(_) => Ok(Answered::Settled),
         Answer::Cut(element, part, _) => {
             let change = Change {
                 element,
@@ -147,14 +120,14 @@ fn step(
     }
 }
 
-/// Asks until nothing is cut any more, and says whether the rules are quiet then.
+/// Asks until nothing is cut any more.
 fn settle(
     p: &Problem,
     trail: &mut Trail,
     rules: &mut Vec<Box<dyn Propagator>>,
     kept: &mut Domain,
     cuts: &mut Vec<Change>,
-) -> Result<bool, Memory>
+) -> Result<(), Memory>
     requires trail { IsTrailOf p.now.given trail.old }
     requires follow { AllFollow (λ b. meaning b) p.now.given trail.old rules.old.items }
     ensures trail { OnOk result (IsTrailOf p.now.given trail.new) }
@@ -163,60 +136,35 @@ fn settle(
 {
     for _ in 0..1_000 {
         match step(p, trail, rules, kept)? {
-            Answered::Quiet => return Ok(true),
-            Answered::Refuted => return Ok(false),
+            Answered::Settled => return Ok(()),
             Answered::Narrowed(change) => cuts.push(change)?,
         }
     }
-    Ok(false)
+    Ok(())
 }
 
-/// The cuts that were made, and the region that was left by them, or `none` where an element has no choice.
-#[derive(Drop)]
-pub struct Settled {
-    pub cuts: Vec<Change>,
-    pub closed: String,
-}
-
-fn settle_and_show(
-    alloc: Global,
-    p: &Problem,
-    trail: &mut Trail,
-    rules: &mut Vec<Box<dyn Propagator>>,
-    kept: &mut Domain,
-) -> Result<Settled, Fail>
-    requires trail { IsTrailOf p.now.given trail.old }
-    requires follow { AllFollow (λ b. meaning b) p.now.given trail.old rules.old.items }
-    ensures trail { OnOk result (IsTrailOf p.now.given trail.new) }
-    ensures marks { OnOk result (trail.new.marks ≡ trail.old.marks) }
-    ensures follow { OnOk result (AllFollow (λ b. meaning b) p.now.given trail.new rules.new.items) }
-{
-    let mut cuts = Vec::new(alloc);
-    let quiet = settle(p, trail, rules, kept, &mut cuts)?;
-    let closed = left_text(alloc, p, trail.region(), quiet)?;
-    Ok(Settled { cuts, closed })
-}
-
-/// What was settled above a mark, and again after going back to it.
+/// The cuts above a mark, and again after going back to it.
 #[derive(Drop)]
 pub struct Both {
-    pub first: Settled,
-    pub again: Settled,
+    pub first: Vec<Change>,
+    pub again: Vec<Change>,
 }
 
-/// Settles the start region after changes twice, with a return to the mark between.
+/// Settles the start region twice, with a return to the mark between.
 pub fn run(
     alloc: Global,
     p: &Problem,
     rules: &mut Vec<Box<dyn Propagator>>,
-    changes: &[Change],
-) -> Result<Both, Fail> {
+) -> Result<Both, Memory> {
     let mut kept = Domain::new(alloc, false);
+    let mut cuts = Both {
+        first: Vec::new(alloc),
+        again: Vec::new(alloc),
+    };
     let mut trail = started(alloc, p, rules)?;
-    narrow_by(p, &mut trail, rules, &mut kept, changes)?;
     mark(p, &mut trail, rules)?;
-    let first = settle_and_show(alloc, p, &mut trail, rules, &mut kept)?;
+    settle(p, &mut trail, rules, &mut kept, &mut cuts.first)?;
     back(p, &mut trail, rules);
-    let again = settle_and_show(alloc, p, &mut trail, rules, &mut kept)?;
-    Ok(Both { first, again })
+    settle(p, &mut trail, rules, &mut kept, &mut cuts.again)?;
+    Ok(cuts)
 }

@@ -1,4 +1,4 @@
-//! A propagator that looks for loads, and for the place of the first machine.
+//! A propagator that looks for loads.
 ghost use Rattle.std.specs.Prelude.{◌≡◌, true, IfOk, IfSome, IsTrue};
 ghost use Rattle.catalogue.specs.Instance.{IsElement};
 ghost use Rattle.domains.specs.Sets.{sets};
@@ -14,9 +14,8 @@ use prop_core::propagator::{Answer, Propagator};
 use reasons::{Reason, ReasonKind};
 use relax::refutes::refutes_inside;
 
-/// Covers all kinds, and cuts an end of the choices of an element by the load of a node or of all, or by the first
-/// constraint at the first machine; where a region is not closed for another reason it is out of memory. Or it covers
-/// no kind, and is quiet.
+/// Covers all kinds, and cuts an end of the choices of an element by the load of a node or of all; where a region is not
+/// closed for another reason it is out of memory. Or it covers no kind, and is quiet.
 #[derive(Drop)]
 pub struct Ends {
     covers_all: bool,
@@ -198,10 +197,6 @@ fn part_cut(p: &Problem, g: &Region, e: Element, part: Part) -> Option<Answer>
             let load = Reason::Load(t, 0, nodes_at(p, k));
             if is_cut(p, g, e, part, &load) {
                 return Some(Answer::Cut(e, part, load));
-            }
-            let place = Reason::Place(0, t, VmId(0), NodeId(k as u32));
-            if is_cut(p, g, e, part, &place) {
-                return Some(Answer::Cut(e, part, place));
             }
         }
     }
