@@ -96,7 +96,7 @@ fn run_on(
 }
 
 /// Searches an instance. The desk's call 0 creates the file, call 1 appends the header; those with these numbers fail.
-fn run(
+fn run_search(
     alloc: Global,
     instance: &str,
     budget: u64,
@@ -116,7 +116,7 @@ fn counted(
     budget: u64,
     rules: &mut Vec<Box<dyn Propagator>>,
 ) -> Result<Option<u64>, Fail> {
-    let run = run(alloc, instance, budget, rules, Vec::new(alloc))?;
+    let run = run_search(alloc, instance, budget, rules, Vec::new(alloc))?;
     Ok(if run.answered() == run.given {
         Some(run.given)
     } else {
@@ -166,7 +166,7 @@ fn a_question_without_memory_ends_the_search(rt: HostRuntime) -> Result<(), Fail
     let alloc = rt.alloc();
     let mut rules: Vec<Box<dyn Propagator>> = Vec::new(alloc);
     rules.push(Box::new(alloc, Ends::with_questions(2))?)?;
-    let run = run(alloc, ROOMY, 9, &mut rules, Vec::new(alloc))?;
+    let run = run_search(alloc, ROOMY, 9, &mut rules, Vec::new(alloc))?;
     assert_eq!(rt; run.fault, Some(OutFault::Memory));
     Ok(())
 }
@@ -177,7 +177,7 @@ fn each_propagator_is_posted_once(rt: HostRuntime) -> Result<(), Fail> {
     let mut rules: Vec<Box<dyn Propagator>> = Vec::new(alloc);
     rules.push(Box::new(alloc, Ends::new())?)?;
     rules.push(Box::new(alloc, Ends::silent(1))?)?;
-    let beside = run(alloc, ROOMY, 9, &mut rules, Vec::new(alloc))?;
+    let beside = run_search(alloc, ROOMY, 9, &mut rules, Vec::new(alloc))?;
     assert_eq!(rt; beside.fault, None);
     assert!(rt;
         beside
@@ -193,7 +193,7 @@ fn a_count_stops_at_its_end(rt: HostRuntime) -> Result<(), Fail> {
     let alloc = rt.alloc();
     let mut rules: Vec<Box<dyn Propagator>> = Vec::new(alloc);
     rules.push(Box::new(alloc, Ends::with_given(u64::MAX - 3))?)?;
-    let run = run(alloc, ROOMY, 9, &mut rules, Vec::new(alloc))?;
+    let run = run_search(alloc, ROOMY, 9, &mut rules, Vec::new(alloc))?;
     assert_eq!(rt; run.answered(), 10);
     assert_eq!(rt; run.given, 3);
     Ok(())
@@ -204,7 +204,7 @@ fn a_cut_that_is_not_written_is_counted(rt: HostRuntime) -> Result<(), Fail> {
     let alloc = rt.alloc();
     let mut rules: Vec<Box<dyn Propagator>> = Vec::new(alloc);
     rules.push(Box::new(alloc, Ends::new())?)?;
-    let run = run(alloc, ROOMY, 9, &mut rules, vec![in alloc; 4]?)?;
+    let run = run_search(alloc, ROOMY, 9, &mut rules, vec![in alloc; 4]?)?;
     assert_eq!(rt; run.fault, Some(OutFault::Failed));
     assert_eq!(rt; run.answered(), 1);
     assert_eq!(rt; run.given, 2);
