@@ -1,20 +1,7 @@
+-- Public has what crates above may cite; the rest is for this crate alone.
 pub mod Public
 pub mod AcceptAnswers
 pub mod Causing
-pub mod CheckAnswers
-pub mod DemoAnswers
-pub mod Ends
-pub mod ExecuteAnswers
-pub mod ExplainAnswers
-pub mod GenerateAnswers
-pub mod LastLines
-pub mod Numbers
-pub mod OutputLemmas
-pub mod PictureAnswers
-pub mod PlanAnswers
 pub mod Printing
-pub mod Readings
-pub mod RepairAnswers
-pub mod ReplayAnswers
-pub mod ScriptAnswers
-pub mod ShowAnswers
+pub mod Rows
+pub mod Sources

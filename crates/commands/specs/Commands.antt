@@ -1,10 +1,16 @@
 -- What each command answers and leaves: a line for each command in each table, and a room for each below.
 use Rattle.std.specs.Prelude.{◌≡◌, Bool, ℕ, List, Option, Some, None, IsTrue, codes}
 use Rattle.plan_io.specs.Files.{Files}
-use Rattle.commands.specs.Words.{Command, plan, check, replay, show, picture, script, execute, repair, explain, generate, demo}
-use Rattle.commands.specs.{Inputs.Instance.instance_in, Inputs.Plan.plan_in, Answer.Outside, Answer.Says, Answer.AnswersBy, Answer.LeavesBy, Planning.IsPlanned, Planning.LeavesPlanned, Checking.IsChecked, Replaying.IsReplayed, Showing.IsListed, Picturing.IsPictured, Picturing.LeavesPictured, Scripting.IsScripted, Scripting.LeavesScripted}
-use Rattle.commands.specs.{Executing.IsExecuted, Executing.Starts, Executing.Taking, Executing.TakesRead, Generating.IsGenerated, Generating.LeavesGenerated, Explaining.IsExplained, Explaining.LeavesExplained, Repairing.IsRepaired, Repairing.LeavesRepaired, Repairing.TakesEvents, declared.status.Status.Status}
-use Rattle.commands.specs.Demonstrating.{IsDemonstrated, LeavesDemo, LeavesDemoUnread, demo_certificate, demo_instance, demo_plan}
+use Rattle.command_words.specs.Words.{Command, plan, check, replay, show, picture, script, execute, repair, explain, generate, demo}
+use Rattle.command_frame.specs.{Inputs.Instance.instance_in, Inputs.Plan.plan_in, Answer.Outside, Answer.Says, Answer.AnswersBy, Answer.LeavesBy}
+use Rattle.command_decide.specs.{Planning.IsPlanned, Planning.LeavesPlanned, Checking.IsChecked}
+use Rattle.command_report.specs.{Replaying.IsReplayed, Showing.IsListed, Picturing.IsPictured, Picturing.LeavesPictured}
+use Rattle.command_make.specs.Scripting.{IsScripted, LeavesScripted}
+use Rattle.command_carry.specs.{Executing.IsExecuted, Executing.Starts, Executing.Taking, Executing.TakesRead, Repairing.IsRepaired, Repairing.LeavesRepaired, Repairing.TakesEvents}
+use Rattle.command_make.specs.Generating.{IsGenerated, LeavesGenerated}
+use Rattle.command_explain.specs.Explaining.{IsExplained, LeavesExplained}
+use Rattle.command_frame.specs.declared.status.Status.{Status}
+use Rattle.command_demo.specs.Demonstrating.{IsDemonstrated, LeavesDemo, LeavesDemoUnread, demo_certificate, demo_instance, demo_plan}
 
 -- The desk reads the files that the command reads, and writes those that it creates.
 abbrev pub MayRun : (reads writes : List ℕ → Bool) → Option Command → Type 0

@@ -1,6 +1,8 @@
 //! Laws of the commands: each is the contract of a function that does nothing, and a lemma of the same
 //! name in proofs/Public proves it.
-ghost use Rattle.commands.specs.Laws.{ExplainedIsChecked, LeftOpenIsChecked, PlannedIsChecked, WrittenIsAccepted};
+
+ghost use Rattle.command_decide.specs.Accepted.{WrittenIsAccepted};
+ghost use Rattle.commands.specs.Laws.{ExplainedIsChecked, LeftOpenIsChecked, PlannedIsChecked};
 
 /// The files that `plan` writes are accepted: the plan's is read back, and the certificate has the
 /// verdict yes for it, strictly or not, and no other.

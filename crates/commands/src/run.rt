@@ -3,26 +3,26 @@
 ghost use Rattle.std.specs.Prelude.{◌≡◌, ◌≢◌, ◌⊎◌, ◌++◌, ◌↔◌, ℕ, List, Option, None, Err, IsTrue};
 ghost use Rattle.commands.specs.Prelude.{asked, Causes, Command as Asked, CommandCauses, Counts, counts, Ends, EndsAnyhow, Files, IsAnswer, IsAnswered, KeepsDeskReads, KeepsDeskWrites, KeepsSource, Leaves, LeavesAtFailedRead, LineEnds, MayRun, NothingFailed, Outside, outside, PrintsPrefix, ReadsInput, Rose, Takes, Taking, taking, told};
 
-use crate::checking::check;
-use crate::demonstrating::demo;
-use crate::executing::execute;
-use crate::explaining::explain;
-use crate::fault::{Ending, Fault};
-use crate::generating::generate;
-use crate::picturing::picture;
-use crate::planning::plan;
-use crate::repairing::repair;
-use crate::replaying::replay;
-use crate::scripting::script;
-use crate::showing::show;
-use crate::status::Status;
-use crate::words::{Command, read_words};
+use command_carry::executing::execute;
+use command_carry::repairing::repair;
+use command_decide::checking::check;
+use command_decide::planning::plan;
+use command_demo::demonstrating::demo;
+use command_explain::explaining::explain;
+use command_frame::fault::{Ending, Fault};
+use command_frame::status::Status;
+use command_make::generating::generate;
+use command_make::scripting::script;
+use command_report::picturing::picture;
+use command_report::replaying::replay;
+use command_report::showing::show;
+use command_words::words::{Command, read_words};
 use plan_io::{Desk, OutFault, Sink, Source, write_text};
 use solver::Solver;
 use std::alloc::Global;
 
 /// Does what the words ask for, but for the last line where one is still to be printed.
-#[tactic(auto, using(crate::proofs::Ends::no_command, crate::proofs::LastLines::no_command_takes, crate::proofs::DemoAnswers::demo_takes, crate::proofs::Printing::prints_nothing))]
+#[tactic(auto, using(crate::proofs::Rows::rows, crate::proofs::Sources::no_command_takes, crate::proofs::Sources::demo_takes, crate::proofs::Printing::prints_nothing))]
 fn answer<D: Desk, I: Source, O: Sink, S: Solver>(
     alloc: Global,
     words: &[String],
@@ -185,7 +185,7 @@ fn say<O: Sink>(out: &mut O, line: &str, said: Status) -> Status
 }
 
 /// Prints the last line of a command, if it has one, and gives its status or that of a refused write.
-#[tactic(auto, using(crate::proofs::Causing::causes_of_line, crate::proofs::Causing::causes_as_they_were), unfolding(crate::specs::Endings::Ends, crate::specs::Endings::EndsAnyhow))]
+#[tactic(auto, using(crate::proofs::Causing::causes_of_line, crate::proofs::Causing::causes_as_they_were), unfolding(command_frame::specs::Endings::Ends, command_frame::specs::Endings::EndsAnyhow))]
 fn finish<O: Sink>(out: &mut O, ended: Result<Ending, Fault>) -> Status
     ensures answer { IsTrue O.tells → IsAnswered result
         → (command : Option Asked) (source : Option (List ℕ)) (before : Outside) (after : Files)

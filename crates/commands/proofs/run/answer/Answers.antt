@@ -1,12 +1,20 @@
 use Rattle.std.proofs.Common.{◌≡◌, Option, Some, subst, rules}
 use Rattle.commands.specs.Prelude.{asked, check, Command, Ends, EndsAnyhow, execute, explain, generate, IsAnswer, KeepsSource, outside, picture, plan, repair, replay, script, show, Takes, taking, told}
-use Rattle.commands.proofs.LastLines.{unread}
+use Rattle.commands.proofs.{Rows.repair_row, Sources.unread}
 use Rattle.commands.proofs.run.answer.Goals as goal
 
 pub returns-in-Some-Execute-clause-source : goal.returns-in-Some-Execute-clause-source
 returns-in-Some-Execute-clause-source g c =
     let is : Some (execute c.in-Some-Execute.instance.now c.in-Some-Execute.plan_file.now) ≡ asked c.args.words.now = search rules in
     subst (λ (command : Option Command). KeepsSource g.D.Desk.tells (g.D.Desk.files c.args.desk.now) command c.args.input.now c.execute.new.input) is c.execute.ensures.source
+
+pub returns-in-Some-Execute-clause-takes : goal.returns-in-Some-Execute-clause-takes
+returns-in-Some-Execute-clause-takes g c = λ desk_tells source_tells sink_tells.
+    let is : Some (execute c.in-Some-Execute.instance.now c.in-Some-Execute.plan_file.now) ≡ asked c.args.words.now = search rules in
+    let change = taking (g.I.Source.rest c.args.input.now) (g.I.Source.rest c.execute.new.input) (g.I.Source.faults c.args.input.now) (g.I.Source.faults c.execute.new.input) in
+    let before = outside (g.D.Desk.files c.args.desk.now) (g.O.Sink.written c.args.out.now) in
+    let after = outside (g.D.Desk.files c.execute.new.desk) (g.O.Sink.written c.execute.new.out) in
+    subst (λ (command : Option Command). EndsAnyhow (Takes command change before) after c.execute.result) is (c.execute.ensures.takes desk_tells source_tells sink_tells)
 
 pub returns-in-Some-Repair-clause-source : goal.returns-in-Some-Repair-clause-source
 returns-in-Some-Repair-clause-source g c =
@@ -18,7 +26,8 @@ returns-in-Some-Repair-clause-ends g c = λ desk_tells sink_tells.
     let is : Some (repair c.in-Some-Repair.instance.now c.in-Some-Repair.plan_file.now c.in-Some-Repair.new_instance.now c.in-Some-Repair.new_plan.now) ≡ asked c.args.words.now = search rules in
     let printed = g.O.Sink.written c.args.out.now in
     let source = told g.I.Source.tells (g.I.Source.rest c.args.input.now) in
-    subst (λ (command : Option Command). Ends (IsAnswer command source (outside (g.D.Desk.files c.args.desk.now) printed)) (outside (g.D.Desk.files c.repair.new.desk) printed) c.repair.result) is (c.repair.ensures.ends desk_tells printed)
+    subst (λ (command : Option Command). Ends (IsAnswer command source (outside (g.D.Desk.files c.args.desk.now) printed)) (outside (g.D.Desk.files c.repair.new.desk) printed) c.repair.result) is
+    (repair_row c.in-Some-Repair.instance.now c.in-Some-Repair.plan_file.now c.in-Some-Repair.new_instance.now c.in-Some-Repair.new_plan.now source _ _ c.repair.result (c.repair.ensures.ends desk_tells printed))
 
 pub returns-in-Some-Repair-clause-takes : goal.returns-in-Some-Repair-clause-takes
 returns-in-Some-Repair-clause-takes g c = λ desk_tells source_tells sink_tells.

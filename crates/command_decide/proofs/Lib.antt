@@ -1,0 +1,5 @@
+-- Public has what crates above may cite; the rest is for this crate alone.
+pub mod Public
+pub mod AcceptAnswers
+pub mod CheckAnswers
+pub mod PlanAnswers

@@ -1,0 +1,4 @@
+pub mod GenerateAnswers
+pub mod OutputLemmas
+pub mod ScriptAnswers
+pub mod ScriptReadings

@@ -1,0 +1,3 @@
+pub mod PictureAnswers
+pub mod ReplayAnswers
+pub mod ShowAnswers
