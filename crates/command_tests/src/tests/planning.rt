@@ -142,7 +142,9 @@ fn no_memory_for_a_search(rt: HostRuntime) -> Result<(), Fail> {
     let mut out = SinkMem::new(Vec::new(alloc));
     let status = runs_on(alloc, "plan i p c", &mut desk, &mut out, &NoMemory)?;
     assert_eq!(rt; (status, out.written()), (Status::Memory, b"".as_slice()));
-    assert_eq!(rt; desk.get("p"), None);
-    assert_eq!(rt; desk.get("c"), Some(b"old".as_slice()));
+    assert_eq!(rt;
+        (desk.get("p"), desk.get("c")),
+        (None, Some(b"old".as_slice()))
+    );
     Ok(())
 }
