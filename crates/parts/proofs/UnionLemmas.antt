@@ -21,7 +21,7 @@ use Rattle.slices.specs.Rules.{IsValid}
 use Rattle.parts.specs.Cuts.{renumbered_choice}
 use Rattle.parts.specs.Embeds.{Embeds, node_at, vm_at}
 use Rattle.parts.specs.Groups.{in_group, machine_group, node_group}
-use Rattle.parts.specs.Laws.{ArePlans, CostsAddUp, LeastsAddUp, PartIsInfeasible, PartOfUnion, PartsAreValid, PlanIsUnion, Split, UnionIsOptimal, UnionsAreValid}
+use Rattle.parts.specs.Laws.{ArePlans, CostsAddUp, LeastsAddUp, PartIsInfeasible, PartOfUnion, PartsAreValid, PlanIsUnion, Split, StayingPlanIsUnion, UnionIsOptimal, UnionsAreValid}
 use Rattle.parts.specs.Numbers.{new_number}
 use Rattle.parts.specs.Parts.{has_form, in_part, part_of}
 use Rattle.parts.specs.Unions.{part_choices, Stays, StaysIn, union_of, whole_choice}
@@ -238,16 +238,16 @@ union_is_optimal p groups split plans optimal =
 pub part_is_infeasible : PartIsInfeasible
 part_is_infeasible p groups split i li none plan legal valid = none (part_choices p groups i plan) (parts_plan p groups split plan legal valid i li) (parts_valid p groups split plan legal valid i li)
 
-pub plan_is_union : PlanIsUnion
-plan_is_union p groups split plan legal valid (Vm v) l = machine (machine_group p groups v.0) (group_in p groups split v.0) (eq-eqb (machine_group p groups v.0) (machine_group p groups v.0) refl)
+pub staying_plan_is_union : StayingPlanIsUnion
+staying_plan_is_union p groups split plan legal stays (Vm v) l = machine (machine_group p groups v.0) (group_in p groups split v.0) (eq-eqb (machine_group p groups v.0) (machine_group p groups v.0) refl)
   where
     machine : (i : ℕ) → i < length groups → IsTrue (in_part p groups i v.0) → union_of p groups (λ i. part_choices p groups i plan) (vm v.0) ≡ plan (vm v.0)
     machine i li mine =
         let lk = vm_new p (part_of p groups i) (in_part p groups i) (in_group groups i) (has_form p groups i) (part_embeds p groups split i) v.0 l mine in
         let back : vm_at p (in_part p groups i) (new_number (in_part p groups i) v.0) ≡ v.0 = vm_back p (part_of p groups i) (in_part p groups i) (in_group groups i) (has_form p groups i) (part_embeds p groups split i) v.0 l mine in
         subst (λ (x : ℕ). union_of p groups (λ i. part_choices p groups i plan) (vm x) ≡ plan (vm x)) back
-        ((union_fits p groups split (λ i. part_choices p groups i plan) i li).machines (new_number (in_part p groups i) v.0) lk ∙ sym ((fits_of p groups split plan legal valid i li).machines (new_number (in_part p groups i) v.0) lk))
-plan_is_union p groups split plan legal valid (TheNode n) l =
+        ((union_fits p groups split (λ i. part_choices p groups i plan) i li).machines (new_number (in_part p groups i) v.0) lk ∙ sym ((parts_fit p groups split plan legal stays i li).machines (new_number (in_part p groups i) v.0) lk))
+staying_plan_is_union p groups split plan legal stays (TheNode n) l =
     let own = has_node_group p groups split n.0 l in
     at_node _ own.0 own.1
   where
@@ -256,7 +256,10 @@ plan_is_union p groups split plan legal valid (TheNode n) l =
         let lm = node_new p (part_of p groups i) (in_part p groups i) (in_group groups i) (has_form p groups i) (part_embeds p groups split i) n.0 l on in
         let back : node_at p (in_group groups i) (new_number (in_group groups i) n.0) ≡ n.0 = node_back p (part_of p groups i) (in_part p groups i) (in_group groups i) (has_form p groups i) (part_embeds p groups split i) n.0 l on in
         subst (λ (x : ℕ). union_of p groups (λ i. part_choices p groups i plan) (node x) ≡ plan (node x)) back
-        ((union_fits p groups split (λ i. part_choices p groups i plan) i li).nodes (new_number (in_group groups i) n.0) lm ∙ sym ((fits_of p groups split plan legal valid i li).nodes (new_number (in_group groups i) n.0) lm))
+        ((union_fits p groups split (λ i. part_choices p groups i plan) i li).nodes (new_number (in_group groups i) n.0) lm ∙ sym ((parts_fit p groups split plan legal stays i li).nodes (new_number (in_group groups i) n.0) lm))
+
+pub plan_is_union : PlanIsUnion
+plan_is_union p groups split plan legal valid = staying_plan_is_union p groups split plan legal (keeps_groups p groups split plan legal valid)
 
 pub part_of_union : PartOfUnion
 unfolding part_choices

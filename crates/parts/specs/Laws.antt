@@ -52,7 +52,13 @@ UnionsAreValid =
     (p : Instance) (groups : List NodeSet) → Split p groups → (plans : ℕ → Choices) → ArePlans p groups plans → AreValid p groups plans →
     IsPlan p (union_of p groups plans) × IsValid p (union_of p groups plans)
 
--- a valid plan is the union of its parts
+-- a plan that keeps each machine in its group is the union of its parts
+abbrev pub StayingPlanIsUnion : Type 0
+StayingPlanIsUnion =
+    (p : Instance) (groups : List NodeSet) → Split p groups → (plan : Choices) → IsPlan p plan → Stays p groups plan →
+    (e : Element) → IsElement p e → union_of p groups (λ i. part_choices p groups i plan) e ≡ plan e
+
+-- so is a valid plan
 abbrev pub PlanIsUnion : Type 0
 PlanIsUnion =
     (p : Instance) (groups : List NodeSet) → Split p groups → (plan : Choices) → IsPlan p plan → IsValid p plan →

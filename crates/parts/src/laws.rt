@@ -1,6 +1,6 @@
 //! Laws of the definitions: each is the contract of a function that does nothing, and a lemma of the
 //! same name in proofs/Public proves it.
-ghost use Rattle.parts.specs.Laws.{CostsAddUp, KeepsGroups, LeastsAddUp, PartEmbeds, PartIsInfeasible, PartIsSound, PartOfUnion, PartsAreValid, PlanIsUnion, UnionIsOptimal, UnionsAreValid};
+ghost use Rattle.parts.specs.Laws.{CostsAddUp, KeepsGroups, LeastsAddUp, PartEmbeds, PartIsInfeasible, PartIsSound, PartOfUnion, PartsAreValid, PlanIsUnion, StayingPlanIsUnion, UnionIsOptimal, UnionsAreValid};
 
 /// A part has its machines, nodes and constraints of the whole, and says of them what the whole does.
 #[tactic(auto, using(crate::proofs::Public::part_embeds))]
@@ -27,6 +27,12 @@ pub fn parts_are_valid()
 /// The union of valid plans of all parts is a valid plan of the whole.
 pub fn unions_are_valid()
     ensures { UnionsAreValid }
+{}
+
+/// A plan that keeps each machine in its group is the union of its parts.
+#[tactic(auto, using(crate::proofs::Public::staying_plan_is_union))]
+pub fn staying_plan_is_union()
+    ensures { StayingPlanIsUnion }
 {}
 
 /// A valid plan is the union of its parts.
