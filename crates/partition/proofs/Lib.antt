@@ -10,3 +10,5 @@ pub mod DealLemmas
 pub mod PlanLemmas
 pub mod UnionLemmas
 pub mod ShareLemmas
+pub mod SplitProblemLemmas
+pub mod Public

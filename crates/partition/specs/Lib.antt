@@ -5,3 +5,5 @@ pub mod Division
 pub mod Numbering
 pub mod Cutting
 pub mod Plans
+pub mod SplitProblems
+pub mod Prelude

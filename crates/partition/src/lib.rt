@@ -14,9 +14,11 @@ mod plans;
 mod reach;
 mod reading;
 mod sharing;
+mod split_problem;
 mod splitting;
 
 pub use faults::find_fault;
 pub use groups_fault::GroupsFault;
 pub use reading::read_groups;
+pub use split_problem::SplitProblem;
 pub use splitting::split;

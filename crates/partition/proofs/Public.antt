@@ -1,0 +1,2 @@
+-- What crates above may cite.
+pub use Rattle.partition.proofs.SplitProblemLemmas.{part_count, part_is}
