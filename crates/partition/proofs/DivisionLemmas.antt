@@ -1,26 +1,24 @@
 -- What the tables say is what the definitions say.
 use Rattle.std.specs.List.{filter_map}
-use Rattle.std.proofs.Common.{IsTrue}
-use Rattle.base.proofs.Public.{◌≡◌, ◌≢◌, inl, inr, ℕ, zero, suc, ◌+◌, ◌<◌, ◌≤◌, Bool, true, false, not, ◌||◌, ◌&&◌, ◌==◌, List, [], ◌∷◌, length, map, Option, Some, None, if◌then◌else◌, unwrap_or, is_none, nat_lt, refl, sym, ap, ap₂, subst, ◌∙◌, All, all_pass, and_parts, arith, cases_Bool, cases_eq, cases_lt, each_passes, eq-eqb, eqb-true, false≢true, find, get_or-map-range_with_len, get_or_past, length-map-range_with_len, list_all, list_any, ltb-true, ne_eqb, or_left, or_right, position, range_with_len, slice_get}
+use Rattle.base.proofs.Public.{◌≡◌, ◌≢◌, inl, inr, ℕ, ◌<◌, ◌≤◌, Bool, true, false, not, ◌||◌, ◌&&◌, ◌==◌, List, [], ◌∷◌, length, map, Option, Some, None, if◌then◌else◌, unwrap_or, is_none, refl, sym, ap, ap₂, ◌∙◌, all_pass, and_parts, arith, cases_Bool, cases_eq, cases_lt, each_passes, eq-eqb, false≢true, get_or-map-range_with_len, get_or_past, length-map-range_with_len, list_any, ne_eqb, range_with_len, slice_get}
 use Rattle.cluster.specs.declared.ids.NodeId.{NodeId}
-use Rattle.cluster.specs.declared.ids.VmId.{VmId}
 use Rattle.cluster.specs.declared.sets.NodeSet.{NodeSet}
 use Rattle.cluster.specs.States.{host_of}
 use Rattle.cluster.proofs.Public.{has_node-no_nodes}
-use Rattle.catalogue.specs.Prelude.{are_below, has_node, Instance, inventory_of, is_member, is_rule, IsInstance, no_nodes}
+use Rattle.catalogue.specs.Prelude.{has_node, Instance, is_member, no_nodes}
 use Rattle.catalogue.specs.declared.constraint.Constraint.{Constraint}
 use Rattle.slices.specs.Actions.{wanted_state}
 use Rattle.slices.specs.Elements.{machine_count, node_count, state_of}
-use Rattle.slices.specs.Forms.{Form, Apart, Allowed, Together, Ordered, InTurn, Bounded, Powered, Settled, Outside, Within, OnHost, AnyNode, AnyOf, form_of, members}
-use Rattle.parts.specs.Groups.{AreGroups, first_group, group_by, has_some, in_group, is_inside, is_to_run, machine_group, node_group, only_group, tie, tied_group}
-use Rattle.parts.specs.Splits.{fences, first_uncovered, home, is_fenced, is_free, is_joint, is_rooted, is_running, joint_sets, names, roots, spans}
-use Rattle.parts.proofs.Public.{any_passes, finds, found, IsFound, which_passes}
+use Rattle.slices.specs.Forms.{Form, Apart, Allowed, Together, Ordered, InTurn, Bounded, Powered, Settled, Outside, Within, OnHost, form_of}
+use Rattle.parts.specs.Groups.{AreGroups, group_by, has_some, in_group, is_inside, is_to_run, machine_group, node_group, only_group, tie, tied_group}
+use Rattle.parts.specs.Splits.{first_uncovered}
+use Rattle.parts.proofs.Public.{any_passes, finds, found, which_passes}
 use Rattle.partition.specs.declared.reach.Reach.{Reach}
 use Rattle.partition.specs.declared.reach.Reach.TheVariants.{Nowhere, One, Several}
-use Rattle.partition.specs.Reach.{and_machines, and_nodes, and_sets, at, first_of, fits, form_reach, is_several, only_of}
-use Rattle.partition.specs.Division.{Covers, Divides, group_number, group_of_machine, is_marked, keeps_by, tie_by, tied_by}
+use Rattle.partition.specs.Reach.{and_nodes, at, fits, only_of}
+use Rattle.partition.specs.Division.{Covers, Divides, group_number, group_of_machine, tie_by, tied_by}
 use Rattle.partition.specs.Division.{group_by as group_by_tables}
-use Rattle.partition.proofs.ReachLemmas.{home_of, IsReach, only_is, node_in, reach_machines, reach_nodes, reach_sets, same_reach, spans_as}
+use Rattle.partition.proofs.ReachLemmas.{IsReach, only_is, node_in, reach_nodes, same_reach}
 use Rattle.partition.proofs.TableLemmas.{same_any}
 
 -- ---- groups of nodes

@@ -1,25 +1,24 @@
 -- Which machines are free and which constraints span groups, by the tables.
-use Rattle.std.specs.List.{filter_map, position_or_len, prefix_len}
-use Rattle.base.proofs.Public.{◌≡◌, inl, inr, ℕ, zero, suc, ◌+◌, ◌<◌, ◌≤◌, Bool, true, false, not, ◌||◌, ◌&&◌, ◌==◌, List, [], ◌∷◌, length, Option, Some, None, if◌then◌else◌, unwrap_or, nat_lt, refl, sym, ap, ap₂, subst, ◌∙◌, All, All-head, All-tail, All-weaker, and_parts, arith, cases_Bool, cases_lt, false≢true, find, get_or-map-range_with_len, list_any, ltb-true, eqb-true, or-false, option_map, option_or, or_cases, position, range_with_len, slice_get}
+use Rattle.std.specs.List.{filter_map, position_or_len}
+use Rattle.base.proofs.Public.{◌≡◌, inl, inr, ℕ, ◌+◌, ◌<◌, Bool, true, false, not, ◌||◌, ◌&&◌, ◌==◌, List, [], ◌∷◌, length, Option, Some, None, if◌then◌else◌, unwrap_or, nat_lt, refl, sym, ap, ap₂, subst, ◌∙◌, All, All-head, All-tail, All-weaker, and_parts, arith, cases_Bool, cases_lt, false≢true, find, get_or-map-range_with_len, list_any, ltb-true, eqb-true, or-false, option_map, option_or, or_cases, position, range_with_len, slice_get}
 use Rattle.cluster.specs.declared.ids.NodeId.{NodeId}
 use Rattle.cluster.specs.declared.ids.VmId.{VmId}
 use Rattle.cluster.specs.declared.sets.NodeSet.{NodeSet}
 use Rattle.cluster.specs.States.{host_of}
-use Rattle.catalogue.specs.Prelude.{are_below, has_node, Instance, inventory_of, is_member, is_rule, IsInstance}
-use Rattle.catalogue.specs.declared.constraint.Constraint.{Constraint}
+use Rattle.catalogue.specs.Prelude.{are_below, Instance, inventory_of, is_member, is_rule, IsInstance}
 use Rattle.slices.specs.Actions.{wanted_state}
 use Rattle.slices.specs.Elements.{machine_count, node_count, state_of}
 use Rattle.slices.specs.Forms.{Form, Apart, Allowed, Together, Ordered, InTurn, Bounded, Powered, Settled, Outside, Within, OnHost, AnyNode, AnyOf, form_of, members, separated}
 use Rattle.slices.proofs.Public.{sound_form}
 use Rattle.parts.specs.Groups.{has_some, is_inside, is_to_run, machine_group}
-use Rattle.parts.specs.Splits.{fences, first_free, first_spanning, first_uncovered, home, is_fenced, is_free, is_joint, is_rooted, is_running, joint_sets, names, roots, spans, split_fault}
+use Rattle.parts.specs.Splits.{fences, first_free, first_spanning, first_uncovered, home, is_free, is_joint, is_running, joint_sets, names, roots, spans, split_fault}
 use Rattle.parts.specs.declared.fault.SplitFault.TheVariants.{Uncovered, Free, Spans}
 use Rattle.partition.specs.declared.reach.Reach.{Reach}
 use Rattle.partition.specs.declared.reach.Reach.TheVariants.{Nowhere, One, Several}
 use Rattle.partition.specs.Reach.{and_machines, and_nodes, at, fits, form_reach, is_several, only_of}
-use Rattle.partition.specs.Division.{Divides, group_by, group_of_machine, is_free_by, is_kept_by, is_marked, keeps_by, spans_by, tie_by, tied_by}
+use Rattle.partition.specs.Division.{Divides, group_of_machine, is_free_by, keeps_by, spans_by, tie_by, tied_by}
 use Rattle.partition.proofs.DivisionLemmas.{at_node, at_past, group_as, inside_as, node_in_as, number_in, reach_of_set, some_in}
-use Rattle.partition.proofs.ReachLemmas.{IsReach, machine_in, node_in, reach_machines, reach_sets, same_reach, spans_as}
+use Rattle.partition.proofs.ReachLemmas.{IsReach, machine_in, reach_machines, reach_sets, same_reach, spans_as}
 use Rattle.partition.proofs.TableLemmas.{same_find}
 
 -- ---- tests

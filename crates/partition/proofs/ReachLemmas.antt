@@ -1,5 +1,5 @@
 -- What the named groups are that a fold over machines or nodes makes of them.
-use Rattle.base.proofs.Public.{◌≡◌, ◌≢◌, inl, inr, ℕ, zero, suc, ◌+◌, ◌<◌, ◌≤◌, Bool, true, false, not, ◌||◌, ◌&&◌, ◌==◌, List, [], ◌∷◌, length, Option, Some, None, if◌then◌else◌, nat_lt, unwrap_or, refl, sym, ap, subst, ◌∙◌, arith, cases_Bool, cases_eq, cases_lt, eq-eqb, eqb-true, false≢true, find, fold, fold-append, le-ltb, list_any, lt-ltb, ne_eqb, not-true, or-false, or_assoc, or_cases, or_left, or_right, range_with_len}
+use Rattle.base.proofs.Public.{◌≡◌, ◌≢◌, inl, inr, ℕ, zero, suc, ◌+◌, ◌<◌, ◌≤◌, Bool, true, false, not, ◌||◌, ◌&&◌, ◌==◌, List, [], ◌∷◌, length, Option, Some, None, if◌then◌else◌, unwrap_or, refl, sym, ap, subst, ◌∙◌, arith, cases_Bool, cases_eq, cases_lt, eq-eqb, eqb-true, false≢true, find, fold, fold-append, le-ltb, list_any, lt-ltb, ne_eqb, or-false, or_assoc, or_cases, or_left, or_right, range_with_len}
 use Rattle.cluster.specs.declared.ids.VmId.{VmId}
 use Rattle.cluster.specs.declared.sets.NodeSet.{NodeSet}
 use Rattle.cluster.proofs.Public.{has_node-past}

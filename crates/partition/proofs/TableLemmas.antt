@@ -1,6 +1,6 @@
 -- Tables of machines, which take in one constraint after the other.
 use Rattle.std.specs.List.{filter_map}
-use Rattle.base.proofs.Public.{◌≡◌, inl, inr, ℕ, zero, suc, ◌+◌, ◌<◌, Bool, true, false, not, ◌||◌, ◌&&◌, ◌==◌, List, [], ◌∷◌, ◌++◌, length, map, Option, Some, None, if◌then◌else◌, refl, sym, ap, ◌∙◌, arith, ap₂, cases_Bool, cases_eq, ◌≤◌, find, get_or, list_any, list_any_more, map-range_with_len_more, ne_eqb, option_or, or_assoc, range_with_len, slice_get, take, take_more}
+use Rattle.base.proofs.Public.{◌≡◌, inl, inr, ℕ, zero, suc, ◌+◌, ◌<◌, Bool, true, false, not, ◌||◌, ◌&&◌, ◌==◌, List, [], ◌∷◌, ◌++◌, length, map, Option, Some, None, if◌then◌else◌, refl, sym, ap, ◌∙◌, arith, ap₂, cases_Bool, cases_eq, ◌≤◌, find, get_or, list_any, list_any_more, map-range_with_len_more, ne_eqb, option_or, range_with_len, slice_get, take, take_more}
 use Rattle.cluster.specs.declared.ids.VmId.{VmId}
 use Rattle.cluster.specs.declared.states.State.{State}
 use Rattle.cluster.specs.declared.states.State.TheVariants.{Init, Ready, Running, Sleeping, Gone}

@@ -1,5 +1,4 @@
-use Rattle.base.proofs.Public.{◌≡◌, ◌∙◌, ap, arith, length, slice_index_or, subst, sym}
-use Rattle.catalogue.specs.Prelude.{SoundInstance}
+use Rattle.base.proofs.Public.{◌≡◌, ◌∙◌, ap, arith, length, slice_index_or}
 use Rattle.partition.specs.SplitProblems.{SplitView}
 use Rattle.partition.proofs.SplitProblemLemmas.{part_count, part_is}
 use Rattle.partition.proofs.split_problem.SplitProblem.part_plan.Goals as goal
@@ -12,5 +11,5 @@ index-requires c =
 pub part_plan-requires-clause-part : goal.part_plan-requires-clause-part
 part_plan-requires-clause-part c =
     let at : c.index.result.now ≡ slice_index_or c.args.self.now.parts c.args.i c.index.result.now =
-        c.index.ensures ∙ ap (λ (s : SplitView). slice_index_or s.parts c.args.i c.index.result.now) c.self.view_is in
+    c.index.ensures ∙ ap (λ (s : SplitView). slice_index_or s.parts c.args.i c.index.result.now) c.self.view_is in
     part_is _ _ _ c.requires.split c.args.i c.requires.within c.index.result.now at
