@@ -1,0 +1,5 @@
+-- Public has what crates above may cite; the rest is for this crate alone.
+pub mod Public
+pub mod SolvedLemmas
+pub mod AnswerLemmas
+pub mod SectionLemmas
