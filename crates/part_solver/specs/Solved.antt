@@ -78,6 +78,6 @@ pub record AreSolved (p : Instance) (groups : List NodeSet) (budget : ℕ) (solv
   pub each : (i : ℕ) → i < length solved → IsSolved (part_of p groups i) budget (solved_at solved i)
   pub ended : HasEnded (length groups) solved (first_infeasible solved)
 
--- so they are with some budget
+-- helping only: so they are with some budget
 abbrev pub WereSolved : Instance → List NodeSet → List SolvedText → Type 0
 WereSolved p groups solved = (budget : ℕ) × AreSolved p groups budget solved

@@ -25,7 +25,8 @@ fn solve_part<S: Solver>(
     Ok(SolvedPart::new(found, certificate))
 }
 
-/// Solves the parts in order, each with at most so many decisions, up to the first that is infeasible.
+/// Solves the parts in order, each with at most so many decisions, up to the first that is infeasible. They are the parts
+/// of any problem and groups that are split so.
 pub(crate) fn solve_all<S: Solver>(
     alloc: Global,
     solver: &S,
