@@ -25,7 +25,7 @@ use std::alloc::Global;
 /// section is checked, not strictly, for its part and for the plan of its part; one whose part has a machine that leaves
 /// its group is refused at line 0. The first that does not say yes decides: `No` with its line, or `Line` where the line
 /// that decides cannot be read. Lines count from 1 in each section. `NoSections` where the text has not the sections that
-/// are wanted. `Memory` and `Line` with `LineFault::Memory` for want of memory, and then nothing is said of the text.
+/// are wanted. `Memory`, or `Line` with `LineFault::Memory`, for want of memory; no other fault comes but those of lines.
 pub fn check_parts<S: Solver>(
     alloc: Global,
     solver: &S,
