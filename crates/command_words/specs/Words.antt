@@ -2,7 +2,7 @@
 use Rattle.std.specs.Prelude.{◌&&◌, ◌==◌, ◌^◌, Bool, true, false, not, ℕ, List, [], ◌∷◌, length, nat_le, nat_lt, Option, Some, None, if◌then◌else◌, map, codes, String, string_bytes, bytes_eq, option_map}
 use Rattle.std.specs.{List.list_all, Fmt.decimal, Str.Parse.digits_value, declared.alloc.Global.Global}
 
--- A command, with the names of its files, and its seed, its budget of decisions, or whether the check is strict.
+-- A command, with the names of its files, and its seed, its budget of decisions, the number of a part, or whether the check is strict.
 pub data Command : Type 0 where
   plan : (instance plan_file certificate : List ℕ) (budget : ℕ) → Command
   check : (instance plan_file certificate : List ℕ) (strict : Bool) → Command
@@ -13,6 +13,7 @@ pub data Command : Type 0 where
   execute : (instance plan_file : List ℕ) → Command
   repair : (instance plan_file new_instance new_plan : List ℕ) → Command
   explain : (instance core certificate : List ℕ) (budget : ℕ) → Command
+  cut : (instance groups_file : List ℕ) (number : ℕ) (part_file : List ℕ) → Command
   generate : (seed : ℕ) (instance : List ℕ) → Command
   demo : (seed : ℕ) → Command
 
@@ -53,7 +54,8 @@ command_of (word ∷ first ∷ second ∷ third ∷ []) =
     if bytes_eq word (codes "explain") && are_names (first ∷ second ∷ third ∷ []) then Some (explain first second third explain_decisions) else None
 command_of (word ∷ first ∷ second ∷ third ∷ last ∷ []) =
     if bytes_eq word (codes "check") && bytes_eq last (codes "strict") && are_names (first ∷ second ∷ third ∷ []) then Some (check first second third true) else
-    if bytes_eq word (codes "repair") && are_names (first ∷ second ∷ third ∷ last ∷ []) then Some (repair first second third last) else None
+    if bytes_eq word (codes "repair") && are_names (first ∷ second ∷ third ∷ last ∷ []) then Some (repair first second third last) else
+    if bytes_eq word (codes "cut") && are_names (first ∷ second ∷ last ∷ []) then option_map (λ number. cut first second number last) (number_of third) else None
 command_of (word ∷ first ∷ second ∷ third ∷ between ∷ number ∷ []) =
     if bytes_eq word (codes "plan") && bytes_eq between (codes "budget") && are_names (first ∷ second ∷ third ∷ []) then option_map (plan first second third) (number_of number) else
     if bytes_eq word (codes "explain") && bytes_eq between (codes "budget") && are_names (first ∷ second ∷ third ∷ []) then option_map (explain first second third) (number_of number) else None

@@ -1,9 +1,10 @@
 //! The words of the command line.
 
 ghost use Rattle.std.specs.Prelude.{◌≡◌, ◌≢◌, [], ◌∷◌, option_map, IfSome};
-ghost use Rattle.command_words.specs.Prelude.{are_names, asked, command_of, demo, explain, generate, HasFilesApart, is_name, is_plain, meaning, number_of, plan};
+ghost use Rattle.command_words.specs.Prelude.{are_names, asked, command_of, cut, demo, explain, generate, HasFilesApart, is_name, is_plain, meaning, number_of, plan};
 
-/// A command, with the names of its files, and its seed, its budget of decisions, or whether the check is strict.
+/// A command, with the names of its files, and its seed, its budget of decisions, the number of a part, or whether the
+/// check is strict.
 #[derive(Clone, Copy, Debug, PartialEq, Eq)]
 pub enum Command<'a> {
     /// Plans the instance with at most so many decisions, and writes the plan and its certificate.
@@ -61,6 +62,13 @@ pub enum Command<'a> {
         core: &'a str,
         certificate: &'a str,
         budget: u64,
+    },
+    /// Writes the part of that number as an instance of its own, where the groups split the instance.
+    Cut {
+        instance: &'a str,
+        groups_file: &'a str,
+        number: u64,
+        part_file: &'a str,
     },
     /// Generates the problem of a seed, and writes it as the instance.
     Generate {
@@ -235,7 +243,30 @@ fn with_three<'a>(
     }
 }
 
-/// The command that this word is before the names of three files and a last word, which may be a fourth name.
+/// The command `cut` with the number of a part that a word is.
+fn cutting<'a>(
+    instance: &'a str,
+    groups_file: &'a str,
+    number: &str,
+    part_file: &'a str,
+) -> Option<Command<'a>>
+    ensures meaning { let command = option_map (λ number. cut instance.now groups_file.now number part_file.now) (number_of number.now) in
+        option_map meaning result ≡ command }
+    ensures apart { IfSome result (λ command. HasFilesApart (meaning command)) }
+{
+    match number_of(number) {
+        Some(number) => Some(Command::Cut {
+            instance,
+            groups_file,
+            number,
+            part_file,
+        }),
+        None => None,
+    }
+}
+
+/// The command that this word is before the names of three files and a last word, which may be a fourth name, or before
+/// the names of two files, a number and the name of a file.
 fn with_last<'a>(
     word: &str,
     first: &'a str,
@@ -261,6 +292,8 @@ fn with_last<'a>(
             new_instance: third,
             new_plan: last,
         })
+    } else if word == "cut" && are_three_names(first, second, last) {
+        cutting(first, second, third, last)
     } else {
         None
     }

@@ -1,7 +1,7 @@
 -- The answer of each command is that of its row.
 use Rattle.std.proofs.Common.{ℕ, Bool, List, Option, Some, None, Result, Ok, Err, codes, refl}
 use Rattle.command_frame.proofs.Public.{ends_more, prints_more}
-use Rattle.commands.specs.Prelude.{AnswersFrom, AnswersFromPlan, check, demo, Ending, Ends, execute, Executes, explain, Fault, generate, IsAnswer, IsChecked, IsDemonstrated, IsExplained, IsGenerated, IsPlanned, IsScripted, Lists, Outside, picture, Pictures, plan, PrintsPrefix, PrintsPrefixOf, repair, RepairsPlan, replay, Replays, script, show, Status}
+use Rattle.commands.specs.Prelude.{AnswersFrom, AnswersFromPlan, check, cut, demo, Ending, Ends, execute, Executes, explain, Fault, generate, IsAnswer, IsChecked, IsCutOut, IsDemonstrated, IsExplained, IsGenerated, IsPlanned, IsScripted, Lists, Outside, picture, Pictures, plan, PrintsPrefix, PrintsPrefixOf, repair, RepairsPlan, replay, Replays, script, show, Status}
 
 -- ---- how a command ends
 
@@ -64,6 +64,12 @@ unfolding AnswersFrom IsAnswer
 explain_row instance core certificate budget source before after ended ends =
     ends_more (AnswersFrom (IsExplained core certificate budget) instance before) (IsAnswer (Some (explain instance core certificate budget)) source before) after ended (λ then result is. is) ends
 
+pub cut_row : (instance groups_file : List ℕ) (number : ℕ) (part_file : List ℕ) (source : Option (List ℕ)) (before after : Outside) (ended : Result Ending Fault) →
+    Ends (AnswersFrom (IsCutOut groups_file number part_file) instance before) after ended → Ends (IsAnswer (Some (cut instance groups_file number part_file)) source before) after ended
+unfolding AnswersFrom IsAnswer
+cut_row instance groups_file number part_file source before after ended ends =
+    ends_more (AnswersFrom (IsCutOut groups_file number part_file) instance before) (IsAnswer (Some (cut instance groups_file number part_file)) source before) after ended (λ then result is. is) ends
+
 pub generate_row : (seed : ℕ) (instance : List ℕ) (source : Option (List ℕ)) (before after : Outside) (ended : Result Ending Fault) →
     Ends (IsGenerated seed instance before) after ended → Ends (IsAnswer (Some (generate seed instance)) source before) after ended
 unfolding IsAnswer
@@ -96,4 +102,4 @@ unfolding AnswersFromPlan IsAnswer PrintsPrefix
 execute_prints instance plan_file source before after prints =
     prints_more (AnswersFromPlan (Executes source) instance plan_file before) (IsAnswer (Some (execute instance plan_file)) source before) before after (λ then result is. is) prints
 
-pub ruleset rows = (no_command, plan_row, check_row, replay_row, show_row, picture_row, script_row, execute_row, explain_row, generate_row, demo_row, replay_prints, show_prints, execute_prints)
+pub ruleset rows = (no_command, plan_row, check_row, replay_row, show_row, picture_row, script_row, execute_row, explain_row, cut_row, generate_row, demo_row, replay_prints, show_prints, execute_prints)

@@ -13,6 +13,7 @@ use command_frame::fault::{Ending, Fault};
 use command_frame::status::Status;
 use command_make::generating::generate;
 use command_make::scripting::script;
+use command_parts::cutting::cut;
 use command_report::picturing::picture;
 use command_report::replaying::replay;
 use command_report::showing::show;
@@ -152,6 +153,14 @@ fn answer<D: Desk, I: Source, O: Sink, S: Solver>(
                 budget,
             },
         ) => explain(alloc, desk, solver, instance, core, certificate, budget),
+        Some(
+            Command::Cut {
+                instance,
+                groups_file,
+                number,
+                part_file,
+            },
+        ) => cut(alloc, desk, instance, groups_file, number, part_file),
         Some(Command::Generate { seed, instance }) => generate(alloc, desk, seed, instance),
         Some(Command::Demo { seed }) => demo(alloc, desk, solver, seed),
         None => Err(Fault::Words),

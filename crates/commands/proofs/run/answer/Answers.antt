@@ -1,5 +1,5 @@
 use Rattle.std.proofs.Common.{◌≡◌, Option, Some, subst, rules}
-use Rattle.commands.specs.Prelude.{asked, check, Command, Ends, EndsAnyhow, execute, explain, generate, IsAnswer, KeepsSource, outside, picture, plan, repair, replay, script, show, Takes, taking, told}
+use Rattle.commands.specs.Prelude.{asked, check, Command, cut, Ends, EndsAnyhow, execute, explain, generate, IsAnswer, KeepsSource, outside, picture, plan, repair, replay, script, show, Takes, taking, told}
 use Rattle.commands.proofs.{Rows.repair_row, Sources.unread}
 use Rattle.commands.proofs.run.answer.Goals as goal
 
@@ -73,6 +73,11 @@ pub returns-in-Some-Explain-clause-takes : goal.returns-in-Some-Explain-clause-t
 returns-in-Some-Explain-clause-takes g c = λ desk_tells source_tells sink_tells.
     let is : Some (explain c.in-Some-Explain.instance.now c.in-Some-Explain.core.now c.in-Some-Explain.certificate.now c.in-Some-Explain.budget) ≡ asked c.args.words.now = search rules in
     unread (asked c.args.words.now) (Some (explain c.in-Some-Explain.instance.now c.in-Some-Explain.core.now c.in-Some-Explain.certificate.now c.in-Some-Explain.budget)) _ _ _ _ is (λ then result. tt)
+
+pub returns-in-Some-Cut-clause-takes : goal.returns-in-Some-Cut-clause-takes
+returns-in-Some-Cut-clause-takes g c = λ desk_tells source_tells sink_tells.
+    let is : Some (cut c.in-Some-Cut.instance.now c.in-Some-Cut.groups_file.now c.in-Some-Cut.number c.in-Some-Cut.part_file.now) ≡ asked c.args.words.now = search rules in
+    unread (asked c.args.words.now) (Some (cut c.in-Some-Cut.instance.now c.in-Some-Cut.groups_file.now c.in-Some-Cut.number c.in-Some-Cut.part_file.now)) _ _ _ _ is (λ then result. tt)
 
 pub returns-in-Some-Generate-clause-takes : goal.returns-in-Some-Generate-clause-takes
 returns-in-Some-Generate-clause-takes g c = λ desk_tells source_tells sink_tells.

@@ -1,0 +1,3 @@
+pub mod CutAnswers
+pub mod GroupReadings
+pub mod SplitReadings

@@ -1,0 +1,5 @@
+-- what a reader must believe: what the bytes of groups mean, and what each command answers and leaves
+pub mod Groups
+pub mod Splitting
+pub mod Cutting
+pub mod Prelude
