@@ -2,4 +2,5 @@
 pub mod Groups
 pub mod Splitting
 pub mod Cutting
+pub mod PlanningParts
 pub mod Prelude
