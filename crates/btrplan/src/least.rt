@@ -1,5 +1,6 @@
 //! The least cost that no valid plan undercuts, as a search knows it when it decides for the first time.
 
+use advice::least::Least;
 use bound::lower_bound::sum_of;
 use branching::brancher::Brancher;
 use catalogue::Problem;
@@ -14,48 +15,6 @@ use search::Found;
 use slices::Plan;
 use solver::Solver;
 use std::alloc::Global;
-use std::cell::Cell;
-use std::rc::Rc;
-
-/// What is known of the least cost, shared by the brancher that sees it and the desk that tells it.
-#[derive(Drop)]
-pub struct Least {
-    // nothing where there was no memory for it
-    known: Option<Rc<Cell<Option<u64>>>>,
-}
-
-impl Least {
-    /// Nothing is known yet.
-    pub fn new(alloc: Global) -> Least {
-        Least {
-            known: Rc::new(alloc, Cell::new(None)).ok(),
-        }
-    }
-
-    /// The same, for another owner.
-    pub fn share(&self) -> Least {
-        Least {
-            known: match &self.known {
-                Some(cell) => Rc::clone(cell).ok(),
-                None => None,
-            },
-        }
-    }
-
-    /// What is known.
-    pub fn get(&self) -> Option<u64> {
-        match &self.known {
-            Some(cell) => cell.get(),
-            None => None,
-        }
-    }
-
-    fn set(&self, least: Option<u64>) {
-        if let Some(cell) = &self.known {
-            cell.set(least);
-        }
-    }
-}
 
 /// A brancher that is another one, and keeps the sum of the least ends of the region that it is asked for first: the search
 /// has made no decision then, so no valid plan costs less.

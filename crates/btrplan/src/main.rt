@@ -2,19 +2,14 @@
 //! for, and says what the program promises.
 #![tactic(auto)]
 
-mod advice;
-mod finding;
-mod last_line;
 mod least;
-mod meaning;
-mod progress;
-mod searches;
 
-use crate::advice::advise;
-use crate::last_line::KeepingSink;
-use crate::least::{Least, LeastSolver};
-use crate::progress::TellingDesk;
-use crate::searches::TellingSolver;
+use crate::least::LeastSolver;
+use advice::answers::advise;
+use advice::last_line::KeepingSink;
+use advice::least::Least;
+use advice::progress::TellingDesk;
+use advice::searches::TellingSolver;
 use commands::run::run;
 use commands::status::Status;
 use plan_io::{FileDesk, StdSink, StdSource};

@@ -86,7 +86,7 @@ fn pointer_of(alloc: Global, path: &str) -> io::Result<String> {
     Ok(pointer)
 }
 
-fn say_value(rt: &HostRuntime, alloc: Global, value: &Value) -> io::Result<()> {
+fn say_value<R: Eprint>(rt: &R, alloc: Global, value: &Value) -> io::Result<()> {
     match value {
         Value::Object(members) => {
             eprint!(rt; "an object with the keys")?;
@@ -108,8 +108,8 @@ fn say_value(rt: &HostRuntime, alloc: Global, value: &Value) -> io::Result<()> {
 }
 
 /// Says what stands at a place of a file, which may be a key that is missing, and which known word is nearest to it.
-fn say_found<'a>(
-    rt: &HostRuntime,
+fn say_found<'a, R: Eprint>(
+    rt: &R,
     alloc: Global,
     value: &'a Value,
     instance: &'a Value,
@@ -135,7 +135,7 @@ fn say_found<'a>(
 }
 
 /// The value of a JSON file, or nothing, once it is said in which line it is no JSON.
-fn value_of(rt: &HostRuntime, alloc: Global, name: &str) -> io::Result<Option<Value>> {
+fn value_of<R: Files + Eprint>(rt: &R, alloc: Global, name: &str) -> io::Result<Option<Value>> {
     match Value::from_slice(alloc, &fs::read(rt, name)?) {
         Ok(value) => Ok(Some(value)),
         Err(fault) => {
@@ -146,7 +146,12 @@ fn value_of(rt: &HostRuntime, alloc: Global, name: &str) -> io::Result<Option<Va
 }
 
 /// Says more of a fault of an instance or a plan, by the line that was printed: `input instance PATH TEXT`.
-pub fn say_place(rt: &HostRuntime, alloc: Global, words: &[String], line: &str) -> io::Result<()> {
+pub fn say_place<R: Files + Eprint>(
+    rt: &R,
+    alloc: Global,
+    words: &[String],
+    line: &str,
+) -> io::Result<()> {
     let mut parts = line.split(' ').skip(1);
     let (Some(file), Some(path), [_, instance_file, others @ ..]) = (
         parts.next(),

@@ -9,8 +9,8 @@ use std::io::{self, Read};
 const MOST_READ: usize = 65_536;
 
 /// Constraint number C of an instance, as it stands there.
-fn say_constraint(
-    rt: &HostRuntime,
+fn say_constraint<R: Files + Eprint>(
+    rt: &R,
     alloc: Global,
     instance_file: &str,
     number: &str,
@@ -32,8 +32,8 @@ fn say_constraint(
 }
 
 /// Says what `broken T RULE` means.
-pub fn say_broken(
-    rt: &HostRuntime,
+pub fn say_broken<R: Files + Eprint>(
+    rt: &R,
     alloc: Global,
     instance_file: &str,
     line: &str,
@@ -58,8 +58,8 @@ pub fn say_broken(
 }
 
 /// Says what a reason of a certificate means, by its words.
-fn say_reason(
-    rt: &HostRuntime,
+fn say_reason<R: Files + Eprint>(
+    rt: &R,
     alloc: Global,
     instance_file: &str,
     reason: &[&str],
@@ -94,8 +94,8 @@ fn first_after<'a>(text: &'a str, word: &str) -> Option<&'a str> {
 }
 
 /// Says why no plan is valid, by what the certificate refutes first.
-pub fn say_infeasible(
-    rt: &HostRuntime,
+pub fn say_infeasible<R: Files + Eprint>(
+    rt: &R,
     alloc: Global,
     instance_file: &str,
     certificate_file: &str,

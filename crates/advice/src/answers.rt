@@ -2,7 +2,7 @@
 
 use crate::finding::say_place;
 use crate::meaning::{say_broken, say_infeasible};
-use commands::status::Status;
+use command_frame::status::Status;
 use std::fs::{self, File, OpenOptions};
 use std::io;
 use std::path::Path;
@@ -24,7 +24,7 @@ files and lines: docs/FORMATS.md
 ";
 
 // the words that are no command, and all commands
-fn say_usage(rt: &HostRuntime, words: &[String]) -> io::Result<()> {
+fn say_usage<R: Eprint>(rt: &R, words: &[String]) -> io::Result<()> {
     eprint!(rt; "btrplan: no command has these words:")?;
     for word in words {
         eprint!(rt; " '{word}'")?;
@@ -43,7 +43,7 @@ fn input_count(command: &str) -> usize {
 }
 
 // which file that is read cannot be opened, and why
-fn say_unread(rt: &HostRuntime, words: &[String]) -> io::Result<()> {
+fn say_unread<R: Files + Eprint>(rt: &R, words: &[String]) -> io::Result<()> {
     let count = words.first().map_or(0, |word| input_count(word));
     for name in words.iter().skip(1).take(count) {
         if let Err(fault) = File::open(rt, name) {
@@ -54,7 +54,7 @@ fn say_unread(rt: &HostRuntime, words: &[String]) -> io::Result<()> {
 }
 
 // whether the folder of a file is there, as far as that can be seen
-fn has_folder(rt: &HostRuntime, name: &str) -> bool {
+fn has_folder<R: Files>(rt: &R, name: &str) -> bool {
     match Path::new(name).parent() {
         Some(folder) if !folder.as_str().is_empty() => fs::exists(rt, folder).unwrap_or(true),
         _ => true,
@@ -62,7 +62,7 @@ fn has_folder(rt: &HostRuntime, name: &str) -> bool {
 }
 
 // why a file cannot be written, as far as that can be seen afterwards
-fn say_unwritten(rt: &HostRuntime, name: &str) -> io::Result<()> {
+fn say_unwritten<R: Files + Eprint>(rt: &R, name: &str) -> io::Result<()> {
     eprint!(rt; "btrplan: {name} cannot be written: ")?;
     match fs::metadata(rt, name) {
         Err(_) if !has_folder(rt, name) => eprintln!(rt; "its folder is not there"),
@@ -77,7 +77,11 @@ fn say_unwritten(rt: &HostRuntime, name: &str) -> io::Result<()> {
 }
 
 // what a negative answer means, by its line
-fn say_negative(rt: &HostRuntime, words: &[String], line: &str) -> io::Result<()> {
+fn say_negative<R: Files + AllocGlobal + Eprint>(
+    rt: &R,
+    words: &[String],
+    line: &str,
+) -> io::Result<()> {
     match words {
         [command, instance, _, certificate, ..] if command.as_str() == "plan" => say_infeasible(
             rt,
@@ -97,8 +101,8 @@ fn say_negative(rt: &HostRuntime, words: &[String], line: &str) -> io::Result<()
 
 /// Says what helps after an answer of a status, if anything does, by its last line and the file of which a write has failed.
 /// What cannot be said is left out.
-pub fn advise(
-    rt: &HostRuntime,
+pub fn advise<R: Files + AllocGlobal + Eprint>(
+    rt: &R,
     words: &[String],
     status: Status,
     line: &str,
