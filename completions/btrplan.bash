@@ -2,10 +2,10 @@
 
 _btrplan() {
     local word=${COMP_WORDS[COMP_CWORD]} place=$COMP_CWORD
-    local commands='plan check replay show picture script execute repair explain generate demo'
+    local commands='plan check replay show picture script execute repair explain parts checkparts cut generate demo'
     COMPREPLY=()
     [ "${COMP_WORDS[1]-}" != trial ] || place=$((place - 1))
-    local command=${COMP_WORDS[COMP_CWORD - place + 1]-} files last
+    local command=${COMP_WORDS[COMP_CWORD - place + 1]-} files last end=5
     if [ "$place" = 1 ]; then
         [ "$COMP_CWORD" != 1 ] || commands="$commands trial"
         mapfile -t COMPREPLY < <(compgen -W "$commands" -- "$word")
@@ -16,13 +16,15 @@ _btrplan() {
         check) files='2 3 4' last=strict ;;
         picture | script) files='2 3 4' last= ;;
         replay | show | execute) files='2 3' last= ;;
-        repair) files='2 3 4 5' last= ;;
+        repair | checkparts) files='2 3 4 5' last= ;;
+        parts) files='2 3 4 5' last=budget end=6 ;;
+        cut) files='2 3 5' last= ;;
         generate) files=3 last= ;;
         *) files= last= ;;
     esac
     case " $files " in
         *" $place "*) mapfile -t COMPREPLY < <(compgen -f -- "$word") ;;
-        *) [ "$place" != 5 ] || mapfile -t COMPREPLY < <(compgen -W "$last" -- "$word") ;;
+        *) [ "$place" != "$end" ] || mapfile -t COMPREPLY < <(compgen -W "$last" -- "$word") ;;
     esac
 }
 

@@ -18,6 +18,10 @@ usage: btrplan COMMAND, with names of files
   script INSTANCE SCRIPT OUT              adds the constraints of a script to an instance
   execute INSTANCE PLAN                   prints what may start, and reads what has ended or failed
   repair INSTANCE PLAN INSTANCE PLAN      reads what became of a plan, and writes what is left
+  parts INSTANCE GROUPS PLAN CERT [budget N]
+                                          plans independent parts apart, and puts them together
+  checkparts INSTANCE GROUPS PLAN CERT    judges a plan and the certificates of its parts
+  cut INSTANCE GROUPS I PART              writes a part as an instance of its own
   generate SEED INSTANCE                  writes the instance of a number
   demo SEED                               generates, plans and checks
 files and lines: docs/FORMATS.md
@@ -36,8 +40,9 @@ fn say_usage<R: Eprint>(rt: &R, words: &[String]) -> io::Result<()> {
 fn input_count(command: &str) -> usize {
     match command {
         "plan" | "explain" => 1,
+        "replay" | "show" | "picture" | "script" | "execute" | "repair" | "parts" | "cut" => 2,
         "check" => 3,
-        "replay" | "show" | "picture" | "script" | "execute" | "repair" => 2,
+        "checkparts" => 4,
         _ => 0,
     }
 }

@@ -145,7 +145,19 @@ fn value_of<R: Files + Eprint>(rt: &R, alloc: Global, name: &str) -> io::Result<
     }
 }
 
-/// Says more of a fault of an instance or a plan, by the line that was printed: `input instance PATH TEXT`.
+/// The file that a line of a fault speaks of, by the words of the command.
+fn file_of<'a>(words: &'a [String], file: &str) -> Option<&'a str> {
+    let place = match (file, words.first()?.as_str()) {
+        ("instance", _) => 1,
+        ("groups", _) => 2,
+        ("plan", "checkparts") => 3,
+        ("plan", _) => 2,
+        _ => return None,
+    };
+    Some(words.get(place)?.as_str())
+}
+
+/// Says more of a fault of an instance, of groups or of a plan, by the line that was printed: `input FILE PATH TEXT`.
 pub fn say_place<R: Files + Eprint>(
     rt: &R,
     alloc: Global,
@@ -153,23 +165,24 @@ pub fn say_place<R: Files + Eprint>(
     line: &str,
 ) -> io::Result<()> {
     let mut parts = line.split(' ').skip(1);
-    let (Some(file), Some(path), [_, instance_file, others @ ..]) = (
-        parts.next(),
-        parts.next(),
-        words,
-    ) else {
+    let (Some(file), Some(path), [_, instance_file, ..]) = (parts.next(), parts.next(), words)
+    else {
         return Ok(());
     };
-    let Some(instance) = value_of(rt, alloc, instance_file)? else {
+    let Some(name) = file_of(words, file) else {
         return Ok(());
     };
-    let is_placed = PLACED.iter().any(|text| line.ends_with(*text));
-    match (file, others) {
-        ("instance", _) if is_placed => say_found(rt, alloc, &instance, &instance, path),
-        ("plan", [plan_file, ..]) => match value_of(rt, alloc, plan_file)? {
-            Some(plan) if is_placed => say_found(rt, alloc, &plan, &instance, path),
-            _ => Ok(()),
-        },
-        _ => Ok(()),
+    let Some(value) = value_of(rt, alloc, name)? else {
+        return Ok(());
+    };
+    if !PLACED.iter().any(|text| line.ends_with(*text)) {
+        return Ok(());
+    }
+    if file == "instance" {
+        return say_found(rt, alloc, &value, &value, path);
+    }
+    match value_of(rt, alloc, instance_file)? {
+        Some(instance) => say_found(rt, alloc, &value, &instance, path),
+        None => Ok(()),
     }
 }

@@ -18,6 +18,15 @@ use std::time::Instant;
 /// How long it is silent before the first line, and between two, in seconds.
 const PAUSE_SECONDS: u64 = 2;
 
+/// What a command searches again and again.
+#[derive(Clone, Copy, Debug, PartialEq, Eq)]
+pub enum Searched {
+    /// Some of the constraints of one problem, as `explain` does.
+    Constraints,
+    /// The parts of one problem, as `parts` does.
+    Parts,
+}
+
 /// The searches that were made, and the constraints of the first problem and of the last one that has no valid plan.
 #[derive(Clone, Copy, Debug, Default)]
 struct Seen {
@@ -46,31 +55,37 @@ impl Seen {
         }
     }
 
-    fn say<R: Eprint>(self, rt: &R) -> io::Result<()> {
-        eprintln!(rt;
-            "btrplan: search {}, {} of {} constraints left",
-            self.searches.saturating_add(1),
-            self.left,
-            self.constraints
-        )
+    fn say<R: Eprint>(self, rt: &R, searched: Searched) -> io::Result<()> {
+        match searched {
+            Searched::Constraints => eprintln!(rt;
+                "btrplan: search {}, {} of {} constraints left",
+                self.searches.saturating_add(1),
+                self.left,
+                self.constraints
+            ),
+            Searched::Parts => eprintln!(rt; "btrplan: {} parts solved", self.searches),
+        }
     }
 }
 
-/// A solver that is another one, and tells how far the command is that asks it again and again, as `explain` does.
+/// A solver that is another one, and tells how far the command is that asks it again and again, as `explain` and
+/// `parts` do.
 #[derive(Drop)]
 pub struct TellingSolver<'a, S: Solver + Drop, R: Clock + Eprint> {
     solver: S,
     rt: &'a R,
+    searched: Searched,
     told: Cell<Option<Instant>>,
     seen: Cell<Seen>,
 }
 
 impl<'a, S: Solver + Drop, R: Clock + Eprint> TellingSolver<'a, S, R> {
     /// The solver, of which nothing was asked yet. Where there is no clock nothing is told.
-    pub fn new(solver: S, rt: &'a R) -> TellingSolver<'a, S, R> {
+    pub fn new(solver: S, rt: &'a R, searched: Searched) -> TellingSolver<'a, S, R> {
         TellingSolver {
             solver,
             rt,
+            searched,
             told: Cell::new(Instant::now(rt).ok()),
             seen: Cell::new(Seen::default()),
         }
@@ -87,7 +102,7 @@ impl<'a, S: Solver + Drop, R: Clock + Eprint> TellingSolver<'a, S, R> {
         if seen.searches > 0 && is_due {
             self.told.set(Instant::now(self.rt).ok());
             // what cannot be said changes nothing
-            let _ = seen.say(self.rt);
+            let _ = seen.say(self.rt, self.searched);
         }
     }
 }
