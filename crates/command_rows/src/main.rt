@@ -21,7 +21,7 @@ use crate::rows::Row;
 use std::{fs, io};
 
 /// The texts with the rows, one a topic, in the order in which they are read. The first has what many rows name.
-const NAMES: [&str; 21] = [
+const NAMES: [&str; 22] = [
     "files.txt",
     "words.txt",
     "plan.txt",
@@ -34,6 +34,7 @@ const NAMES: [&str; 21] = [
     "execute.txt",
     "repair.txt",
     "script.txt",
+    "parts.txt",
     "instances.txt",
     "plans.txt",
     "texts.txt",
