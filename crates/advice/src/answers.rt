@@ -3,7 +3,7 @@
 use crate::finding::say_place;
 use crate::meaning::{say_broken, say_infeasible};
 use command_frame::status::Status;
-use std::fs::{self, File, OpenOptions};
+use std::fs::{self, File, Files, OpenOptions};
 use std::io;
 use std::path::Path;
 

@@ -3,7 +3,8 @@
 use catalogue::constraint::CONSTRAINT_WORDS;
 use serde_json::Value;
 use std::alloc::Global;
-use std::{fs, io};
+use std::fs::{self, Files};
+use std::io;
 use strsim::levenshtein;
 
 /// The longest text that is shown, in bytes.
@@ -135,7 +136,11 @@ fn say_found<'a, R: Eprint>(
 }
 
 /// The value of a JSON file, or nothing, once it is said in which line it is no JSON.
-fn value_of<R: Files + Eprint>(rt: &R, alloc: Global, name: &str) -> io::Result<Option<Value>> {
+fn value_of<R: Files + AllocGlobal + Eprint>(
+    rt: &R,
+    alloc: Global,
+    name: &str,
+) -> io::Result<Option<Value>> {
     match Value::from_slice(alloc, &fs::read(rt, name)?) {
         Ok(value) => Ok(Some(value)),
         Err(fault) => {
@@ -158,7 +163,7 @@ fn file_of<'a>(words: &'a [String], file: &str) -> Option<&'a str> {
 }
 
 /// Says more of a fault of an instance, of groups or of a plan, by the line that was printed: `input FILE PATH TEXT`.
-pub fn say_place<R: Files + Eprint>(
+pub fn say_place<R: Files + AllocGlobal + Eprint>(
     rt: &R,
     alloc: Global,
     words: &[String],

@@ -2,14 +2,14 @@
 
 use serde_json::Value;
 use std::alloc::Global;
-use std::fs::{self, File};
+use std::fs::{self, File, Files};
 use std::io::{self, Read};
 
 /// How much of a certificate is looked at, in bytes.
 const MOST_READ: usize = 65_536;
 
 /// Constraint number C of an instance, as it stands there.
-fn say_constraint<R: Files + Eprint>(
+fn say_constraint<R: Files + AllocGlobal + Eprint>(
     rt: &R,
     alloc: Global,
     instance_file: &str,
@@ -32,7 +32,7 @@ fn say_constraint<R: Files + Eprint>(
 }
 
 /// Says what `broken T RULE` means.
-pub fn say_broken<R: Files + Eprint>(
+pub fn say_broken<R: Files + AllocGlobal + Eprint>(
     rt: &R,
     alloc: Global,
     instance_file: &str,
@@ -58,7 +58,7 @@ pub fn say_broken<R: Files + Eprint>(
 }
 
 /// Says what a reason of a certificate means, by its words.
-fn say_reason<R: Files + Eprint>(
+fn say_reason<R: Files + AllocGlobal + Eprint>(
     rt: &R,
     alloc: Global,
     instance_file: &str,
@@ -94,7 +94,7 @@ fn first_after<'a>(text: &'a str, word: &str) -> Option<&'a str> {
 }
 
 /// Says why no plan is valid, by what the certificate refutes first.
-pub fn say_infeasible<R: Files + Eprint>(
+pub fn say_infeasible<R: Files + AllocGlobal + Eprint>(
     rt: &R,
     alloc: Global,
     instance_file: &str,
