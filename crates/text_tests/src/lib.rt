@@ -1,23 +1,16 @@
-//! Tests of texts: files and streams, JSON, instances, plans and the lines of certificates.
+//! Tests of what no command reaches: files and streams, values of JSON, the longest texts, generated problems, and a reader of
+//! certificates.
 #![tactic(auto)]
 
 #[cfg(test)]
 mod files;
 #[cfg(test)]
-mod instances;
-#[cfg(test)]
-mod lines;
-#[cfg(test)]
-mod listings;
+mod limits;
 #[cfg(test)]
 mod making;
-#[cfg(test)]
-mod plan_texts;
 #[cfg(test)]
 mod printed;
 #[cfg(test)]
 mod reading;
 #[cfg(test)]
 mod values;
-#[cfg(test)]
-mod writing;
