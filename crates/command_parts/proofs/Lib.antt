@@ -1,3 +1,4 @@
+pub mod CheckPartsAnswers
 pub mod CutAnswers
 pub mod GroupReadings
 pub mod PartsAnswers

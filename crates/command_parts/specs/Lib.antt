@@ -3,4 +3,5 @@ pub mod Groups
 pub mod Splitting
 pub mod Cutting
 pub mod PlanningParts
+pub mod CheckingParts
 pub mod Prelude
