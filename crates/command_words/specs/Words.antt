@@ -14,6 +14,8 @@ pub data Command : Type 0 where
   repair : (instance plan_file new_instance new_plan : List ℕ) → Command
   explain : (instance core certificate : List ℕ) (budget : ℕ) → Command
   cut : (instance groups_file : List ℕ) (number : ℕ) (part_file : List ℕ) → Command
+  parts : (instance groups_file plan_file certificate : List ℕ) (budget : ℕ) → Command
+  checkparts : (instance groups_file plan_file certificate : List ℕ) → Command
   generate : (seed : ℕ) (instance : List ℕ) → Command
   demo : (seed : ℕ) → Command
 
@@ -36,7 +38,7 @@ is_plain [] = false
 is_plain (x ∷ []) = not (x == 43)
 is_plain (x ∷ y ∷ rest) = not (x == 43) && not (x == 48)
 
--- How many decisions a plan may take where the words do not say it.
+-- How many decisions a plan, or that of a part, may take where the words do not say it.
 abbrev pub plan_decisions : ℕ
 plan_decisions = 100000
 
@@ -55,10 +57,14 @@ command_of (word ∷ first ∷ second ∷ third ∷ []) =
 command_of (word ∷ first ∷ second ∷ third ∷ last ∷ []) =
     if bytes_eq word (codes "check") && bytes_eq last (codes "strict") && are_names (first ∷ second ∷ third ∷ []) then Some (check first second third true) else
     if bytes_eq word (codes "repair") && are_names (first ∷ second ∷ third ∷ last ∷ []) then Some (repair first second third last) else
-    if bytes_eq word (codes "cut") && are_names (first ∷ second ∷ last ∷ []) then option_map (λ number. cut first second number last) (number_of third) else None
+    if bytes_eq word (codes "cut") && are_names (first ∷ second ∷ last ∷ []) then option_map (λ number. cut first second number last) (number_of third) else
+    if bytes_eq word (codes "parts") && are_names (first ∷ second ∷ third ∷ last ∷ []) then Some (parts first second third last plan_decisions) else
+    if bytes_eq word (codes "checkparts") && are_names (first ∷ second ∷ third ∷ last ∷ []) then Some (checkparts first second third last) else None
 command_of (word ∷ first ∷ second ∷ third ∷ between ∷ number ∷ []) =
     if bytes_eq word (codes "plan") && bytes_eq between (codes "budget") && are_names (first ∷ second ∷ third ∷ []) then option_map (plan first second third) (number_of number) else
     if bytes_eq word (codes "explain") && bytes_eq between (codes "budget") && are_names (first ∷ second ∷ third ∷ []) then option_map (explain first second third) (number_of number) else None
+command_of (word ∷ first ∷ second ∷ third ∷ fourth ∷ between ∷ number ∷ []) =
+    if bytes_eq word (codes "parts") && bytes_eq between (codes "budget") && are_names (first ∷ second ∷ third ∷ fourth ∷ []) then option_map (parts first second third fourth) (number_of number) else None
 command_of (word ∷ first ∷ second ∷ []) =
     if bytes_eq word (codes "replay") && are_names (first ∷ second ∷ []) then Some (replay first second) else
     if bytes_eq word (codes "show") && are_names (first ∷ second ∷ []) then Some (show first second) else

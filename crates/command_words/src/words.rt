@@ -1,7 +1,7 @@
 //! The words of the command line.
 
 ghost use Rattle.std.specs.Prelude.{◌≡◌, ◌≢◌, [], ◌∷◌, option_map, IfSome};
-ghost use Rattle.command_words.specs.Prelude.{are_names, asked, command_of, cut, demo, explain, generate, HasFilesApart, is_name, is_plain, meaning, number_of, plan};
+ghost use Rattle.command_words.specs.Prelude.{are_names, asked, command_of, cut, demo, explain, generate, HasFilesApart, is_name, is_plain, meaning, number_of, parts, plan};
 
 /// A command, with the names of its files, and its seed, its budget of decisions, the number of a part, or whether the
 /// check is strict.
@@ -70,6 +70,22 @@ pub enum Command<'a> {
         number: u64,
         part_file: &'a str,
     },
+    /// Plans the parts into which the groups split the instance, each with at most so many decisions, and writes the plan
+    /// of the whole and the certificates.
+    Parts {
+        instance: &'a str,
+        groups_file: &'a str,
+        plan_file: &'a str,
+        certificate: &'a str,
+        budget: u64,
+    },
+    /// Checks the certificates of the parts into which the groups split the instance, for a plan of the whole, or for none.
+    CheckParts {
+        instance: &'a str,
+        groups_file: &'a str,
+        plan_file: &'a str,
+        certificate: &'a str,
+    },
     /// Generates the problem of a seed, and writes it as the instance.
     Generate {
         seed: u64,
@@ -81,7 +97,7 @@ pub enum Command<'a> {
     },
 }
 
-/// How many decisions a plan may take where the words do not say it.
+/// How many decisions a plan, or that of a part, may take where the words do not say it.
 pub const BUDGET: u64 = 100_000;
 
 /// How many decisions each search of an explanation may take where the words do not say it.
@@ -294,6 +310,21 @@ fn with_last<'a>(
         })
     } else if word == "cut" && are_three_names(first, second, last) {
         cutting(first, second, third, last)
+    } else if word == "parts" && are_four_names(first, second, third, last) {
+        Some(Command::Parts {
+            instance: first,
+            groups_file: second,
+            plan_file: third,
+            certificate: last,
+            budget: BUDGET,
+        })
+    } else if word == "checkparts" && are_four_names(first, second, third, last) {
+        Some(Command::CheckParts {
+            instance: first,
+            groups_file: second,
+            plan_file: third,
+            certificate: last,
+        })
     } else {
         None
     }
@@ -367,6 +398,52 @@ fn with_number<'a>(
     }
 }
 
+/// The command `parts` with the budget that a word is.
+fn planning_parts<'a>(
+    instance: &'a str,
+    groups_file: &'a str,
+    plan_file: &'a str,
+    certificate: &'a str,
+    budget: &str,
+) -> Option<Command<'a>>
+    requires { plan_file.now ≢ certificate.now }
+    ensures meaning { let command = option_map (parts instance.now groups_file.now plan_file.now certificate.now) (number_of budget.now) in
+        option_map meaning result ≡ command }
+    ensures apart { IfSome result (λ command. HasFilesApart (meaning command)) }
+{
+    match number_of(budget) {
+        Some(budget) => Some(Command::Parts {
+            instance,
+            groups_file,
+            plan_file,
+            certificate,
+            budget,
+        }),
+        None => None,
+    }
+}
+
+/// The command that this word is before the names of four files, a word and a number.
+fn with_four_and_number<'a>(
+    word: &str,
+    first: &'a str,
+    second: &'a str,
+    third: &'a str,
+    fourth: &'a str,
+    between: &str,
+    number: &str,
+) -> Option<Command<'a>>
+    ensures meaning { let words = word.now ∷ first.now ∷ second.now ∷ third.now ∷ fourth.now ∷ between.now ∷ number.now ∷ [] in
+        option_map meaning result ≡ command_of words }
+    ensures apart { IfSome result (λ command. HasFilesApart (meaning command)) }
+{
+    if word == "parts" && between == "budget" && are_four_names(first, second, third, fourth) {
+        planning_parts(first, second, third, fourth, number)
+    } else {
+        None
+    }
+}
+
 /// The command that these words are; `None` where they are in no command.
 pub fn read_words(words: &[String]) -> Option<Command<'_>>
     ensures meaning { option_map meaning result ≡ asked words.now }
@@ -393,6 +470,15 @@ pub fn read_words(words: &[String]) -> Option<Command<'_>>
             first.as_str(),
             second.as_str(),
             third.as_str(),
+            between.as_str(),
+            number.as_str(),
+        ),
+        [word, first, second, third, fourth, between, number] => with_four_and_number(
+            word.as_str(),
+            first.as_str(),
+            second.as_str(),
+            third.as_str(),
+            fourth.as_str(),
             between.as_str(),
             number.as_str(),
         ),

@@ -1,7 +1,7 @@
 -- The answer of each command is that of its row.
 use Rattle.std.proofs.Common.{ℕ, Bool, List, Option, Some, None, Result, Ok, Err, codes, refl}
 use Rattle.command_frame.proofs.Public.{ends_more, prints_more}
-use Rattle.commands.specs.Prelude.{AnswersFrom, AnswersFromPlan, check, cut, demo, Ending, Ends, execute, Executes, explain, Fault, generate, IsAnswer, IsChecked, IsCutOut, IsDemonstrated, IsExplained, IsGenerated, IsPlanned, IsScripted, Lists, Outside, picture, Pictures, plan, PrintsPrefix, PrintsPrefixOf, repair, RepairsPlan, replay, Replays, script, show, Status}
+use Rattle.commands.specs.Prelude.{AnswersFrom, AnswersFromPlan, check, checkparts, cut, demo, Ending, Ends, execute, Executes, explain, Fault, generate, IsAnswer, IsChecked, IsCheckedByParts, IsCutOut, IsDemonstrated, IsExplained, IsGenerated, IsPlanned, IsPlannedByParts, IsScripted, Lists, Outside, parts, picture, Pictures, plan, PrintsPrefix, PrintsPrefixOf, repair, RepairsPlan, replay, Replays, script, show, Status}
 
 -- ---- how a command ends
 
@@ -70,6 +70,18 @@ unfolding AnswersFrom IsAnswer
 cut_row instance groups_file number part_file source before after ended ends =
     ends_more (AnswersFrom (IsCutOut groups_file number part_file) instance before) (IsAnswer (Some (cut instance groups_file number part_file)) source before) after ended (λ then result is. is) ends
 
+pub parts_row : (instance groups_file plan_file certificate : List ℕ) (budget : ℕ) (source : Option (List ℕ)) (before after : Outside) (ended : Result Ending Fault) →
+    Ends (AnswersFrom (IsPlannedByParts groups_file plan_file certificate budget) instance before) after ended → Ends (IsAnswer (Some (parts instance groups_file plan_file certificate budget)) source before) after ended
+unfolding AnswersFrom IsAnswer
+parts_row instance groups_file plan_file certificate budget source before after ended ends =
+    ends_more (AnswersFrom (IsPlannedByParts groups_file plan_file certificate budget) instance before) (IsAnswer (Some (parts instance groups_file plan_file certificate budget)) source before) after ended (λ then result is. is) ends
+
+pub checkparts_row : (instance groups_file plan_file certificate : List ℕ) (source : Option (List ℕ)) (before after : Outside) (ended : Result Ending Fault) →
+    Ends (AnswersFrom (IsCheckedByParts groups_file plan_file certificate) instance before) after ended → Ends (IsAnswer (Some (checkparts instance groups_file plan_file certificate)) source before) after ended
+unfolding AnswersFrom IsAnswer
+checkparts_row instance groups_file plan_file certificate source before after ended ends =
+    ends_more (AnswersFrom (IsCheckedByParts groups_file plan_file certificate) instance before) (IsAnswer (Some (checkparts instance groups_file plan_file certificate)) source before) after ended (λ then result is. is) ends
+
 pub generate_row : (seed : ℕ) (instance : List ℕ) (source : Option (List ℕ)) (before after : Outside) (ended : Result Ending Fault) →
     Ends (IsGenerated seed instance before) after ended → Ends (IsAnswer (Some (generate seed instance)) source before) after ended
 unfolding IsAnswer
@@ -102,4 +114,4 @@ unfolding AnswersFromPlan IsAnswer PrintsPrefix
 execute_prints instance plan_file source before after prints =
     prints_more (AnswersFromPlan (Executes source) instance plan_file before) (IsAnswer (Some (execute instance plan_file)) source before) before after (λ then result is. is) prints
 
-pub ruleset rows = (no_command, plan_row, check_row, replay_row, show_row, picture_row, script_row, execute_row, explain_row, cut_row, generate_row, demo_row, replay_prints, show_prints, execute_prints)
+pub ruleset rows = (no_command, plan_row, check_row, replay_row, show_row, picture_row, script_row, execute_row, explain_row, cut_row, parts_row, checkparts_row, generate_row, demo_row, replay_prints, show_prints, execute_prints)

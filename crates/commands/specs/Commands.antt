@@ -1,7 +1,7 @@
 -- What each command answers and leaves: a line for each command in each table, and a room for each below.
 use Rattle.std.specs.Prelude.{◌≡◌, Bool, ℕ, List, Option, Some, None, IsTrue, codes}
 use Rattle.plan_io.specs.Files.{Files}
-use Rattle.command_words.specs.Words.{Command, plan, check, replay, show, picture, script, execute, repair, explain, cut, generate, demo}
+use Rattle.command_words.specs.Words.{Command, plan, check, replay, show, picture, script, execute, repair, explain, cut, parts, checkparts, generate, demo}
 use Rattle.command_frame.specs.{Inputs.Instance.instance_in, Inputs.Plan.plan_in, Answer.Outside, Answer.Says, Answer.AnswersBy, Answer.LeavesBy}
 use Rattle.command_decide.specs.{Planning.IsPlanned, Planning.LeavesPlanned, Checking.IsChecked}
 use Rattle.command_report.specs.{Replaying.IsReplayed, Showing.IsListed, Picturing.IsPictured, Picturing.LeavesPictured}
@@ -9,7 +9,7 @@ use Rattle.command_make.specs.Scripting.{IsScripted, LeavesScripted}
 use Rattle.command_carry.specs.{Executing.IsExecuted, Executing.Starts, Executing.Taking, Executing.TakesRead, Repairing.IsRepaired, Repairing.LeavesRepaired, Repairing.TakesEvents}
 use Rattle.command_make.specs.Generating.{IsGenerated, LeavesGenerated}
 use Rattle.command_explain.specs.Explaining.{IsExplained, LeavesExplained}
-use Rattle.command_parts.specs.Cutting.{IsCutOut, LeavesCutOut}
+use Rattle.command_parts.specs.{Cutting.IsCutOut, Cutting.LeavesCutOut, PlanningParts.IsPlannedByParts, PlanningParts.LeavesPlannedByParts, CheckingParts.IsCheckedByParts}
 use Rattle.command_frame.specs.declared.status.Status.{Status}
 use Rattle.command_demo.specs.Demonstrating.{IsDemonstrated, LeavesDemo, LeavesDemoUnread, demo_certificate, demo_instance, demo_plan}
 
@@ -26,6 +26,8 @@ MayRun reads writes (Some (execute instance plan_file)) = IsTrue (reads instance
 MayRun reads writes (Some (repair instance plan_file new_instance new_plan)) = IsTrue (reads instance) × IsTrue (reads plan_file) × IsTrue (writes new_instance) × IsTrue (writes new_plan)
 MayRun reads writes (Some (explain instance core certificate budget)) = IsTrue (reads instance) × IsTrue (writes core) × IsTrue (writes certificate)
 MayRun reads writes (Some (cut instance groups_file number part_file)) = IsTrue (reads instance) × IsTrue (reads groups_file) × IsTrue (writes part_file)
+MayRun reads writes (Some (parts instance groups_file plan_file certificate budget)) = IsTrue (reads instance) × IsTrue (reads groups_file) × IsTrue (writes plan_file) × IsTrue (writes certificate)
+MayRun reads writes (Some (checkparts instance groups_file plan_file certificate)) = IsTrue (reads instance) × IsTrue (reads groups_file) × IsTrue (reads plan_file) × IsTrue (reads certificate)
 MayRun reads writes (Some (generate seed instance)) = IsTrue (writes instance)
 MayRun reads writes (Some (demo seed)) = IsTrue (writes demo_instance) × IsTrue (reads demo_instance) × IsTrue (writes demo_plan) × IsTrue (reads demo_plan) × IsTrue (writes demo_certificate) × IsTrue (reads demo_certificate)
 
@@ -52,6 +54,10 @@ IsAnswer (Some (explain instance core certificate budget)) source before after r
     AnswersBy (IsExplained core certificate budget) (instance_in before.files instance) before after result
 IsAnswer (Some (cut instance groups_file number part_file)) source before after result =
     AnswersBy (IsCutOut groups_file number part_file) (instance_in before.files instance) before after result
+IsAnswer (Some (parts instance groups_file plan_file certificate budget)) source before after result =
+    AnswersBy (IsPlannedByParts groups_file plan_file certificate budget) (instance_in before.files instance) before after result
+IsAnswer (Some (checkparts instance groups_file plan_file certificate)) source before after result =
+    AnswersBy (IsCheckedByParts groups_file plan_file certificate) (instance_in before.files instance) before after result
 IsAnswer (Some (generate seed instance)) source before after result = IsGenerated seed instance before after result
 IsAnswer (Some (demo seed)) source before after result = IsDemonstrated seed before after result
 
@@ -70,6 +76,9 @@ Leaves (Some (repair instance plan_file new_instance new_plan)) before after =
     LeavesBy (λ p start end. LeavesBy (LeavesRepaired new_instance new_plan p) (plan_in p start plan_file) start end) (instance_in before instance) before after
 Leaves (Some (explain instance core certificate budget)) before after = LeavesBy (LeavesExplained core certificate budget) (instance_in before instance) before after
 Leaves (Some (cut instance groups_file number part_file)) before after = LeavesBy (LeavesCutOut groups_file number part_file) (instance_in before instance) before after
+Leaves (Some (parts instance groups_file plan_file certificate budget)) before after =
+    LeavesBy (LeavesPlannedByParts groups_file plan_file certificate budget) (instance_in before instance) before after
+Leaves (Some (checkparts instance groups_file plan_file certificate)) before after = after ≡ before
 Leaves (Some (generate seed instance)) before after = LeavesGenerated seed instance before after
 Leaves (Some (demo seed)) before after = LeavesDemo seed before after
 
@@ -86,6 +95,8 @@ LeavesAtFailedRead (Some (execute instance plan_file)) before after = after ≡ 
 LeavesAtFailedRead (Some (repair instance plan_file new_instance new_plan)) before after = after ≡ before
 LeavesAtFailedRead (Some (explain instance core certificate budget)) before after = after ≡ before
 LeavesAtFailedRead (Some (cut instance groups_file number part_file)) before after = after ≡ before
+LeavesAtFailedRead (Some (parts instance groups_file plan_file certificate budget)) before after = after ≡ before
+LeavesAtFailedRead (Some (checkparts instance groups_file plan_file certificate)) before after = after ≡ before
 LeavesAtFailedRead (Some (generate seed instance)) before after = ⊥
 LeavesAtFailedRead (Some (demo seed)) before after = LeavesDemoUnread seed before after
 
@@ -102,6 +113,8 @@ KeepsSource told files (Some (execute instance plan_file)) before after = IsTrue
 KeepsSource told files (Some (repair instance plan_file new_instance new_plan)) before after = IsTrue told → ¬ Starts files instance plan_file → after ≡ before
 KeepsSource told files (Some (explain instance core certificate budget)) before after = after ≡ before
 KeepsSource told files (Some (cut instance groups_file number part_file)) before after = after ≡ before
+KeepsSource told files (Some (parts instance groups_file plan_file certificate budget)) before after = after ≡ before
+KeepsSource told files (Some (checkparts instance groups_file plan_file certificate)) before after = after ≡ before
 KeepsSource told files (Some (generate seed instance)) before after = after ≡ before
 KeepsSource told files (Some (demo seed)) before after = after ≡ before
 
@@ -118,6 +131,8 @@ Takes (Some (execute instance plan_file)) taking before after result = TakesRead
 Takes (Some (repair instance plan_file new_instance new_plan)) taking before after result = TakesEvents instance plan_file new_instance new_plan taking before after result
 Takes (Some (explain instance core certificate budget)) taking before after result = Unit {0}
 Takes (Some (cut instance groups_file number part_file)) taking before after result = Unit {0}
+Takes (Some (parts instance groups_file plan_file certificate budget)) taking before after result = Unit {0}
+Takes (Some (checkparts instance groups_file plan_file certificate)) taking before after result = Unit {0}
 Takes (Some (generate seed instance)) taking before after result = Unit {0}
 Takes (Some (demo seed)) taking before after result = Unit {0}
 
@@ -134,6 +149,8 @@ KeepsDeskWrites (Some (execute instance plan_file)) before after = after ≡ bef
 KeepsDeskWrites (Some (repair instance plan_file new_instance new_plan)) before after = Unit {0}
 KeepsDeskWrites (Some (explain instance core certificate budget)) before after = Unit {0}
 KeepsDeskWrites (Some (cut instance groups_file number part_file)) before after = Unit {0}
+KeepsDeskWrites (Some (parts instance groups_file plan_file certificate budget)) before after = Unit {0}
+KeepsDeskWrites (Some (checkparts instance groups_file plan_file certificate)) before after = after ≡ before
 KeepsDeskWrites (Some (generate seed instance)) before after = Unit {0}
 KeepsDeskWrites (Some (demo seed)) before after = Unit {0}
 
@@ -150,6 +167,8 @@ KeepsDeskReads (Some (execute instance plan_file)) before after = Unit {0}
 KeepsDeskReads (Some (repair instance plan_file new_instance new_plan)) before after = Unit {0}
 KeepsDeskReads (Some (explain instance core certificate budget)) before after = Unit {0}
 KeepsDeskReads (Some (cut instance groups_file number part_file)) before after = Unit {0}
+KeepsDeskReads (Some (parts instance groups_file plan_file certificate budget)) before after = Unit {0}
+KeepsDeskReads (Some (checkparts instance groups_file plan_file certificate)) before after = Unit {0}
 KeepsDeskReads (Some (generate seed instance)) before after = after ≡ before
 KeepsDeskReads (Some (demo seed)) before after = Unit {0}
 
@@ -166,5 +185,7 @@ ReadsInput (Some (execute instance plan_file)) = Unit {0}
 ReadsInput (Some (repair instance plan_file new_instance new_plan)) = Unit {0}
 ReadsInput (Some (explain instance core certificate budget)) = Unit {0}
 ReadsInput (Some (cut instance groups_file number part_file)) = Unit {0}
+ReadsInput (Some (parts instance groups_file plan_file certificate budget)) = Unit {0}
+ReadsInput (Some (checkparts instance groups_file plan_file certificate)) = Unit {0}
 ReadsInput (Some (generate seed instance)) = ⊥
 ReadsInput (Some (demo seed)) = Unit {0}

@@ -8,7 +8,7 @@ pub use Rattle.search.specs.Prelude.{goal_in, IsInstance, IsTrueOf, least_in, pl
 pub use Rattle.search.specs.declared.found.Found.{Found, TheVariants.Infeasible, TheVariants.Undecided}
 pub use Rattle.solver.specs.Prelude.{IsCertifiedText}
 unfoldable pub use Rattle.explain.specs.Prelude.{sub}
-pub use Rattle.command_words.specs.Prelude.{asked, check, Command, cut, demo, execute, explain, generate, picture, plan, repair, replay, script, show}
+pub use Rattle.command_words.specs.Prelude.{asked, check, checkparts, Command, cut, demo, execute, explain, generate, parts, picture, plan, repair, replay, script, show}
 pub use Rattle.command_make.specs.Prelude.{IsGenerated, IsScripted}
 pub use Rattle.command_report.specs.Prelude.{Lists, Pictures, Replays}
 pub use Rattle.command_carry.specs.Prelude.{Taking, taking}
@@ -17,7 +17,7 @@ pub use Rattle.command_decide.specs.Prelude.{AreAccepted, IsChecked, IsPlanned, 
 unfoldable pub use Rattle.command_decide.specs.Prelude.{verdict_line}
 pub use Rattle.command_demo.specs.Prelude.{IsDemonstrated}
 pub use Rattle.command_explain.specs.Prelude.{WritesKept}
-pub use Rattle.command_parts.specs.Prelude.{IsCutOut}
+pub use Rattle.command_parts.specs.Prelude.{IsCheckedByParts, IsCutOut, IsPlannedByParts}
 unfoldable pub use Rattle.command_explain.specs.Prelude.{IsExplained}
 unfoldable pub use Rattle.commands.specs.{Commands.IsAnswer, Printed.PrintsPrefix}
 pub use Rattle.commands.specs.Commands.{KeepsDeskReads, KeepsDeskWrites, KeepsSource, Leaves, LeavesAtFailedRead, MayRun, ReadsInput, Takes}

@@ -13,7 +13,9 @@ use command_frame::fault::{Ending, Fault};
 use command_frame::status::Status;
 use command_make::generating::generate;
 use command_make::scripting::script;
+use command_parts::checking_parts::checkparts;
 use command_parts::cutting::cut;
+use command_parts::planning_parts::parts;
 use command_report::picturing::picture;
 use command_report::replaying::replay;
 use command_report::showing::show;
@@ -161,6 +163,40 @@ fn answer<D: Desk, I: Source, O: Sink, S: Solver>(
                 part_file,
             },
         ) => cut(alloc, desk, instance, groups_file, number, part_file),
+        Some(
+            Command::Parts {
+                instance,
+                groups_file,
+                plan_file,
+                certificate,
+                budget,
+            },
+        ) => parts(
+            alloc,
+            desk,
+            solver,
+            instance,
+            groups_file,
+            plan_file,
+            certificate,
+            budget,
+        ),
+        Some(
+            Command::CheckParts {
+                instance,
+                groups_file,
+                plan_file,
+                certificate,
+            },
+        ) => checkparts(
+            alloc,
+            desk,
+            solver,
+            instance,
+            groups_file,
+            plan_file,
+            certificate,
+        ),
         Some(Command::Generate { seed, instance }) => generate(alloc, desk, seed, instance),
         Some(Command::Demo { seed }) => demo(alloc, desk, solver, seed),
         None => Err(Fault::Words),
@@ -231,7 +267,8 @@ fn finish<O: Sink>(out: &mut O, ended: Result<Ending, Fault>) -> Status
 
 /// Does what the words ask for: it reads the files, writes those that the command creates, prints the
 /// lines, and says how it ended. The words are those of the command line without the program's name.
-/// `plan`, `explain` and `demo` search by the solver, and `check` and `demo` ask it for the verdict; no other command asks it.
+/// `plan`, `explain`, `parts` and `demo` search by the solver, and `check`, `checkparts` and `demo` ask it for the verdict;
+/// no other command asks it.
 pub fn run<D: Desk, I: Source, O: Sink, S: Solver>(
     alloc: Global,
     words: &[String],

@@ -1,5 +1,5 @@
 use Rattle.std.proofs.Common.{◌≡◌, Option, Some, subst, rules}
-use Rattle.commands.specs.Prelude.{asked, check, Command, cut, Ends, EndsAnyhow, execute, explain, generate, IsAnswer, KeepsSource, outside, picture, plan, repair, replay, script, show, Takes, taking, told}
+use Rattle.commands.specs.Prelude.{asked, check, checkparts, Command, cut, Ends, EndsAnyhow, execute, explain, generate, IsAnswer, KeepsSource, outside, parts, picture, plan, repair, replay, script, show, Takes, taking, told}
 use Rattle.commands.proofs.{Rows.repair_row, Sources.unread}
 use Rattle.commands.proofs.run.answer.Goals as goal
 
@@ -78,6 +78,16 @@ pub returns-in-Some-Cut-clause-takes : goal.returns-in-Some-Cut-clause-takes
 returns-in-Some-Cut-clause-takes g c = λ desk_tells source_tells sink_tells.
     let is : Some (cut c.in-Some-Cut.instance.now c.in-Some-Cut.groups_file.now c.in-Some-Cut.number c.in-Some-Cut.part_file.now) ≡ asked c.args.words.now = search rules in
     unread (asked c.args.words.now) (Some (cut c.in-Some-Cut.instance.now c.in-Some-Cut.groups_file.now c.in-Some-Cut.number c.in-Some-Cut.part_file.now)) _ _ _ _ is (λ then result. tt)
+
+pub returns-in-Some-Parts-clause-takes : goal.returns-in-Some-Parts-clause-takes
+returns-in-Some-Parts-clause-takes g c = λ desk_tells source_tells sink_tells.
+    let is : Some (parts c.in-Some-Parts.instance.now c.in-Some-Parts.groups_file.now c.in-Some-Parts.plan_file.now c.in-Some-Parts.certificate.now c.in-Some-Parts.budget) ≡ asked c.args.words.now = search rules in
+    unread (asked c.args.words.now) (Some (parts c.in-Some-Parts.instance.now c.in-Some-Parts.groups_file.now c.in-Some-Parts.plan_file.now c.in-Some-Parts.certificate.now c.in-Some-Parts.budget)) _ _ _ _ is (λ then result. tt)
+
+pub returns-in-Some-CheckParts-clause-takes : goal.returns-in-Some-CheckParts-clause-takes
+returns-in-Some-CheckParts-clause-takes g c = λ desk_tells source_tells sink_tells.
+    let is : Some (checkparts c.in-Some-CheckParts.instance.now c.in-Some-CheckParts.groups_file.now c.in-Some-CheckParts.plan_file.now c.in-Some-CheckParts.certificate.now) ≡ asked c.args.words.now = search rules in
+    unread (asked c.args.words.now) (Some (checkparts c.in-Some-CheckParts.instance.now c.in-Some-CheckParts.groups_file.now c.in-Some-CheckParts.plan_file.now c.in-Some-CheckParts.certificate.now)) _ _ _ _ is (λ then result. tt)
 
 pub returns-in-Some-Generate-clause-takes : goal.returns-in-Some-Generate-clause-takes
 returns-in-Some-Generate-clause-takes g c = λ desk_tells source_tells sink_tells.
