@@ -31,7 +31,7 @@ cost_is_small p is plan legal =
     (sum_to-bound (machine_count p) p.horizon (λ v. end_of p (vm v) (plan (vm v))) (λ v l. end_small p is (vm v) (plan (vm v)) (legal (vm v) l)))
     (sum_to-bound (node_count p) p.horizon (λ n. end_of p (node n) (plan (node n))) (λ n l. end_small p is (node n) (plan (node n)) (legal (node n) l)))
 
-cost_fits : (p : Instance) → IsInstance p → (plan : Choices) → IsPlan p plan → IsNumber (cost_of p plan)
+pub cost_fits : (p : Instance) → IsInstance p → (plan : Choices) → IsPlan p plan → IsNumber (cost_of p plan)
 cost_fits p is plan legal = omega (arith, cost_is_small p is plan legal)
 
 -- ---- a goal that is shown can be written

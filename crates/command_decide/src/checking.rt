@@ -20,7 +20,7 @@ use std::alloc::Global;
 use trees::Goal;
 
 /// Why a line does not hold, in a word.
-fn why_text(why: Why) -> &'static str
+pub fn why_text(why: Why) -> &'static str
     ensures { result.now ≡ why_text why }
 {
     match why {

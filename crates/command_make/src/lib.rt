@@ -2,6 +2,6 @@
 #![tactic(auto)]
 
 pub mod generating;
-mod outputs;
+pub mod outputs;
 mod script_input;
 pub mod scripting;

@@ -1,18 +1,7 @@
 -- What `cut` answers and leaves, by the readings of its inputs.
-use Rattle.base.proofs.Public.{◌≡◌, ◌<◌, ◌≤◌, ℕ, List, ◌++◌, length, Some, Result, Ok, Err, OnOk, refl, ap, ◌∙◌, subst}
+use Rattle.base.proofs.Public.{◌≡◌, ◌<◌, ◌≤◌, ℕ, List, ◌++◌, length, Result, Ok, Err, refl, ap, ◌∙◌, subst}
 use Rattle.command_frame.proofs.Public.{answers_refused, answers_well, ends_more, says}
-use Rattle.command_parts.specs.Prelude.{bytes_of, cut_line, CutsPart, Ending, Ends, Fault, Files, HasText, Instance, instance_of, instance_text, IsCutOut, IsTextCut, LeavesPart, max_text_bytes, NodeSet, OthersStay, Outside, outside, part_number, part_of, Split, split_in, Status, WritesPart}
-
--- ---- the text of a part
-
-pub has_text : (name text : List ℕ) (before after : Files) → after name ≡ Some text → OthersStay name before after → HasText name text before after
-has_text name text before after whole others = record { whole = whole; others = others }
-
--- it reads back, where nothing was refused
-pub reads_back : {T E : Type 0} (p : Instance) (text : List ℕ) (result : Result T E) → text ≡ instance_text p → (length text ≤ max_text_bytes → instance_of text ≡ Ok p) →
-    OnOk result (length (instance_text p) ≤ max_text_bytes → instance_of (instance_text p) ≡ Ok p)
-reads_back p text (Ok x) is reads = subst (λ t. length t ≤ max_text_bytes → instance_of t ≡ Ok p) is reads
-reads_back p text (Err e) is reads = tt
+use Rattle.command_parts.specs.Prelude.{bytes_of, cut_line, CutsPart, Ending, Ends, Fault, Files, HasText, Instance, instance_of, instance_text, IsCutOut, IsTextCut, LeavesPart, max_text_bytes, NodeSet, Outside, outside, part_number, part_of, Split, split_in, Status, WritesPart}
 
 -- ---- the part
 

@@ -1,12 +1,12 @@
 -- What `parts` answers and leaves, by the groups and by what was found of the parts.
 use Rattle.base.proofs.Public.{◌≡◌, ◌∙◌, ℕ, List, ◌++◌, Result, Ok, Err, IfSome, inr, ap}
 use Rattle.command_frame.proofs.Public.{answers_refused, answers_well, ends_more, says}
-use Rattle.command_parts.specs.Prelude.{AreTextsCut, bytes_of, Ending, Ends, Fault, Files, HasTexts, Instance, IsAnswered, IsPlannedByParts, IsPlanOf, IsTrueOfWhole, LeavesPlans, NodeSet, outside, plan_of, plan_text, PlansParts, Split, split_in, Status, WholeAnswer, whole_line, whole_plan, whole_status}
+use Rattle.command_parts.specs.Prelude.{AreTextsCut, bytes_of, Ending, Ends, Fault, Files, HasTexts, Instance, IsAnswered, IsPlannedByParts, IsPlanOf, IsTrueOfWhole, LeavesPlans, NodeSet, outside, plan_of, plan_text, PlansParts, Split, split_in, Status, WholeAnswer, whole_line, plan_answered, whole_status}
 
 -- ---- the answer
 
 -- its plan is whole
-pub answered_plan : (p : Instance) (whole : WholeAnswer) → IsTrueOfWhole p whole → IfSome (whole_plan whole) (IsPlanOf p)
+pub answered_plan : (p : Instance) (whole : WholeAnswer) → IsTrueOfWhole p whole → IfSome (plan_answered whole) (IsPlanOf p)
 answered_plan p (WholeAnswer.Infeasible i) is = tt
 answered_plan p (WholeAnswer.Unmet i) is = tt
 answered_plan p (WholeAnswer.Optimal plan) is = is.0
@@ -14,7 +14,7 @@ answered_plan p (WholeAnswer.Valid plan) is = is.whole
 
 -- it is written, and its line is said
 pub plans : (plan_file certificate : List ℕ) (budget : ℕ) (p : Instance) (groups : List NodeSet) (whole : WholeAnswer) (text : List ℕ) (before after : Files) (printed line : List ℕ) (said : Status) → Split p groups →
-    IsAnswered p groups budget whole text → IsTrueOfWhole p whole → HasTexts certificate text plan_file (plan_text p (whole_plan whole)) before after → plan_of p (plan_text p (whole_plan whole)) ≡ Ok (whole_plan whole) →
+    IsAnswered p groups budget whole text → IsTrueOfWhole p whole → HasTexts certificate text plan_file (plan_text p (plan_answered whole)) before after → plan_of p (plan_text p (plan_answered whole)) ≡ Ok (plan_answered whole) →
     line ≡ whole_line p whole → said ≡ whole_status whole → PlansParts plan_file certificate budget p groups (outside before printed) (outside after (printed ++ line)) said
 plans plan_file certificate budget p groups whole text before after printed line said split answered is written reads said_is status_is = record {
   whole = whole;
@@ -30,7 +30,7 @@ plans plan_file certificate budget p groups whole text before after printed line
 
 -- what is left where an answer was to be written
 pub leaves_answer : (plan_file certificate : List ℕ) (budget : ℕ) (p : Instance) (groups : List NodeSet) (whole : WholeAnswer) (text : List ℕ) (before after : Files) → IsAnswered p groups budget whole text →
-    AreTextsCut certificate text plan_file (plan_text p (whole_plan whole)) before after → LeavesPlans plan_file certificate budget p groups before after
+    AreTextsCut certificate text plan_file (plan_text p (plan_answered whole)) before after → LeavesPlans plan_file certificate budget p groups before after
 leaves_answer plan_file certificate budget p groups whole text before after answered cut = inr (record { whole = whole; text = text; answered = answered; cut = cut })
 
 -- ---- by the file of the groups

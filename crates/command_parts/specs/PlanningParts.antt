@@ -1,25 +1,17 @@
 -- What `parts` answers, and what it leaves in the files.
-use Rattle.std.specs.Prelude.{◌≡◌, ◌⊎◌, ◌++◌, ℕ, List, Option, Some, None, Ok, codes}
+use Rattle.std.specs.Prelude.{◌≡◌, ◌⊎◌, ◌++◌, ℕ, List, Ok, codes}
 use Rattle.std.specs.Fmt.{decimal}
 use Rattle.plan_io.specs.Files.{bytes_of, Files}
 use Rattle.cluster.specs.declared.sets.NodeSet.{NodeSet}
 use Rattle.catalogue.specs.Prelude.{Instance}
-use Rattle.slices.specs.Prelude.{PlanChoices}
 use Rattle.plan_json.specs.Prelude.{plan_of, plan_text}
 use Rattle.partition.specs.Prelude.{Split}
 use Rattle.solver.specs.Prelude.{plan_cost}
-use Rattle.part_solver.specs.{declared.answer.WholeAnswer.WholeAnswer, Prelude.IsAnswered, Prelude.IsTrueOfWhole}
+use Rattle.part_solver.specs.{declared.answer.WholeAnswer.WholeAnswer, Prelude.IsAnswered, Prelude.IsTrueOfWhole, Prelude.plan_answered}
 use Rattle.command_frame.specs.{Answer.AnswersBy, Answer.LeavesBy, Answer.Outside, Outputs.AreTextsCut, Outputs.HasTexts, declared.status.Status.Status}
 use Rattle.command_parts.specs.Splitting.{split_in}
 
 -- ---- what is said
-
--- The plan of an answer, if it has one.
-abbrev pub whole_plan : WholeAnswer → Option PlanChoices
-whole_plan (WholeAnswer.Infeasible i) = None
-whole_plan (WholeAnswer.Unmet i) = None
-whole_plan (WholeAnswer.Optimal plan) = Some plan
-whole_plan (WholeAnswer.Valid plan) = Some plan
 
 -- The line of an answer.
 unfoldable pub whole_line : Instance → WholeAnswer → List ℕ
@@ -45,8 +37,8 @@ pub record PlansParts (plan_file certificate : List ℕ) (budget : ℕ) (p : Ins
   pub split : Split p groups
   pub answered : IsAnswered p groups budget whole text
   pub true_of : IsTrueOfWhole p whole
-  pub written : HasTexts certificate text plan_file (plan_text p (whole_plan whole)) before.files after.files
-  pub reads : plan_of p (bytes_of (after.files plan_file)) ≡ Ok (whole_plan whole)
+  pub written : HasTexts certificate text plan_file (plan_text p (plan_answered whole)) before.files after.files
+  pub reads : plan_of p (bytes_of (after.files plan_file)) ≡ Ok (plan_answered whole)
   pub printed : after.printed ≡ before.printed ++ whole_line p whole
   pub status : result ≡ whole_status whole
 
@@ -62,7 +54,7 @@ pub record IsAnswerCut (plan_file certificate : List ℕ) (budget : ℕ) (p : In
   pub whole : WholeAnswer
   pub text : List ℕ
   pub answered : IsAnswered p groups budget whole text
-  pub cut : AreTextsCut certificate text plan_file (plan_text p (whole_plan whole)) before after
+  pub cut : AreTextsCut certificate text plan_file (plan_text p (plan_answered whole)) before after
 
 -- However it ends, all is as before, or the texts of an answer are cut.
 abbrev pub LeavesPlans : (plan_file certificate : List ℕ) → ℕ → Instance → List NodeSet → Files → Files → Type 0

@@ -1,7 +1,7 @@
 //! The command `cut`.
 
-ghost use Rattle.std.specs.Prelude.{◌≡◌, ◌≢◌, ◌<◌, ◌≤◌, ℕ, length, List, Err, Ok, IsTrue, IfErr, IfOk, OnOk, string_bytes};
-ghost use Rattle.command_parts.specs.Prelude.{AnswersFrom, CountsWrites, cut_line, CutsPart, Ends, HasText, Instance, instance_in, instance_of, instance_text, IsCutOut, IsOfReading, IsOfWriting, IsSplitBy, IsTextCut, LeavesBy, LeavesCutOut, LeavesPart, max_text_bytes, NodeSet, outside, PartCauses, part_number, part_of, Reads, Split, WriteCauses, WritesPart};
+ghost use Rattle.std.specs.Prelude.{◌≡◌, ◌≢◌, ◌<◌, ℕ, length, List, Err, Ok, IsTrue, IfErr, IfOk, string_bytes};
+ghost use Rattle.command_parts.specs.Prelude.{AnswersFrom, cut_line, CutsPart, Ends, Instance, instance_in, instance_text, IsCutOut, IsOfReading, IsOfWriting, IsSplitBy, IsTextCut, LeavesBy, LeavesCutOut, LeavesPart, NodeSet, outside, PartCauses, part_number, part_of, Reads, Split, WriteCauses, WritesPart};
 
 use crate::split_input::{SplitGroups, split_at};
 use base::Memory;
@@ -9,8 +9,8 @@ use catalogue::Problem;
 use command_frame::fault::{Ending, Fault, Outcome};
 use command_frame::inputs::instance::problem_at;
 use command_frame::inputs::refusal;
-use instance_make::print_instance;
-use plan_io::{Desk, OutFault, write_whole};
+use command_make::outputs::write_problem;
+use plan_io::Desk;
 use std::alloc::Global;
 
 /// The line that says which part was written, of how many.
@@ -19,28 +19,6 @@ fn cut_line(alloc: Global, i: usize, count: usize) -> Result<String, Memory>
     ensures { IfOk result (λ line. string_bytes line ≡ cut_line i count) }
 {
     Ok(format!(in alloc; "cut {i} of {count}\n")?)
-}
-
-/// Writes the text of a part into a file.
-#[tactic(auto, using(crate::proofs::CutAnswers::has_text, crate::proofs::CutAnswers::reads_back))]
-fn write_part<D: Desk>(
-    alloc: Global,
-    desk: &mut D,
-    part: &Problem,
-    part_file: &str,
-) -> Result<(), OutFault>
-    requires { IsTrue (D.writes part_file.now) }
-    ensures written { let has = HasText part_file.now (instance_text part.now.given) in
-        IsTrue D.tells → OnOk result (has (D.files desk.old) (D.files desk.new)) }
-    ensures cut { let cut = IsTextCut part_file.now (instance_text part.now.given) in
-        IsTrue D.tells → cut (D.files desk.old) (D.files desk.new) }
-    ensures reads_back { let text = instance_text part.now.given in
-        OnOk result (length text ≤ max_text_bytes → instance_of text ≡ Ok part.now.given) }
-    ensures cause { CountsWrites (D.write_faults desk.old) (D.write_faults desk.new) result }
-    ensures reads_kept { D.read_faults desk.new ≡ D.read_faults desk.old }
-{
-    let text = print_instance(alloc, part)?;
-    write_whole(desk, part_file, &text)
 }
 
 /// Writes a part, and says which one it is, of how many.
@@ -64,7 +42,7 @@ fn end_cut<D: Desk>(
     ensures reads_kept { D.read_faults desk.new ≡ D.read_faults desk.old }
     ensures kind { IfErr result IsOfWriting }
 {
-    write_part(alloc, desk, part, part_file)?;
+    write_problem(alloc, desk, part, part_file)?;
     let line = cut_line(alloc, i, count)?;
     Ok(Ending {
         line: Some(line),

@@ -2,7 +2,7 @@
 
 ghost use Rattle.std.specs.Prelude.{◌≡◌, ◌≢◌, ℕ, length, List, Err, Ok, IsTrue, IfErr, IfOk, IfSome, OnOk, string_bytes};
 ghost use Rattle.std.specs.Option.{option_copied};
-ghost use Rattle.command_parts.specs.Prelude.{AnswersFrom, AreTextsCut, CountsWrites, Ends, HasTexts, Instance, instance_in, IsAnswered, IsOfWriting, IsPlannedByParts, IsPlanOf, IsSplitBy, IsTrueOfWhole, LeavesBy, LeavesPlans, LeavesPlannedByParts, NodeSet, outcome_status, outside, PartCauses, plan_of, plan_text, PlansParts, Split, WholeAnswer as AnyAnswer, whole_line, whole_plan, whole_status, WriteCauses};
+ghost use Rattle.command_parts.specs.Prelude.{AnswersFrom, AreTextsCut, CountsWrites, Ends, HasTexts, Instance, instance_in, IsAnswered, IsOfWriting, IsPlannedByParts, IsPlanOf, IsSplitBy, IsTrueOfWhole, LeavesBy, LeavesPlans, LeavesPlannedByParts, NodeSet, outcome_status, outside, PartCauses, plan_of, plan_text, PlansParts, Split, WholeAnswer as AnyAnswer, whole_line, plan_answered, whole_status, WriteCauses};
 
 use crate::split_input::{SplitGroups, split_at};
 use base::Memory;
@@ -20,7 +20,7 @@ use std::alloc::Global;
 
 /// The plan of an answer, if it has one.
 fn plan_in(whole: &WholeAnswer) -> Option<&Plan>
-    ensures { option_copied result ≡ whole_plan whole.now }
+    ensures { option_copied result ≡ plan_answered whole.now }
 {
     match whole {
         WholeAnswer::Infeasible(_) | WholeAnswer::Unmet(_) => None,
@@ -31,7 +31,7 @@ fn plan_in(whole: &WholeAnswer) -> Option<&Plan>
 /// The line of an answer.
 #[tactic(auto, unfolding(crate::specs::PlanningParts::whole_line))]
 fn whole_line(alloc: Global, p: &Problem, whole: &WholeAnswer) -> Result<String, Memory>
-    requires { IfSome (whole_plan whole.now) (IsPlanOf p.now.given) }
+    requires { IfSome (plan_answered whole.now) (IsPlanOf p.now.given) }
     ensures { IfOk result (λ line. string_bytes line ≡ whole_line p.now.given whole.now) }
 {
     match whole {
@@ -67,13 +67,13 @@ fn write_answer<D: Desk>(
     requires plan_file { IsTrue (D.writes plan_file.now) }
     requires certificate { IsTrue (D.writes certificate.now) }
     requires apart { plan_file.now ≢ certificate.now }
-    requires plan { IfSome (whole_plan answer.now.whole) (IsPlanOf p.now.given) }
-    ensures written { let text = plan_text p.now.given (whole_plan answer.now.whole) in
+    requires plan { IfSome (plan_answered answer.now.whole) (IsPlanOf p.now.given) }
+    ensures written { let text = plan_text p.now.given (plan_answered answer.now.whole) in
         let has = HasTexts certificate.now answer.now.certificate.items plan_file.now text in
         IsTrue D.tells → OnOk result (has (D.files desk.old) (D.files desk.new)) }
-    ensures reads_back { let text = plan_text p.now.given (whole_plan answer.now.whole) in
-        OnOk result (plan_of p.now.given text ≡ Ok (whole_plan answer.now.whole)) }
-    ensures cut { let text = plan_text p.now.given (whole_plan answer.now.whole) in
+    ensures reads_back { let text = plan_text p.now.given (plan_answered answer.now.whole) in
+        OnOk result (plan_of p.now.given text ≡ Ok (plan_answered answer.now.whole)) }
+    ensures cut { let text = plan_text p.now.given (plan_answered answer.now.whole) in
         let cut = AreTextsCut certificate.now answer.now.certificate.items plan_file.now text in
         IsTrue D.tells → cut (D.files desk.old) (D.files desk.new) }
     ensures cause { CountsWrites (D.write_faults desk.old) (D.write_faults desk.new) result }
@@ -96,13 +96,13 @@ fn end_answer<D: Desk>(
     requires plan_file { IsTrue (D.writes plan_file.now) }
     requires certificate { IsTrue (D.writes certificate.now) }
     requires apart { plan_file.now ≢ certificate.now }
-    requires plan { IfSome (whole_plan answer.now.whole) (IsPlanOf p.now.given) }
+    requires plan { IfSome (plan_answered answer.now.whole) (IsPlanOf p.now.given) }
     ensures ends { IsTrue D.tells → (groups : List NodeSet) (budget : ℕ) → Split p.now.given groups
         → IsAnswered p.now.given groups budget answer.now.whole answer.now.certificate.items
         → IsTrueOfWhole p.now.given answer.now.whole → (printed : List ℕ)
         → Ends (PlansParts plan_file.now certificate.now budget p.now.given groups (outside (D.files desk.old) printed))
         (outside (D.files desk.new) printed) result }
-    ensures left { let text = plan_text p.now.given (whole_plan answer.now.whole) in
+    ensures left { let text = plan_text p.now.given (plan_answered answer.now.whole) in
         let cut = AreTextsCut certificate.now answer.now.certificate.items plan_file.now text in
         IsTrue D.tells → cut (D.files desk.old) (D.files desk.new) }
     ensures causes { WriteCauses (D.write_faults desk.old) (D.write_faults desk.new) result }

@@ -1,30 +1,16 @@
 //! What is said of the certificates of parts: the verdict on them, or why they cannot be read.
 
 ghost use Rattle.std.specs.Prelude.{◌≡◌, IfOk, string_bytes};
-ghost use Rattle.command_parts.specs.Prelude.{goal_line, IsLastLine, IsPartsRefusal, IsRefusal, not_a_line, outcome_status, part_no_line, parts_line, parts_status, short_line, too_long_line, why_text};
+ghost use Rattle.command_parts.specs.Prelude.{goal_line, IsLastLine, IsPartsRefusal, IsRefusal, not_a_line, outcome_status, part_no_line, parts_line, parts_status, short_line, too_long_line};
 
 use base::Memory;
 use cert_model::why::Why;
 use cert_read::LineFault;
+use command_decide::checking::why_text;
 use command_frame::fault::{Ending, Fault, Outcome};
 use command_frame::inputs::refusal;
 use part_check::{PartsFault, PartsVerdict, WholeGoal};
 use std::alloc::Global;
-
-/// Why a line does not hold, in a word.
-fn why_text(why: Why) -> &'static str
-    ensures { result.now ≡ why_text why }
-{
-    match why {
-        Why::Structure => "structure",
-        Why::Name => "name",
-        Why::Part => "part",
-        Why::Reason => "reason",
-        Why::Plan => "plan",
-        Why::Goal => "goal",
-        Why::Lean => "lean",
-    }
-}
 
 /// The line of what the certificates show of the whole.
 fn goal_line(alloc: Global, goal: WholeGoal) -> Result<String, Memory>

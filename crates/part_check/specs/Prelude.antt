@@ -5,4 +5,3 @@ pub use Rattle.part_check.specs.Verdicts.{AllSayYes, AreAllParts, AreWanted, Giv
 pub use Rattle.part_check.specs.declared.verdict.{PartsFault.PartsFault, PartsFault.TheVariants.Line, PartsFault.TheVariants.Memory}
 pub use Rattle.part_check.specs.declared.verdict.{PartsVerdict.PartsVerdict, PartsVerdict.TheVariants.No, PartsVerdict.TheVariants.NoSections, PartsVerdict.TheVariants.Yes}
 pub use Rattle.part_check.specs.declared.verdict.{WholeGoal.WholeGoal, WholeGoal.TheVariants.Infeasible, WholeGoal.TheVariants.Optimal, WholeGoal.TheVariants.Undecided}
-pub use Rattle.part_check.specs.Laws.{AnsweredIsAccepted, goal_answered, IsYesOfWhole, plan_answered, TextIsAccepted}

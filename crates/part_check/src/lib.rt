@@ -2,7 +2,6 @@
 #![tactic(auto)]
 
 mod checking;
-pub mod laws;
 mod sections;
 mod seen;
 mod verdict;

@@ -1,11 +1,12 @@
 -- What is answered of the whole, by what is found of its parts.
-use Rattle.std.specs.Prelude.{◌≡◌, ℕ, List, [], ◌∷◌, true, false, Some, None, length, map}
+use Rattle.std.specs.Prelude.{◌≡◌, ℕ, List, [], ◌∷◌, true, false, Option, Some, None, length, map}
 use Rattle.std.specs.List.{flat_map, range_with_len}
 use Rattle.cluster.specs.declared.sets.NodeSet.{NodeSet}
 use Rattle.slices.specs.Costs.{IsInfeasible, IsOptimal}
 use Rattle.cert_parts.specs.Sections.{section_of, section_text, SectionText}
 use Rattle.partition.specs.Prelude.{IsUnion}
 use Rattle.search.specs.Prelude.{IsValidPlan}
+use Rattle.slices.specs.Plans.{PlanChoices}
 use Rattle.solver.specs.Prelude.{choices_of, Instance, IsPlanOf}
 use Rattle.part_solver.specs.declared.answer.WholeAnswer.{WholeAnswer}
 use Rattle.part_solver.specs.declared.answer.WholeAnswer.TheVariants.{Infeasible, Unmet, Optimal, Valid}
@@ -41,6 +42,13 @@ pub record IsAnswered (p : Instance) (groups : List NodeSet) (budget : ℕ) (who
   pub are_solved : AreSolved p groups budget solved
   pub said : IsSaid p groups solved whole
   pub text_is : text ≡ text_of whole solved
+
+-- the plan of an answer, if it has one
+abbrev pub plan_answered : WholeAnswer → Option PlanChoices
+plan_answered (Infeasible i) = None
+plan_answered (Unmet i) = None
+plan_answered (Optimal plan) = Some plan
+plan_answered (Valid plan) = Some plan
 
 -- what the answer says of all plans of the whole
 abbrev pub IsTrueOfWhole : Instance → WholeAnswer → Type 0

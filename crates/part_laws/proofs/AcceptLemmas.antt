@@ -15,7 +15,7 @@ use Rattle.part_check.specs.declared.verdict.PartsFault.{PartsFault}
 use Rattle.part_check.specs.declared.verdict.PartsFault.TheVariants.{Line, Memory}
 use Rattle.part_check.specs.declared.verdict.PartsVerdict.{PartsVerdict}
 use Rattle.part_check.specs.declared.verdict.PartsVerdict.TheVariants.{Yes, NoSections, No}
-use Rattle.part_check.specs.Laws.{TextIsAccepted, IsYesOfWhole}
+use Rattle.part_laws.specs.Laws.{TextIsAccepted, IsYesOfWhole}
 use Rattle.part_check.specs.Verdicts.{GivesOfParts, goal_of_all, HasSections, SaysYes, SectionGives, StopsAt}
 
 -- the section says yes to this goal, and has no other verdict

@@ -1,10 +1,9 @@
 -- The text of an answer by solved parts is accepted.
-use Rattle.base.proofs.Public.{All, All-cons, All-map, All-nil, AllPass-from_list_all, cases_lt, fails_before_first, if◌then◌else◌, lt-ltb, position_or_len, sum_to-bound, ◌≡◌, ◌∙◌, inl, inr, ℕ, zero, suc, ◌+◌, ◌*◌, ◌<◌, ◌≤◌, ◌^◌, Bool, true, false, List, [], ◌∷◌, length, map, flat_map, Option, Some, None, is_none, Result, unwrap_or, IfSome, refl, sym, ap, subst, add-zero, arith, eqb-true, false≢true, get_or-map, get_or-range_with_len, length-range_with_len, list_all, position, position-Some, range_with_len, slice_index_or, zero-add}
-use Rattle.base.specs.Sums.{sum_to}
+use Rattle.base.proofs.Public.{All, All-cons, All-map, All-nil, AllPass-from_list_all, cases_lt, fails_before_first, if◌then◌else◌, lt-ltb, position_or_len, ◌≡◌, ◌∙◌, inl, inr, ℕ, zero, suc, ◌+◌, ◌<◌, ◌^◌, Bool, true, false, List, [], ◌∷◌, length, map, flat_map, Option, Some, None, is_none, Result, unwrap_or, IfSome, refl, sym, ap, subst, add-zero, arith, eqb-true, false≢true, get_or-map, get_or-range_with_len, length-range_with_len, list_all, position, position-Some, range_with_len, slice_index_or, zero-add}
 use Rattle.std.specs.List.{AllZip}
 use Rattle.cluster.specs.declared.sets.NodeSet.{NodeSet}
 use Rattle.catalogue.specs.Prelude.{Instance, IsInstance}
-use Rattle.slices.specs.Prelude.{Choices, choices_of, cost_of, end_of, IsPlan, IsPlanOf, IsValid, machine_count, node, node_count, vm}
+use Rattle.slices.specs.Prelude.{Choices, choices_of, cost_of, IsPlanOf, IsValid, vm}
 use Rattle.slices.specs.Plans.{PlanChoices}
 use Rattle.parts.specs.Laws.{AreValid, Split}
 use Rattle.parts.specs.Parts.{part_of}
@@ -15,7 +14,7 @@ use Rattle.cert_parts.specs.Laws.{IsBody, IsWritten}
 use Rattle.cert_parts.specs.Sections.{section_text, SectionText}
 use Rattle.cert_parts.proofs.Public.{certificates_are_bodies, written_is_cut}
 use Rattle.cert_text.specs.Texts.{IsGoal}
-use Rattle.cert_model.proofs.Public.{end_small}
+use Rattle.cert_check.proofs.Public.{cost_fits}
 use Rattle.cert_check.specs.Laws.{IsAccepted as IsPartAccepted, IsYesUnlessOutside as IsYesOfPart}
 use Rattle.cert_check.specs.Verdicts.{CheckGives}
 use Rattle.cert_check.specs.declared.verdict.CheckFault.{CheckFault}
@@ -27,9 +26,9 @@ use Rattle.part_solver.specs.Answers.{all_sections, section_at}
 use Rattle.part_solver.specs.Solved.{are_optimal, AreSolved, first_infeasible, first_without_plan, found_best, found_none, has_no_plan, HasEnded, is_infeasible, is_optimal, no_text, plan_of, plans_of, solved_at, SolvedText}
 use Rattle.part_solver.specs.declared.answer.WholeAnswer.TheVariants as answer
 use Rattle.part_check.specs.declared.verdict.WholeGoal.TheVariants.{Infeasible as WholeInfeasible, Optimal as WholeOptimal, Undecided as WholeUndecided}
-use Rattle.part_check.specs.Laws.{AnsweredIsAccepted, TextIsAccepted}
+use Rattle.part_laws.specs.Laws.{AnsweredIsAccepted, TextIsAccepted}
 use Rattle.part_check.specs.Verdicts.{goal_of_all, is_optimal_goal, SectionGives}
-use Rattle.part_check.proofs.AcceptLemmas.{all_accepted, HasOneVerdict}
+use Rattle.part_laws.proofs.AcceptLemmas.{all_accepted, HasOneVerdict}
 
 -- ---- lists
 
@@ -122,17 +121,6 @@ valid_plan q budget (Undecided None least) is = tt
 valid_plan q budget (Undecided (Some plan) least) is = is.best_is.valid
 
 -- ---- its goal can be written
-
-ends_in_all : (m n h a b : ℕ) → m ≤ 4096 → n ≤ 512 → h ≤ 1000000 → a ≤ m * h → b ≤ n * h → a + b < 2 ^ 64
-ends_in_all m n h a b few_machines few_nodes early all_machines all_nodes = grind (arith, few_machines, few_nodes, early, all_machines, all_nodes)
-
-cost_fits : (q : Instance) → IsInstance q → (plan : Choices) → IsPlan q plan → cost_of q plan < 2 ^ 64
-cost_fits q is plan legal =
-    ends_in_all (machine_count q) (node_count q) q.horizon
-    (sum_to (machine_count q) (λ v. end_of q (vm v) (plan (vm v)))) (sum_to (node_count q) (λ n. end_of q (node n) (plan (node n))))
-    is.inventory.few_machines is.inventory.few_nodes is.horizon
-    (sum_to-bound (machine_count q) q.horizon (λ v. end_of q (vm v) (plan (vm v))) (λ v l. end_small q is (vm v) (plan (vm v)) (legal (vm v) l)))
-    (sum_to-bound (node_count q) q.horizon (λ n. end_of q (node n) (plan (node n))) (λ n l. end_small q is (node n) (plan (node n)) (legal (node n) l)))
 
 goal_fits : (q : Instance) → IsInstance q → (budget : ℕ) → budget < 2 ^ 64 → (found : Found) → IsTrueOf q budget found → IsGoal (goal_in q budget found)
 goal_fits q is budget few (Optimal plan) true_of = cost_fits q is (choices_of plan) true_of.0.legal

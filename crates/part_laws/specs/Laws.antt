@@ -1,11 +1,11 @@
 -- What is proved of the text of an answer by solved parts: it is accepted.
-use Rattle.std.specs.Prelude.{◌≡◌, ℕ, ◌<◌, ◌^◌, List, length, Option, Some, None, Result, Ok, Err}
+use Rattle.std.specs.Prelude.{◌≡◌, ℕ, ◌<◌, ◌^◌, List, length, Option, Result, Ok, Err}
 use Rattle.cluster.specs.declared.sets.NodeSet.{NodeSet}
 use Rattle.catalogue.specs.Prelude.{Instance}
 use Rattle.slices.specs.Prelude.{choices_of, cost_of}
 use Rattle.slices.specs.Plans.{PlanChoices}
 use Rattle.parts.specs.Laws.{Split}
-use Rattle.part_solver.specs.Answers.{IsAnswered}
+use Rattle.part_solver.specs.Answers.{IsAnswered, plan_answered}
 use Rattle.part_solver.specs.declared.answer.WholeAnswer.{WholeAnswer}
 use Rattle.part_solver.specs.declared.answer.WholeAnswer.TheVariants as answer
 use Rattle.cert_read.specs.Reader.{IsOutside}
@@ -33,13 +33,6 @@ pub record TextIsAccepted (p : Instance) (groups : List NodeSet) (plan : Option 
   pub alone : (answer : Result PartsVerdict PartsFault) → GivesOfParts p groups plan text answer → IsYesOfWhole goal answer
 
 -- ---- answers
-
--- the plan of an answer, if it has one
-abbrev pub plan_answered : WholeAnswer → Option PlanChoices
-plan_answered (answer.Infeasible part) = None
-plan_answered (answer.Unmet part) = None
-plan_answered (answer.Optimal plan) = Some plan
-plan_answered (answer.Valid plan) = Some plan
 
 -- what its text shows
 abbrev pub goal_answered : Instance → WholeAnswer → WholeGoal

@@ -1,2 +1,0 @@
--- What crates above may cite. All else under proofs/ is private.
-pub use Rattle.part_check.proofs.AnswerLemmas.{answered_is_accepted}

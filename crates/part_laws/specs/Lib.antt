@@ -1,0 +1,2 @@
+-- what a reader must believe of the law
+pub mod Laws

@@ -1,0 +1,4 @@
+//! That the certificates of solved parts are accepted.
+#![tactic(auto)]
+
+pub mod laws;
