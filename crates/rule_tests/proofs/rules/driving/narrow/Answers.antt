@@ -1,6 +1,6 @@
 use Rattle.domains.specs.Parts.{on_side}
 use Rattle.prop_core.proofs.Public.{all_told, region_stays, tops_before, trail_changed}
-use Rattle.search_tests.proofs.rules.driving.narrow.Goals as goal
+use Rattle.rule_tests.proofs.rules.driving.narrow.Goals as goal
 
 pub tell_all-requires-clause-region : goal.tell_all-requires-clause-region
 tell_all-requires-clause-region g c =

@@ -1,6 +1,6 @@
 use Rattle.std.proofs.Common.{◌≡◌}
 use Rattle.prop_core.specs.Levels.{AllFollow, IsTrailOf}
-use Rattle.search_tests.proofs.rules.driving.settle.Given as goal
+use Rattle.rule_tests.proofs.rules.driving.settle.Given as goal
 
 abbrev pub invariant-loop : goal.invariant-loop
 invariant-loop g l = record {

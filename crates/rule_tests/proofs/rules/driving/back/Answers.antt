@@ -1,5 +1,5 @@
 use Rattle.prop_core.proofs.Public.{all_back, trail_back}
-use Rattle.search_tests.proofs.rules.driving.back.Goals as goal
+use Rattle.rule_tests.proofs.rules.driving.back.Goals as goal
 
 pub returns-clause-trail : goal.returns-clause-trail
 returns-clause-trail g c = trail_back _ c.args.trail.now c.back.new.self c.requires.trail c.back.ensures
