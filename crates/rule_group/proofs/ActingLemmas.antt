@@ -33,7 +33,7 @@ idle-unended p v t = refl
 
 -- ---- all choices
 
-surely-more : (f g : Choice → Bool) (cs : List Choice) → ((c : Choice) → IsTrue (f c) → IsTrue (g c)) → IsTrue (surely f cs) → IsTrue (surely g cs)
+pub surely-more : (f g : Choice → Bool) (cs : List Choice) → ((c : Choice) → IsTrue (f c) → IsTrue (g c)) → IsTrue (surely f cs) → IsTrue (surely g cs)
 surely-more f g [] more h = refl
 surely-more f g (c ∷ cs) more h =
     let parts = and_parts (f c) (surely f cs) h in

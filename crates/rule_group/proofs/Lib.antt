@@ -3,3 +3,4 @@ mod BrokenLemmas
 mod SpotLemmas
 mod TogetherLemmas
 mod ActingLemmas
+mod ScatteredLemmas

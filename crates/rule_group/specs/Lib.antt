@@ -4,4 +4,5 @@ pub mod Covers
 pub mod Spots
 pub mod Together
 pub mod Acting
+pub mod Scattered
 pub mod Prelude

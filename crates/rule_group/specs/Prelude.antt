@@ -1,6 +1,6 @@
 -- What is cited together of this crate and of those below it, passed on from one place. Declares nothing.
 pub use Rattle.closing.specs.Prelude.{are_below, inventory_of, is_rule, members}
-pub use Rattle.relax.specs.Prelude.{AreScattered, AreBothActing, HasOutside, Started, Unended, Acting, surely, Progress}
+pub use Rattle.relax.specs.Prelude.{AreScattered, AreBothActing, HasOutside, in_part, keeping, Refutes, seen, Started, Unended, Acting, surely, Progress}
 unfoldable pub use Rattle.relax.specs.Prelude.{action_at, action_duration, end_of}
 pub use Rattle.profiles.specs.Prelude.{kept_use, never}
 unfoldable pub use Rattle.profiles.specs.Prelude.{stage_at}
@@ -26,6 +26,7 @@ pub use Rattle.rule_constraint.specs.Broken.{of_kind}
 pub use Rattle.rule_group.specs.Covers.{group_kinds}
 pub use Rattle.rule_group.specs.Spots.{AreSpots, HasHost, HasSpots, IsDue, IsPlaceSpot, IsSpot, IsSpotIn}
 pub use Rattle.rule_group.specs.Together.{AreCommon, FitsAt, FitsMember, group_count, group_nodes, IsFound, IsInside, IsServed, MayBeIn}
+pub use Rattle.rule_group.specs.Scattered.{LacksSpot, StandsAt}
 pub use Rattle.rule_group.specs.Acting.{AreEndedBy, AreStartedFrom, AvoidsSpan, EndsBy, HasSpan, IsClearOf, KeepsOff, StartsFrom}
 pub use Rattle.rule_group.specs.declared.acting.Span.{Span}
 pub use Rattle.rule_group.specs.declared.spots.Spots.{Spots}

@@ -7,6 +7,7 @@ mod in_turn;
 mod kept;
 mod ordered;
 mod places;
+mod refuting;
 pub mod rule;
 mod spots;
 mod together;

@@ -4,9 +4,11 @@ ghost use Rattle.rule_group.specs.Covers.{group_kinds};
 
 use crate::cuts::propose_cuts;
 use crate::kept::look_quickly;
+use crate::refuting::refutes_part;
 use rule_constraint::{ConstraintIndex, ConstraintWatcher, Kinds};
 use rule_frame::{
-    Instant, Look, Memory, Problem, Reason, ReasonKind, Region, Rule, Suggestion, View,
+    Element, Instant, Look, Memory, Part, Problem, Reason, ReasonKind, Region, Rule, Suggestion,
+    View,
 };
 
 /// Whole groups of machines: `gather`, `among`, `precedence`, `serialize`.
@@ -38,6 +40,10 @@ impl Kinds for Groups {
     #[tactic(auto, using(crate::proofs::BrokenLemmas::group_broken))]
     fn reason(&self, _p: &Problem, _view: &View, c: u32, t: Instant) -> Reason {
         Reason::Group(c, t)
+    }
+
+    fn refutes(&self, p: &Problem, g: &Region, e: Element, part: Part, reason: &Reason) -> bool {
+        refutes_part(p, g, e, part, reason)
     }
 
     ghost no_loads = { λ k. refl };

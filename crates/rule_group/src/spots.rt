@@ -55,8 +55,8 @@ fn host_spot(p: &Problem, always: bool, v: VmId, leaves: Option<Leaves>, row: Ro
     Some(h)
 }
 
-// the node of a place
-fn place_spot(place: Place) -> Option<NodeId>
+/// The node of a place.
+pub fn place_spot(place: Place) -> Option<NodeId>
     ensures { IsPlaceSpot place result }
 {
     match place {
