@@ -59,13 +59,13 @@ is_allowed p s k v d rows short is some same climbs may host = record {
 -- ---- the constraint
 
 module _ (p : Instance) (s : Sets) (k : Constraint) where
-  pub surely-off : (v n t : ℕ) → IsDue p k t → IsAllowed p s k v → ForbidsPlace p k v n → IsTrue ((sure p s t).present v (one n)) → ⊥
+  surely-off : (v n t : ℕ) → IsDue p k t → IsAllowed p s k v → ForbidsPlace p k v n → IsTrue ((sure p s t).present v (one n)) → ⊥
   unfolding sure
   surely-off v n t due allowed not_there present =
       let c = some_end (s (vm v)) allowed.some in
       false≢true (sym (allowed.off n t c.0 due not_there c.1) ∙ surely_each (present_at p v (one n) t) (s (vm v)) c.0 (end_is_choice (s (vm v)) c.0 c.1) present)
 
-  pub off-with : (v n t : ℕ) (e : Element) (c : Choice) → IsDue p k t → IsAllowed p s k v → ForbidsPlace p k v n → IsEnd (s e) c → IsTrue ((sure p (setting e c s) t).present v (one n)) → ⊥
+  off-with : (v n t : ℕ) (e : Element) (c : Choice) → IsDue p k t → IsAllowed p s k v → ForbidsPlace p k v n → IsEnd (s e) c → IsTrue ((sure p (setting e c s) t).present v (one n)) → ⊥
   off-with v n t e c due allowed not_there end present =
       elim (vm_or e v) [
         | inl same ↦ false≢true (sym (allowed.off n t c due not_there (rw same at end)) ∙ (sym (own_present p s v n t c) ∙ (rw same at present)))

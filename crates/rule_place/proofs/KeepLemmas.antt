@@ -1,6 +1,6 @@
 -- A machine that loses choices and gives its host up no later than before needs it no longer.
 use Rattle.rule_place.proofs.Prelude.{IsTrue, ◌≡◌, ◌≢◌, inl, inr, ℕ, ◌<◌, ◌≤◌, ◌&&◌, Bool, true, false, nat_lt, cond, List, [], ◌∷◌, refl, ◌∙◌, arith, nat_tests, cases_lt, Contains, IsMachineLess, Stay, surely_each, arrival, arrived, kept_law, numbers, of_one, last_of, least_of_each, contains_here, later_in}
-use Rattle.rule_place.specs.Prelude.{Act, AreFewer, base, Choice, choices, comes_by, gain, GivesUp, held_at, hosted_in, Instance, IsEnd, IsInstance, IsStill, least, leave_climbs, leave_of, never, one, Presence, present_at, state_of, surely, usable_watch, Vm, VmId, Weight}
+use Rattle.rule_place.specs.Prelude.{Act, AreFewer, base, Choice, comes_by, gain, GivesUp, held_at, hosted_in, Instance, IsEnd, IsInstance, IsStill, least, leave_climbs, leave_of, never, one, Presence, present_at, state_of, surely, usable_watch, Vm, VmId, Weight}
 
 -- ---- the least of a measure over choices
 

@@ -5,5 +5,7 @@ mod DirtyLemmas
 pub mod KeepLemmas
 mod NodeLemmas
 mod OptionalLemmas
+mod PresentLemmas
+mod RowLemmas
 mod ShutdownLemmas
 mod SparedLemmas

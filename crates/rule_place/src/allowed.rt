@@ -1,5 +1,5 @@
 //! Whether machines are only where a constraint lets them be, told for all instants up to the horizon at once.
-ghost use Rattle.std.specs.Prelude.{◌≡◌, ℕ, ◌<◌, ◌≤◌, ◌&&◌, ◌||◌, ◌==◌, false, length, nat_lt, true, slice_index_or, IsTrue};
+ghost use Rattle.std.specs.Prelude.{◌≡◌, ◌≢◌, ℕ, [], ◌<◌, ◌≤◌, ◌&&◌, ◌||◌, ◌==◌, false, length, nat_lt, true, slice_index_or, IsTrue};
 ghost use Rattle.std.specs.List.{list_all};
 ghost use Rattle.rule_place.specs.Prelude.{Allowed, choices, constraint_watch, ForbidsPlace, form_of as the_form_of, inventory_of, is_rule, IsAllowed, IsClean, IsHarmless, IsMember, IsOffHost, IsSized, machine_count, MayGo, no_row, places_seen, rule_watch, sets, Vm};
 
@@ -106,18 +106,26 @@ fn machine_is_allowed(
         && host_is_allowed(p, constraint, limits, v, domain)
 }
 
-/// Whether it is seen that a machine is only where a constraint lets it be. Then no change of it breaks the constraint.
-#[tactic(auto, using(crate::proofs::SparedLemmas::allowed_spared))]
+// whether a machine has a choice left
+fn has_choice(p: &Problem, g: &Region, v: VmId) -> bool
+    requires region { IsSized p.now.given g.now }
+    requires machine { v.0 < machine_count p.now.given }
+    ensures { IsTrue result → sets g.now (Vm v) ≢ [] }
+{
+    !g.domain(Element::Vm(v)).is_empty()
+}
+
+/// Whether a constraint that is clean is seen to stay so where a machine loses choices: it does as long as one is left, since
+/// under none of them the machine was where the constraint lets it not be.
 pub fn is_spared(p: &Problem, g: &Region, c: u32, v: VmId) -> bool
     requires region { IsSized p.now.given g.now }
     requires constraint { c < length p.now.given.constraints }
     requires machine { v.0 < machine_count p.now.given }
     ensures { IsTrue result → IsHarmless (constraint_watch p.now.given c) p.now.given (Vm v) (sets g.now (Vm v)) }
 {
-    let constraint = &p.constraints()[c as usize];
-    match limits_of(constraint) {
+    match limits_of(&p.constraints()[c as usize]) {
         None => false,
-        Some(limits) => machine_is_allowed(p, g, constraint, limits, v),
+        Some(_) => has_choice(p, g, v),
     }
 }
 

@@ -3,13 +3,15 @@ ghost use Rattle.std.specs.Prelude.{refl};
 ghost use Rattle.rule_place.specs.Covers.{forbidden_kinds};
 
 use crate::allowed::{is_kept, is_spared};
-use crate::forbidden::propose_rows;
+use crate::forbidden::{propose_rows, refutes_row};
 use crate::places::place_reason;
 use crate::watcher::NeededNodes;
 use closing::watch::look_at_constraint;
+use relax::refutes::refutes_inside;
 use rule_constraint::{ConstraintIndex, ConstraintWatcher, Kinds};
 use rule_frame::{
-    Instant, Look, Memory, Problem, Reason, ReasonKind, Region, Rule, Suggestion, View, VmId,
+    Element, Instant, Look, Memory, Part, Problem, Reason, ReasonKind, Region, Rule, Suggestion,
+    View, VmId,
 };
 
 /// Machines on nodes where they may not be: `ban`, `fence`, `root`.
@@ -42,6 +44,10 @@ impl Kinds for ForbiddenPlaces {
         them: &mut Vec<Suggestion>,
     ) -> Result<(), Memory> {
         propose_rows(p, g, c, them)
+    }
+
+    fn refutes(&self, p: &Problem, g: &Region, e: Element, part: Part, reason: &Reason) -> bool {
+        refutes_row(p, g, e, part, reason) || refutes_inside(p, None, g, e, part, reason)
     }
 
     #[tactic(auto, using(crate::proofs::BrokenLemmas::place_broken))]
