@@ -2,6 +2,7 @@
 //! and whose staying would cost the others most.
 
 use crate::elements::{mover_at, server_at};
+use crate::ends::least_of;
 use crate::numbers::{at, cell, is_up, list_at, node, real};
 use crate::outlook::Outlook;
 use crate::race::Race;
@@ -9,6 +10,7 @@ use crate::rules::{Amount, Group, Power, Spots};
 use crate::tables::Tables;
 use base::Memory;
 use cluster::{Element, VmId};
+use domains::Region;
 use std::alloc::Global;
 
 /// A machine that may stay and may act, with what it uses and its least end.
@@ -25,6 +27,9 @@ pub struct Breaks<'a> {
     pub alloc: Global,
     pub tables: &'a Tables,
     pub outlook: &'a Outlook,
+    pub region: &'a Region,
+    /// The least end of the rows of each machine at the root.
+    pub moves: &'a [u64],
     /// Machines and nodes, by number, that are not split yet.
     pub is_put_off: &'a [bool],
 }
@@ -114,11 +119,15 @@ impl<'a> Breaks<'a> {
                 stayers.push(Stayer {
                     machine: *v,
                     amount,
-                    cost: left.least,
+                    cost: self.least(*v),
                 })?;
             }
         }
         Ok(())
+    }
+
+    fn least(&self, v: usize) -> u64 {
+        least_of(self.tables, self.region, self.moves, v)
     }
 
     // machines of which some must go, so that so much is no longer used: the staying of each costs what the others pay
@@ -137,19 +146,18 @@ impl<'a> Breaks<'a> {
                 let other = if stayer.cost == first { second } else { first };
                 let other = real(other);
                 let stays = if rest > other { rest } else { other };
-                self.enter_machine(stayer.machine, stays, race);
+                self.enter_machine(stayer.machine, stays, stayer.cost, race);
             }
         }
         Ok(())
     }
 
-    fn enter_machine(&self, v: usize, stays: f64, race: &mut Race) {
+    fn enter_machine(&self, v: usize, stays: f64, acts: u64, race: &mut Race) {
         if is_up(self.is_put_off, v) {
             return;
         }
         if let Ok(id) = u32::try_from(v) {
-            let acts = real(self.outlook.machine(v).least);
-            race.enter(Element::Vm(VmId(id)), stays, acts);
+            race.enter(Element::Vm(VmId(id)), stays, real(acts));
         }
     }
 
@@ -165,21 +173,21 @@ impl<'a> Breaks<'a> {
             let mover = mover_at(&self.tables.machines, *v);
             if let Some(host) = mover.host {
                 if mover.runs && self.outlook.machine(*v).is_torn() {
-                    torn.push((*v, host))?;
+                    torn.push((*v, host, self.least(*v)))?;
                 }
             }
         }
-        for (v, host) in &torn {
+        for (v, host, acts) in &torn {
             let mut sum: u64 = 0;
             let mut clashes = false;
-            for (w, other) in &torn {
+            for (w, other, cost) in &torn {
                 if v != w && do_clash(group, *host, *other) {
-                    sum = sum.saturating_add(self.outlook.machine(*w).least);
+                    sum = sum.saturating_add(*cost);
                     clashes = true;
                 }
             }
             if clashes {
-                self.enter_machine(*v, real(sum), race);
+                self.enter_machine(*v, real(sum), *acts, race);
             }
         }
         Ok(())

@@ -64,7 +64,7 @@ impl<'a> Draft<'a> {
     fn search(&self, effort: u64) -> Result<Search, Memory> {
         Ok(Search {
             begin: self.steps,
-            patience: effort / 30,
+            patience: self.patience(effort),
             current: self.score(),
             mean: self.mean_move(),
             movable: self.movable()?,
@@ -74,6 +74,12 @@ impl<'a> Draft<'a> {
             spots: Vec::new(self.alloc),
             freed: Vec::new(self.alloc),
         })
+    }
+
+    // the work after which nothing better is hoped for: more where there are more pairs of a machine and a node
+    fn patience(&self, effort: u64) -> u64 {
+        let pairs = (self.choices.len() as u64).saturating_mul(self.acts.len() as u64);
+        pairs.saturating_mul(10).max(effort / 30).min(effort / 6)
     }
 
     // whether the work is done, or nothing better was found for long

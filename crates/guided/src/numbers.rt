@@ -57,6 +57,12 @@ pub fn cell(row: usize, width: usize, column: usize) -> usize {
     row.saturating_mul(width).saturating_add(column)
 }
 
+/// So many numbers from a place on, or as many as there are.
+pub fn stretch(list: &[u64], from: usize, count: usize) -> &[u64] {
+    let rest = &list[from.min(list.len())..];
+    &rest[..count.min(rest.len())]
+}
+
 /// The node of a number.
 pub fn node(n: usize) -> NodeId {
     NodeId(u32::try_from(n).unwrap_or(u32::MAX))

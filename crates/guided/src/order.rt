@@ -2,6 +2,7 @@
 
 use crate::breaks::Breaks;
 use crate::elements::mover_at;
+use crate::ends::least_of;
 use crate::numbers::{NEVER, is_up, list_at, node, real};
 use crate::outlook::{Left, Outlook};
 use crate::race::Race;
@@ -75,6 +76,8 @@ impl<'a> Order<'a> {
             alloc: self.alloc,
             tables: &self.thought.tables,
             outlook: self.outlook,
+            region: self.region,
+            moves: &self.thought.root.moves,
             is_put_off: self.is_put_off,
         };
         breaks.enter_all(&mut race)?;
@@ -93,13 +96,12 @@ impl<'a> Order<'a> {
     fn forced(&self) -> Option<Wish> {
         let slack = self.slack()?;
         let stays = self.fails > MANY_FAILS && self.has_open_big();
-        for v in 0..self.outlook.machines.len() {
-            let left = self.outlook.machine(v);
-            if is_up(self.is_put_off, v) || left.is_one {
+        for (v, left) in self.outlook.machines.iter().enumerate() {
+            if left.is_one || is_up(self.is_put_off, v) {
                 continue;
             }
             if left.may_stay {
-                if stays && left.rows > 0 && left.least >= slack {
+                if stays && left.rows > 0 && self.least(v) >= slack {
                     return stay(v);
                 }
             } else if left.rows > 1 {
@@ -114,9 +116,17 @@ impl<'a> Order<'a> {
         None
     }
 
+    fn least(&self, v: usize) -> u64 {
+        least_of(
+            &self.thought.tables,
+            self.region,
+            &self.thought.root.moves,
+            v,
+        )
+    }
+
     fn forced_server(&self, slack: u64) -> Option<Wish> {
-        for n in 0..self.outlook.nodes.len() {
-            let left = self.outlook.node(n);
+        for (n, left) in self.outlook.nodes.iter().enumerate() {
             if left.is_torn() && left.least >= slack && !self.is_server_put_off(n) {
                 return Some(Wish {
                     element: Element::Node(node(n)),
@@ -190,8 +200,7 @@ impl<'a> Order<'a> {
     // whether a machine that must act, in no pair and no group, has few places left, of many
     fn has_few_places(&self) -> bool {
         let thought = self.thought;
-        for v in 0..self.outlook.machines.len() {
-            let left = self.outlook.machine(v);
+        for (v, left) in self.outlook.machines.iter().enumerate() {
             if left.may_stay || left.rows < 2 || left.rows > FEW_PLACES {
                 continue;
             }
@@ -218,8 +227,7 @@ impl<'a> Order<'a> {
         let mut best = None;
         let mut fewest = usize::MAX;
         let mut most = 0;
-        for v in 0..self.outlook.machines.len() {
-            let left = self.outlook.machine(v);
+        for (v, left) in self.outlook.machines.iter().enumerate() {
             if left.may_stay || left.rows < 2 || left.rows > fewest {
                 continue;
             }
@@ -245,11 +253,8 @@ impl<'a> Order<'a> {
     fn least_start(&self) -> Option<Wish> {
         let mut best = None;
         let mut least = NEVER;
-        for v in 0..self.outlook.machines.len() {
-            let start = first_start(
-                self.outlook.machine(v),
-                machine_rows(self.region, v).first(),
-            );
+        for (v, left) in self.outlook.machines.iter().enumerate() {
+            let start = first_start(*left, machine_rows(self.region, v).first());
             if start < least {
                 best = self.split(v);
                 least = start;

@@ -1,7 +1,7 @@
 //! A region at the horizon, if all stays that may stay.
 
 use crate::draft::{is_host, node_at};
-use crate::elements::{mover_at, server_at};
+use crate::elements::{Mover, mover_at};
 use crate::ends::{least_change, least_move};
 use crate::numbers::{NEVER, add, at, cell};
 use crate::root::Root;
@@ -18,7 +18,7 @@ pub struct Left {
     pub may_stay: bool,
     /// In how many rows it may act.
     pub rows: usize,
-    /// The least end of these; never where there is none.
+    /// The least end of these; never where there is none, and of a machine that may stay, of which few are asked.
     pub least: u64,
     /// Whether it has one choice only.
     pub is_one: bool,
@@ -88,16 +88,17 @@ impl Outlook {
         self.load.resize(places, 0)?;
         self.held.clear();
         self.held.resize(places, 0)?;
-        for v in 0..tables.machines.len() {
+        for (v, mover) in tables.machines.iter().enumerate() {
             let left = match machine_domain(g, v) {
-                Some(domain) => self.look_at(tables, root, v, domain),
+                Some(domain) => self.look_at(tables, root, v, mover, domain),
                 None => NOTHING,
             };
+            self.count_end(left);
             self.machines.push(left)?;
         }
-        for n in 0..tables.nodes.len() {
+        for (n, server) in tables.nodes.iter().enumerate() {
             let left = match node_domain(g, n) {
-                Some(domain) => left_of(domain, least_change(server_at(&tables.nodes, n), domain)),
+                Some(domain) => left_of(domain, least_change(*server, domain)),
                 None => NOTHING,
             };
             self.count_end(left);
@@ -106,20 +107,32 @@ impl Outlook {
         Ok(())
     }
 
-    fn look_at(&mut self, tables: &Tables, root: &Root, v: usize, domain: &Domain) -> Left {
-        let mover = mover_at(&tables.machines, v);
-        let left = left_of(domain, least_move(mover, domain, at(&root.moves, v)));
-        self.count_end(left);
+    fn look_at(
+        &mut self,
+        tables: &Tables,
+        root: &Root,
+        v: usize,
+        mover: &Mover,
+        domain: &Domain,
+    ) -> Left {
+        let least = if domain.idle() {
+            NEVER
+        } else {
+            least_move(mover, domain, at(&root.moves, v))
+        };
+        let left = left_of(domain, least);
         if left.may_stay {
-            if mover.runs {
-                self.count_use(tables, v, mover.host);
+            if let Some(host) = mover.host {
+                if mover.runs {
+                    self.count(host, tables.usages(v));
+                }
             }
         } else if left.rows == 1 && mover.lands {
             self.count_landing(tables, v, domain);
         } else if mover.rises && left.rows > 1 {
             if let Some(host) = mover.host {
                 if find_row(domain.rows(), crate::draft::at_node(host)).is_some() {
-                    self.count_held(tables, v, host);
+                    self.count_held(host, tables.demands(v));
                 }
             }
         }
@@ -132,18 +145,15 @@ impl Outlook {
         }
     }
 
-    // a machine stays on its host
-    fn count_use(&mut self, tables: &Tables, v: usize, host: Option<usize>) {
-        let Some(n) = host else {
-            return;
-        };
-        let columns = tables.width.saturating_add(1);
-        for r in 0..tables.width {
-            let usage = tables.usage(v, r);
-            add(&mut self.load, cell(n, columns, r), usage);
-            add(&mut self.held, cell(n, columns, r), usage);
+    // a machine is on a node at the horizon, and has so much there
+    fn count(&mut self, n: usize, amounts: &[u64]) {
+        let mut column = cell(n, amounts.len().saturating_add(1), 0);
+        for amount in amounts {
+            add(&mut self.load, column, *amount);
+            add(&mut self.held, column, *amount);
+            column = column.saturating_add(1);
         }
-        add(&mut self.load, cell(n, columns, tables.width), 1);
+        add(&mut self.load, column, 1);
     }
 
     // a machine has one place left
@@ -151,22 +161,17 @@ impl Outlook {
         let Some(row) = domain.rows().first() else {
             return;
         };
-        let Some(n) = node_at(row.place) else {
-            return;
-        };
-        let columns = tables.width.saturating_add(1);
-        for r in 0..tables.width {
-            let demand = tables.demand(v, r);
-            add(&mut self.load, cell(n, columns, r), demand);
-            add(&mut self.held, cell(n, columns, r), demand);
+        if let Some(n) = node_at(row.place) {
+            self.count(n, tables.demands(v));
         }
-        add(&mut self.load, cell(n, columns, tables.width), 1);
     }
 
-    fn count_held(&mut self, tables: &Tables, v: usize, n: usize) {
-        let columns = tables.width.saturating_add(1);
-        for r in 0..tables.width {
-            add(&mut self.held, cell(n, columns, r), tables.demand(v, r));
+    // a machine may still be raised on its host
+    fn count_held(&mut self, n: usize, amounts: &[u64]) {
+        let mut column = cell(n, amounts.len().saturating_add(1), 0);
+        for amount in amounts {
+            add(&mut self.held, column, *amount);
+            column = column.saturating_add(1);
         }
     }
 

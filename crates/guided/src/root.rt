@@ -49,7 +49,7 @@ impl Root {
         for v in 0..tables.machines.len() {
             let mover = mover_at(&tables.machines, v);
             moves.push(match machine_domain(g, v) {
-                Some(domain) => least_move(mover, domain, 0),
+                Some(domain) => least_move(&mover, domain, 0),
                 None => 0,
             })?;
             places.push(machine_rows(g, v).len())?;

@@ -2,7 +2,7 @@
 ghost use Rattle.std.specs.Prelude.{◌<◌, length};
 
 use crate::elements::{Mover, Server, mover_of, server_of};
-use crate::numbers::{add, at, cell};
+use crate::numbers::{add, at, cell, stretch};
 use crate::rules::{Rules, empty_lists, note_in};
 use base::Memory;
 use catalogue::Problem;
@@ -115,6 +115,16 @@ impl Tables {
     /// What a machine uses of a resource at present.
     pub fn usage(&self, v: usize, r: usize) -> u64 {
         at(&self.uses, cell(v, self.width, r))
+    }
+
+    /// What a machine wants of each resource where it runs at the end.
+    pub fn demands(&self, v: usize) -> &[u64] {
+        stretch(&self.demands, cell(v, self.width, 0), self.width)
+    }
+
+    /// What a machine uses of each resource at present.
+    pub fn usages(&self, v: usize) -> &[u64] {
+        stretch(&self.uses, cell(v, self.width, 0), self.width)
     }
 
     /// What a node has of a resource.
