@@ -4,3 +4,4 @@ mod SpotLemmas
 mod TogetherLemmas
 mod ActingLemmas
 mod ScatteredLemmas
+mod ElsewhereLemmas

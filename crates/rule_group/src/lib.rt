@@ -3,6 +3,7 @@
 
 mod acting;
 mod cuts;
+mod elsewhere;
 mod in_turn;
 mod kept;
 mod ordered;

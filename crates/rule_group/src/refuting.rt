@@ -6,9 +6,11 @@ ghost use Rattle.std.specs.Prelude.{◌≡◌, ◌⊎◌, ℕ, ◌<◌, None, na
 ghost use Rattle.std.specs.List.{list_all};
 ghost use Rattle.rule_group.specs.Prelude.{AreScattered, group_count as the_group_count, group_nodes, group_sets, groups_seen, has_node, HasOutside, in_part, inventory_of, is_rule, IsElement, IsGroup, IsMember, IsSized, IsSpot, keeping, LacksSpot, machine_count, Refutes, seen, sets, StandsAt, sure};
 
+use crate::elsewhere::stays_elsewhere;
 use crate::places::{group_count, has};
 use crate::spots::{Spots, place_spot};
 use cluster::limits::MAX_NODES;
+use profiles::seen::is_narrowed;
 use relax::named::is_named;
 use relax::refutes::refutes_inside;
 use relax::surely_in;
@@ -21,13 +23,29 @@ use slices::form::Groups;
 
 // ---- one group
 
-// whether a machine is surely outside the group of a number
+// whether that a machine is outside the group of a number is told by where it goes alone, of which all is seen
+fn is_told_outside(p: &Problem, view: &View, v: VmId, groups: &Groups, i: usize, t: Instant) -> bool
+    requires region { IsSized p.now.given view.now.region.now }
+    requires machine { v.0 < machine_count p.now.given }
+    requires group { i < the_group_count p.now.given (groups_seen groups.now) }
+    ensures { IsTrue result → IsTrue ((sure p.now.given (seen view.now.region.now view.now.lens) t).present v.0 (λ n. not (group_nodes (groups_seen groups.now) i n))) }
+{
+    if is_narrowed(view.lens, v) {
+        return false;
+    }
+    stays_elsewhere(p, view.region, v, groups, i)
+}
+
+// whether a machine is surely outside it
 fn is_outside(p: &Problem, view: &View, v: VmId, groups: &Groups, i: usize, t: Instant) -> bool
     requires region { IsSized p.now.given view.now.region.now }
     requires machine { v.0 < machine_count p.now.given }
     requires group { i < the_group_count p.now.given (groups_seen groups.now) }
     ensures { IsTrue result → IsTrue ((sure p.now.given (seen view.now.region.now view.now.lens) t).present v.0 (λ n. not (group_nodes (groups_seen groups.now) i n))) }
 {
+    if is_told_outside(p, view, v, groups, i, t) {
+        return true;
+    }
     match groups {
         Groups::AnyNode => surely_in(p, view, v, &Area::OutsideOne(NodeId(i as u32)), t),
         Groups::AnyOf(sets) => surely_in(p, view, v, &Area::Outside(sets.items()[i]), t),
