@@ -1,10 +1,8 @@
 -- What one machine holds on a set of nodes during a period.
-use Rattle.rule_setload.proofs.Prelude.{◌≡◌, ◌⊎◌, ℕ, ◌+◌, ◌<◌, ◌≤◌, Decides-eqb, Option, Some, nat_le, true, cond, nat_lt, List, [], ◌∷◌, length, slice_index_or, refl, ◌∙◌, arith, inl, inr, Contains, sum_to-term, held_by_node, contains_here, least_of_each, end_is_choice, ends_of_rows, kept_law, nat_tests, flat_map}
-use Rattle.rule_setload.specs.Prelude.{Act, Arrival, base, Choice, choices, Climbs, comes_by, DomainView, gain, goes_in, has_started, held_at, HoldsLeast, HoldsMost, hosted_in, Idle, if_so, Instance, IsInstance, IsShare, IsStanding, kept_use, least, leave_of, no_row, node_count, Nodes, one, Period, Row, row_choices, Sets, Standing, state_of, stay_of, sure, unit_of, vm, Weight}
+use Rattle.rule_setload.proofs.Prelude.{◌≡◌, ◌⊎◌, ℕ, ◌+◌, ◌<◌, ◌≤◌, Option, Some, nat_le, true, nat_lt, List, [], ◌∷◌, length, slice_index_or, refl, arith, inl, inr, Contains, contains_here, least_of_each, end_is_choice, ends_of_rows, nat_tests, flat_map}
+use Rattle.rule_setload.specs.Prelude.{Act, Arrival, Choice, choices, Climbs, comes_by, DomainView, gain, goes_in, has_started, held_at, HoldsLeast, HoldsMost, Idle, if_so, Instance, IsInstance, IsShare, IsStanding, kept_use, leave_of, no_row, node_count, Nodes, Period, Row, row_choices, Sets, Standing, stay_of, sure, unit_of, vm, Weight}
 use Rattle.rule_setload.proofs.AmountLemmas.{held_ever, held_parts, so_most}
-
-pub one_self : (n : ℕ) → one n n ≡ true
-one_self n = (Decides-eqb n n).1 refl
+use Rattle.rule_setload.proofs.HolderLemmas.{at_node, one_self}
 
 -- what has come by an instant has come by a later one
 pub came_by : (a : Arrival) (o : Option Arrival) (from t : ℕ) → o ≡ Some a → a.last ≤ from → from ≤ t → comes_by a.node.0 t o ≡ true
@@ -55,37 +53,10 @@ module _ (p : Instance) (sound : IsInstance p) (w : Weight) (set : Nodes) (v : �
 
   -- ---- surely
 
-  least-more : (f g : Choice → ℕ) (cs : List Choice) → ((c : Choice) → f c ≤ g c) → least f cs ≤ least g cs
-  least-more f g [] h = omega arith
-  least-more f g (c ∷ []) h = let here = h c in omega (arith, here)
-  least-more f g (c ∷ d ∷ ds) h = let here = h c in let rest = least-more f g (d ∷ ds) h in omega (arith, here, rest)
-
-  -- on one node of the set
-  at-node : (cs : List Choice) (k : Standing) (n t : ℕ) → n < node_count p → set n ≡ true → t ≤ p.horizon → IsStanding p v cs k → kept_use p v w n t k ≤ least (held_at p v w set t) cs
-  at-node cs k n t low on l is =
-      let law : least (held_at p v w (one n) t) cs ≡ kept_use p v w n t k = kept_law p v w n t cs k (omega (arith, sound.horizon, l)) is in
-      omega (arith, law, least-more (held_at p v w (one n) t) (held_at p v w set t) cs (λ c. more c))
-    where
-      more : (c : Choice) → held_at p v w (one n) t c ≤ held_at p v w set t c
-      more c =
-          let term = sum_to-term (node_count p) (λ m. cond (set m) (held_at p v w (one m) t c) 0) n low in
-          let here : cond (set n) (held_at p v w (one n) t c) 0 ≡ held_at p v w (one n) t c = rw on refl in
-          omega (arith, held_by_node p sound v w set t c, term, here)
-
   module _ (s : Sets) (k : Standing) (is : IsStanding p v (s (vm v)) k) (n : ℕ) (low : n < node_count p) (on : set n ≡ true) where
-    pub surely_stays : ((nodes : Nodes) → hosted_in (state_of p v) nodes ≡ nodes n) → x.to < k.leave → HoldsLeast p s w set v x (base p v w)
-    unfolding sure
-    surely_stays tells late = record { each = λ t h. omega (arith, at-node (s (vm v)) k n t low on (omega (arith, h.1, within)) is, had t (omega (arith, h.1, late))) }
-      where
-        had : (t : ℕ) → t < k.leave → base p v w ≤ kept_use p v w n t k
-        had t l =
-            let hosted : hosted_in (state_of p v) (one n) ≡ true = tells (one n) ∙ one_self n in
-            let before : nat_lt t k.leave ≡ true = grind (arith, nat_tests, l) in
-            rw (hosted, before) (omega arith)
-
     pub surely_came : ((t : ℕ) → x.from ≤ t → comes_by n t k.come ≡ true) → HoldsLeast p s w set v x (gain p v w n)
     unfolding sure
-    surely_came come = record { each = λ t h. omega (arith, at-node (s (vm v)) k n t low on (omega (arith, h.1, within)) is, got t (come t h.0)) }
+    surely_came come = record { each = λ t h. omega (arith, at_node p sound w set v (s (vm v)) k n t low on (omega (arith, h.1, within)) is, got t (come t h.0)) }
       where
         got : (t : ℕ) → comes_by n t k.come ≡ true → gain p v w n ≤ kept_use p v w n t k
         got t e = rw e (omega arith)

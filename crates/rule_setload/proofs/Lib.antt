@@ -1,6 +1,7 @@
 mod Prelude
 mod AmountLemmas
 mod AsideLemmas
+mod HolderLemmas
 mod HoldLemmas
 mod FitLemmas
 mod BoundLemmas

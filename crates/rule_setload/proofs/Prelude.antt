@@ -12,4 +12,4 @@ pub use Rattle.rule_frame.specs.Caches.{IsCacheTold}
 pub use Rattle.slices.proofs.Public.{held_by_node}
 pub use Rattle.slices.specs.declared.slice.What.TheVariants.{Image as OfImage}
 pub use Rattle.profiles.specs.Prelude.{level_at, Tables}
-pub use Rattle.rule_setload.specs.Prelude.{AreStanding, is_continuous, StaysAt, StaysWhenDue, IsRowEnd, Allowed, Apart, Applies, AreAllStayers, AreAmountsKept, AreExtra, AreStayersOf, Before, Bound, Bounded, Choice, Constraint, DomainView, Element, Form, InTurn, Instance, IsBroken, IsBrokenBy, IsClean, IsElement, IsEnd, IsFreeOf, IsGrown, IsPower, IsSetLoad, IsToldOf, Lists, Node as TheNode, NodeSet, Nodes, Ordered, Power, Powered, ReasonKind, RegionView, SetLoad, Sets, Settled, Snapshot, Stayers, StaysIn, Together, Vm, Watch, Weight, bound_in, bound_of, broken_at, cache_of, choices, choose, domain_at, domain_before, form_of, has_node, machine_count, max_amount, no_stayers, no_watch, node, of_kind, passes, reason_kind, rule_watch, set_kinds, sets, setting, sure, total, watch_at}
+pub use Rattle.rule_setload.specs.Prelude.{AreStanding, is_continuous, StaysAt, StaysWhenDue, IsRowEnd, Allowed, Apart, Applies, AreAllStayers, AreAmountsKept, AreExtra, AreStayersOf, Before, Bound, Bounded, Choice, Constraint, DomainView, Element, Form, Holder, InTurn, Instance, IsBroken, IsBrokenBy, IsClean, IsElement, IsEnd, IsFreeOf, IsGrown, IsPower, IsSetLoad, IsToldOf, Lists, Node as TheNode, NodeSet, Nodes, Ordered, Power, Powered, ReasonKind, RegionView, SetLoad, Sets, Settled, Snapshot, Stayers, StaysIn, Together, Vm, Watch, Weight, bound_in, bound_of, broken_at, cache_of, choices, choose, domain_at, domain_before, form_of, has_node, machine_count, max_amount, no_stayers, no_watch, node, of_kind, passes, reason_kind, rule_watch, set_kinds, sets, setting, sure, total, watch_at}

@@ -1,15 +1,15 @@
 -- Helping only: what machines hold on the nodes of a constraint while they stay as they are, and what they may hold more.
-use Rattle.std.specs.Prelude.{◌≡◌, ℕ, ◌+◌, ◌-◌, ◌*◌, ◌/◌, ◌<◌, ◌≤◌, List, length, Option, Some, None, replicate, slice_get, slice_index_or}
+use Rattle.std.specs.Prelude.{◌≡◌, ℕ, ◌+◌, ◌-◌, ◌*◌, ◌<◌, ◌≤◌, List, [], length, Option, Some, None, slice_get, slice_index_or}
 use Rattle.std.specs.List.{sum_by}
-use Rattle.rule_constraint.specs.Prelude.{Allowed, Apart, AreMovers, base, Bounded, Form, form_of, has_node, hosted_in, if_so, Instance, InTurn, IsIndexOf, Lists, machine_count, max_amount, Nodes, Ordered, Powered, Sets, Settled, state_of, sum_to, sure, Together, unit_of}
-use Rattle.profiles.specs.Prelude.{AreStanding, level_at, Tables}
-use Rattle.cluster.specs.Bits.{IsBits-zero}
-use Rattle.cluster.specs.Limits.{max_machines}
-use Rattle.cluster.specs.declared.sets.MachineSet.{MachineSet}
+use Rattle.rule_constraint.specs.Prelude.{Allowed, Apart, AreMovers, base, Bounded, Form, form_of, has_node, held_at, hosted_in, if_so, Instance, InTurn, IsIndexOf, Lists, machine_count, max_amount, Nodes, Ordered, Powered, Sets, Settled, state_of, sum_to, sure, Together, unit_of}
+use Rattle.profiles.specs.Prelude.{AreStanding, IsStanding, least, level_at, Tables}
+use Rattle.cluster.specs.declared.choices.Choice.{Choice}
 use Rattle.catalogue.specs.declared.constraint.Constraint.{Constraint}
 use Rattle.slices.specs.declared.slice.Weight.{Weight}
 use Rattle.rule_frame.specs.Caches.{Cache}
+use Rattle.profiles.specs.declared.standing.numbers.Standing.{Standing}
 use Rattle.rule_setload.specs.declared.bounds.Bound.{Bound}
+use Rattle.rule_setload.specs.declared.holders.Holder.{Holder}
 use Rattle.rule_setload.specs.declared.stayers.Stayers.{Stayers}
 
 -- what a form bounds, if it bounds what machines hold
@@ -45,16 +45,35 @@ abbrev pub AreStayersOf : Instance → Option Bound → Stayers → Type 0
 AreStayersOf p None x = Unit {0}
 AreStayersOf p (Some b) x = AreStayersTo p b.weight (has_node b.nodes) (machine_count p) x
 
-abbrev pub no_machines : MachineSet
-no_machines = record { words = replicate (max_machines / 64) 0; bits = IsBits-zero (max_machines / 64) }
-
 abbrev pub no_stayers : Stayers
-no_stayers = record { total = 0; most = 0; machines = no_machines }
+no_stayers = record { total = 0; most = 0 }
 
 -- and for each of the first constraints
 pub record AreAllStayers (p : Instance) (many : ℕ) (xs : List Stayers) : Type 0 where
   pub count : length xs ≡ many
   pub each : (c : ℕ) → c < many → AreStayersOf p (bound_in (slice_get p.constraints c)) (slice_index_or xs c no_stayers)
+
+-- machine v holds no less than m in the set while all of its choices keep its host
+pub record IsKept (p : Instance) (w : Weight) (set : Nodes) (v m : ℕ) : Type 0 where
+  pub held : (cs : List Choice) (k : Standing) (t : ℕ) → IsStanding p v cs k → t ≤ p.horizon → t < k.leave → m ≤ least (held_at p v w set t) cs
+  pub small : m ≤ max_amount
+
+abbrev pub no_holder : Holder
+no_holder = record { machine = record { 0 = 0 }; amount = 0 }
+
+-- so it is of each of a list
+pub record AreKept (p : Instance) (b : Bound) (xs : List Holder) : Type 0 where
+  pub each : (i : ℕ) → i < length xs → IsKept p b.weight (has_node b.nodes) (slice_index_or xs i no_holder).machine.0 (slice_index_or xs i no_holder).amount
+
+-- for what a constraint bounds, if it bounds something
+abbrev pub AreHolders : Instance → Option Bound → List Holder → Type 0
+AreHolders p None xs = Unit {0}
+AreHolders p (Some b) xs = AreKept p b xs
+
+-- and for each of the first constraints
+pub record AreAllHolders (p : Instance) (many : ℕ) (ls : List (List Holder)) : Type 0 where
+  pub count : length ls ≡ many
+  pub each : (c : ℕ) → c < many → AreHolders p (bound_in (slice_get p.constraints c)) (slice_index_or ls c [])
 
 -- ---- the machines that may not stay
 
@@ -68,13 +87,14 @@ pub record AreExtra (p : Instance) (s : Sets) (w : Weight) (set : Nodes) (xs : L
 
 -- ---- what is kept beside the rule
 
--- the index of the constraints, the machines that may not stay, for each constraint what all have at present, and of a level where each
--- machine surely stands
-pub record AreAmountsKept (p : Instance) (s : Sets) (l : Lists) (m : Tables) (xs : List ℕ) (ys : List Stayers) (k : ℕ) : Type 0 where
+-- the index of the constraints, the machines that may not stay, for each constraint what all have at present and who has it, and of a
+-- level where each machine surely stands
+pub record AreAmountsKept (p : Instance) (s : Sets) (l : Lists) (m : Tables) (xs : List ℕ) (ys : List Stayers) (zs : List (List Holder)) (k : ℕ) : Type 0 where
   pub index : IsIndexOf p (length p.constraints) l
   pub standing : AreStanding p s (level_at m k)
   pub movers : AreMovers p s xs
   pub stayers : AreAllStayers p (length p.constraints) ys
+  pub holders : AreAllHolders p (length p.constraints) zs
 
-abbrev pub cache_of : Lists → Tables → List ℕ → List Stayers → Cache
-cache_of l m xs ys = record { right = λ p k s. AreAmountsKept p s l m xs ys k; level = length m.older }
+abbrev pub cache_of : Lists → Tables → List ℕ → List Stayers → List (List Holder) → Cache
+cache_of l m xs ys zs = record { right = λ p k s. AreAmountsKept p s l m xs ys zs k; level = length m.older }

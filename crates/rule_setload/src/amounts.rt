@@ -5,6 +5,7 @@ ghost use Rattle.rule_frame.specs.Prelude.{keeping};
 ghost use Rattle.rule_setload.specs.Prelude.{AreStanding, bound_in, has_node, inventory_of, is_rule, IsWeight, set_kinds, StaysIn, StaysWhenDue};
 
 use crate::bounds::{Bound, bound_of};
+use crate::holders::Holders;
 use crate::movers_hold::stays_within;
 use crate::power::{power_of, power_when_due};
 use crate::propose::propose_amount;
@@ -30,6 +31,7 @@ pub struct AmountKeeper {
     index: ConstraintIndex,
     movers: Movers,
     stayers: Vec<Stayers>,
+    holders: Holders,
     table: Table,
     alloc: Global,
 }
@@ -55,6 +57,7 @@ impl AmountKeeper {
             index: ConstraintIndex::new(alloc),
             movers: Movers::none(alloc),
             stayers: Vec::new(alloc),
+            holders: Holders::none(alloc),
             table: Table::new(alloc),
             alloc,
         }
@@ -63,7 +66,7 @@ impl AmountKeeper {
     // whether it is seen that what the constraint of a number bounds stays within its amount
     fn is_clean(&self, p: &Problem, g: &Region, c: usize) -> bool
         requires region { IsSized p.now.given g.now }
-        requires right { IsCacheFor (cache_of self.now.index.lists self.now.table self.now.movers self.now.stayers.items) p.now.given (sets g.now) }
+        requires right { IsCacheFor (cache_of self.now.index.lists self.now.table self.now.movers self.now.stayers.items self.now.holders) p.now.given (sets g.now) }
         requires constraint { c < length p.now.given.constraints }
         ensures { IsTrue result → IsClean (watch_at set_kinds p.now.given c) p.now.given (sets g.now) }
     {
@@ -73,7 +76,7 @@ impl AmountKeeper {
     // the same, with the constraint at hand
     fn is_clean_as(&self, p: &Problem, g: &Region, c: usize, constraint: &Constraint) -> bool
         requires region { IsSized p.now.given g.now }
-        requires right { IsCacheFor (cache_of self.now.index.lists self.now.table self.now.movers self.now.stayers.items) p.now.given (sets g.now) }
+        requires right { IsCacheFor (cache_of self.now.index.lists self.now.table self.now.movers self.now.stayers.items self.now.holders) p.now.given (sets g.now) }
         requires constraint { c < length p.now.given.constraints }
         requires there { slice_get p.now.given.constraints c ≡ Some constraint.now }
         requires rule { is_rule (inventory_of p.now.given) constraint.now ≡ true }
@@ -89,7 +92,7 @@ impl AmountKeeper {
     #[tactic(auto, using(crate::proofs::FitLemmas::due_always))]
     fn stays(&self, p: &Problem, g: &Region, bound: &Bound, c: usize, always: bool) -> bool
         requires region { IsSized p.now.given g.now }
-        requires right { IsCacheFor (cache_of self.now.index.lists self.now.table self.now.movers self.now.stayers.items) p.now.given (sets g.now) }
+        requires right { IsCacheFor (cache_of self.now.index.lists self.now.table self.now.movers self.now.stayers.items self.now.holders) p.now.given (sets g.now) }
         requires constraint { c < length p.now.given.constraints }
         requires bound { bound_in (slice_get p.now.given.constraints c) ≡ Some bound.now }
         requires weight { IsWeight p.now.given bound.now.weight }
@@ -101,7 +104,7 @@ impl AmountKeeper {
     // whether there is ample room
     fn is_ample(&self, p: &Problem, g: &Region, bound: &Bound, c: usize) -> bool
         requires region { IsSized p.now.given g.now }
-        requires right { IsCacheFor (cache_of self.now.index.lists self.now.table self.now.movers self.now.stayers.items) p.now.given (sets g.now) }
+        requires right { IsCacheFor (cache_of self.now.index.lists self.now.table self.now.movers self.now.stayers.items self.now.holders) p.now.given (sets g.now) }
         requires constraint { c < length p.now.given.constraints }
         requires bound { bound_in (slice_get p.now.given.constraints c) ≡ Some bound.now }
         requires weight { IsWeight p.now.given bound.now.weight }
@@ -119,7 +122,7 @@ impl AmountKeeper {
         them: &mut Vec<Suggestion>,
     ) -> Result<(), Memory>
         requires region { IsSized p.now.given g.now }
-        requires right { IsCacheFor (cache_of self.now.index.lists self.now.table self.now.movers self.now.stayers.items) p.now.given (sets g.now) }
+        requires right { IsCacheFor (cache_of self.now.index.lists self.now.table self.now.movers self.now.stayers.items self.now.holders) p.now.given (sets g.now) }
         requires constraint { c < length p.now.given.constraints }
     {
         self.propose_as(p, g, c, &p.constraints()[c], them)
@@ -135,7 +138,7 @@ impl AmountKeeper {
         them: &mut Vec<Suggestion>,
     ) -> Result<(), Memory>
         requires region { IsSized p.now.given g.now }
-        requires right { IsCacheFor (cache_of self.now.index.lists self.now.table self.now.movers self.now.stayers.items) p.now.given (sets g.now) }
+        requires right { IsCacheFor (cache_of self.now.index.lists self.now.table self.now.movers self.now.stayers.items self.now.holders) p.now.given (sets g.now) }
         requires constraint { c < length p.now.given.constraints }
         requires there { slice_get p.now.given.constraints c ≡ Some constraint.now }
         requires rule { is_rule (inventory_of p.now.given) constraint.now ≡ true }
@@ -153,7 +156,7 @@ impl AmountKeeper {
     // whether a reason is seen to refute what is inside a part of an element's choices
     fn refutes(&self, p: &Problem, g: &Region, e: Element, part: Part, reason: &Reason) -> bool
         requires region { IsSized p.now.given g.now }
-        requires right { IsCacheFor (cache_of self.now.index.lists self.now.table self.now.movers self.now.stayers.items) p.now.given (sets g.now) }
+        requires right { IsCacheFor (cache_of self.now.index.lists self.now.table self.now.movers self.now.stayers.items self.now.holders) p.now.given (sets g.now) }
         requires element { IsElement p.now.given e }
         requires may { MayAnswer reason.now }
         ensures { IsTrue result → FailHolds p.now.given (keeping e (in_part part) (sets g.now)) reason.now }
@@ -163,10 +166,10 @@ impl AmountKeeper {
             lens: Lens::Inside(e, part),
         };
         match reason {
-            Reason::SetLoad(c, t) => match self.stayers.get(*c as usize) {
-                None => false,
-                Some(stayers) => exceeds(p, &view, &stayers.machines, self.standings(p, g), *c, *t),
-            },
+            Reason::SetLoad(c, t) => {
+                let ks = self.standings(p, g);
+                exceeds(p, &view, &self.holders, ks, *c, *t)
+            }
             Reason::Empty(_)
             | Reason::Bound
             | Reason::Load(..)
@@ -182,7 +185,7 @@ impl AmountKeeper {
     /// Where each machine surely stands in the region of which this was told last.
     #[tactic(auto, using(crate::proofs::KeptLemmas::kept_standings))]
     pub(crate) fn standings(&self, p: &Problem, _g: &Region) -> &[Standing]
-        requires { IsCacheFor (cache_of self.now.index.lists self.now.table self.now.movers self.now.stayers.items) p.now.given (sets _g.now) }
+        requires { IsCacheFor (cache_of self.now.index.lists self.now.table self.now.movers self.now.stayers.items self.now.holders) p.now.given (sets _g.now) }
         ensures { AreStanding p.now.given (sets _g.now) result.now }
     {
         self.table.standings()
@@ -198,12 +201,13 @@ impl MadeWith<Global> for AmountKeeper {
 impl Keeper for AmountKeeper {
     ghost use Rattle.rule_setload.specs.Amounts.{cache_of};
 
-    ghost cache = { λ k. cache_of k.index.lists k.table k.movers k.stayers.items };
+    ghost cache = { λ k. cache_of k.index.lists k.table k.movers k.stayers.items k.holders };
 
     fn post(&mut self, p: &Problem, g: &Region) -> Result<(), Memory> {
         self.index.post(p, g)?;
         self.movers = Movers::of(self.alloc, p, g)?;
         self.stayers = all_stayers(self.alloc, p)?;
+        self.holders = Holders::of(self.alloc, p)?;
         self.table.post(p, g)
     }
 

@@ -3,6 +3,7 @@ ghost use Rattle.std.specs.Prelude.{◌≡◌, ◌+◌, ◌<◌, ◌≤◌, ℕ,
 ghost use Rattle.rule_setload.specs.Prelude.{AreConcerned, AreStanding, Choice as AnyChoice, has_node, IsEnd, IsFit, IsShare, IsSized, IsStanding, IsWeight, machine_count, max_amount, max_spare, sets, StaysDuring, stay_of, vm};
 
 use crate::bounds::Bound;
+use crate::holders::kept_amount;
 use crate::holding::{act, brought, kept, surely_held};
 use crate::most::most_total;
 use crate::period::Period;
@@ -105,7 +106,7 @@ fn machine_fits(
     if g.domain(Element::Vm(v)).is_one() {
         return true;
     }
-    let limit = spare + surely_held(p, g, v, k, bound, x);
+    let limit = spare + surely_held(p, g, v, k, kept_amount(p, v, bound), bound, x);
     ends_fit(p, g, v, bound, stays, x, limit)
 }
 

@@ -1,16 +1,16 @@
 //! What one machine holds on the nodes of a bound during a period: at the most, and surely.
 ghost use Rattle.std.specs.Prelude.{◌≡◌, ℕ, ◌*◌, ◌<◌, ◌≤◌, IsTrue, nat_lt, true};
-ghost use Rattle.rule_setload.specs.Prelude.{Choice as AnyChoice, goes_in as the_goes_in, has_node, has_started as the_has_started, if_so, HoldsLeast, IsShare, IsSized, IsStanding, IsWeight, leave_of, machine_count, max_amount, node_count, sets, stay_of, unit_of, vm};
+ghost use Rattle.rule_setload.specs.Prelude.{Choice as AnyChoice, goes_in as the_goes_in, has_node, has_started as the_has_started, if_so, HoldsLeast, IsKept, IsShare, IsSized, IsStanding, IsWeight, leave_of, machine_count, max_amount, sets, stay_of, unit_of, vm};
 
 use crate::bounds::Bound;
+use crate::holders::is_among;
 use crate::period::Period;
 use crate::stayers::unit;
 use domains::measure::Measure;
 use profiles::standing::leaves::leaves_of;
 use profiles::standing::numbers::{Leaving, Standing};
-use profiles::standing::uses::{base, gain};
-use rule_constraint::host;
-use rule_frame::{Choice, Instant, NodeId, NodeSet, Place, Problem, Region, Row, VmId};
+use profiles::standing::uses::gain;
+use rule_frame::{Choice, Instant, NodeSet, Place, Problem, Region, Row, VmId};
 
 /// Whether the action of a choice goes to a node of a set.
 pub(crate) fn goes_in(c: Choice, nodes: &NodeSet) -> bool
@@ -23,13 +23,6 @@ pub(crate) fn goes_in(c: Choice, nodes: &NodeSet) -> bool
             Place::At(n) => nodes.has(n),
         },
     }
-}
-
-// whether a node is one of the problem and of a set
-fn is_among(p: &Problem, n: NodeId, nodes: &NodeSet) -> bool
-    ensures { IsTrue result → (n.0 < node_count p.now.given) × (has_node nodes.now n.0 ≡ true) }
-{
-    (n.0 as usize) < p.cluster().nodes().len() && nodes.has(n)
 }
 
 // whether the action of a choice has started by an instant
@@ -109,24 +102,24 @@ pub(crate) fn share(p: &Problem, v: VmId, bound: &Bound, stays: u64, c: Choice, 
     kept(p, v, stays, c, x.from) + brought(p, v, bound, c, x.to)
 }
 
-// what it has where it is, while it keeps its host
-#[tactic(auto, using(crate::proofs::HoldLemmas::surely_stays))]
-fn surely_kept(p: &Problem, _g: &Region, v: VmId, k: Standing, bound: &Bound, x: Period) -> u64
-    requires machine { v.0 < machine_count p.now.given }
+// what it has at present, while it keeps its host
+#[tactic(auto, using(crate::proofs::HolderLemmas::kept_holds))]
+fn still_kept(
+    p: &Problem,
+    _g: &Region,
+    v: VmId,
+    k: Standing,
+    stays: u64,
+    _bound: &Bound,
+    x: Period,
+) -> u64
     requires standing { IsStanding p.now.given v.0 (sets _g.now (vm v.0)) k }
-    requires weight { IsWeight p.now.given bound.now.weight }
+    requires kept { IsKept p.now.given _bound.now.weight (has_node _bound.now.nodes) v.0 stays }
     requires period { x.to ≤ p.now.given.horizon }
-    ensures least { HoldsLeast p.now.given (sets _g.now) bound.now.weight (has_node bound.now.nodes) v.0 x result }
+    ensures least { HoldsLeast p.now.given (sets _g.now) _bound.now.weight (has_node _bound.now.nodes) v.0 x result }
     ensures small { result ≤ max_amount }
 {
-    match host(p, v) {
-        None => 0,
-        Some(h) => if u64::from(x.to) < k.leave && is_among(p, h, &bound.nodes) {
-            base(p, v, bound.weight)
-        } else {
-            0
-        },
-    }
+    if u64::from(x.to) < k.leave { stays } else { 0 }
 }
 
 // what it brings where all its choices have come
@@ -149,24 +142,26 @@ fn surely_come(p: &Problem, _g: &Region, v: VmId, k: Standing, bound: &Bound, x:
     }
 }
 
-/// What a machine with these numbers surely holds at the least during a period: what it has while it keeps its host, or
-/// what it brings where all its choices have come. No row is read.
+/// What a machine with these numbers surely holds at the least during a period: what it has at present, which is handed in,
+/// while it keeps its host, or what it brings where all its choices have come. No row is read.
 pub(crate) fn surely_held(
     p: &Problem,
     _g: &Region,
     v: VmId,
     k: Standing,
+    stays: u64,
     bound: &Bound,
     x: Period,
 ) -> u64
     requires machine { v.0 < machine_count p.now.given }
     requires standing { IsStanding p.now.given v.0 (sets _g.now (vm v.0)) k }
+    requires kept { IsKept p.now.given bound.now.weight (has_node bound.now.nodes) v.0 stays }
     requires weight { IsWeight p.now.given bound.now.weight }
     requires period { x.to ≤ p.now.given.horizon }
     ensures least { HoldsLeast p.now.given (sets _g.now) bound.now.weight (has_node bound.now.nodes) v.0 x result }
     ensures small { result ≤ max_amount }
 {
-    let kept = surely_kept(p, _g, v, k, bound, x);
+    let kept = still_kept(p, _g, v, k, stays, bound, x);
     let come = surely_come(p, _g, v, k, bound, x);
     if kept < come { come } else { kept }
 }

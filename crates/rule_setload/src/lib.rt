@@ -5,6 +5,7 @@ pub mod amounts;
 mod bounds;
 mod concerned;
 mod fit;
+mod holders;
 mod holding;
 mod most;
 mod movers_hold;

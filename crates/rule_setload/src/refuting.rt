@@ -1,21 +1,43 @@
 //! Whether an amount is seen to be exceeded, told by where machines surely stand.
 ghost use Rattle.std.specs.Prelude.{◌≡◌, ◌*◌, ◌<◌, ◌≤◌, IsTrue, length};
-ghost use Rattle.rule_setload.specs.Prelude.{Applies, AreStanding, has_node, IsSetLoad, IsSized, IsStanding, IsWeight, machine_count, max_held, seen, sets, sure, total, vm};
+ghost use Rattle.rule_setload.specs.Prelude.{Applies, AreAllHolders, AreKept, AreStanding, has_node, IsKept, IsSetLoad, IsSized, IsStanding, IsWeight, machine_count, max_held, seen, sets, sure, total, vm};
 
 use crate::bounds::{Bound, bound_of};
+use crate::holders::{Holder, Holders};
 use crate::holding::surely_held;
 use crate::period::Period;
-use cluster::MachineSet;
-use profiles::seen::is_narrowed;
+use profiles::seen::{is_narrowed, narrowed};
 use profiles::standing::numbers::Standing;
 use relax::sure::least_held;
 use rule_frame::{Area, Instant, Problem, View, VmId};
 
+// what a machine has at present, where the next of a list is that machine: nothing where it is another one
+#[tactic(auto, using(crate::proofs::HolderLemmas::listed_kept, crate::proofs::HolderLemmas::none_kept))]
+fn stays_of(_p: &Problem, holders: &[Holder], next: usize, v: VmId, _bound: &Bound) -> u64
+    requires holders { AreKept _p.now.given _bound.now holders.now }
+    ensures { IsKept _p.now.given _bound.now.weight (has_node _bound.now.nodes) v.0 result }
+{
+    if next < holders.len() && holders[next].machine.0 == v.0 {
+        holders[next].amount
+    } else {
+        0
+    }
+}
+
 // what a machine surely holds in what is seen: by its numbers, where all of its choices are
-fn held_seen(p: &Problem, view: &View, v: VmId, k: Standing, bound: &Bound, t: Instant) -> u64
+fn held_seen(
+    p: &Problem,
+    view: &View,
+    v: VmId,
+    k: Standing,
+    stays: u64,
+    bound: &Bound,
+    t: Instant,
+) -> u64
     requires region { IsSized p.now.given view.now.region.now }
     requires machine { v.0 < machine_count p.now.given }
     requires standing { IsStanding p.now.given v.0 (sets view.now.region.now (vm v.0)) k }
+    requires kept { IsKept p.now.given bound.now.weight (has_node bound.now.nodes) v.0 stays }
     requires weight { IsWeight p.now.given bound.now.weight }
     requires within { t ≤ p.now.given.horizon }
     ensures held { result ≤ (sure p.now.given (seen view.now.region.now view.now.lens) t).held v.0 bound.now.weight (has_node bound.now.nodes) }
@@ -24,51 +46,102 @@ fn held_seen(p: &Problem, view: &View, v: VmId, k: Standing, bound: &Bound, t: I
     if is_narrowed(view.lens, v) {
         return least_held(p, view, v, bound.weight, &Area::In(bound.nodes), t);
     }
-    surely_held(p, view.region, v, k, bound, Period { from: t, to: t })
+    surely_held(
+        p,
+        view.region,
+        v,
+        k,
+        stays,
+        bound,
+        Period { from: t, to: t },
+    )
 }
 
-// what is counted of that: nothing for a machine that has nothing there at present and has not surely come somewhere
-fn held_counted(
+// the number of the next machine to count: that of a list, or another one where it comes first
+fn next_number(holders: &[Holder], next: usize, other: usize, low: usize) -> usize {
+    let listed = if next < holders.len() {
+        holders[next].machine.0 as usize
+    } else {
+        usize::MAX
+    };
+    if low <= other && other < listed {
+        other
+    } else {
+        listed
+    }
+}
+
+// whether those of a list alone, with the one of which not all choices are seen, surely hold more than the amount
+fn listed_are_over(
     p: &Problem,
     view: &View,
-    stayers: &MachineSet,
-    v: VmId,
-    k: Standing,
+    holders: &[Holder],
+    ks: &[Standing],
     bound: &Bound,
     t: Instant,
-) -> u64
+) -> bool
     requires region { IsSized p.now.given view.now.region.now }
-    requires machine { v.0 < machine_count p.now.given }
-    requires standing { IsStanding p.now.given v.0 (sets view.now.region.now (vm v.0)) k }
+    requires holders { AreKept p.now.given bound.now holders.now }
+    requires standings { AreStanding p.now.given (sets view.now.region.now) ks.now }
     requires weight { IsWeight p.now.given bound.now.weight }
     requires within { t ≤ p.now.given.horizon }
-    ensures held { result ≤ (sure p.now.given (seen view.now.region.now view.now.lens) t).held v.0 bound.now.weight (has_node bound.now.nodes) }
-    ensures small { result ≤ max_held }
+    ensures { IsTrue result → bound.now.amount < total p.now.given (sure p.now.given (seen view.now.region.now view.now.lens) t) bound.now.weight (has_node bound.now.nodes) }
 {
-    if stayers.has(v) || k.come.is_some() || is_narrowed(view.lens, v) {
-        return held_seen(p, view, v, k, bound, t);
+    let other = match narrowed(view.lens) {
+        None => usize::MAX,
+        Some(e) => e.0 as usize,
+    };
+    let mut total = 0;
+    let mut next = 0usize;
+    let mut low = 0usize;
+    for _ in 0..holders.len().saturating_add(1) {
+        let i = next_number(holders, next, other, low);
+        // each is counted once
+        if i < low {
+            return false;
+        }
+        if i >= p.cluster().machines().len() {
+            return false;
+        }
+        let v = VmId(i as u32);
+        let stays = stays_of(p, holders, next, v, bound);
+        if stays > 0 {
+            next = next.saturating_add(1);
+        }
+        total += held_seen(p, view, v, ks[i], stays, bound, t);
+        if total > bound.amount {
+            return true;
+        }
+        low = i + 1;
     }
-    0
+    false
 }
 
 // whether what machines surely hold in what is seen is more than the amount
 fn is_over(
     p: &Problem,
     view: &View,
-    stayers: &MachineSet,
+    holders: &[Holder],
     ks: &[Standing],
     bound: &Bound,
     t: Instant,
 ) -> bool
     requires region { IsSized p.now.given view.now.region.now }
+    requires holders { AreKept p.now.given bound.now holders.now }
     requires standings { AreStanding p.now.given (sets view.now.region.now) ks.now }
     requires weight { IsWeight p.now.given bound.now.weight }
     requires within { t ≤ p.now.given.horizon }
     ensures { IsTrue result → bound.now.amount < total p.now.given (sure p.now.given (seen view.now.region.now view.now.lens) t) bound.now.weight (has_node bound.now.nodes) }
 {
     let mut total = 0;
+    let mut next = 0usize;
     for i in 0..p.cluster().machines().len() {
-        total += held_counted(p, view, stayers, VmId(i as u32), ks[i], bound, t);
+        let v = VmId(i as u32);
+        let stays = stays_of(p, holders, next, v, bound);
+        if stays > 0 {
+            next = next.saturating_add(1);
+        }
+        total += held_seen(p, view, v, ks[i], stays, bound, t);
         if total > bound.amount {
             return true;
         }
@@ -76,18 +149,38 @@ fn is_over(
     false
 }
 
+// whether it is seen to be more: by those of the list, or by all machines
+fn is_exceeded(
+    p: &Problem,
+    view: &View,
+    holders: &[Holder],
+    ks: &[Standing],
+    bound: &Bound,
+    t: Instant,
+) -> bool
+    requires region { IsSized p.now.given view.now.region.now }
+    requires holders { AreKept p.now.given bound.now holders.now }
+    requires standings { AreStanding p.now.given (sets view.now.region.now) ks.now }
+    requires weight { IsWeight p.now.given bound.now.weight }
+    requires within { t ≤ p.now.given.horizon }
+    ensures { IsTrue result → bound.now.amount < total p.now.given (sure p.now.given (seen view.now.region.now view.now.lens) t) bound.now.weight (has_node bound.now.nodes) }
+{
+    listed_are_over(p, view, holders, ks, bound, t) || is_over(p, view, holders, ks, bound, t)
+}
+
 /// Whether a constraint on what machines hold is seen to be broken at an instant in what is seen of a region. Those that have
-/// something there at present are handed in; whoever else has not surely come somewhere is left out, so less is counted.
+/// something there at present are handed in, in the order of their numbers; whom the list leaves out is counted for less.
 #[tactic(auto, using(crate::proofs::OverLemmas::over_applies))]
 pub(crate) fn exceeds(
     p: &Problem,
     view: &View,
-    stayers: &MachineSet,
+    holders: &Holders,
     ks: &[Standing],
     c: u32,
     t: Instant,
 ) -> bool
     requires region { IsSized p.now.given view.now.region.now }
+    requires holders { AreAllHolders p.now.given (length p.now.given.constraints) holders.now }
     requires standings { AreStanding p.now.given (sets view.now.region.now) ks.now }
     ensures { IsTrue result → (c < length p.now.given.constraints) × (t ≤ p.now.given.horizon) × Applies p.now.given c t (IsSetLoad p.now.given (sure p.now.given (seen view.now.region.now view.now.lens) t)) }
 {
@@ -96,6 +189,6 @@ pub(crate) fn exceeds(
     }
     match bound_of(p, &p.constraints()[c as usize]) {
         None => false,
-        Some(bound) => is_over(p, view, stayers, ks, &bound, t),
+        Some(bound) => is_exceeded(p, view, holders.get(c as usize), ks, &bound, t),
     }
 }

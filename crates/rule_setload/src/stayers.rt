@@ -3,7 +3,6 @@ ghost use Rattle.std.specs.Prelude.{◌≡◌, ◌+◌, ◌*◌, ◌<◌, ◌≤
 ghost use Rattle.rule_setload.specs.Prelude.{AreAllStayers, AreStayersOf, AreStayersTo, bound_of as the_bound_of, form_of, has_node, inventory_of, is_rule, IsWeight, machine_count, max_amount, stay_of, unit_of};
 
 use crate::bounds::{Bound, bound_of};
-use cluster::MachineSet;
 use profiles::standing::uses::base;
 use rule_constraint::host;
 use rule_frame::{Constraint, Memory, Problem, VmId, Weight};
@@ -14,8 +13,6 @@ use std::alloc::Global;
 pub struct Stayers {
     pub total: u64,
     pub most: u64,
-    /// Those that have something there.
-    pub machines: MachineSet,
 }
 
 impl Stayers {
@@ -24,11 +21,7 @@ impl Stayers {
         ensures total { result.total ≡ 0 }
         ensures most { result.most ≡ 0 }
     {
-        Stayers {
-            total: 0,
-            most: 0,
-            machines: MachineSet::new(),
-        }
+        Stayers { total: 0, most: 0 }
     }
 }
 
@@ -70,15 +63,9 @@ fn with_one(p: &Problem, bound: &Bound, x: Stayers, v: VmId) -> Stayers
     requires before { AreStayersTo p.now.given bound.now.weight (has_node bound.now.nodes) v.0 x }
     ensures { AreStayersTo p.now.given bound.now.weight (has_node bound.now.nodes) (v.0 + 1) result }
 {
-    let stays = stay(p, v, bound);
-    let mut machines = x.machines;
-    if stays > 0 {
-        machines.insert(v);
-    }
     Stayers {
-        total: x.total + stays,
+        total: x.total + stay(p, v, bound),
         most: x.most.max(unit(p, v, bound.weight)),
-        machines,
     }
 }
 
