@@ -9,6 +9,9 @@ use rule_frame::{Constraint, Memory, NodeId, NodeSet, Problem, VmId};
 use std::alloc::Global;
 use std::marker::Model;
 
+// so many holders are listed of all constraints together
+const MOST_HOLDERS: usize = 1_048_576;
+
 /// A machine, and what it has while it keeps its host.
 #[derive(Clone, Copy)]
 pub struct Holder {
@@ -40,50 +43,61 @@ pub(crate) fn kept_amount(p: &Problem, v: VmId, bound: &Bound) -> u64
     }
 }
 
-// puts a machine into a list, where it has something
+// puts a machine into a list, where it has something and fewer than so many are there
 fn put(
     _p: &Problem,
     _bound: &Bound,
     machine: VmId,
     amount: u64,
+    most: usize,
     list: &mut Vec<Holder>,
 ) -> Result<(), Memory>
     requires before { AreKept _p.now.given _bound.now list.old.items }
     requires kept { IsKept _p.now.given _bound.now.weight (has_node _bound.now.nodes) machine.0 amount }
     ensures { OnOk result (AreKept _p.now.given _bound.now list.new.items) }
 {
-    if amount > 0 {
+    if amount > 0 && list.len() < most {
         list.push(Holder { machine, amount })?;
     }
     Ok(())
 }
 
-// those of what a constraint bounds, in the order of their numbers
+// those of what a constraint bounds, in the order of their numbers, up to so many
 #[tactic(auto, using(crate::proofs::HolderLemmas::none_listed))]
-fn holders_in(alloc: Global, p: &Problem, bound: &Bound) -> Result<Vec<Holder>, Memory>
+fn holders_in(
+    alloc: Global,
+    p: &Problem,
+    bound: &Bound,
+    most: usize,
+) -> Result<Vec<Holder>, Memory>
     requires weight { IsWeight p.now.given bound.now.weight }
     ensures { IfOk result (λ xs. AreKept p.now.given bound.now xs.items) }
 {
     let mut list = Vec::new(alloc);
     for i in 0..p.cluster().machines().len() {
         let v = VmId(i as u32);
-        put(p, bound, v, kept_amount(p, v, bound), &mut list)?;
+        put(p, bound, v, kept_amount(p, v, bound), most, &mut list)?;
     }
     Ok(list)
 }
 
-// those of a constraint, if it bounds something
-fn holders_of(alloc: Global, p: &Problem, constraint: &Constraint) -> Result<Vec<Holder>, Memory>
+// those of a constraint, if it bounds something, up to so many
+fn holders_of(
+    alloc: Global,
+    p: &Problem,
+    constraint: &Constraint,
+    most: usize,
+) -> Result<Vec<Holder>, Memory>
     requires rule { is_rule (inventory_of p.now.given) constraint.now ≡ true }
     ensures { IfOk result (λ xs. AreHolders p.now.given (the_bound_of (form_of constraint.now)) xs.items) }
 {
     match bound_of(p, constraint) {
         None => Ok(Vec::new(alloc)),
-        Some(bound) => holders_in(alloc, p, &bound),
+        Some(bound) => holders_in(alloc, p, &bound, most),
     }
 }
 
-/// For each constraint the machines that have something on its nodes at present.
+/// For each constraint machines that have something on its nodes at present: all of them, where there are few constraints.
 #[derive(Drop)]
 pub struct Holders {
     lists: Vec<Vec<Holder>>,
@@ -122,9 +136,10 @@ impl Holders {
     pub fn of(alloc: Global, p: &Problem) -> Result<Holders, Memory>
         ensures { IfOk result (AreAllHolders p.now.given (length p.now.given.constraints)) }
     {
+        let most = MOST_HOLDERS / p.constraints().len().max(1);
         let mut all = Holders::none(alloc);
         for c in 0..p.constraints().len() {
-            let list = holders_of(alloc, p, &p.constraints()[c])?;
+            let list = holders_of(alloc, p, &p.constraints()[c], most)?;
             all.push(list)?;
         }
         Ok(all)
