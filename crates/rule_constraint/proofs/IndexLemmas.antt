@@ -79,13 +79,16 @@ dirty_more spared numbers k m n within low dirty = record {
     was i e (inr ne) h = sym (get_or-set_other n.top (get_or numbers k 0) i true false ne) ∙ e
 
 -- one more is spared
-pub spared_more : (spared : ℕ → Type 0) (numbers : List ℕ) (k : ℕ) (m n : Levels) → k < length numbers → spared (get_or numbers k 0) → AreDirty spared k numbers m n → AreDirty spared (k + 1) numbers m n
+pub spared_more : (spared : ℕ → Type 0) (numbers : List ℕ) (k : ℕ) (m n : Levels) → k < length numbers → (get_or n.top (get_or numbers k 0) false ≡ false → spared (get_or numbers k 0)) → AreDirty spared k numbers m n →
+    AreDirty spared (k + 1) numbers m n
 spared_more spared numbers k m n within it dirty = record {
   older = dirty.older;
   count = dirty.count;
   kept = dirty.kept;
   others = λ i j h e l same. elim (cases_eq j k) [
-    | inl at ↦ subst spared (sym (get_or_default numbers k i 0 within) ∙ subst (λ y. get_or numbers y i ≡ i) at same) it
+    | inl at ↦
+        let here : get_or numbers k 0 ≡ i = sym (get_or_default numbers k i 0 within) ∙ subst (λ y. get_or numbers y i ≡ i) at same in
+        subst spared here (it (subst (λ y. get_or n.top y false ≡ false) (sym here) e))
     | inr ne ↦ dirty.others i j h e (omega (arith, l, ne)) same
   ];
 }

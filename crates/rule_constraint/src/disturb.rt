@@ -1,5 +1,5 @@
 //! Which constraints are dirty after a change: those that look at its element, but for those that are seen to stay clean.
-ghost use Rattle.std.specs.Prelude.{◌≡◌, ◌<◌, ◌≤◌, ℕ, IsTrue, List, length};
+ghost use Rattle.std.specs.Prelude.{◌≡◌, ◌<◌, ◌≤◌, ℕ, false, IsTrue, List, length, slice_index_or};
 ghost use Rattle.std.specs.List.{Contains};
 ghost use Rattle.rule_constraint.specs.Prelude.{AreDirty, AreFewer, Choice as AnyChoice, IsDisturbed, IsElement, IsIndexOf, IsSized, IsSpared, machine_count, sets, watch_at};
 ghost use Rattle.cluster.specs.declared.ids.Element.TheVariants.{Vm};
@@ -22,6 +22,24 @@ fn is_spared<S: Kinds>(kinds: &S, p: &Problem, g: &Region, v: VmId, c: u32) -> b
     }
 }
 
+// whether a constraint is dirty already, of which nothing has to be asked, or spared
+fn needs_nothing<S: Kinds>(
+    kinds: &S,
+    p: &Problem,
+    g: &Region,
+    v: VmId,
+    c: u32,
+    dirty: &DirtySet,
+) -> bool
+    requires region { IsSized p.now.given g.now }
+    requires machine { v.0 < machine_count p.now.given }
+    requires constraint { c < length p.now.given.constraints }
+    requires count { length p.now.given.constraints ≤ length dirty.now.top }
+    ensures { IsTrue result → slice_index_or dirty.now.top c false ≡ false → IsSpared (S.kinds kinds.now) p.now.given (Vm v) (sets g.now (Vm v)) c }
+{
+    dirty.is_dirty(c as usize) || is_spared(kinds, p, g, v, c)
+}
+
 // sets dirty each of the watches of these numbers that is not spared
 fn set_unspared_dirty<S: Kinds>(
     kinds: &S,
@@ -38,7 +56,7 @@ fn set_unspared_dirty<S: Kinds>(
     ensures { AreDirty (IsSpared (S.kinds kinds.now) p.now.given (Vm v) (sets g.now (Vm v))) (length numbers.now) numbers.now dirty.old dirty.new }
 {
     for k in 0..numbers.len() {
-        if !is_spared(kinds, p, g, v, numbers[k]) {
+        if !needs_nothing(kinds, p, g, v, numbers[k], dirty) {
             dirty.set_dirty(numbers[k] as usize, true);
         }
     }

@@ -1,4 +1,4 @@
-use Rattle.rule_constraint.proofs.Prelude.{◌≡◌, ◌⊎◌, ◌∙◌, inl, inr, refl, sym, ap, Apart, Between, Each, form_of, form_seen, IsInPart, IsMember, Ordered, Powered, scope_of}
+use Rattle.rule_constraint.proofs.Prelude.{◌≡◌, ◌⊎◌, ◌∙◌, refl, sym, ap, Apart, Between, Each, form_of, form_seen, IsInPart, IsMember, Ordered, Powered, scope_of}
 use Rattle.rule_constraint.proofs.AddLemmas.{LooksAtMachines, actions_look, added_machines, added_nodes, presences_look}
 use Rattle.rule_constraint.proofs.IndexLemmas.{put_then}
 use Rattle.rule_constraint.proofs.index.Lists.add.Goals as goal
