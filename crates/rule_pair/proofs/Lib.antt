@@ -6,3 +6,4 @@ pub mod PastLemmas
 mod StayLemmas
 mod StrangerLemmas
 mod UnmovedLemmas
+mod ReachLemmas

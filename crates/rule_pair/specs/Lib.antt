@@ -3,6 +3,7 @@ pub mod Covers
 -- what the code says beside it
 pub mod Apart
 pub mod Longest
+pub mod Reach
 pub mod Stays
 pub mod Unmoved
 pub mod Prelude

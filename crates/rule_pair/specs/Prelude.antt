@@ -23,9 +23,11 @@ pub use Rattle.rule_constraint.specs.Broken.{of_kind}
 pub use Rattle.rule_pair.specs.Apart.{AreClear, class_of, HasPosts, IsAt, IsLate, IsTold, KeepsClear, KeepsOff, OnClear, part_of}
 pub use Rattle.rule_pair.specs.Covers.{pair_kinds}
 pub use Rattle.rule_pair.specs.Longest.{AreLonger, AreOrdered, IsOrdered, of_others, told_until}
+pub use Rattle.rule_pair.specs.Reach.{IsReach}
 pub use Rattle.rule_pair.specs.Stays.{StandsWithin}
 pub use Rattle.rule_pair.specs.Unmoved.{IsUnmoved}
 pub use Rattle.rule_pair.specs.declared.clear.Seen.{Seen}
 pub use Rattle.rule_pair.specs.declared.clear.Seen.TheVariants.{Clear, Doubtful, Unknown}
 pub use Rattle.rule_pair.specs.declared.longest.Longest.{Longest}
 pub use Rattle.rule_pair.specs.declared.posts.Posts.{Posts}
+pub use Rattle.rule_pair.specs.declared.reach.Reach.{Reach}

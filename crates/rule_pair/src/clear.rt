@@ -1,12 +1,13 @@
 //! Whether a constraint is kept, told at once for all instants from the first one at which it is to hold.
-ghost use Rattle.std.specs.Prelude.{◌≡◌, ◌≢◌, ℕ, ◌<◌, ◌≤◌, ◌||◌, ◌==◌, nat_lt, true, length, slice_index_or, IfNone, IsTrue};
+ghost use Rattle.std.specs.Prelude.{◌≡◌, ◌≢◌, ℕ, ◌<◌, ◌≤◌, ◌||◌, ◌==◌, nat_lt, true, length, slice_index_or, IfNone, IfSome, IsTrue};
 ghost use Rattle.std.specs.List.{list_all};
 ghost use Rattle.cluster.specs.declared.choices.Choice.{Choice as AnyChoice};
-ghost use Rattle.rule_pair.specs.Prelude.{are_below, AreClear, AreLonger, AreOrdered, choices, Climbs, hosted_in, inventory_of, is_continuous, is_rule, IsClean, IsEnd, IsInPart, IsLate, IsMember, IsSized, IsTold, KeepsClear, KeepsOff, leave_of, machine_count, no_row, OnClear, one, part_of as the_part_of, rule_watch, separated, separation_seen, sets, state_of, told_until};
+ghost use Rattle.rule_pair.specs.Prelude.{are_below, AreClear, AreLonger, AreOrdered, choices, Climbs, hosted_in, inventory_of, is_continuous, is_rule, IsClean, IsEnd, IsInPart, IsLate, IsMember, IsReach, IsSized, IsTold, KeepsClear, KeepsOff, leave_of, machine_count, no_row, OnClear, one, part_of as the_part_of, rule_watch, separated, separation_seen, sets, state_of, told_until};
 
 use crate::longest::{NOBODY, Stay, Table, stay_after, tell};
 use crate::pairs::separation_of;
 use crate::posts::{Post, last_before, posts_of};
+use crate::reach::{Reach, rows_met_between};
 use crate::stays::leaves_by;
 use crate::strangers::strangers_alone;
 use cluster::limits::MAX_NODES;
@@ -164,6 +165,24 @@ pub(crate) fn row_met(row: Row, part: usize, from: Instant, table: &Table) -> Op
     }
 }
 
+// the first such of some rows, of which those at places without a stay need not be read
+fn rows_met_in(
+    rows: &[Row],
+    part: usize,
+    from: Instant,
+    reach: Option<Reach>,
+    table: &Table,
+) -> Option<Met>
+    requires climbs { Climbs 0 rows.now }
+    requires reach { IfSome reach (IsReach table.now part from) }
+    ensures { IfNone result ((i : ℕ) → i < length rows.now → IsLate table.now part from (slice_index_or rows.now i no_row).place (slice_index_or rows.now i no_row).lo) }
+{
+    match reach {
+        None => rows_met(rows, part, from, table),
+        Some(reach) => rows_met_between(rows, part, from, reach, table),
+    }
+}
+
 // the first such of some rows
 fn rows_met(rows: &[Row], part: usize, from: Instant, table: &Table) -> Option<Met>
     ensures { IfNone result ((i : ℕ) → i < length rows.now → IsLate table.now part from (slice_index_or rows.now i no_row).place (slice_index_or rows.now i no_row).lo) }
@@ -188,17 +207,20 @@ fn make_doubt(p: &Problem, w: VmId, met: Met) -> Doubt {
     }
 }
 
-/// Whether a machine is nowhere while one of another part stays there, from an instant on.
+/// Whether a machine is nowhere while one of another part stays there, from an instant on. Between which places there are
+/// such stays is handed in, where that is known.
 pub(crate) fn machine_keeps_off(
     p: &Problem,
     g: &Region,
     w: VmId,
     part: usize,
     from: Instant,
+    reach: Option<Reach>,
     table: &Table,
 ) -> Seen
     requires region { IsSized p.now.given g.now }
     requires machine { w.0 < machine_count p.now.given }
+    requires reach { IfSome reach (IsReach table.now part from) }
     ensures { OnClear result (KeepsOff p.now.given (sets g.now) table.now part from w.0) }
 {
     let domain = g.domain(Element::Vm(w));
@@ -209,7 +231,7 @@ pub(crate) fn machine_keeps_off(
         return Seen::Doubtful(make_doubt(p, w, met));
     }
     let rows = domain.rows();
-    match rows_met(rows, part, from, table) {
+    match rows_met_in(rows, part, from, reach, table) {
         None => Seen::Clear,
         Some(met) => Seen::Doubtful(make_doubt(p, w, met)),
     }
@@ -230,7 +252,7 @@ fn machines_keep_off(
 {
     for i in 0..machines.len() {
         let w = machines[i];
-        match machine_keeps_off(p, g, w, part_of(part, w), from, table) {
+        match machine_keeps_off(p, g, w, part_of(part, w), from, None, table) {
             Seen::Clear => {}
             Seen::Doubtful(d) => return Seen::Doubtful(d),
             Seen::Unknown => return Seen::Unknown,

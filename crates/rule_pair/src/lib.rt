@@ -9,6 +9,7 @@ mod members;
 mod pair_look;
 mod pairs;
 mod posts;
+mod reach;
 mod refuting;
 pub mod rule;
 mod stays;

@@ -5,6 +5,7 @@ ghost use Rattle.rule_pair.specs.Prelude.{AreOrdered, class_of as the_class_of, 
 
 use crate::clear::{Seen, machine_keeps_off, tell_machine};
 use crate::longest::{NOBODY, Table};
+use crate::reach::reach_of;
 use cluster::MachineSet;
 use cluster::limits::MAX_NODES;
 use rule_frame::{Instant, Problem, Region, VmId};
@@ -48,9 +49,17 @@ fn all_keep_off(p: &Problem, g: &Region, members: &MachineSet, from: Instant, ta
     requires region { IsSized p.now.given g.now }
     ensures { OnClear result ((w : ℕ) → w < machine_count p.now.given → KeepsOff p.now.given (sets g.now) table.now (the_class_of (has_machine members.now) w) from w) }
 {
+    let strangers_reach = reach_of(table, 0, from);
+    let members_reach = reach_of(table, 1, from);
     for i in 0..p.cluster().machines().len() {
         let w = VmId(i as u32);
-        match machine_keeps_off(p, g, w, class_of(members, w), from, table) {
+        let part = class_of(members, w);
+        let reach = match part {
+            0 => Some(strangers_reach),
+            1 => Some(members_reach),
+            _ => None,
+        };
+        match machine_keeps_off(p, g, w, part, from, reach, table) {
             Seen::Clear => {}
             Seen::Doubtful(d) => return Seen::Doubtful(d),
             Seen::Unknown => return Seen::Unknown,

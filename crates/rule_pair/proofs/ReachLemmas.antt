@@ -1,0 +1,35 @@
+-- Rows at places between which there is no stay.
+use Rattle.rule_pair.proofs.Prelude.{arith, cases_lt, inl, inr, IsLate, length, List, no_row, slice_index_or, suc, zero, [], ℕ, ◌+◌, ◌<◌, ◌∷◌, ◌≤◌, ◌⊎◌}
+use Rattle.cluster.specs.declared.choices.Place.{Place as AnyPlace}
+use Rattle.rule_pair.specs.Prelude.{At, Climbs, IsReach, Longest, Nowhere, place_index, Reach, Row, told_until}
+
+climbs-from : (from : ℕ) (rows : List Row) (k : ℕ) → Climbs from rows → k < length rows → from ≤ place_index (slice_index_or rows k no_row).place
+climbs-from from [] k c l = absurd (omega arith)
+climbs-from from (r ∷ rs) zero c l = c.0
+climbs-from from (r ∷ rs) (suc k) c l = let rest = climbs-from (place_index r.place + 1) rs k c.2 (omega arith) in omega (arith, rest, c.0)
+
+-- a later row is at no earlier place
+pub places_climb : (from : ℕ) (rows : List Row) (i j : ℕ) → Climbs from rows → i ≤ j → j < length rows → place_index (slice_index_or rows i no_row).place ≤ place_index (slice_index_or rows j no_row).place
+places_climb from [] i j c le l = absurd (omega arith)
+places_climb from (r ∷ rs) zero zero c le l = omega arith
+places_climb from (r ∷ rs) zero (suc j) c le l = let rest = climbs-from (place_index r.place + 1) rs j c.2 (omega arith) in omega (arith, rest)
+places_climb from (r ∷ rs) (suc i) zero c le l = absurd (omega arith)
+places_climb from (r ∷ rs) (suc i) (suc j) c le l = places_climb (place_index r.place + 1) rs i j c.2 (omega arith) (omega arith)
+
+-- all rows up to one at a place before that of a number are so
+pub all_before : (rows : List Row) (m number : ℕ) → Climbs 0 rows → m < length rows → place_index (slice_index_or rows m no_row).place < number → (k : ℕ) → k < m + 1 → place_index (slice_index_or rows k no_row).place < number
+all_before rows m number c l h k u = let le = places_climb 0 rows k m c (omega arith) l in omega (arith, le, h)
+
+-- a row outside starts after all stays
+pub late_outside : (xs : List Longest) (part from : ℕ) (x : Reach) (q : AnyPlace) (lo : ℕ) → IsReach xs part from x → (place_index q < x.first) ⊎ (x.last < place_index q) → IsLate xs part from q lo
+late_outside xs part from x Nowhere lo reach out = tt
+late_outside xs part from x (At n) lo reach out = elim (cases_lt from (told_until xs part n.0)) [
+  | inr none ↦ omega (arith, none)
+  | inl lasts ↦ let at = reach.each n.0 lasts in elim out [ inl early ↦ absurd (omega (arith, at.0, early)) | inr late ↦ absurd (omega (arith, at.1, late)) ]
+]
+
+pub late_from : (xs : List Longest) (part from : ℕ) (x : Reach) (rows : List Row) (i : ℕ) → Climbs 0 rows → IsReach xs part from x → i < length rows → x.last < place_index (slice_index_or rows i no_row).place → ((k : ℕ) → k < i → IsLate xs part from (slice_index_or rows k no_row).place (slice_index_or rows k no_row).lo) → (k : ℕ) → k < length rows → IsLate xs part from (slice_index_or rows k no_row).place (slice_index_or rows k no_row).lo
+late_from xs part from x rows i c reach l past before k u = elim (cases_lt k i) [
+  | inl early ↦ before k early
+  | inr later ↦ let le = places_climb 0 rows i k c later u in late_outside xs part from x (slice_index_or rows k no_row).place (slice_index_or rows k no_row).lo reach (inr (omega (arith, le, past)))
+]
