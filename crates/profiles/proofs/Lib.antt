@@ -3,7 +3,7 @@ pub mod Public
 mod Prelude
 pub mod FirstLemmas
 mod FixedLemmas
-mod FlagLemmas
+mod RankLemmas
 mod LevelLemmas
 mod MoverLemmas
 mod NearLemmas

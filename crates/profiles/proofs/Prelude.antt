@@ -9,6 +9,6 @@ pub use Rattle.relax.proofs.Public.{least_from, none_is_empty}
 pub use Rattle.relax.specs.Areas.{is_node_in}
 pub use Rattle.relax.specs.Prelude.{host_of}
 pub use Rattle.slices.proofs.Public.{ends_by_duration}
-pub use Rattle.profiles.specs.Flags.{AreFlags, is_in}
+pub use Rattle.profiles.specs.Ranks.{AreMarks, AreRanks, IsRanked}
 pub use Rattle.profiles.specs.Prelude.{Act, acting_slices, Allocate, Amount, AreFewer, AreFirstAt, AreFirsts, AreHosts, AreLeaves, AreMachines, AreMostUses, AreMovers, AreNear, AreOrders, AreShares, AreSmall, AreStanding, AreStandingUpTo, AreTotalBases, AreUses, Arrival, At, base, BeforeLaw, Boot, brought, Choice, choices, Clash, Climbs, comes_by, Demand, domain_at, domain_before, DomainView, duration_of, Element, Entry, FewerLaw, Forge, From, gain, Gone, GrowLaw, had_there, has_come, have_come, hosted_in, HostIs, idle_seen, idle_slices, Image, in_part, Init, Instance, is_online, is_place, is_raised, IsEachOnce, IsGrown, IsListedOrStays, IsLog, IsMostUse, IsNear, IsNoLater, IsOrder, IsProfile, IsPut, IsShare, IsStanding, IsToldOf, IsTotalBase, Keep, kept_until, kept_use, KeptLaw, Kill, Killed, Kind, least, leave_of, Leaves, Lens, level_at, Levels, list_at, lists_of, load, LoadLaw, Lost, lost_choices, lower_option, lowest, machine_count, machine_kind, Mark, max_action, max_amount, Migrate, most_use, MostUse, never, no_row, no_share, no_standing, Node, node, node_count, NodeId, Nowhere, Offline, olders, one, Online, place_index, Presence, PresencesLaw, PresentLaw, ProfileView, Ready, RegionView, restored, Resume, Row, row_choices, same_element, seen, Sets, sets, Share, share_use, Shutdown, sight_at, Sleeping, Slices, slot_of, Stage, stage_from, Standing, start_count, starts_from, State, state_of, stays, sum_to, surely, Suspend, To, total_use, Undo, Use, Vm, vm, wanted_state, weigh, Weight, weight_if, weight_of, Wish}
 unfoldable pub use Rattle.profiles.specs.Prelude.{action_duration, end_of, held_at, held_by, kind_duration, kind_of, slices_by, slices_of, stage_at, sure, usable_at}

@@ -8,5 +8,5 @@ pub mod Firsts
 pub mod Fixed
 pub mod NodeLoad
 -- what the code's contracts say beside it
-pub mod Flags
+pub mod Ranks
 pub mod Prelude

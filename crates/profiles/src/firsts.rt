@@ -8,7 +8,7 @@ use base::Memory;
 use catalogue::Problem;
 use cluster::{Choice, Element, Instant, NodeId, Place, VmId};
 use domains::measure::{Measure, lowest};
-use domains::{Change, Domain, Part, Region};
+use domains::{Change, Domain, Part, Region, Side};
 use std::alloc::Global;
 use std::marker::Model;
 
@@ -149,8 +149,26 @@ impl Firsts {
         self.put(p, g, n, v)
     }
 
+    // of a machine that may do nothing but stay as it is: at each node
+    fn put_everywhere(&mut self, p: &Problem, g: &Region, e: Element) -> Result<(), Memory>
+        requires region { IsSized p.now.given g.now }
+        requires element { IsElement p.now.given e }
+        requires right { AreFirsts p.now.given (sets g.now) self.old.top }
+        ensures older { self.new.older ≡ self.old.older }
+        ensures top { OnOk result (AreFirsts p.now.given (sets g.now) self.new.top) }
+    {
+        let Element::Vm(v) = e else {
+            return Ok(());
+        };
+        for i in 0..p.cluster().nodes().len() {
+            self.put(p, g, NodeId(i as u32), v)?;
+        }
+        Ok(())
+    }
+
     /// Is told of a change that has led to a region, for which these are right already: that of its machine and its
-    /// node is written anew, where it is of one node. The only error is want of memory.
+    /// node is written anew, where it is of one node, and those of all nodes where the machine stays as it is now. The
+    /// only error is want of memory.
     pub fn told(&mut self, p: &Problem, g: &Region, change: Change) -> Result<(), Memory>
         requires region { IsSized p.now.given g.now }
         requires element { IsElement p.now.given change.element }
@@ -159,7 +177,10 @@ impl Firsts {
         ensures top { OnOk result (AreFirsts p.now.given (sets g.now) self.new.top) }
     {
         match change.part {
-            Part::Idle => Ok(()),
+            Part::Idle => match change.side {
+                Side::Inside => self.put_everywhere(p, g, change.element),
+                Side::Outside => Ok(()),
+            },
             Part::Upto(place, _) | Part::From(place, _) => self.put_at(p, g, change.element, place),
         }
     }

@@ -1,7 +1,7 @@
 -- The machines near each node, told of one more.
-use Rattle.rule_load.proofs.Prelude.{narrowed_is_fewer, ◌≡◌, inl, inr, ℕ, ◌<◌, Bool, true, false, cond, nat_le, List, length, Some, None, refl, sym, ap, subst, ◌∙◌, arith, slice_index_or, Contains, and_parts, cases_eq, false≢true, ne_eqb, nat_tests, AreFirstAt, AreFirsts, AreKept, AreKeptAt, AreMovers, AreStanding, Arrival, Before, cache_of, Change, Choice, choices, comes_by, domain_at, domain_before, DomainView, Element, FixedView, Grows, HaveCome, Instance, IsCacheTold, IsGrown, IsListedBy, IsListedFor, IsNarrowed, IsNear, IsPut, level_at, list_at, machine_count, no_standing, TheNode, node_count, one, RegionView, same_element, Sets, sets, Standing, Tables, Vm, vm, sets_before, same_is, level_below, level_top, near_put, movers_grown, firsts_fewer}
+use Rattle.rule_load.proofs.Prelude.{narrowed_is_fewer, ◌≡◌, inl, inr, ℕ, ◌<◌, Bool, true, false, cond, nat_le, List, length, Some, None, refl, sym, ap, subst, ◌∙◌, arith, slice_index_or, Contains, and_parts, cases_eq, false≢true, ne_eqb, nat_tests, AreFirstAt, AreFirsts, AreKept, AreKeptAt, AreMovers, AreStanding, Arrival, Before, cache_of, Change, Choice, choices, comes_by, domain_at, domain_before, DomainView, Element, FixedView, Grows, HaveCome, Instance, Idle, IsCacheTold, IsListedBy, IsListedFor, IsNarrowed, IsNear, IsPut, level_at, list_at, machine_count, no_standing, TheNode, node_count, one, RegionView, same_element, Sets, sets, Standing, Tables, Vm, vm, sets_before, same_is, level_below, level_top, near_put, firsts_fewer}
 use Rattle.profiles.specs.Levels.{Levels}
-use Rattle.rule_load.specs.Prelude.{AreRooms, IsWidened, RoomsView}
+use Rattle.rule_load.specs.Prelude.{AreRooms, IsWidened, RoomsView, StayersHoldOn}
 use Rattle.rule_load.proofs.NodeRoomLemmas.{rooms_widened}
 
 -- ---- one machine more
@@ -37,12 +37,12 @@ come_told p g (Vm w) before kept ks xs ys count come grows are listed = record {
 
 -- ---- levels
 
--- the top of firsts that have as many levels
-firsts-top : (m : Tables) (f : Levels ℕ) → length f.older ≡ length m.older → level_at f (length m.older) ≡ f.top
-firsts-top m f same = ap (level_at f) (sym same) ∙ level_top f
+-- the top of what has as many levels
+same-top : (m : Tables) (f : Levels ℕ) → length f.older ≡ length m.older → level_at f (length m.older) ≡ f.top
+same-top m f same = ap (level_at f) (sym same) ∙ level_top f
 
-pub kept_at : (p : Instance) (s : Sets) (m : Tables) (x : FixedView) (xs : List (List ℕ)) (f : Levels ℕ) (ws : List ℕ) (os : RoomsView) (n : ℕ) (fs : List ℕ) → n < node_count p → AreKept p s m x xs f ws os (length m.older) → AreFirstAt p s n fs → AreKeptAt p s n x m.top (list_at xs n) fs
-kept_at p s m x xs f ws os n fs low kept first = record {
+pub kept_at : (p : Instance) (s : Sets) (m : Tables) (x : FixedView) (xs : List (List ℕ)) (f ws : Levels ℕ) (os : RoomsView) (hold : Bool) (n : ℕ) (fs : List ℕ) → n < node_count p → AreKept p s m x xs f ws os hold (length m.older) → AreFirstAt p s n fs → AreKeptAt p s n x m.top (list_at xs n) fs
+kept_at p s m x xs f ws os hold n fs low kept first = record {
   fixed = kept.fixed;
   standing = subst (λ ks. AreStanding p s ks) (level_top m) kept.standing;
   near = record { machines = kept.near.machines n; hosted = λ v l on. kept.near.hosted n v low l on; come = λ v t l on. kept.come.come n v t low l on };
@@ -50,30 +50,47 @@ kept_at p s m x xs f ws os n fs low kept first = record {
 }
 
 -- before when no machine starts at a node
-pub kept_firsts : (p : Instance) (s : Sets) (m : Tables) (x : FixedView) (xs : List (List ℕ)) (f : Levels ℕ) (ws : List ℕ) (os : RoomsView) → AreKept p s m x xs f ws os (length m.older) → AreFirsts p s f.top
-kept_firsts p s m x xs f ws os kept = subst (λ fs. AreFirsts p s fs) (firsts-top m f kept.same) kept.firsts
+pub kept_firsts : (p : Instance) (s : Sets) (m : Tables) (x : FixedView) (xs : List (List ℕ)) (f ws : Levels ℕ) (os : RoomsView) (hold : Bool) → AreKept p s m x xs f ws os hold (length m.older) → AreFirsts p s f.top
+kept_firsts p s m x xs f ws os hold kept = subst (λ fs. AreFirsts p s fs) (same-top m f kept.same) kept.firsts
 
--- nor after a change that has narrowed its element
-pub kept_fewer : (p : Instance) (g : RegionView) (change : Change) (before : Before) (kept : DomainView) (m : Tables) (x : FixedView) (xs : List (List ℕ)) (f : Levels ℕ) (ws : List ℕ) (os : RoomsView) → IsNarrowed p g change before kept → AreKept p (sets_before g change.element before kept) m x xs f ws os (length m.older) → AreFirsts p (sets g) f.top
-kept_fewer p g change before kept m x xs f ws os narrowed was = firsts_fewer p (sets g) (sets_before g change.element before kept) f.top (kept_firsts p (sets_before g change.element before kept) m x xs f ws os was) (λ v c low h. at v c (same_element (vm v) change.element) refl h)
+-- the machines that may not stay
+pub kept_movers : (p : Instance) (s : Sets) (m : Tables) (x : FixedView) (xs : List (List ℕ)) (f ws : Levels ℕ) (os : RoomsView) (hold : Bool) → AreKept p s m x xs f ws os hold (length m.older) → AreMovers p s ws.top
+kept_movers p s m x xs f ws os hold kept = subst (λ vs. AreMovers p s vs) (same-top m ws kept.alike) kept.movers
+
+-- what a machine may do after a change that has narrowed its element it might do before
+was-there : (p : Instance) (g : RegionView) (change : Change) (before : Before) (kept : DomainView) → IsNarrowed p g change before kept → (v : ℕ) (c : Choice) → Contains (sets g (vm v)) c → Contains (sets_before g change.element before kept (vm v)) c
+was-there p g change before kept narrowed v c h = at (same_element (vm v) change.element) refl
   where
-    at : (v : ℕ) (c : Choice) (b : Bool) → same_element (vm v) change.element ≡ b → Contains (sets g (vm v)) c → Contains (cond b (choices (domain_before before kept (domain_at g change.element))) (sets g (vm v))) c
-    at v c true same h = narrowed_is_fewer p g change before kept narrowed c (subst (λ e. Contains (sets g e) c) (same_is (vm v) change.element same) h)
-    at v c false other h = h
+    at : (b : Bool) → same_element (vm v) change.element ≡ b → Contains (cond b (choices (domain_before before kept (domain_at g change.element))) (sets g (vm v))) c
+    at true same = narrowed_is_fewer p g change before kept narrowed c (subst (λ e. Contains (sets g e) c) (same_is (vm v) change.element same) h)
+    at false other = h
 
-pub cache_told : (p : Instance) (s old : Sets) (m now : Tables) (x : FixedView) (xs ys : List (List ℕ)) (f h : Levels ℕ) (ws vs : List ℕ) (os us : RoomsView) → now.older ≡ m.older → h.older ≡ f.older → AreStanding p s now.top → AreFirsts p s h.top → AreKept p old m x xs f ws os (length m.older) → Grows (machine_count p) xs ys → HaveCome p s ys →
-    IsGrown (machine_count p) ws vs → AreMovers p s vs → IsWidened (node_count p) os us → AreRooms p s us → IsCacheTold p s (cache_of m x xs f ws os) (cache_of now x ys h vs us)
-cache_told p s old m now x xs ys f h ws vs os us same alike are first was grows come grown movers widened rooms = record {
+-- so no machine starts at a node before then
+pub kept_fewer : (p : Instance) (g : RegionView) (change : Change) (before : Before) (kept : DomainView) (m : Tables) (x : FixedView) (xs : List (List ℕ)) (f ws : Levels ℕ) (os : RoomsView) (hold : Bool) → IsNarrowed p g change before kept → AreKept p (sets_before g change.element before kept) m x xs f ws os hold (length m.older) → AreFirsts p (sets g) f.top
+kept_fewer p g change before kept m x xs f ws os hold narrowed was =
+    firsts_fewer p (sets g) (sets_before g change.element before kept) f.top (kept_firsts p (sets_before g change.element before kept) m x xs f ws os hold was) (λ v c low h. was-there p g change before kept narrowed v c h)
+
+-- and who may stay never has less than at present
+pub hold_told : (p : Instance) (g : RegionView) (change : Change) (before : Before) (kept : DomainView) → IsNarrowed p g change before kept → StayersHoldOn p (sets_before g change.element before kept) → StayersHoldOn p (sets g)
+hold_told p g change before kept narrowed was = record {
+  each = λ v low idle. record { each = λ r t c h. (was.each v low (was-there p g change before kept narrowed v Idle idle)).each r t c (was-there p g change before kept narrowed v c h) };
+}
+
+pub cache_told : (p : Instance) (s old : Sets) (m now : Tables) (x : FixedView) (xs ys : List (List ℕ)) (f h ws vs : Levels ℕ) (os us : RoomsView) (hold : Bool) → now.older ≡ m.older → h.older ≡ f.older → vs.older ≡ ws.older → AreStanding p s now.top → AreFirsts p s h.top → AreKept p old m x xs f ws os hold (length m.older) → Grows (machine_count p) xs ys → HaveCome p s ys →
+    AreMovers p s vs.top → IsWidened (node_count p) os us → AreRooms p s us → (hold ≡ true → StayersHoldOn p s) → IsCacheTold p s (cache_of m x xs f ws os hold) (cache_of now x ys h vs us hold)
+cache_told p s old m now x xs ys f h ws vs os us hold same like alike are first was grows come movers widened rooms holds = record {
   below = record {
     kept = λ j q r low k. record {
       standing = subst (λ ks. AreStanding q r ks) (sym (level_below m now j same low)) k.standing;
       fixed = k.fixed;
       near = grows.near q (sym k.fixed.hosts.count ∙ was.fixed.hosts.count) k.near;
       come = record { come = λ n v t l i on. grows.kept n v (k.come.come n v t l i on) };
-      firsts = subst (λ fs. AreFirsts q r fs) (sym (level_below f h j alike (omega (arith, low, was.same)))) k.firsts;
+      firsts = subst (λ fs. AreFirsts q r fs) (sym (level_below f h j like (omega (arith, low, was.same)))) k.firsts;
       same = level;
-      movers = movers_grown q r ws vs (machine_count p) (sym k.fixed.hosts.count ∙ was.fixed.hosts.count) k.movers grown;
+      movers = subst (λ ms. AreMovers q r ms) (sym (level_below ws vs j alike (omega (arith, low, was.alike)))) k.movers;
+      alike = lists;
       rooms = rooms_widened q r os us (node_count p) (sym k.near.count ∙ was.near.count) k.rooms widened;
+      hold = k.hold;
     };
   };
   top = record {
@@ -81,12 +98,17 @@ cache_told p s old m now x xs ys f h ws vs os us same alike are first was grows 
     fixed = was.fixed;
     near = grows.near p refl was.near;
     come = come;
-    firsts = subst (λ fs. AreFirsts p s fs) (sym (firsts-top now h level)) first;
+    firsts = subst (λ fs. AreFirsts p s fs) (sym (same-top now h level)) first;
     same = level;
-    movers = movers;
+    movers = subst (λ ms. AreMovers p s ms) (sym (same-top now vs lists)) movers;
+    alike = lists;
     rooms = rooms;
+    hold = holds;
   };
 }
   where
     level : length h.older ≡ length now.older
-    level = rw (alike, same) was.same
+    level = rw (like, same) was.same
+
+    lists : length vs.older ≡ length now.older
+    lists = rw (alike, same) was.alike

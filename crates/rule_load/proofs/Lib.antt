@@ -1,6 +1,7 @@
 mod Prelude
 pub mod DoubtLemmas
 pub mod FreeLemmas
+mod HoldOnLemmas
 pub mod KeptLemmas
 pub mod DirtyLemmas
 pub mod LooseLemmas

@@ -1,8 +1,10 @@
--- What is kept beside the rule: where each machine surely stands and before when it does not start at a node, with levels; the machines
--- near each node, and those that may not stay; and the nodes that may not be usable at all times.
-use Rattle.std.specs.Prelude.{◌≡◌, ℕ, ◌<◌, true, List, length, slice_index_or}
+-- What is kept beside the rule: where each machine surely stands, before when it does not start at a node, and the machines that may not
+-- stay, with levels; the machines near each node; the nodes that may not be usable at all times; and whether machines that may stay never
+-- have less than at present.
+use Rattle.std.specs.Prelude.{◌≡◌, ℕ, ◌<◌, Bool, true, List, length, slice_index_or}
 use Rattle.std.specs.List.{Contains}
 use Rattle.profiles.specs.Prelude.{AreFirstAt, AreFirsts, AreMachines, AreMovers, AreStanding, comes_by, FixedView, have_come, hosted_in, Instance, IsFixed, IsNear, level_at, Levels, list_at, machine_count, no_standing, node_count, one, Sets, state_of, Tables, vm}
+use Rattle.rule_load.specs.HoldOn.{StayersHoldOn}
 use Rattle.rule_load.specs.NodeRooms.{AreRooms, RoomsView}
 use Rattle.rule_load.specs.Words.{Element, Vm, TheNode, Cache, Standing}
 
@@ -11,19 +13,22 @@ pub record HaveCome (p : Instance) (s : Sets) (xs : List (List ℕ)) : Type 0 wh
   pub come : (n v t : ℕ) → n < node_count p → v < machine_count p → have_come n t (s (vm v)) ≡ true → Contains (list_at xs n) v
 
 -- what is kept of a level is right for the sets, what does not change is for the instance, and of each node the machines near it are
--- listed, and all that may not stay, and all nodes that may not be usable at all times
-pub record AreKept (p : Instance) (s : Sets) (m : Tables) (x : FixedView) (xs : List (List ℕ)) (f : Levels ℕ) (ws : List ℕ) (os : RoomsView) (k : ℕ) : Type 0 where
+-- listed, and all that may not stay, and all nodes that may not be usable at all times; and if it says so, who may stay never has less
+-- than at present
+pub record AreKept (p : Instance) (s : Sets) (m : Tables) (x : FixedView) (xs : List (List ℕ)) (f ws : Levels ℕ) (os : RoomsView) (hold_on : Bool) (k : ℕ) : Type 0 where
   pub standing : AreStanding p s (level_at m k)
   pub fixed : IsFixed p x
   pub near : IsNear p xs
   pub come : HaveCome p s xs
   pub firsts : AreFirsts p s (level_at f k)
   pub same : length f.older ≡ length m.older
-  pub movers : AreMovers p s ws
+  pub movers : AreMovers p s (level_at ws k)
+  pub alike : length ws.older ≡ length m.older
   pub rooms : AreRooms p s os
+  pub hold : hold_on ≡ true → StayersHoldOn p s
 
-abbrev pub cache_of : Tables → FixedView → List (List ℕ) → Levels ℕ → List ℕ → RoomsView → Cache
-cache_of m x xs f ws os = record { right = λ p k s. AreKept p s m x xs f ws os k; level = length m.older }
+abbrev pub cache_of : Tables → FixedView → List (List ℕ) → Levels ℕ → Levels ℕ → RoomsView → Bool → Cache
+cache_of m x xs f ws os hold_on = record { right = λ p k s. AreKept p s m x xs f ws os hold_on k; level = length m.older }
 
 -- ---- what node n needs of it
 

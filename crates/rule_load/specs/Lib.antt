@@ -1,6 +1,7 @@
 -- what a reader must believe
 pub mod Watched
 pub mod NodeRooms
+pub mod HoldOn
 pub mod Kept
 -- what the code's contracts and the rule's laws say beside it
 pub mod Dirty

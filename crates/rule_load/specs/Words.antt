@@ -1,6 +1,6 @@
 -- What definitions of this crate cite of those below it, passed on from one place. Declares nothing.
 pub use Rattle.reasons.specs.Prelude.{IsRowEnd}
-pub use Rattle.relax.specs.Prelude.{AreListed, has_bit, is_above_none, is_nought, max_held, use_of}
+pub use Rattle.relax.specs.Prelude.{AreListed, has_bit, is_above_none, is_nought, max_held, nodes_of, use_of}
 pub use Rattle.closing.specs.Prelude.{HasElement, load_scope, load_watch, max_capacity, max_machines, total_load_watch}
 pub use Rattle.profiles.specs.Prelude.{acting_slices, AreFirstAt, AreFirsts, AreMachines, AreMovers, AreStanding, base, brought, comes_by, FixedView, gain, goes_in, had_there, has_come, have_come, hosted_in, idle_slices, is_online, IsFixed, IsGrown, IsNear, IsOrder, IsPut, IsStanding, kept_until, kept_use, least, leave_climbs, leave_of, level_at, list_at, load, lost_choices, lower_option, lowest, max_amount, may, most_use, never, no_standing, restored, room, stage_from, start_count, state_of, sum_to, surely, Tables, weigh, weight_if}
 unfoldable pub use Rattle.profiles.specs.Prelude.{action_duration, capacity_of, demand_of, end_of, held_at, held_by, kind_of, slices_by, slices_of, stage_at, usable_at}

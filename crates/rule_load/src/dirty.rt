@@ -184,7 +184,7 @@ fn set_machine_dirty(
     dirty: &mut DirtySet,
 )
     requires region { IsSized p.now.given g.now }
-    requires right { IsCacheFor (cache_of k.now.table k.now.fixed k.now.near k.now.firsts k.now.movers k.now.rooms) p.now.given (sets g.now) }
+    requires right { IsCacheFor (cache_of k.now.table k.now.fixed k.now.near k.now.firsts k.now.movers k.now.rooms k.now.hold_on) p.now.given (sets g.now) }
     requires machine { IsElement p.now.given (Element.Vm v) }
     requires fewer { AreFewer (sets g.now (vm v.0)) (choices (domain_before before kept.now (domain_at g.now (vm v.0)))) }
     ensures { AreSpared (λ i. IsStill p.now.given (load_scope (one i)) (vm v.0) (choices (domain_before before kept.now (domain_at g.now (vm v.0)))) (sets g.now (vm v.0))) dirty.old dirty.new }
@@ -206,7 +206,7 @@ pub(crate) fn set_disturbed_dirty(
     dirty: &mut DirtySet,
 )
     requires region { IsSized p.now.given g.now }
-    requires right { IsCacheFor (cache_of k.now.table k.now.fixed k.now.near k.now.firsts k.now.movers k.now.rooms) p.now.given (sets g.now) }
+    requires right { IsCacheFor (cache_of k.now.table k.now.fixed k.now.near k.now.firsts k.now.movers k.now.rooms k.now.hold_on) p.now.given (sets g.now) }
     requires element { IsElement p.now.given x }
     requires count { length dirty.old.top ≡ node_count p.now.given + 1 }
     requires fewer { AreFewer (sets g.now x) (choices (domain_before before kept.now (domain_at g.now x))) }

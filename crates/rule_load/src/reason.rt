@@ -25,7 +25,7 @@ pub(crate) fn overloaded(p: &Problem, view: &View, set: &NodeSet, t: Instant) ->
 /// The reason why the watch of a number is broken: the first resource that its nodes lack.
 pub(crate) fn load_reason(k: &Standings, p: &Problem, view: &View, i: usize, t: Instant) -> Reason
     requires region { IsSized p.now.given view.now.region.now }
-    requires right { IsCacheFor (cache_of k.now.table k.now.fixed k.now.near k.now.firsts k.now.movers k.now.rooms) p.now.given (sets view.now.region.now) }
+    requires right { IsCacheFor (cache_of k.now.table k.now.fixed k.now.near k.now.firsts k.now.movers k.now.rooms k.now.hold_on) p.now.given (sets view.now.region.now) }
     requires watch { i < node_count p.now.given + 1 }
     requires within { t ≤ p.now.given.horizon }
     requires broken { IsOverloaded p.now.given (nodes_at p.now.given i) (sure p.now.given (seen view.now.region.now view.now.lens) t) }
@@ -43,7 +43,7 @@ pub(crate) fn load_reason(k: &Standings, p: &Problem, view: &View, i: usize, t: 
 // the first resource that the node of a watch, if it is one node, is seen to lack by the machines near it
 fn lacking_near(k: &Standings, p: &Problem, view: &View, i: usize, t: Instant) -> Option<u8>
     requires region { IsSized p.now.given view.now.region.now }
-    requires right { IsCacheFor (cache_of k.now.table k.now.fixed k.now.near k.now.firsts k.now.movers k.now.rooms) p.now.given (sets view.now.region.now) }
+    requires right { IsCacheFor (cache_of k.now.table k.now.fixed k.now.near k.now.firsts k.now.movers k.now.rooms k.now.hold_on) p.now.given (sets view.now.region.now) }
     requires watch { i < node_count p.now.given + 1 }
     requires within { t ≤ p.now.given.horizon }
     ensures { IfSome result (λ r. (r < length p.now.given.resources) × IsOverload p.now.given (sure p.now.given (seen view.now.region.now view.now.lens) t) r (nodes_at p.now.given i)) }

@@ -57,9 +57,9 @@ pub(crate) fn most_anywhere(p: &Problem, v: VmId, r: u8, x: Period, waits: bool,
 
 /// How much more machines surely use at the most than they have at present, and how much less.
 #[derive(Clone, Copy)]
-struct Beside {
-    more: u64,
-    less: u64,
+pub(crate) struct Beside {
+    pub more: u64,
+    pub less: u64,
 }
 
 // of a machine with these numbers; what it has is looked up only where it may be gone

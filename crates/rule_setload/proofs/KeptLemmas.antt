@@ -1,17 +1,26 @@
 -- What is kept beside the rule stays right.
-use Rattle.rule_setload.proofs.Prelude.{◌≡◌, ℕ, List, length, refl, sym, ◌∙◌, subst, AreAmountsKept, AreStanding, Before, cache_of, choices, domain_at, domain_before, DomainView, Element, Holder, Instance, IsCacheTold, IsGrown, IsToldOf, level_below, level_top, Lists, machine_count, movers_grown, movers_told, RegionView, Sets, sets, sets_before, Stayers, Tables}
+use Rattle.rule_setload.proofs.Prelude.{◌≡◌, ℕ, List, length, refl, sym, ap, ◌∙◌, subst, arith, AreAmountsKept, AreStanding, Before, cache_of, choices, domain_at, domain_before, DomainView, Element, Holder, Instance, IsCacheTold, IsGrown, IsToldOf, level_at, level_below, level_top, Lists, machine_count, movers_told, RegionView, Sets, sets, sets_before, Stayers, Tables}
+use Rattle.profiles.specs.Prelude.{AreMovers, Levels}
 
-pub kept_standings : (p : Instance) (s : Sets) (l : Lists) (m : Tables) (xs : List ℕ) (ys : List Stayers) (zs : List (List Holder)) → AreAmountsKept p s l m xs ys zs (length m.older) → AreStanding p s m.top
+pub kept_standings : (p : Instance) (s : Sets) (l : Lists) (m : Tables) (xs : Levels ℕ) (ys : List Stayers) (zs : List (List Holder)) → AreAmountsKept p s l m xs ys zs (length m.older) → AreStanding p s m.top
 kept_standings p s l m xs ys zs kept = subst (λ ks. AreStanding p s ks) (level_top m) kept.standing
 
+-- the top of what has as many levels
+same-top : (m : Tables) (f : Levels ℕ) → length f.older ≡ length m.older → level_at f (length m.older) ≡ f.top
+same-top m f same = ap (level_at f) (sym same) ∙ level_top f
+
+pub kept_movers : (p : Instance) (s : Sets) (l : Lists) (m : Tables) (xs : Levels ℕ) (ys : List Stayers) (zs : List (List Holder)) → AreAmountsKept p s l m xs ys zs (length m.older) → AreMovers p s xs.top
+kept_movers p s l m xs ys zs kept = subst (λ vs. AreMovers p s vs) (same-top m xs kept.alike) kept.movers
+
 -- after a change of one element
-pub amounts_told : (p : Instance) (g : RegionView) (x : Element) (before : Before) (kept : DomainView) (l : Lists) (m now : Tables) (xs ys : List ℕ) (zs : List Stayers) (hs : List (List Holder)) → now.older ≡ m.older → AreStanding p (sets g) now.top → AreAmountsKept p (sets_before g x before kept) l m xs zs hs (length m.older) → IsGrown (machine_count p) xs ys → IsToldOf (sets g) x ys → IsCacheTold p (sets g) (cache_of l m xs zs hs) (cache_of l now ys zs hs)
-amounts_told p g x before kept l m now xs ys zs hs same are was grown told = record {
+pub amounts_told : (p : Instance) (g : RegionView) (x : Element) (before : Before) (kept : DomainView) (l : Lists) (m now : Tables) (xs ys : Levels ℕ) (zs : List Stayers) (hs : List (List Holder)) → now.older ≡ m.older → ys.older ≡ xs.older → AreStanding p (sets g) now.top → AreAmountsKept p (sets_before g x before kept) l m xs zs hs (length m.older) → IsGrown (machine_count p) xs.top ys.top → IsToldOf (sets g) x ys.top → IsCacheTold p (sets g) (cache_of l m xs zs hs) (cache_of l now ys zs hs)
+amounts_told p g x before kept l m now xs ys zs hs same alike are was grown told = record {
   below = record {
     kept = λ j q r low k. record {
       index = k.index;
       standing = subst (λ ks. AreStanding q r ks) (sym (level_below m now j same low)) k.standing;
-      movers = movers_grown q r xs ys (machine_count p) (sym k.index.machines ∙ was.index.machines) k.movers grown;
+      movers = subst (λ vs. AreMovers q r vs) (sym (level_below xs ys j alike (omega (arith, low, was.alike)))) k.movers;
+      alike = lists;
       stayers = k.stayers;
       holders = k.holders;
     };
@@ -19,8 +28,12 @@ amounts_told p g x before kept l m now xs ys zs hs same are was grown told = rec
   top = record {
     index = was.index;
     standing = subst (λ ks. AreStanding p (sets g) ks) (sym (level_top now)) are;
-    movers = movers_told p (sets g) x (choices (domain_before before kept (domain_at g x))) xs ys (machine_count p) refl was.movers grown told;
+    movers = subst (λ vs. AreMovers p (sets g) vs) (sym (same-top now ys lists)) (movers_told p (sets g) x (choices (domain_before before kept (domain_at g x))) xs.top ys.top (machine_count p) refl (kept_movers p (sets_before g x before kept) l m xs zs hs was) grown told);
+    alike = lists;
     stayers = was.stayers;
     holders = was.holders;
   };
 }
+  where
+    lists : length ys.older ≡ length now.older
+    lists = rw (alike, same) was.alike

@@ -102,6 +102,7 @@ impl AmountKeeper {
     }
 
     // whether there is ample room
+    #[tactic(auto, using(crate::proofs::KeptLemmas::kept_movers))]
     fn is_ample(&self, p: &Problem, g: &Region, bound: &Bound, c: usize) -> bool
         requires region { IsSized p.now.given g.now }
         requires right { IsCacheFor (cache_of self.now.index.lists self.now.table self.now.movers self.now.stayers.items self.now.holders) p.now.given (sets g.now) }
@@ -226,13 +227,22 @@ impl Keeper for AmountKeeper {
     }
 
     fn mark(&mut self) -> Result<(), Memory> {
-        self.table.mark()
+        self.table.mark()?;
+        match self.movers.mark() {
+            Ok(()) => Ok(()),
+            Err(e) => {
+                self.table.back();
+                Err(e)
+            }
+        }
     }
 
-    // the movers of a level above are kept: a list that has grown is as right
     fn back(&mut self) {
         if self.table.level() > 0 {
             self.table.back();
+        }
+        if self.movers.level() > 0 {
+            self.movers.back();
         }
     }
 }

@@ -8,6 +8,7 @@ invariant-loop-i l = record {
   firsts : l.self.firsts ≡ l.initial.self.firsts;
   movers : l.self.movers ≡ l.initial.self.movers;
   rooms : l.self.rooms ≡ l.initial.self.rooms;
+  hold_on : l.self.hold_on ≡ l.initial.self.hold_on;
   near : IsNear l.p.given l.self.near;
   there : (v : ℕ) → v < l.i → IsListedBy l.p.given v (slice_index_or l.self.table.top v no_standing) l.self.near;
 }

@@ -10,4 +10,4 @@ told-requires-clause-right c = kept_standings c.args.p.now.given (sets_before c.
 
 pub returns-clause-told : goal.returns-clause-told
 returns-clause-told c =
-    amounts_told c.args.p.now.given c.args.g.now c.args.change.element c.args.before c.args.kept.now c.args.self.now.index.lists c.args.self.now.table c.told.new.self c.args.self.now.movers c.told-2.new.self c.args.self.now.stayers.items c.args.self.now.holders c.in_ok-told.ensures.older c.in_ok-told.ensures.top c.requires.right c.in_ok-told-2.ensures.grown c.in_ok-told-2.ensures.told
+    amounts_told c.args.p.now.given c.args.g.now c.args.change.element c.args.before c.args.kept.now c.args.self.now.index.lists c.args.self.now.table c.told.new.self c.args.self.now.movers c.told-2.new.self c.args.self.now.stayers.items c.args.self.now.holders c.in_ok-told.ensures.older c.in_ok-told-2.ensures.older c.in_ok-told.ensures.top c.requires.right c.in_ok-told-2.ensures.grown c.in_ok-told-2.ensures.told
