@@ -1,8 +1,8 @@
 -- Machines that never have less than at present, and what all use beside that.
-use Rattle.rule_load.proofs.Prelude.{◌≡◌, ◌≢◌, inl, inr, ◌⊎◌, ℕ, zero, suc, ◌+◌, ◌-◌, ◌<◌, ◌≤◌, Bool, true, false, not, nat_le, nat_lt, cond, List, [], ◌∷◌, length, Some, refl, sym, ap, subst, ◌∙◌, arith, get_or, get_or_default, slice_index_or, Contains, flat_map, sum_by, cases_eq, false≢true, lt-ltb, nat_tests, Place, contains_here, least_of_each, cases_in, later_in, ends_by_duration, sum_by-cons, sum_but_for, Act, Amount, AreMovers, At, base, Choice, choices, DomainView, Idle, Instance, least, load, machine_count, node_count, no_row, NodeId, Nowhere, Row, row_choices, Sets, starts_from, state_of, sum_to, vm}
+use Rattle.rule_load.proofs.Prelude.{◌≡◌, ◌≢◌, inl, inr, ◌⊎◌, ℕ, zero, suc, ◌+◌, ◌-◌, ◌<◌, ◌≤◌, Bool, true, false, not, nat_le, cond, List, [], ◌∷◌, length, refl, sym, ap, subst, arith, get_or_default, slice_index_or, Contains, flat_map, sum_by, cases_eq, lt-ltb, nat_tests, Place, least_of_each, cases_in, sum_by-cons, sum_but_for, Act, Amount, AreMovers, At, base, Choice, choices, DomainView, Idle, Instance, load, machine_count, node_count, no_row, NodeId, Nowhere, Row, row_choices, Sets, starts_from, state_of, sum_to, vm}
 use Rattle.std.proofs.lemmas.List.Elements.{Contains-append_cases}
 use Rattle.catalogue.proofs.Public.{use_of_le}
-use Rattle.rule_load.specs.Prelude.{action_duration, all_nodes, Allocate, demand_of, Gone, GoesOn, held_at, held_by, HoldsOn, Init, kind_of, Migrate, Ready, Running, Sleeping, slices_by, slices_of, stage_at, State, StayersHoldOn, sure, use_of}
+use Rattle.rule_load.specs.Prelude.{action_duration, all_nodes, demand_of, Gone, GoesOn, held_at, held_by, HoldsOn, Init, Ready, Running, Sleeping, slices_by, slices_of, stage_at, StayersHoldOn, sure, use_of}
 use Rattle.rule_load.proofs.StillLemmas.{least_above}
 use Rattle.rule_load.proofs.TotalLemmas.{held-idle}
 

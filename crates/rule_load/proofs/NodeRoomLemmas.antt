@@ -1,6 +1,6 @@
 -- The room of all nodes but those of a list, and that list with one node more.
-use Rattle.rule_load.proofs.Prelude.{◌≡◌, inl, inr, ℕ, zero, suc, ◌+◌, ◌-◌, ◌<◌, ◌≤◌, ◌==◌, ◌||◌, Bool, true, false, cond, List, [], ◌∷◌, ◌++◌, length, refl, sym, subst, arith, get_or, slice_index_or, Contains, Decides-eqb, cases_eq, ne_eqb, sum_by, sum_to-le, Choice, Element, Instance, IsDuring, may, node, node_count, Sets, sum_by-cons, sum_to, sum_whole, take, capacity_of, same_element, TheNode, usable_at, Vm, list_any}
-use Rattle.rule_load.specs.Prelude.{sure, always, AreNodes, AreRooms, AreWholeRooms, IsListedOrLasts, IsWholeRoom, IsWidened, IsWidenedBy, Lasts, no_room_at_all, RoomsView}
+use Rattle.rule_load.proofs.Prelude.{◌≡◌, inl, inr, ℕ, zero, suc, ◌+◌, ◌-◌, ◌<◌, ◌≤◌, ◌==◌, ◌||◌, Bool, true, false, cond, List, [], ◌∷◌, ◌++◌, length, refl, sym, subst, arith, slice_index_or, Contains, Decides-eqb, cases_eq, ne_eqb, sum_by, sum_to-le, Choice, Element, Instance, node, node_count, Sets, sum_by-cons, sum_to, sum_whole, take, capacity_of, same_element, TheNode, Vm, list_any}
+use Rattle.rule_load.specs.Prelude.{sure, always, AreRooms, AreWholeRooms, IsListedOrLasts, IsWholeRoom, IsWidened, IsWidenedBy, Lasts, no_room_at_all, RoomsView}
 use Rattle.rule_load.specs.declared.loose_room.LooseRoom.{LooseRoom}
 use Rattle.domains.specs.SetsBefore.{putting}
 use Rattle.rule_load.proofs.LooseLemmas.{AreLasting}

@@ -1,5 +1,5 @@
 use Rattle.std.proofs.Common.{sym, ap, ◌∙◌}
-use Rattle.rule_load.proofs.SetLemmas.{all_listed, one_listed}
+use Rattle.rule_load.proofs.SetLemmas.{one_listed}
 use Rattle.rule_load.proofs.refuting.refutes_part.Goals as goal
 
 pub returns-in-Some : goal.returns-in-Some

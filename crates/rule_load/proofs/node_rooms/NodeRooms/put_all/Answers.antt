@@ -1,4 +1,4 @@
-use Rattle.rule_load.proofs.Prelude.{◌≤◌, rules, refl, sym, ◌∙◌, arith, node_count, sets}
+use Rattle.rule_load.proofs.Prelude.{◌≤◌, rules, refl, ◌∙◌, arith, node_count, sets}
 use Rattle.rule_load.proofs.NodeRoomLemmas.{next_widened}
 use Rattle.rule_load.proofs.node_rooms.NodeRooms.put_all.Goals as goal
 
