@@ -64,12 +64,7 @@ fn put(
 
 // those of what a constraint bounds, in the order of their numbers, up to so many
 #[tactic(auto, using(crate::proofs::HolderLemmas::none_listed))]
-fn holders_in(
-    alloc: Global,
-    p: &Problem,
-    bound: &Bound,
-    most: usize,
-) -> Result<Vec<Holder>, Memory>
+fn holders_in(alloc: Global, p: &Problem, bound: &Bound, most: usize) -> Result<Vec<Holder>, Memory>
     requires weight { IsWeight p.now.given bound.now.weight }
     ensures { IfOk result (λ xs. AreKept p.now.given bound.now xs.items) }
 {
