@@ -8,7 +8,6 @@ unfoldable pub use Rattle.plan_json.specs.Prelude.{plan_text}
 pub use Rattle.partition.specs.{declared.groups_fault.GroupsFault.GroupsFault, Prelude.AreGroups, Prelude.groups_fault_of, Prelude.IsSplitBy, Prelude.Split, Prelude.SplitFault, Prelude.SplitView}
 unfoldable pub use Rattle.partition.specs.Prelude.{fault_text as groups_text, groups_of, part_of, split_fault}
 pub use Rattle.part_solver.specs.{declared.answer.WholeAnswer.WholeAnswer, Prelude.IsAnswered, Prelude.IsTrueOfWhole, Prelude.plan_answered}
-pub use Rattle.command_decide.specs.Prelude.{why_text}
 pub use Rattle.command_parts.specs.Groups.{groups_in, groups_line, groups_lined, groups_reading_of}
 unfoldable pub use Rattle.command_parts.specs.{Splitting.fault_said, Cutting.cut_line, Cutting.part_number, PlanningParts.whole_line, CheckingParts.parts_line}
 pub use Rattle.command_parts.specs.Splitting.{faultless, split_by, split_in, split_reading_of}
