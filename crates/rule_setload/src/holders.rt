@@ -92,6 +92,11 @@ fn holders_of(
     }
 }
 
+// how many are listed of each constraint
+fn most_each(p: &Problem) -> usize {
+    MOST_HOLDERS / p.constraints().len().max(1)
+}
+
 /// For each constraint machines that have something on its nodes at present: all of them, where there are few constraints.
 #[derive(Drop)]
 pub struct Holders {
@@ -131,7 +136,7 @@ impl Holders {
     pub fn of(alloc: Global, p: &Problem) -> Result<Holders, Memory>
         ensures { IfOk result (AreAllHolders p.now.given (length p.now.given.constraints)) }
     {
-        let most = MOST_HOLDERS / p.constraints().len().max(1);
+        let most = most_each(p);
         let mut all = Holders::none(alloc);
         for c in 0..p.constraints().len() {
             let list = holders_of(alloc, p, &p.constraints()[c], most)?;
