@@ -20,10 +20,12 @@ pub fn may_leave_by(p: &Problem, v: VmId, domain: &Domain, by: u64) -> bool
         leaves: leaves_of(p, v),
     };
     let rows = domain.rows();
+    // places are mostly taken away from the first one on, so the last one is asked first
     for i in 0..rows.len() {
+        let row = rows[rows.len() - 1 - i];
         let start = Choice::Act {
-            place: rows[i].place,
-            start: rows[i].lo,
+            place: row.place,
+            start: row.lo,
         };
         if leaving.value(start) <= by {
             return true;

@@ -32,6 +32,16 @@ fn set_host_dirty(p: &Problem, v: VmId, dirty: &mut DirtySet)
     }
 }
 
+// whether a machine has no host, or one that is dirty already, so that nothing has to be asked
+fn is_host_dirty(p: &Problem, v: VmId, dirty: &DirtySet) -> bool
+    requires { IsElement p.now.given (Element.Vm v) }
+{
+    match host_of(p, v) {
+        None => true,
+        Some(h) => (h.0 as usize) < dirty.count() && dirty.is_dirty(h.0 as usize),
+    }
+}
+
 // sets dirty the node of an arrival, if there is one
 fn set_arrival_dirty(come: Option<Arrival>, dirty: &mut DirtySet)
     ensures { AreSpared (λ k. (t : ℕ) → comes_by k t come ≡ false) dirty.old dirty.new }
@@ -121,7 +131,7 @@ fn set_left_dirty(
     requires leave { leave ≡ least (leave_of p.now.given v.0) (sets g.now (vm v.0)) }
     ensures { AreSpared (λ i. (hosted_in (state_of p.now.given v.0) (one i) ≡ false) ⊎ KeepsHost p.now.given v.0 (choices (domain_before before kept.now (domain_at g.now (vm v.0)))) (sets g.now (vm v.0)) leave) dirty.old dirty.new }
 {
-    if !keeps_host(p, g, v, before, kept, leave) {
+    if is_host_dirty(p, v, dirty) || !keeps_host(p, g, v, before, kept, leave) {
         set_host_dirty(p, v, dirty);
     }
 }

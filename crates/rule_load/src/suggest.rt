@@ -9,8 +9,8 @@ use crate::uses::{may_come, most_used};
 use crate::{Kept, NEVER, Period, Standing, base, is_host, resource_total};
 use relax::measures::end;
 use rule_frame::{
-    Change, Choice, Element, Instant, Memory, NodeId, Part, Place, Problem, Reason, Region, Row,
-    Side, Suggestion, VmId, Weight,
+    Choice, Element, Instant, Memory, NodeId, Part, Place, Problem, Reason, Region, Row, Suggestion,
+    VmId, Weight,
 };
 use std::alloc::Global;
 
@@ -126,34 +126,22 @@ fn comes_without(
     }
 }
 
-// of one machine the starts at the node with which it would be there up to an instant, if it has any
+// of one machine the starts at the node with which it would be there up to an instant
 fn suggest_arrival(
     p: &Problem,
-    g: &Region,
     machine: VmId,
     node: NodeId,
     r: u8,
     at: Instant,
     them: &mut Vec<Suggestion>,
 ) -> Result<(), Memory>
-    requires region { IsSized p.now.given g.now }
-    requires machine { IsElement p.now.given (Element.Vm machine) }
-    requires node { node.0 < node_count p.now.given }
+    requires { node.0 < node_count p.now.given }
 {
-    let element = Element::Vm(machine);
-    let part = Part::Upto(Place::At(node), at);
-    let inside = Change {
-        element,
-        part,
-        side: Side::Inside,
-    };
-    if !g.leaves_none(inside) {
-        them.push(Suggestion {
-            element,
-            part,
-            reason: Reason::Load(at, r, node_set(p, node)),
-        })?;
-    }
+    them.push(Suggestion {
+        element: Element::Vm(machine),
+        part: Part::Upto(Place::At(node), at),
+        reason: Reason::Load(at, r, node_set(p, node)),
+    })?;
     Ok(())
 }
 
@@ -179,7 +167,7 @@ fn suggest_arrivals(
     for i in first..order.len() {
         let machine = order[i].machine;
         if let Some(at) = comes_without(p, g, kept, machine, node, r, spares) {
-            suggest_arrival(p, g, machine, node, r, at, them)?;
+            suggest_arrival(p, machine, node, r, at, them)?;
         }
     }
     Ok(())

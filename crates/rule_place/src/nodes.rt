@@ -50,6 +50,11 @@ fn gives_up(p: &Problem, g: &Region, v: VmId, n: NodeId, before: Before, kept: &
     !domain.is_empty() && leaves_as_soon(p, v, domain, before, kept) && goes_elsewhere(p, g, v, n)
 }
 
+// whether the watch of a node is dirty already, so that nothing has to be asked
+fn is_dirty(n: NodeId, dirty: &DirtySet) -> bool {
+    (n.0 as usize) < dirty.count() && dirty.is_dirty(n.0 as usize)
+}
+
 // sets dirty that of a machine's host, but where the machine gives it up no later than before
 fn set_host_dirty(
     p: &Problem,
@@ -68,7 +73,7 @@ fn set_host_dirty(
     let Some(h) = host(p, v) else {
         return;
     };
-    if !gives_up(p, g, v, h, before, kept) {
+    if is_dirty(h, dirty) || !gives_up(p, g, v, h, before, kept) {
         set_node_dirty(p, h, dirty);
     }
 }
