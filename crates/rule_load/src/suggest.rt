@@ -9,8 +9,8 @@ use crate::uses::{may_come, most_used};
 use crate::{Kept, NEVER, Period, Standing, base, is_host, resource_total};
 use relax::measures::end;
 use rule_frame::{
-    Choice, Element, Instant, Memory, NodeId, Part, Place, Problem, Reason, Region, Row, Suggestion,
-    VmId, Weight,
+    Choice, Element, Instant, Memory, NodeId, Part, Place, Problem, Reason, Region, Row,
+    Suggestion, VmId, Weight,
 };
 use std::alloc::Global;
 
