@@ -1,5 +1,5 @@
 -- Instants before which no machine starts at a node.
-use Rattle.profiles.proofs.Prelude.{◌≡◌, ◌≢◌, ◌⊎◌, inl, inr, ℕ, ◌*◌, ◌<◌, ◌≤◌, true, List, [], length, take, drop, refl, ap, subst, ◌∙◌, arith, Option, Some, None, slice_index_or, slice_set, unwrap_or, Contains, filter, cases_eq, nat_tests, row_fits, length-set, length-take, length-drop, get_or-set_same, get_or-set_other, get_or-take, get_or-drop, Act, AreFirstAt, AreFirsts, At, Choice, From, in_part, Instance, IsNoLater, least, lowest, machine_count, node_count, Sets, slot_of, start_count, stays, vm, contains_filter, least_of_each, none_is_empty}
+use Rattle.profiles.proofs.Prelude.{◌≡◌, ◌≢◌, ◌⊎◌, inl, inr, ℕ, zero, suc, ◌+◌, ◌*◌, ◌<◌, ◌≤◌, Bool, true, false, cond, List, [], ◌∷◌, ◌++◌, flat_map, length, sym, take, drop, refl, ap, subst, ◌∙◌, arith, Option, Some, None, slice_index_or, slice_set, unwrap_or, Contains, filter, cases_eq, nat_tests, row_fits, length-set, length-take, length-drop, get_or-set_same, get_or-set_other, get_or-take, get_or-drop, Act, AreFirstAt, AreFirsts, At, Choice, choices, DomainView, From, Idle, in_part, Instance, IsNoLater, least, lowest, machine_count, node_count, Row, row_choices, Sets, slot_of, start_count, stays, vm, contains_filter, least_of_each, none_is_empty}
 
 -- ---- the first start of some choices
 
@@ -27,6 +27,19 @@ some_first cs ins n first low is some less = record {
       let same : least start_count (filter (stays None) ins) ≡ low = ap (λ (o : Option ℕ). unwrap_or o 0) some in
       omega (arith, less, most, same);
 }
+
+-- where there is no row no choice starts anywhere
+pub never_first : (d : DomainView) (rows : List Row) → rows ≡ d.rows → length rows < 1 → (n first : ℕ) → IsNoLater (choices d) n first
+never_first d rows same none n first = record { each = λ start h. absurd (at d.idle start (subst (λ (rs : List Row). Contains (cond d.idle (Idle ∷ []) [] ++ flat_map row_choices rs) (Act (At (record { 0 = n })) start)) (sym same ∙ empty rows none) h)) }
+  where
+    empty : (xs : List Row) → length xs < 1 → xs ≡ []
+    empty [] h = refl
+    empty (y ∷ ys) h = absurd (omega (arith, h))
+
+    at : (b : Bool) (start : ℕ) → Contains (cond b (Idle ∷ []) [] ++ []) (Act (At (record { 0 = n })) start) → ⊥
+    at true start (zero, low, is) = cc
+    at true start (suc k, low, is) = omega (arith, low)
+    at false start h = omega (arith, h.1)
 
 -- ---- slots
 

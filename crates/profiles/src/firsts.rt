@@ -1,5 +1,5 @@
 //! No later than when each machine first starts at each node, kept with levels.
-ghost use Rattle.std.specs.Prelude.{◌≡◌, ◌+◌, ◌*◌, ◌<◌, [], length, OnErr, OnOk};
+ghost use Rattle.std.specs.Prelude.{◌≡◌, ℕ, ◌+◌, ◌*◌, ◌<◌, [], IsTrue, length, OnErr, OnOk};
 ghost use Rattle.relax.specs.Prelude.{choices, IsElement, IsSized, machine_count, node_count, sets};
 ghost use Rattle.profiles.specs.{Levels.IsBack, Levels.marked, Firsts.AreFirstAt, Firsts.AreFirsts, Firsts.IsNoLater, Firsts.slot_of as the_slot_of, Firsts.start_count};
 
@@ -59,11 +59,25 @@ impl Measure for Start {
     }
 }
 
+// whether a domain has no row, and so no start at any node; this reads none
+#[tactic(auto, using(crate::proofs::FirstLemmas::never_first))]
+fn never_starts(domain: &Domain) -> bool
+    ensures { IsTrue result → (n first : ℕ) → IsNoLater (choices domain.now) n first }
+{
+    match domain.rows() {
+        [] => true,
+        [_, ..] => false,
+    }
+}
+
 // the first start at a node, the last instant where there is none
 #[tactic(auto, using(crate::proofs::FirstLemmas::none_first, crate::proofs::FirstLemmas::some_first))]
 fn first_at(domain: &Domain, n: NodeId) -> Instant
     ensures { IsNoLater (choices domain.now) n.0 result }
 {
+    if never_starts(domain) {
+        return Instant::MAX;
+    }
     let there = domain.inside(Part::From(Place::At(n), 0));
     match lowest(&there, None, &Start) {
         None => Instant::MAX,
