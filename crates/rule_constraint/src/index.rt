@@ -1,12 +1,14 @@
 //! An index of constraints by what they look at, kept beside rules of constraints.
 ghost use Rattle.std.specs.Prelude.{◌≡◌, ◌<◌, ◌≤◌, ℕ, IfOk, IsTrue, OnOk, [], length, slice_index_or};
-ghost use Rattle.rule_frame.specs.Prelude.{has_node, IsInPart, IsMember, max_nodes};
+ghost use Rattle.std.specs.List.{Contains};
+ghost use Rattle.rule_frame.specs.Prelude.{has_node, IsInPart, IsMember, machine_count, max_nodes};
 ghost use Rattle.rule_constraint.specs.Indexes.{IsAdded, IsIndexOf, IsPut};
 
+use crate::kinds::reason_kind;
 use profiles::number_lists::NumberLists;
 use rule_frame::{
-    Before, Change, Constraint, Domain, Form, Keeper, Memory, NodeId, NodeSet, Problem, Region,
-    Separation, VmId, Vms, form_of,
+    Before, Change, Constraint, DirtySet, Domain, Form, Keeper, Memory, NodeId, NodeSet, Problem,
+    ReasonKind, Region, Separation, VmId, Vms, form_of,
 };
 use std::alloc::Global;
 use std::default::MadeWith;
@@ -162,6 +164,40 @@ impl ConstraintIndex {
             },
             level: 0,
         }
+    }
+}
+
+// whether a constraint is not dirty and gives reasons of a kind
+fn is_clean_of(p: &Problem, kind: ReasonKind, c: u32, dirty: &DirtySet) -> bool
+    requires constraint { c < length p.now.given.constraints }
+    requires count { length p.now.given.constraints ≤ length dirty.now.top }
+{
+    !dirty.is_dirty(c as usize) && reason_kind(&p.constraints()[c as usize]) == Some(kind)
+}
+
+// whether one of the constraints of these numbers is so
+fn is_one_clean(p: &Problem, kind: ReasonKind, numbers: &[u32], dirty: &DirtySet) -> bool
+    requires numbers { (i : ℕ) → Contains numbers.now i → i < length p.now.given.constraints }
+    requires count { length p.now.given.constraints ≤ length dirty.now.top }
+{
+    for k in 0..numbers.len() {
+        if is_clean_of(p, kind, numbers[k], dirty) {
+            return true;
+        }
+    }
+    false
+}
+
+impl ConstraintIndex {
+    /// Whether a constraint that looks at a machine is not dirty and gives reasons of a kind: only where there is one has
+    /// anything to be asked when the machine has lost choices.
+    pub fn has_clean(&self, p: &Problem, kind: ReasonKind, v: VmId, dirty: &DirtySet) -> bool
+        requires right { IsIndexOf p.now.given (length p.now.given.constraints) self.now.lists }
+        requires machine { v.0 < machine_count p.now.given }
+        requires count { length p.now.given.constraints ≤ length dirty.now.top }
+    {
+        is_one_clean(p, kind, self.lists.of_machine(v), dirty)
+            || is_one_clean(p, kind, self.lists.everywhere(), dirty)
     }
 }
 
