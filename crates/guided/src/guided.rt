@@ -8,7 +8,6 @@ ghost use Rattle.trees.specs.Proving.{IsSplit};
 use crate::mark::mark_of;
 use crate::numbers::node;
 use crate::order::Order;
-use crate::outlook::Outlook;
 use crate::rows::{machine_domain, node_domain};
 use crate::thought::Thought;
 use crate::wish::{Wish, is_split};
@@ -47,7 +46,6 @@ pub struct Guided {
     thought: Option<Thought>,
     best: Option<u64>,
     fails: u64,
-    outlook: Outlook,
     is_put_off: Vec<bool>,
     // the number of an element that was the second that is not fixed
     second: usize,
@@ -66,7 +64,6 @@ impl Guided {
             thought: None,
             best: None,
             fails: 0,
-            outlook: Outlook::new(alloc),
             is_put_off: Vec::new(alloc),
             second: 0,
         }
@@ -133,17 +130,18 @@ impl Guided {
 
     // the split that is wished for, where something is to be proved
     fn wish(&mut self, g: &Region) -> Result<Option<Wish>, Memory> {
-        let Some(thought) = &self.thought else {
+        let Some(thought) = &mut self.thought else {
             return Ok(None);
         };
         if thought.is_least {
             return Ok(None);
         }
-        self.outlook.look(&thought.tables, &thought.root, g)?;
+        thought.outlook.look(&thought.tables, &thought.root, g);
+        let thought = &*thought;
         let holds = self.best.is_none() && holds_target(thought, g);
         self.is_put_off.clear();
         if holds {
-            put_off(thought, &self.outlook, &mut self.is_put_off)?;
+            put_off(thought, &mut self.is_put_off)?;
         }
         let bound = if holds {
             Some(thought.target.cost.saturating_add(1))
@@ -153,7 +151,7 @@ impl Guided {
         let order = Order {
             alloc: self.alloc,
             thought,
-            outlook: &self.outlook,
+            outlook: &thought.outlook,
             region: g,
             bound,
             fails: self.fails,
@@ -283,14 +281,14 @@ fn holds_target(thought: &Thought, g: &Region) -> bool {
 }
 
 // which elements may stay, and act in the target
-fn put_off(thought: &Thought, outlook: &Outlook, is_put_off: &mut Vec<bool>) -> Result<(), Memory> {
+fn put_off(thought: &Thought, is_put_off: &mut Vec<bool>) -> Result<(), Memory> {
     for v in 0..thought.target.machines.len() {
         let acts = does_act(&thought.target.machines, v);
-        is_put_off.push(acts && outlook.machine(v).may_stay)?;
+        is_put_off.push(acts && thought.outlook.machine(v).may_stay)?;
     }
     for n in 0..thought.target.nodes.len() {
         let acts = does_act(&thought.target.nodes, n);
-        is_put_off.push(acts && outlook.node(n).may_stay)?;
+        is_put_off.push(acts && thought.outlook.node(n).may_stay)?;
     }
     Ok(())
 }

@@ -1,9 +1,9 @@
 //! A region at the horizon, if all stays that may stay.
 
-use crate::draft::{is_host, node_at};
+use crate::draft::{at_node, is_host, node_at};
 use crate::elements::{Mover, mover_at};
 use crate::ends::{least_change, least_move};
-use crate::numbers::{NEVER, add, at, cell};
+use crate::numbers::{NEVER, add, at, cell, take};
 use crate::root::Root;
 use crate::rows::{find_row, machine_domain, node_domain};
 use crate::tables::Tables;
@@ -36,7 +36,22 @@ impl Left {
     }
 }
 
+/// For what a machine counts.
+#[derive(Clone, Copy, PartialEq, Eq)]
+enum Stand {
+    Nothing,
+    /// It is on a node, with what it uses.
+    Stays(usize),
+    /// It is on a node, with what it demands.
+    Lands(usize),
+    /// It may still be raised on a node, to what it demands.
+    Rises(usize),
+}
+
 /// A region at the horizon, if all stays that may stay, machines that have one place are there, and no others count.
+///
+/// It is of the tables that it was made for. A look takes away and adds only what has changed since the look before; what it
+/// gives is the same as if all were counted anew, since no sum comes near the end of its type.
 #[derive(Drop)]
 pub struct Outlook {
     pub machines: Vec<Left>,
@@ -47,6 +62,8 @@ pub struct Outlook {
     pub load: Vec<u64>,
     /// The same, where machines count that may still be raised on their host.
     pub held: Vec<u64>,
+    // for what each machine counts in these
+    stands: Vec<Stand>,
 }
 
 const NOTHING: Left = Left {
@@ -55,6 +72,17 @@ const NOTHING: Left = Left {
     least: NEVER,
     is_one: true,
 };
+
+impl Left {
+    // what it adds to the sum of the least ends
+    fn end(self) -> u64 {
+        if self.may_stay || self.least == NEVER {
+            0
+        } else {
+            self.least
+        }
+    }
+}
 
 impl Outlook {
     /// One of nothing.
@@ -65,7 +93,22 @@ impl Outlook {
             sum: 0,
             load: Vec::new(alloc),
             held: Vec::new(alloc),
+            stands: Vec::new(alloc),
         }
+    }
+
+    /// One for tables, in which nothing counts yet.
+    pub fn of(alloc: Global, tables: &Tables) -> Result<Outlook, Memory> {
+        let places = cell(tables.nodes.len(), tables.width.saturating_add(1), 0);
+        let mut outlook = Outlook::new(alloc);
+        outlook.machines.resize(tables.machines.len(), NOTHING)?;
+        outlook.nodes.resize(tables.nodes.len(), NOTHING)?;
+        outlook.load.resize(places, 0)?;
+        outlook.held.resize(places, 0)?;
+        outlook
+            .stands
+            .resize(tables.machines.len(), Stand::Nothing)?;
+        Ok(outlook)
     }
 
     /// What is left to a machine.
@@ -79,100 +122,93 @@ impl Outlook {
     }
 
     /// Becomes that of a region.
-    pub fn look(&mut self, tables: &Tables, root: &Root, g: &Region) -> Result<(), Memory> {
-        let places = cell(tables.nodes.len(), tables.width.saturating_add(1), 0);
-        self.machines.clear();
-        self.nodes.clear();
-        self.sum = 0;
-        self.load.clear();
-        self.load.resize(places, 0)?;
-        self.held.clear();
-        self.held.resize(places, 0)?;
+    pub fn look(&mut self, tables: &Tables, root: &Root, g: &Region) {
         for (v, mover) in tables.machines.iter().enumerate() {
-            let left = match machine_domain(g, v) {
-                Some(domain) => self.look_at(tables, root, v, mover, domain),
-                None => NOTHING,
-            };
-            self.count_end(left);
-            self.machines.push(left)?;
+            match machine_domain(g, v) {
+                Some(domain) => self.look_at(tables, at(&root.moves, v), v, mover, domain),
+                None => self.turn(tables, v, NOTHING, Stand::Nothing),
+            }
         }
         for (n, server) in tables.nodes.iter().enumerate() {
             let left = match node_domain(g, n) {
                 Some(domain) => left_of(domain, least_change(*server, domain)),
                 None => NOTHING,
             };
-            self.count_end(left);
-            self.nodes.push(left)?;
+            if let Some(place) = self.nodes.get_mut(n) {
+                let before = *place;
+                *place = left;
+                self.count_end(before, left);
+            }
         }
-        Ok(())
     }
 
-    fn look_at(
-        &mut self,
-        tables: &Tables,
-        root: &Root,
-        v: usize,
-        mover: &Mover,
-        domain: &Domain,
-    ) -> Left {
-        let least = if domain.idle() {
-            NEVER
+    // a machine that may stay, as before, counts for the same
+    fn look_at(&mut self, tables: &Tables, known: u64, v: usize, mover: &Mover, domain: &Domain) {
+        if domain.idle() {
+            let left = left_of(domain, NEVER);
+            match self.machines.get_mut(v) {
+                Some(place) if place.may_stay => *place = left,
+                Some(_) | None => self.turn(tables, v, left, staying(mover)),
+            }
         } else {
-            least_move(mover, domain, at(&root.moves, v))
-        };
-        let left = left_of(domain, least);
-        if left.may_stay {
-            if let Some(host) = mover.host {
-                if mover.runs {
-                    self.count(host, tables.usages(v));
-                }
-            }
-        } else if left.rows == 1 && mover.lands {
-            self.count_landing(tables, v, domain);
-        } else if mover.rises && left.rows > 1 {
-            if let Some(host) = mover.host {
-                if find_row(domain.rows(), crate::draft::at_node(host)).is_some() {
-                    self.count_held(host, tables.demands(v));
-                }
-            }
+            let left = left_of(domain, least_move(mover, domain, known));
+            self.turn(tables, v, left, acting(mover, domain));
         }
-        left
     }
 
-    fn count_end(&mut self, left: Left) {
-        if !left.may_stay && left.least != NEVER {
-            self.sum = self.sum.saturating_add(left.least);
+    // so much is left to a machine now, and it counts for that
+    fn turn(&mut self, tables: &Tables, v: usize, left: Left, stand: Stand) {
+        let Some(place) = self.machines.get_mut(v) else {
+            return;
+        };
+        let before = *place;
+        *place = left;
+        self.count_end(before, left);
+        let Some(place) = self.stands.get_mut(v) else {
+            return;
+        };
+        let stood = *place;
+        if stood != stand {
+            *place = stand;
+            self.count(tables, v, stood, false);
+            self.count(tables, v, stand, true);
+        }
+    }
+
+    fn count_end(&mut self, before: Left, left: Left) {
+        if before.end() != left.end() {
+            self.sum = self
+                .sum
+                .saturating_sub(before.end())
+                .saturating_add(left.end());
+        }
+    }
+
+    // a machine begins to count for something, or no longer does
+    fn count(&mut self, tables: &Tables, v: usize, stand: Stand, begins: bool) {
+        match stand {
+            Stand::Nothing => {}
+            Stand::Stays(n) => self.count_on(n, tables.usages(v), begins),
+            Stand::Lands(n) => self.count_on(n, tables.demands(v), begins),
+            Stand::Rises(n) => {
+                let mut column = cell(n, tables.width.saturating_add(1), 0);
+                for amount in tables.demands(v) {
+                    change(&mut self.held, column, *amount, begins);
+                    column = column.saturating_add(1);
+                }
+            }
         }
     }
 
     // a machine is on a node at the horizon, and has so much there
-    fn count(&mut self, n: usize, amounts: &[u64]) {
+    fn count_on(&mut self, n: usize, amounts: &[u64], begins: bool) {
         let mut column = cell(n, amounts.len().saturating_add(1), 0);
         for amount in amounts {
-            add(&mut self.load, column, *amount);
-            add(&mut self.held, column, *amount);
+            change(&mut self.load, column, *amount, begins);
+            change(&mut self.held, column, *amount, begins);
             column = column.saturating_add(1);
         }
-        add(&mut self.load, column, 1);
-    }
-
-    // a machine has one place left
-    fn count_landing(&mut self, tables: &Tables, v: usize, domain: &Domain) {
-        let Some(row) = domain.rows().first() else {
-            return;
-        };
-        if let Some(n) = node_at(row.place) {
-            self.count(n, tables.demands(v));
-        }
-    }
-
-    // a machine may still be raised on its host
-    fn count_held(&mut self, n: usize, amounts: &[u64]) {
-        let mut column = cell(n, amounts.len().saturating_add(1), 0);
-        for amount in amounts {
-            add(&mut self.held, column, *amount);
-            column = column.saturating_add(1);
-        }
+        change(&mut self.load, column, 1, begins);
     }
 
     /// How much a machine lacks at a place, and how much would be left there, in parts of a thousand of each resource.
@@ -196,6 +232,40 @@ impl Outlook {
             left = left.saturating_add(share(capacity.saturating_sub(full), capacity));
         }
         if lack > 0 { (lack, 0) } else { (0, left) }
+    }
+}
+
+// adds to the number at a place, or takes from it
+fn change(list: &mut Vec<u64>, i: usize, number: u64, begins: bool) {
+    if begins {
+        add(list, i, number);
+    } else {
+        take(list, i, number);
+    }
+}
+
+// for what a machine counts that may stay
+fn staying(mover: &Mover) -> Stand {
+    match mover.host {
+        Some(host) if mover.runs => Stand::Stays(host),
+        Some(_) | None => Stand::Nothing,
+    }
+}
+
+// for what a machine counts that must act: where it has one place left it is there
+fn acting(mover: &Mover, domain: &Domain) -> Stand {
+    match domain.rows() {
+        [] => Stand::Nothing,
+        [row] => match node_at(row.place) {
+            Some(n) if mover.lands => Stand::Lands(n),
+            Some(_) | None => Stand::Nothing,
+        },
+        rows => match mover.host {
+            Some(host) if mover.rises && find_row(rows, at_node(host)).is_some() => {
+                Stand::Rises(host)
+            }
+            Some(_) | None => Stand::Nothing,
+        },
     }
 }
 

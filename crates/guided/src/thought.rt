@@ -1,6 +1,7 @@
 //! What is worked out at the root of a search.
 
 use crate::ends::least_sum;
+use crate::outlook::Outlook;
 use crate::root::Root;
 use crate::rows::{machine_domain, node_domain};
 use crate::tables::Tables;
@@ -22,6 +23,8 @@ pub struct Thought {
     pub target: Target,
     /// Whether the target costs the sum of the least ends of the root, so that nothing is cheaper.
     pub is_least: bool,
+    /// The region that was looked at last. It counts in these tables alone, and so goes with them.
+    pub outlook: Outlook,
 }
 
 impl Thought {
@@ -38,16 +41,20 @@ impl Thought {
         // which machines are apart is asked no more, and takes most of the memory
         tables.rules.apart.forget(alloc);
         let is_least = target.cost == sum;
-        let root = if is_least {
-            Root::new(alloc)
+        let (root, outlook) = if is_least {
+            (Root::new(alloc), Outlook::new(alloc))
         } else {
-            Root::of(alloc, &tables, region)?
+            (
+                Root::of(alloc, &tables, region)?,
+                Outlook::of(alloc, &tables)?,
+            )
         };
         Ok(Some(Thought {
             tables,
             root,
             target,
             is_least,
+            outlook,
         }))
     }
 
