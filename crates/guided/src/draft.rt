@@ -1,6 +1,7 @@
 //! A whole plan in the making: a choice of each element, or none yet.
 
 use crate::elements::{Mover, Server, mover_at, server_at};
+use crate::ends::least_of;
 use crate::lines::{Event, Line};
 use crate::numbers::{NEVER, at, is_up, list_at, put, turn};
 use crate::rows::{first_leaving, machine_idle, node_idle, node_row};
@@ -24,6 +25,11 @@ pub struct Draft<'a> {
     pub starts: Vec<u64>,
     /// When each machine can have left its host at the earliest.
     pub leaving: Vec<u64>,
+    /// The least end of the rows of each machine.
+    pub least: Vec<u64>,
+    /// The sum of the ends of the machines that act, and how many machines have no choice.
+    pub ends: u64,
+    pub open: u64,
     /// The machines that go to each node and land there.
     pub coming: Vec<Vec<usize>>,
     /// What is used on each node, and of each amount of the constraints.
@@ -54,6 +60,9 @@ impl<'a> Draft<'a> {
             acts: vec![in alloc; false; nodes]?,
             starts: vec![in alloc; 0; nodes]?,
             leaving: first_leavings(alloc, tables, region)?,
+            least: least_ends(alloc, tables, region)?,
+            ends: 0,
+            open: machines as u64,
             coming: empty_lists(alloc, nodes)?,
             rooms: empty_lines(alloc, nodes)?,
             sums: empty_lines(alloc, tables.rules.amounts.len())?,
@@ -146,6 +155,7 @@ impl<'a> Draft<'a> {
         }
         self.go_from(v, old);
         put_choice(&mut self.choices, v, choice);
+        self.count(v, old, choice);
         self.go_to(v, choice)?;
         let mover = self.mover(v);
         if let Some(host) = mover.host {
@@ -154,6 +164,28 @@ impl<'a> Draft<'a> {
             }
         }
         Ok(())
+    }
+
+    // a machine has another choice than it had
+    fn count(&mut self, v: usize, old: Option<Choice>, new: Option<Choice>) {
+        self.ends = self.ends.saturating_sub(self.end(v, old));
+        self.ends = self.ends.saturating_add(self.end(v, new));
+        if old.is_none() {
+            self.open = self.open.saturating_sub(1);
+        }
+        if new.is_none() {
+            self.open = self.open.saturating_add(1);
+        }
+    }
+
+    // the end of a machine's choice, 0 where it has none
+    fn end(&self, v: usize, choice: Option<Choice>) -> u64 {
+        match choice {
+            Some(Choice::Act { place, start }) => {
+                u64::from(start).saturating_add(self.lasts(v, place))
+            }
+            Some(Choice::Idle) | None => 0,
+        }
     }
 
     // a machine no longer goes where it went
@@ -195,24 +227,13 @@ impl<'a> Draft<'a> {
 
     /// The sum of the ends of all that has a choice, and how many machines have none.
     pub fn cost(&self) -> (u64, u64) {
-        let mut sum: u64 = 0;
-        let mut open: u64 = 0;
-        for v in 0..self.choices.len() {
-            match self.choice(v) {
-                None => open = open.saturating_add(1),
-                Some(Choice::Idle) => (),
-                Some(Choice::Act { place, start }) => {
-                    let end = u64::from(start).saturating_add(self.lasts(v, place));
-                    sum = sum.saturating_add(end);
-                }
-            }
-        }
+        let mut sum = self.ends;
         for n in 0..self.acts.len() {
             if is_up(&self.acts, n) {
                 sum = sum.saturating_add(self.change_end(n));
             }
         }
-        (sum, open)
+        (sum, self.open)
     }
 
     /// The cost, where each machine without a choice counts as much as four that end last.
@@ -378,4 +399,12 @@ fn first_leavings(alloc: Global, tables: &Tables, region: &Region) -> Result<Vec
         leavings.push(first_leaving(region, mover_at(&tables.machines, v), v))?;
     }
     Ok(leavings)
+}
+
+fn least_ends(alloc: Global, tables: &Tables, region: &Region) -> Result<Vec<u64>, Memory> {
+    let mut ends = Vec::new(alloc);
+    for v in 0..tables.machines.len() {
+        ends.push(least_of(tables, region, &[], v))?;
+    }
+    Ok(ends)
 }

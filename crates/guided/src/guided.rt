@@ -136,7 +136,7 @@ impl Guided {
         if thought.is_least {
             return Ok(None);
         }
-        thought.outlook.look(&thought.tables, &thought.root, g);
+        thought.outlook.look(&thought.tables, &thought.root, g)?;
         let thought = &*thought;
         let holds = self.best.is_none() && holds_target(thought, g);
         self.is_put_off.clear();

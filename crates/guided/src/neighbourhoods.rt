@@ -1,9 +1,9 @@
 //! A plan made better: a few machines are taken out and put in again, time and again.
 
-use crate::draft::{Draft, lasts, node_at};
-use crate::numbers::{is_up, list_at};
+use crate::draft::{Draft, node_at};
+use crate::numbers::{at, is_up, list_at};
 use crate::root::in_order;
-use crate::rows::{first_end, machine_idle, machine_rows};
+use crate::rows::{machine_idle, machine_rows};
 use base::Memory;
 use cluster::Choice;
 
@@ -235,9 +235,11 @@ impl<'a> Draft<'a> {
     // or end later than they could
     fn bad_ones(&mut self) -> Result<Vec<usize>, Memory> {
         let mut bad = Vec::new(self.alloc);
-        for v in 0..self.choices.len() {
-            if self.is_open(v) {
-                bad.push(v)?;
+        if self.open > 0 {
+            for v in 0..self.choices.len() {
+                if self.is_open(v) {
+                    bad.push(v)?;
+                }
             }
         }
         if bad.is_empty() || self.pick(4) == 0 {
@@ -254,17 +256,8 @@ impl<'a> Draft<'a> {
         let Some(Choice::Act { place, start }) = self.choice(v) else {
             return false;
         };
-        if self.may_stay(v) {
-            return true;
-        }
-        let mover = self.mover(v);
-        let end = u64::from(start).saturating_add(lasts(mover, place));
-        for row in machine_rows(self.region, v) {
-            if first_end(mover, *row) < end {
-                return true;
-            }
-        }
-        false
+        let end = u64::from(start).saturating_add(self.lasts(v, place));
+        at(&self.least, v) < end || self.may_stay(v)
     }
 
     // some more nodes, half of them where the machine may go that was taken out

@@ -95,25 +95,35 @@ impl<'a> Order<'a> {
     // what the bound forces: staying, after many fails, or the one place that is not too dear
     fn forced(&self) -> Option<Wish> {
         let slack = self.slack()?;
-        let stays = self.fails > MANY_FAILS && self.has_open_big();
+        if self.fails > MANY_FAILS && self.has_open_big() {
+            return self.forced_to_stay(slack);
+        }
+        for v in &self.outlook.open {
+            if !is_up(self.is_put_off, *v) {
+                if let Some(row) = self.affordable_row(*v, slack) {
+                    return whole(*v, row);
+                }
+            }
+        }
+        None
+    }
+
+    fn forced_to_stay(&self, slack: u64) -> Option<Wish> {
         for (v, left) in self.outlook.machines.iter().enumerate() {
             if left.is_one || is_up(self.is_put_off, v) {
                 continue;
             }
             if left.may_stay {
-                if stays && left.rows > 0 && self.least(v) >= slack {
+                if left.rows > 0 && self.least(v) >= slack {
                     return stay(v);
                 }
             } else if left.rows > 1 {
-                if let Some(row) = self.only_row(v, left.least.saturating_add(slack)) {
+                if let Some(row) = self.affordable_row(v, slack) {
                     return whole(v, row);
                 }
             }
         }
-        if stays {
-            return self.forced_server(slack);
-        }
-        None
+        self.forced_server(slack)
     }
 
     fn least(&self, v: usize) -> u64 {
@@ -153,9 +163,10 @@ impl<'a> Order<'a> {
         false
     }
 
-    // the row of a machine that ends before a limit, if it is the only one
-    fn only_row(&self, v: usize, limit: u64) -> Option<Row> {
+    // the row of a machine that is not too dear, if it is the only one
+    fn affordable_row(&self, v: usize, slack: u64) -> Option<Row> {
         let mover = mover_at(&self.thought.tables.machines, v);
+        let limit = self.outlook.machine(v).least.saturating_add(slack);
         let mut found = None;
         for row in machine_rows(self.region, v) {
             if first_end(mover, *row) < limit {
@@ -200,12 +211,13 @@ impl<'a> Order<'a> {
     // whether a machine that must act, in no pair and no group, has few places left, of many
     fn has_few_places(&self) -> bool {
         let thought = self.thought;
-        for (v, left) in self.outlook.machines.iter().enumerate() {
-            if left.may_stay || left.rows < 2 || left.rows > FEW_PLACES {
+        for v in &self.outlook.open {
+            let rows = self.outlook.machine(*v).rows;
+            if rows > FEW_PLACES {
                 continue;
             }
-            let places = thought.root.places.get(v).copied().unwrap_or(0);
-            if left.rows <= places / 2 && !is_up(&thought.tables.rules.is_bound, v) {
+            let places = thought.root.places.get(*v).copied().unwrap_or(0);
+            if rows <= places / 2 && !is_up(&thought.tables.rules.is_bound, *v) {
                 return true;
             }
         }
@@ -227,14 +239,15 @@ impl<'a> Order<'a> {
         let mut best = None;
         let mut fewest = usize::MAX;
         let mut most = 0;
-        for (v, left) in self.outlook.machines.iter().enumerate() {
-            if left.may_stay || left.rows < 2 || left.rows > fewest {
+        for v in &self.outlook.open {
+            let rows = self.outlook.machine(*v).rows;
+            if rows > fewest {
                 continue;
             }
-            let demand = self.demands(v);
-            if left.rows < fewest || demand > most {
-                best = Some(v);
-                fewest = left.rows;
+            let demand = self.demands(*v);
+            if rows < fewest || demand > most {
+                best = Some(*v);
+                fewest = rows;
                 most = demand;
             }
         }

@@ -56,6 +56,8 @@ enum Stand {
 pub struct Outlook {
     pub machines: Vec<Left>,
     pub nodes: Vec<Left>,
+    /// The machines that must act and have several places left, in their order.
+    pub open: Vec<usize>,
     /// The sum of the least ends.
     pub sum: u64,
     /// What is used on each node of each resource, and how many machines are there.
@@ -90,6 +92,7 @@ impl Outlook {
         Outlook {
             machines: Vec::new(alloc),
             nodes: Vec::new(alloc),
+            open: Vec::new(alloc),
             sum: 0,
             load: Vec::new(alloc),
             held: Vec::new(alloc),
@@ -121,11 +124,12 @@ impl Outlook {
         self.nodes.get(n).copied().unwrap_or(NOTHING)
     }
 
-    /// Becomes that of a region.
-    pub fn look(&mut self, tables: &Tables, root: &Root, g: &Region) {
+    /// Becomes that of a region. Where memory is refused the next look goes on with what this one has not come to.
+    pub fn look(&mut self, tables: &Tables, root: &Root, g: &Region) -> Result<(), Memory> {
+        self.open.clear();
         for (v, mover) in tables.machines.iter().enumerate() {
             match machine_domain(g, v) {
-                Some(domain) => self.look_at(tables, at(&root.moves, v), v, mover, domain),
+                Some(domain) => self.look_at(tables, at(&root.moves, v), v, mover, domain)?,
                 None => self.turn(tables, v, NOTHING, Stand::Nothing),
             }
         }
@@ -140,10 +144,18 @@ impl Outlook {
                 self.count_end(before, left);
             }
         }
+        Ok(())
     }
 
     // a machine that may stay, as before, counts for the same
-    fn look_at(&mut self, tables: &Tables, known: u64, v: usize, mover: &Mover, domain: &Domain) {
+    fn look_at(
+        &mut self,
+        tables: &Tables,
+        known: u64,
+        v: usize,
+        mover: &Mover,
+        domain: &Domain,
+    ) -> Result<(), Memory> {
         if domain.idle() {
             let left = left_of(domain, NEVER);
             match self.machines.get_mut(v) {
@@ -153,7 +165,11 @@ impl Outlook {
         } else {
             let left = left_of(domain, least_move(mover, domain, known));
             self.turn(tables, v, left, acting(mover, domain));
+            if left.rows > 1 {
+                self.open.push(v)?;
+            }
         }
+        Ok(())
     }
 
     // so much is left to a machine now, and it counts for that
