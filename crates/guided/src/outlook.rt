@@ -157,10 +157,13 @@ impl Outlook {
         domain: &Domain,
     ) -> Result<(), Memory> {
         if domain.idle() {
-            let left = left_of(domain, NEVER);
             match self.machines.get_mut(v) {
-                Some(place) if place.may_stay => *place = left,
-                Some(_) | None => self.turn(tables, v, left, staying(mover)),
+                Some(place) if place.may_stay => {
+                    let rows = domain.rows().len();
+                    place.rows = rows;
+                    place.is_one = rows == 0;
+                }
+                Some(_) | None => self.turn(tables, v, left_of(domain, NEVER), staying(mover)),
             }
         } else {
             let left = left_of(domain, least_move(mover, domain, known));
