@@ -3,7 +3,7 @@
 use crate::breaks::Breaks;
 use crate::elements::mover_at;
 use crate::ends::least_of;
-use crate::numbers::{NEVER, is_up, list_at, node, real};
+use crate::numbers::{NEVER, is_up, node, real};
 use crate::outlook::{Left, Outlook};
 use crate::race::Race;
 use crate::rows::{first_end, machine_rows, node_row};
