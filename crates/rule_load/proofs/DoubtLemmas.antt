@@ -1,6 +1,6 @@
 -- That all machines fit, told in the order of what they use; and what they use on a node, told by those near it.
 use Rattle.rule_load.proofs.Prelude.{◌≡◌, inl, inr, ℕ, ◌+◌, ◌<◌, ◌≤◌, Bool, true, false, ◌&&◌, nat_lt, cond, List, length, get_or, refl, sym, ap, subst, ◌∙◌, arith, slice_index_or, Contains, sum_by, cases_eq, cases_lt, get_or_default, Amount, AreKeptAt, AreNearAt, AreStanding, base, comes_by, FixedView, gain, hosted_in, Instance, IsMost, IsOrder, machine_count, MachinesFit, most_kept, most_use, MostUse, never, no_standing, one, Period, Sets, Standing, state_of, sum_to, vm, Weight, all_over}
-use Rattle.rule_load.proofs.UseLemmas.{fits_at_once}
+use Rattle.load_bounds.proofs.Public.{fits_at_once}
 
 -- ---- in the order of what they use
 

@@ -1,8 +1,6 @@
 -- Where bounds of what is used fit, nothing is overloaded.
 use Rattle.rule_load.proofs.Prelude.{◌≡◌, inl, inr, ℕ, zero, suc, ◌+◌, ◌-◌, ◌<◌, ◌≤◌, cond, List, length, refl, subst, sym, arith, slice_index_or, cases_eq, cases_lt, sum_to-le, all_nodes, Amount, AreMost, AreStanding, capacity_of, Choice, Element, HasRoom, Instance, is_steady, IsDuring, IsElement, IsEnd, IsFreeDuring, IsFreeOf, IsFreePast, IsOverload, IsOverloaded, load, machine_count, MachinesFit, may_wait, most_anywhere, most_kept, never, no_standing, node, TheNode, node_count, Nodes, NodesFit, one, Period, RegionView, Sets, sets, setting, Standing, sum_to, sure, Vm, vm, end_is_choice, machine_change, node_change, setting_agrees, setting_total}
-use Rattle.rule_load.proofs.RoomLemmas.{steady-fits, steady-room}
-use Rattle.rule_load.proofs.TotalLemmas.{are_most}
-use Rattle.rule_load.proofs.UseLemmas.{sure_most}
+use Rattle.load_bounds.proofs.Public.{are_most, steady-fits, steady-room, sure_most}
 
 -- with one term left out, a sum of lesser terms is still the lesser one
 left-out : (n : ℕ) (f g : ℕ → ℕ) (place : ℕ) → place < n → ((k : ℕ) → k < n → f k ≤ g k) → sum_to n f + g place ≤ sum_to n g + f place

@@ -8,4 +8,4 @@ pub use Rattle.profiles.proofs.Public.{all_over, few_once, firsts_fewer, kept_la
 pub use Rattle.reasons.proofs.Public.{end_is_choice, ends_of_rows, machine_change, node_change, setting_agrees, setting_room, setting_total}
 pub use Rattle.rule_frame.proofs.Public.{cases_in, first_of, last_of, later_in, narrowed_is_fewer, no_less, unseen_still}
 pub use Rattle.slices.proofs.Public.{ends_by_duration}
-pub use Rattle.rule_load.specs.Prelude.{Act, Amount, AreFewer, AreFirstAt, AreFirsts, AreKept, AreKeptAt, AreListed, AreMost, AreMovers, AreNearAt, AreSpared, AreStanding, Arrival, At, Before, CameBefore, Change, Choice, Climbs, Cut, DomainView, Element, FixedView, From, Grows, HasRoom, HaveCome, Idle, Instance, IsCacheTold, IsDisturbed, IsDuring, IsElement, IsEnd, IsFreeDuring, IsFreeOf, IsFreePast, IsGrown, IsLess, IsListedBy, IsListedFor, IsLook, IsMachineLess, IsMost, IsNarrowed, IsNear, IsOrder, IsOverload, IsOverloaded, IsPut, IsStanding, IsStill, KeepsHost, Levels, Lost, MachinesFit, MostUse, Node as TheNode, NodeId, NodeSet, Nodes, NodesFit, Nowhere, Period, RegionView, Row, Sets, Standing, Tables, Vm, VmId, Weight, all_nodes, base, cache_of, capacity_of, choices, comes_by, demand_of, domain_at, domain_before, gain, goes_in, has_come, has_node, have_come, held_at, hosted_in, in_part, is_above_none, is_nought, is_steady, kept_use, least, leave_climbs, leave_of, level_at, list_at, load, load_scope, load_watch, lost_choices, lower_option, lowest, machine_count, max_amount, max_capacity, max_held, may, may_wait, most_anywhere, most_kept, most_use, never, no_row, no_standing, node, node_count, on_side, one, one_at, restored, row_choices, same_element, seen, sets, setting, starts_from, state_of, sum_to, sure, surely, usable_at, vm, waits, watch_at}
+pub use Rattle.rule_load.specs.Prelude.{Act, Amount, AreFewer, AreFirstAt, AreFirsts, AreKept, AreKeptAt, AreListed, AreMost, AreMovers, AreNearAt, AreSpared, AreStanding, Arrival, At, Before, CameBefore, Change, Choice, Climbs, Cut, DomainView, Element, FixedView, From, Grows, HasRoom, HaveCome, Idle, Instance, IsCacheTold, IsDisturbed, IsDuring, IsElement, IsEnd, IsFreeDuring, IsFreeOf, IsFreePast, IsGrown, IsLess, IsListedBy, IsListedFor, IsLook, IsMachineLess, IsMost, IsNarrowed, IsNear, IsOrder, IsOverload, IsOverloaded, IsPut, IsStanding, IsStill, KeepsHost, Levels, Lost, MachinesFit, MostUse, Node as TheNode, NodeId, NodeSet, Nodes, NodesFit, Nowhere, Period, RegionView, Row, Sets, Standing, Tables, Vm, VmId, Weight, all_nodes, base, cache_of, capacity_of, choices, comes_by, demand_of, domain_at, domain_before, gain, goes_in, has_come, has_node, have_come, held_at, hosted_in, in_part, is_above_none, is_nought, is_steady, kept_use, least, leave_climbs, leave_of, level_at, list_at, load, load_scope, load_watch, lost_choices, lower_option, lowest, machine_count, max_amount, max_capacity, max_held, may, may_wait, most_anywhere, most_kept, most_use, never, no_row, no_standing, node, node_count, on_side, one, one_at, restored, row_choices, same_element, seen, sets, setting, starts_from, state_of, sum_to, sure, surely, usable_at, vm, watch_at}

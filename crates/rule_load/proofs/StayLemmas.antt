@@ -1,6 +1,7 @@
 -- A change of a machine does not weigh on its host, where it surely keeps that as long as before; and where all its choices came before.
-use Rattle.rule_load.proofs.Prelude.{min, ◌≡◌, ◌≢◌, ◌⊎◌, inl, inr, ℕ, zero, suc, ◌+◌, ◌-◌, ◌<◌, ◌≤◌, ◌&&◌, Bool, true, false, nat_le, nat_lt, cond, Option, Some, None, unwrap_or, List, [], ◌∷◌, refl, sym, ap, subst, ◌∙◌, arith, cases_lt, false≢true, Decides-eqb, nat_tests, Contains, filter, Act, Amount, AreFewer, Arrival, At, base, CameBefore, Choice, choices, comes_by, DomainView, From, gain, goes_in, has_come, have_come, held_at, hosted_in, Idle, in_part, Instance, IsEnd, IsMachineLess, IsStill, KeepsHost, least, leave_climbs, leave_of, load_scope, Lost, lost_choices, lower_option, lowest, never, NodeId, Nowhere, one, restored, Row, starts_from, state_of, vm, LostRow, contains_filter, least_of_each, lowest_before, restored_is_both, surely_each, cases_in, last_of}
-use Rattle.rule_load.proofs.StillLemmas.{held_parts, least_above, least_attained}
+use Rattle.rule_load.proofs.Prelude.{min, ◌≡◌, ◌≢◌, inl, inr, ℕ, ◌+◌, ◌<◌, ◌≤◌, ◌&&◌, Bool, true, false, nat_le, nat_lt, cond, Option, Some, None, unwrap_or, List, [], ◌∷◌, refl, sym, ap, subst, ◌∙◌, arith, false≢true, Decides-eqb, nat_tests, Contains, filter, Act, Amount, AreFewer, Arrival, At, base, CameBefore, Choice, choices, comes_by, DomainView, From, gain, goes_in, has_come, have_come, held_at, hosted_in, Idle, in_part, Instance, IsEnd, IsMachineLess, IsStill, KeepsHost, least, leave_climbs, leave_of, load_scope, Lost, lost_choices, lower_option, lowest, never, NodeId, Nowhere, one, restored, state_of, vm, contains_filter, least_of_each, lowest_before, restored_is_both, surely_each, last_of}
+use Rattle.load_bounds.proofs.Public.{held_parts, least_above, least_attained}
+pub use Rattle.load_bounds.proofs.Public.{row_came}
 
 -- ---- until when the host is kept
 
@@ -104,24 +105,6 @@ module _ (p : Instance) (v n : ℕ) (old now : List Choice) (leave : ℕ) (short
   }
 
 -- ---- where all its choices come
-
--- all starts of a row at a node that ends by an instant have come by then
-row-came : (n m : NodeId) (last from count : ℕ) (c : Choice) → m.0 ≡ n.0 → from + count ≤ last + 1 → Contains (starts_from (At m) from count) c → has_come n.0 last c ≡ true
-row-came n m last from zero c same l h = absurd (omega (arith, h.1))
-row-came n m last from (suc count) c same l h = elim (cases_in (Act (At m) from) c (starts_from (At m) (from + 1) count) h) [
-  | inl here ↦ rw (← here) (both (omega (arith, l)))
-  | inr later ↦ row-came n m last (from + 1) count c same (omega (arith, l)) later
-]
-  where
-    both : from ≤ last → (one n.0 m.0 && nat_le from last) ≡ true
-    both u = let there : one n.0 m.0 ≡ true = (Decides-eqb m.0 n.0).1 same in let by : nat_le from last ≡ true = grind (arith, nat_tests, u) in rw (there, by) refl
-
-pub row_came : (n : NodeId) (last : ℕ) (r : Row) (m : NodeId) → r.place ≡ At m → m.0 ≡ n.0 → r.hi ≤ last → (c : Choice) → Contains (lost_choices (LostRow r)) c → has_come n.0 last c ≡ true
-row_came n last r m place same l c h = by (cases_lt r.hi r.lo)
-  where
-    by : (r.hi < r.lo) ⊎ (r.lo ≤ r.hi) → has_come n.0 last c ≡ true
-    by (inl none) = let nothing : r.hi + 1 - r.lo ≡ 0 = omega (arith, none) in absurd (omega (arith, (rw (place, nothing) at h).1))
-    by (inr some) = row-came n m last r.lo (r.hi + 1 - r.lo) c same (omega (arith, some, l)) (rw place at h)
 
 two : (a b : Bool) → (a && b) ≡ true → (a ≡ true) × (b ≡ true)
 two true b e = (refl, e)

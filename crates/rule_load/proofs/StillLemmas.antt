@@ -1,24 +1,8 @@
 -- A change of a machine does not weigh on the load of a node that is not its host, unless all its choices come there sooner now.
-use Rattle.rule_load.proofs.Prelude.{◌≡◌, ◌≢◌, ◌⊎◌, inl, inr, ℕ, ◌+◌, ◌<◌, ◌≤◌, Bool, true, false, ◌&&◌, nat_le, nat_lt, cond, Option, Some, None, List, [], ◌∷◌, refl, sym, ap, ◌∙◌, arith, cases_lt, false≢true, nat_tests, Contains, Act, Amount, AreFewer, Arrival, At, base, Choice, comes_by, gain, has_come, have_come, held_at, hosted_in, Idle, Instance, IsEnd, IsLess, IsMachineLess, IsStanding, IsStill, kept_use, least, leave_of, load_scope, never, node, Nowhere, one, Standing, state_of, surely, vm, Weight, contains_here, first_of, later_in, no_less, unseen_still, kept_law}
+use Rattle.rule_load.proofs.Prelude.{◌≡◌, ◌≢◌, ◌⊎◌, inl, inr, ℕ, ◌<◌, ◌≤◌, Bool, true, false, cond, List, [], ◌∷◌, refl, sym, ◌∙◌, arith, false≢true, nat_tests, Contains, Act, Amount, AreFewer, At, Choice, comes_by, gain, has_come, have_come, held_at, hosted_in, Idle, Instance, IsEnd, IsLess, IsMachineLess, IsStanding, IsStill, kept_use, least, leave_of, load_scope, never, node, Nowhere, one, Standing, state_of, vm, Weight, contains_here, first_of, no_less, unseen_still, kept_law}
+use Rattle.load_bounds.proofs.Public.{arrival_of, choice_stands, come_is, least_above}
 
 -- ---- one choice, away from the host
-
-abbrev pub arrival_of : Choice → Option Arrival
-arrival_of Idle = None
-arrival_of (Act Nowhere s) = None
-arrival_of (Act (At m) s) = Some (record { node = m; last = s })
-
-and-true : (b : Bool) → b ≡ (b && true)
-and-true true = refl
-and-true false = refl
-
-pub choice_stands : (p : Instance) (v : ℕ) (c : Choice) → IsStanding p v (c ∷ []) (record { leave = leave_of p v c; come = arrival_of c })
-choice_stands p v c = record { leave = refl; come = λ n t. come c n t }
-  where
-    come : (c : Choice) (n t : ℕ) → comes_by n t (arrival_of c) ≡ surely (has_come n t) (c ∷ [])
-    come Idle n t = refl
-    come (Act Nowhere s) n t = refl
-    come (Act (At m) s) n t = and-true (one n m.0 && nat_le s t)
 
 -- who is not on its host there has only what it brings
 brought_alone : (p : Instance) (v : ℕ) (w : Weight) (n t : ℕ) (k : Standing) → hosted_in (state_of p v) (one n) ≡ false → kept_use p v w n t k ≡ cond (comes_by n t k.come) (gain p v w n) 0
@@ -26,33 +10,6 @@ brought_alone p v w n t k off = rw off (omega arith)
 
 held_alone : (p : Instance) (v : ℕ) (w : Weight) (n t : ℕ) (c : Choice) → t < never → hosted_in (state_of p v) (one n) ≡ false → held_at p v w (one n) t c ≡ cond (comes_by n t (arrival_of c)) (gain p v w n) 0
 held_alone p v w n t c h off = kept_law p v w n t (c ∷ []) (record { leave = leave_of p v c; come = arrival_of c }) h (choice_stands p v c) ∙ brought_alone p v w n t (record { leave = leave_of p v c; come = arrival_of c }) off
-
-pub come_is : (c : Choice) (n t : ℕ) → comes_by n t (arrival_of c) ≡ has_come n t c
-come_is Idle n t = refl
-come_is (Act Nowhere s) n t = refl
-come_is (Act (At m) s) n t = refl
-
-pub held_parts : (p : Instance) (v : ℕ) (w : Weight) (n t : ℕ) (c : Choice) → t < never → held_at p v w (one n) t c ≡ cond (hosted_in (state_of p v) (one n) && nat_lt t (leave_of p v c)) (base p v w) 0 + cond (has_come n t c) (gain p v w n) 0
-held_parts p v w n t c h =
-    kept_law p v w n t (c ∷ []) (record { leave = leave_of p v c; come = arrival_of c }) h (choice_stands p v c)
-    ∙ ap (λ b. cond (hosted_in (state_of p v) (one n) && nat_lt t (leave_of p v c)) (base p v w) 0 + cond b (gain p v w n) 0) (come_is c n t)
-
--- ---- the least of some choices
-
--- some choice has it
-pub least_attained : (f : Choice → ℕ) (c : Choice) (cs : List Choice) → (d : Choice) × Contains (c ∷ cs) d × (f d ≤ least f (c ∷ cs))
-least_attained f c [] = (c, contains_here c [], omega arith)
-least_attained f c (d ∷ ds) =
-    let rest = least_attained f d ds in
-    elim (cases_lt (f c) (least f (d ∷ ds))) [
-      | inl l ↦ (c, contains_here c (d ∷ ds), omega (arith, l))
-      | inr l ↦ (rest.0, later_in c rest.0 (d ∷ ds) rest.1, omega (arith, l, rest.2))
-    ]
-
--- a number that no choice is below is no more than the least, where there is a choice
-pub least_above : (f : Choice → ℕ) (m : ℕ) (cs : List Choice) (c : Choice) → Contains cs c → ((d : Choice) → Contains cs d → m ≤ f d) → m ≤ least f cs
-least_above f m [] c h each = absurd (omega (arith, h.1))
-least_above f m (x ∷ xs) c h each = let one = least_attained f x xs in let low = each one.0 one.1 in omega (arith, low, one.2)
 
 -- ---- a change
 

@@ -3,9 +3,9 @@
 -- have less than at present.
 use Rattle.std.specs.Prelude.{◌≡◌, ℕ, ◌<◌, Bool, true, List, length, slice_index_or}
 use Rattle.std.specs.List.{Contains}
-use Rattle.profiles.specs.Prelude.{AreFirstAt, AreFirsts, AreMachines, AreMovers, AreStanding, comes_by, FixedView, have_come, hosted_in, Instance, IsFixed, IsNear, level_at, Levels, list_at, machine_count, no_standing, node_count, one, Sets, state_of, Tables, vm}
-use Rattle.rule_load.specs.HoldOn.{StayersHoldOn}
-use Rattle.rule_load.specs.NodeRooms.{AreRooms, RoomsView}
+use Rattle.profiles.specs.Prelude.{AreFirsts, AreMovers, AreStanding, comes_by, FixedView, have_come, Instance, IsFixed, IsNear, level_at, Levels, list_at, machine_count, no_standing, node_count, one, Sets, Tables, vm}
+use Rattle.load_bounds.specs.HoldOn.{StayersHoldOn}
+use Rattle.load_bounds.specs.NodeRooms.{AreRooms, RoomsView}
 use Rattle.rule_load.specs.Words.{Element, Vm, TheNode, Cache, Standing}
 
 -- each machine of which all choices have come to a node is in the list of the node
@@ -29,20 +29,6 @@ pub record AreKept (p : Instance) (s : Sets) (m : Tables) (x : FixedView) (xs : 
 
 abbrev pub cache_of : Tables → FixedView → List (List ℕ) → Levels ℕ → Levels ℕ → RoomsView → Bool → Cache
 cache_of m x xs f ws os hold_on = record { right = λ p k s. AreKept p s m x xs f ws os hold_on k; level = length m.older }
-
--- ---- what node n needs of it
-
--- each machine that it hosts, or of which all choices have come there, is in the list, once
-pub record AreNearAt (p : Instance) (s : Sets) (n : ℕ) (xs : List ℕ) : Type 0 where
-  pub machines : AreMachines p xs
-  pub hosted : (v : ℕ) → v < machine_count p → hosted_in (state_of p v) (one n) ≡ true → Contains xs v
-  pub come : (v t : ℕ) → v < machine_count p → have_come n t (s (vm v)) ≡ true → Contains xs v
-
-pub record AreKeptAt (p : Instance) (s : Sets) (n : ℕ) (x : FixedView) (ks : List Standing) (xs fs : List ℕ) : Type 0 where
-  pub fixed : IsFixed p x
-  pub standing : AreStanding p s ks
-  pub near : AreNearAt p s n xs
-  pub firsts : AreFirstAt p s n fs
 
 -- ---- one machine more
 

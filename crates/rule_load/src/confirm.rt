@@ -3,7 +3,7 @@ ghost use Rattle.std.specs.Prelude.{◌≡◌, ◌⊎◌, ℕ, ◌<◌, ◌≤�
 ghost use Rattle.rule_load.specs.Prelude.{AreKeptAt, choices, IsElement, IsEnd, IsLook, IsOverloaded, IsSized, load_watch, no_row, node_count, one, seen, sets, sure};
 
 use crate::Kept;
-use crate::over::overloaded_at;
+use load_bounds::over::overloaded_at;
 use rule_frame::{
     Choice, Domain, Element, Instant, Lens, Look, NodeId, Place, Problem, Region, Row, View,
     has_element,

@@ -1,36 +1,24 @@
 //! The rule of the loads of nodes. What most of its files name is passed on from here.
 #![tactic(auto)]
 
-mod change_instants;
 mod confirm;
 mod dirty;
 mod doubt;
-mod hold_on;
 mod horizon;
-mod kept;
-mod loose_room;
-mod measures;
 mod node_look;
-pub mod node_rooms;
 mod nodes;
-mod over;
-pub mod period;
 mod reason;
 mod refuting;
-mod room;
 pub mod rule;
 pub mod standings;
 mod suggest;
-mod total_fit;
 mod total_look;
-mod total_over;
 mod total_suggest;
-mod total_uses;
-mod uses;
 pub mod watcher;
 
-pub(crate) use kept::Kept;
-pub(crate) use period::Period;
+pub(crate) use load_bounds::kept::Kept;
+pub(crate) use load_bounds::period::Period;
+pub(crate) use load_bounds::{change_instants, room, uses};
 pub(crate) use profiles::fixed::{Fixed, resource_total};
 pub(crate) use profiles::host::{host_of, is_host};
 pub(crate) use profiles::standing::leaves::leaves_of;

@@ -4,7 +4,7 @@ ghost use Rattle.rule_load.specs.Prelude.{cache_of, FailHolds, has_node, IsCache
 
 use crate::Standings;
 use crate::nodes::{node_at, watched_nodes};
-use crate::over::overloaded_at;
+use load_bounds::over::overloaded_at;
 use relax::amounts::is_overload;
 use rule_frame::{Instant, NodeSet, Problem, Reason, View};
 

@@ -2,9 +2,9 @@
 ghost use Rattle.std.specs.Prelude.{◌≡◌, ◌<◌, ◌≤◌, IfSome, IsTrue, length};
 ghost use Rattle.rule_load.specs.Prelude.{all_nodes, cache_of, FailHolds, in_part, IsCacheFor, IsElement, IsOverload, IsSized, keeping, MayAnswer, node_count, nodes_of, one, sets, sure};
 
-use crate::over::is_over;
-use crate::total_over::is_over_all;
 use crate::{Standings, resource_total};
+use load_bounds::over::is_over;
+use load_bounds::total_over::is_over_all;
 use relax::area::area_of;
 use relax::refutes::refutes_inside;
 use rule_frame::{

@@ -3,13 +3,12 @@ ghost use Rattle.std.specs.Prelude.{◌≡◌, ℕ, ◌<◌, IfSome, OnErr, OnOk
 ghost use Rattle.profiles.specs.Levels.{marked};
 ghost use Rattle.profiles.specs.Prelude.{AreMovers, AreStanding, IsElement, IsFixed, IsNear, IsStanding, machine_count, no_standing, node_count, sets};
 ghost use Rattle.rule_frame.specs.Caches.{IsCacheFor};
-ghost use Rattle.rule_load.specs.Kept.{AreKeptAt, Grows, IsListedBy, IsListedFor};
-ghost use Rattle.rule_load.specs.HoldOn.{StayersHoldOn};
-ghost use Rattle.rule_load.specs.NodeRooms.{AreRooms};
+ghost use Rattle.load_bounds.specs.{HoldOn.StayersHoldOn, KeptAt.AreKeptAt, NodeRooms.AreRooms};
+ghost use Rattle.rule_load.specs.Kept.{Grows, IsListedBy, IsListedFor};
 
-use crate::hold_on::stayers_hold_on;
-use crate::node_rooms::NodeRooms;
 use crate::{Fixed, Kept, Standing};
+use load_bounds::hold_on::stayers_hold_on;
+use load_bounds::node_rooms::NodeRooms;
 use profiles::firsts::Firsts;
 use profiles::movers::Movers;
 use profiles::near::Near;

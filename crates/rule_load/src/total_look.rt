@@ -1,16 +1,16 @@
 //! The look at the load of all nodes together, by where machines surely stand.
 ghost use Rattle.std.specs.Prelude.{ℕ, ◌+◌, ◌-◌, ◌<◌, ◌≤◌, length, IfSome, IsTrue};
-ghost use Rattle.rule_load.specs.NodeRooms.{always};
+ghost use Rattle.load_bounds.specs.NodeRooms.{always};
 ghost use Rattle.rule_load.specs.Prelude.{all_nodes, AreMovers, AreRooms, AreStanding, IsFixed, IsFreeDuring, IsFreePast, IsLook, IsOverload, IsOverloaded, IsSized, MachinesFit, Period as AnyPeriod, Sets, sets, total_load_watch};
 
 use crate::change_instants::next_change_anywhere;
-use crate::loose_room::{LooseRoom, loose_room};
-use crate::node_rooms::{NodeRooms, always};
 use crate::room::steady_room;
-use crate::total_fit::{any_fits, machines_fit};
-use crate::total_uses::{most_at_once, most_total};
 use crate::{Fixed, Period, Standing, resource_total};
 use closing::watch::look_at_total_load;
+use load_bounds::loose_room::{LooseRoom, loose_room};
+use load_bounds::node_rooms::{NodeRooms, always};
+use load_bounds::total_fit::{any_fits, machines_fit};
+use load_bounds::total_uses::{most_at_once, most_total};
 use rule_frame::{Look, Problem, Region};
 
 // whether it is seen that of a resource those nodes have enough during a period that are usable under all their choices

@@ -2,9 +2,9 @@
 ghost use Rattle.std.specs.Prelude.{◌<◌, IfSome, length};
 ghost use Rattle.rule_load.specs.Prelude.{AreMovers, AreStanding, IsElement, IsFixed, IsSized, sets};
 
-use crate::loose_room::loose_room;
-use crate::total_uses::most_total;
 use crate::{Fixed, Period, Standing, is_host, resource_total};
+use load_bounds::loose_room::loose_room;
+use load_bounds::total_uses::most_total;
 use relax::measures::end;
 use rule_frame::{
     Choice, Element, Instant, Memory, Part, Place, Problem, Reason, Region, Row, Suggestion, VmId,

@@ -1,6 +1,6 @@
 use Rattle.rule_load.proofs.Prelude.{refl, choices, domain_at, domain_before, machine_count, narrowed_is_fewer, sets, sets_before, movers_told}
 use Rattle.rule_load.proofs.KeptLemmas.{cache_told, come_told, hold_told, kept_fewer, kept_movers}
-use Rattle.rule_load.proofs.NodeRoomLemmas.{rooms_told}
+use Rattle.load_bounds.proofs.Public.{rooms_told}
 use Rattle.rule_load.proofs.standings.StandingsKeeper.told.Goals as goal
 
 pub told-requires-clause-fewer : goal.told-requires-clause-fewer

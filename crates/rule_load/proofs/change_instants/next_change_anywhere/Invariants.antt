@@ -1,5 +1,0 @@
-use Rattle.std.proofs.Common.{◌+◌, ◌<◌, ◌≤◌}
-use Rattle.rule_load.proofs.change_instants.next_change_anywhere.Given as goal
-
-abbrev pub invariant-loop-i : goal.invariant-loop-i
-invariant-loop-i l = record { later : l.after < l.next; most : l.next ≤ l.p.given.horizon + 1 }

@@ -1,6 +1,0 @@
-use Rattle.rule_load.proofs.Prelude.{ℕ, ◌<◌, slice_index_or, no_row}
-use Rattle.rule_load.specs.Prelude.{GoesOn}
-use Rattle.rule_load.proofs.hold_on.all_go_on.Given as goal
-
-abbrev pub invariant-loop-i : goal.invariant-loop-i
-invariant-loop-i l = (k : ℕ) → k < l.i → GoesOn l.p.given l.v.0 (slice_index_or l.rows k no_row).place

@@ -1,6 +1,0 @@
-use Rattle.rule_load.proofs.Prelude.{ℕ, ◌<◌, Contains, Idle, sets, vm}
-use Rattle.rule_load.specs.Prelude.{HoldsOn}
-use Rattle.rule_load.proofs.hold_on.stayers_hold_on.Given as goal
-
-abbrev pub invariant-loop-i : goal.invariant-loop-i
-invariant-loop-i l = (v : ℕ) → v < l.i → Contains (sets l.g (vm v)) Idle → HoldsOn l.p.given (sets l.g) v

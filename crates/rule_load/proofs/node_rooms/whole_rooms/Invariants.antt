@@ -1,5 +1,0 @@
-use Rattle.rule_load.specs.Prelude.{AreWholeRooms}
-use Rattle.rule_load.proofs.node_rooms.whole_rooms.Given as goal
-
-abbrev pub invariant-loop-r : goal.invariant-loop-r
-invariant-loop-r l = AreWholeRooms l.p.given l.r l.rooms.items

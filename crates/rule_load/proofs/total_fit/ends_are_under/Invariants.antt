@@ -1,6 +1,0 @@
-use Rattle.rule_load.proofs.Prelude.{all_nodes}
-use Rattle.rule_load.proofs.TotalLemmas.{RowsUnder}
-use Rattle.rule_load.proofs.total_fit.ends_are_under.Given as goal
-
-abbrev pub invariant-loop-i : goal.invariant-loop-i
-invariant-loop-i l = RowsUnder l.p.given l.v.0 l.r (all_nodes l.p.given) l.x l.bound l.rows l.i

@@ -1,9 +1,0 @@
-use Rattle.std.proofs.Common.{arith}
-use Rattle.rule_load.specs.Prelude.{always}
-use Rattle.rule_load.proofs.TotalLemmas.{total_at_once}
-use Rattle.rule_load.proofs.total_uses.most_at_once.Goals as goal
-
-pub returns : goal.returns
-returns c =
-    let all = total_at_once c.args.p.now.given c.args._g.now c.args._ks.now c.args.r (always c.args.p.now.given) c.args.movers.now c.most.result c.requires.movers c.most.ensures in
-    omega (arith, all, c.total_base.ensures.sum, c.in_ok-used.ensures.1, c.in_ok-more.ensures.1)

@@ -1,9 +1,0 @@
-//! Stretches of time.
-use rule_frame::Instant;
-
-/// The instants from one to another, both of them among them.
-#[derive(Clone, Copy, Debug, PartialEq, Eq)]
-pub struct Period {
-    pub from: Instant,
-    pub to: Instant,
-}
