@@ -1,8 +1,6 @@
--- That all machines fit, told in the order of what they use; and what they use on a node, told by those near it.
-use Rattle.rule_load.proofs.Prelude.{◌≡◌, inl, inr, ℕ, ◌+◌, ◌<◌, ◌≤◌, Bool, true, false, ◌&&◌, nat_lt, cond, List, length, get_or, refl, sym, ap, subst, ◌∙◌, arith, slice_index_or, Contains, sum_by, cases_eq, cases_lt, get_or_default, Amount, AreKeptAt, AreNearAt, AreStanding, base, comes_by, FixedView, gain, hosted_in, Instance, IsMost, IsOrder, machine_count, MachinesFit, most_kept, most_use, MostUse, never, no_standing, one, Period, Sets, Standing, state_of, sum_to, vm, Weight, all_over}
+-- That all machines fit, told in the order of what they use.
+use Rattle.rule_load.proofs.Prelude.{◌≡◌, inl, inr, ℕ, ◌+◌, ◌<◌, ◌≤◌, List, length, get_or, sym, ap, subst, ◌∙◌, arith, slice_index_or, Contains, cases_eq, cases_lt, get_or_default, Amount, Instance, IsMost, IsOrder, machine_count, MachinesFit, most_kept, most_use, MostUse, never, no_standing, one, Period, Sets, Standing, vm}
 use Rattle.load_bounds.proofs.Public.{fits_at_once}
-
--- ---- in the order of what they use
 
 module _ (p : Instance) (s : Sets) (ks : List Standing) (r n : ℕ) (x : Period) (spare : ℕ) where
   -- machine v uses no more than what is spare and what it surely uses
@@ -31,18 +29,3 @@ module _ (p : Instance) (s : Sets) (ks : List Standing) (r n : ℕ) (x : Period)
             fits_at_once p v (s (vm v)) r n x (most_use p r v).most spare (most_kept p v (Amount r) n x (slice_index_or ks v no_standing)) short (omega arith) fits
         | inr past ↦ subst (λ (u : MostUse). Fits u.machine.0) there.2 (late there.0 (most_use p r v) past there.1)
       ]
-
--- ---- by those near the node
-
-none-kept : (p : Instance) (s : Sets) (n : ℕ) (ks : List Standing) (xs : List ℕ) (w : Weight) (x : Period) (v : ℕ) → AreStanding p s ks → AreNearAt p s n xs → v < machine_count p → ¬ Contains xs v → most_kept p v w n x (slice_index_or ks v no_standing) ≡ 0
-none-kept p s n ks xs w x v are near low out = by (hosted_in (state_of p v) (one n)) refl (comes_by n x.to (slice_index_or ks v no_standing).come) refl
-  where
-    by : (h : Bool) → hosted_in (state_of p v) (one n) ≡ h → (c : Bool) → comes_by n x.to (slice_index_or ks v no_standing).come ≡ c → cond (h && nat_lt x.from (slice_index_or ks v no_standing).leave) (base p v w) 0 + cond c (gain p v w n) 0 ≡ 0
-    by true hosted c e = absurd (out (near.hosted v low hosted))
-    by false hosted true come = absurd (out (near.come v x.to low (sym ((are.each v low).come n x.to) ∙ come)))
-    by false hosted false e = refl
-
-pub near_sum : (p : Instance) (s : Sets) (n : ℕ) (f : FixedView) (ks : List Standing) (xs fs : List ℕ) (w : Weight) (x : Period) (total : ℕ) → AreKeptAt p s n f ks xs fs →
-    total ≡ sum_by (λ v. most_kept p v w n x (slice_index_or ks v no_standing)) xs → total ≡ sum_to (machine_count p) (λ v. most_kept p v w n x (slice_index_or ks v no_standing))
-near_sum p s n f ks xs fs w x total kept is =
-    is ∙ sym (all_over xs (machine_count p) (λ v. most_kept p v w n x (slice_index_or ks v no_standing)) kept.near.machines.once kept.near.machines.each (λ v low out. none-kept p s n ks xs w x v kept.standing kept.near low out))
