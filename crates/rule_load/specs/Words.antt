@@ -1,11 +1,10 @@
 -- What definitions of this crate cite of those below it, passed on from one place. Declares nothing.
-pub use Rattle.reasons.specs.Prelude.{IsRowEnd}
-pub use Rattle.relax.specs.Prelude.{AreListed, has_bit, is_above_none, is_nought, max_held, nodes_of, use_of}
-pub use Rattle.closing.specs.Prelude.{HasElement, load_scope, load_watch, max_capacity, max_machines, total_load_watch}
-pub use Rattle.profiles.specs.Prelude.{acting_slices, AreFirstAt, AreFirsts, AreMachines, AreMovers, AreStanding, base, brought, comes_by, FixedView, gain, goes_in, had_there, has_come, have_come, hosted_in, idle_slices, is_online, IsFixed, IsGrown, IsNear, IsOrder, IsPut, IsStanding, kept_until, kept_use, least, leave_climbs, leave_of, level_at, list_at, load, lost_choices, lower_option, lowest, max_amount, may, most_use, never, no_standing, restored, room, stage_from, start_count, state_of, sum_to, surely, Tables, weigh, weight_if}
-unfoldable pub use Rattle.profiles.specs.Prelude.{action_duration, capacity_of, demand_of, end_of, held_at, held_by, kind_of, slices_by, slices_of, stage_at, usable_at}
-pub use Rattle.prop_core.specs.Prelude.{AreFewer, domain_before, IsNarrowed, on_side}
-pub use Rattle.rule_frame.specs.Prelude.{all_nodes, AllClean, choices, Climbs, domain_at, DomainView, FailHolds, in_part, Instance, IsCacheFor, IsDisturbed, IsElement, IsEnd, IsFree, IsFreeOf, IsLess, IsLook, IsOverload, IsOverloaded, IsQuietKind, IsSized, IsStill, keeping, Levels, load_on, machine_count, max_nodes, MayAnswer, no_row, node, node_count, Nodes, one, RegionView, row_choices, same_element, seen, Sets, sets, setting, Snapshot, starts_from, vm, Watch}
+pub use Rattle.relax.specs.Prelude.{AreListed, nodes_of}
+pub use Rattle.closing.specs.Prelude.{HasElement, load_scope, load_watch, max_capacity, total_load_watch}
+pub use Rattle.profiles.specs.Prelude.{AreFirstAt, AreFirsts, AreMovers, AreStanding, base, comes_by, FixedView, gain, goes_in, has_come, have_come, hosted_in, IsFixed, IsNear, IsOrder, IsPut, IsStanding, kept_use, least, leave_climbs, leave_of, level_at, list_at, load, lost_choices, lower_option, lowest, most_use, never, no_standing, restored, state_of, sum_to, Tables}
+unfoldable pub use Rattle.profiles.specs.Prelude.{capacity_of, held_at}
+pub use Rattle.prop_core.specs.Prelude.{AreFewer, domain_before, IsNarrowed}
+pub use Rattle.rule_frame.specs.Prelude.{all_nodes, AllClean, choices, Climbs, domain_at, DomainView, FailHolds, in_part, Instance, IsCacheFor, IsDisturbed, IsElement, IsEnd, IsFree, IsFreeOf, IsLess, IsLook, IsOverload, IsOverloaded, IsQuietKind, IsSized, IsStill, keeping, Levels, load_on, machine_count, MayAnswer, no_row, node, node_count, Nodes, one, RegionView, same_element, seen, Sets, sets, setting, Snapshot, vm, Watch}
 unfoldable pub use Rattle.rule_frame.specs.Prelude.{has_node, sure}
 pub use Rattle.rule_frame.specs.Caches.{Cache, IsCacheTold}
 pub use Rattle.rule_frame.specs.Changes.{IsMachineLess}
@@ -16,21 +15,14 @@ pub use Rattle.cluster.specs.declared.ids.Element.{Element}
 pub use Rattle.cluster.specs.declared.ids.Element.TheVariants.{Node, Node as TheNode, Vm}
 pub use Rattle.cluster.specs.declared.ids.NodeId.{NodeId}
 pub use Rattle.cluster.specs.declared.ids.VmId.{VmId}
-pub use Rattle.cluster.specs.declared.kinds.Kind.{Kind}
-pub use Rattle.cluster.specs.declared.kinds.Kind.TheVariants.{Allocate, Boot, Forge, Kill, Migrate, NodeBoot, NodeShutdown, Resume, Shutdown, Suspend}
 pub use Rattle.cluster.specs.declared.sets.NodeSet.{NodeSet}
-pub use Rattle.cluster.specs.declared.states.State.{State}
-pub use Rattle.cluster.specs.declared.states.State.TheVariants.{Gone, Init, Ready, Running, Sleeping}
 pub use Rattle.domains.specs.declared.parts.Change.{Change}
-pub use Rattle.domains.specs.declared.parts.Part.TheVariants.{From, Upto}
+pub use Rattle.domains.specs.declared.parts.Part.TheVariants.{From}
 pub use Rattle.domains.specs.declared.parts.Row.{Row}
-pub use Rattle.domains.specs.declared.parts.Side.TheVariants.{Inside}
 pub use Rattle.domains.specs.declared.undo.Before.{Before}
 pub use Rattle.domains.specs.declared.undo.Lost.{Lost}
-pub use Rattle.slices.specs.declared.slice.Slices.{Slices}
 pub use Rattle.slices.specs.declared.slice.Weight.{Weight}
 pub use Rattle.slices.specs.declared.slice.Weight.TheVariants.{Amount}
-pub use Rattle.slices.specs.declared.stage.Stage.{Stage}
 pub use Rattle.closing.specs.declared.look.Look.TheVariants.{Cut}
 pub use Rattle.profiles.specs.declared.fixed.MostUse.{MostUse}
 pub use Rattle.profiles.specs.declared.standing.numbers.Arrival.{Arrival}
