@@ -1,13 +1,13 @@
 //! Whether a constraint is kept, told at once for all instants from the first one at which it is to hold.
-ghost use Rattle.std.specs.Prelude.{◌≡◌, ◌≢◌, ℕ, ◌<◌, ◌≤◌, ◌||◌, ◌==◌, nat_lt, true, length, slice_index_or, IfNone, IfSome, IsTrue};
+ghost use Rattle.std.specs.Prelude.{◌≡◌, ◌≢◌, ℕ, ◌<◌, ◌≤◌, ◌||◌, ◌==◌, nat_lt, true, length, option_copied, slice_index_or, IfNone, IfSome, IsTrue};
 ghost use Rattle.std.specs.List.{list_all};
 ghost use Rattle.cluster.specs.declared.choices.Choice.{Choice as AnyChoice};
-ghost use Rattle.rule_pair.specs.Prelude.{are_below, AreClear, AreLonger, AreOrdered, choices, Climbs, hosted_in, inventory_of, is_continuous, is_rule, IsClean, IsEnd, IsInPart, IsLate, IsMember, IsReach, IsSized, IsTold, KeepsClear, KeepsOff, leave_of, machine_count, no_row, OnClear, one, part_of as the_part_of, rule_watch, separated, separation_seen, sets, state_of, told_until};
+ghost use Rattle.rule_pair.specs.Prelude.{are_below, AreClear, AreEnds, AreLonger, AreOrdered, choices, Climbs, hosted_in, inventory_of, is_continuous, is_rule, IsClean, IsEnd, IsInPart, IsLate, IsMember, IsSized, IsTold, KeepsClear, KeepsOff, leave_of, machine_count, no_row, OnClear, one, part_of as the_part_of, rule_watch, separated, separation_seen, sets, state_of, told_until};
 
 use crate::longest::{NOBODY, Stay, Table, stay_after, tell};
 use crate::pairs::separation_of;
 use crate::posts::{Post, last_before, posts_of};
-use crate::reach::{Reach, rows_met_between};
+use crate::reach::{Ends, ends_of, rows_met_before};
 use crate::stays::leaves_by;
 use crate::strangers::strangers_alone;
 use cluster::limits::MAX_NODES;
@@ -165,21 +165,21 @@ pub(crate) fn row_met(row: Row, part: usize, from: Instant, table: &Table) -> Op
     }
 }
 
-// the first such of some rows, of which those at places without a stay need not be read
+// the first such of some rows, of which those need not be asked that start when all stays there have ended
 fn rows_met_in(
     rows: &[Row],
     part: usize,
     from: Instant,
-    reach: Option<Reach>,
+    ends: Option<&Ends>,
     table: &Table,
 ) -> Option<Met>
     requires climbs { Climbs 0 rows.now }
-    requires reach { IfSome reach (IsReach table.now part from) }
+    requires ends { IfSome (option_copied ends) (AreEnds table.now part from) }
     ensures { IfNone result ((i : ℕ) → i < length rows.now → IsLate table.now part from (slice_index_or rows.now i no_row).place (slice_index_or rows.now i no_row).lo) }
 {
-    match reach {
+    match ends {
         None => rows_met(rows, part, from, table),
-        Some(reach) => rows_met_between(rows, part, from, reach, table),
+        Some(ends) => rows_met_before(rows, part, from, ends, table),
     }
 }
 
@@ -207,20 +207,20 @@ fn make_doubt(p: &Problem, w: VmId, met: Met) -> Doubt {
     }
 }
 
-/// Whether a machine is nowhere while one of another part stays there, from an instant on. Between which places there are
-/// such stays is handed in, where that is known.
+/// Whether a machine is nowhere while one of another part stays there, from an instant on. When such stays end is handed
+/// in, where that is known.
 pub(crate) fn machine_keeps_off(
     p: &Problem,
     g: &Region,
     w: VmId,
     part: usize,
     from: Instant,
-    reach: Option<Reach>,
+    ends: Option<&Ends>,
     table: &Table,
 ) -> Seen
     requires region { IsSized p.now.given g.now }
     requires machine { w.0 < machine_count p.now.given }
-    requires reach { IfSome reach (IsReach table.now part from) }
+    requires ends { IfSome (option_copied ends) (AreEnds table.now part from) }
     ensures { OnClear result (KeepsOff p.now.given (sets g.now) table.now part from w.0) }
 {
     let domain = g.domain(Element::Vm(w));
@@ -231,28 +231,51 @@ pub(crate) fn machine_keeps_off(
         return Seen::Doubtful(make_doubt(p, w, met));
     }
     let rows = domain.rows();
-    match rows_met_in(rows, part, from, reach, table) {
+    match rows_met_in(rows, part, from, ends, table) {
         None => Seen::Clear,
         Some(met) => Seen::Doubtful(make_doubt(p, w, met)),
     }
 }
 
-// whether so is each machine of a part, or each of a list where no two are to meet
+// whether so is each machine of a list where no two are to meet
 fn machines_keep_off(
     p: &Problem,
     g: &Region,
     machines: &[VmId],
-    part: Option<usize>,
     from: Instant,
     table: &Table,
 ) -> Seen
     requires region { IsSized p.now.given g.now }
     requires machines { list_all (λ x. nat_lt x.0 (machine_count p.now.given)) machines.now ≡ true }
-    ensures { OnClear result ((w : ℕ) → IsMember machines.now w → KeepsOff p.now.given (sets g.now) table.now (the_part_of part w) from w) }
+    ensures { OnClear result ((w : ℕ) → IsMember machines.now w → KeepsOff p.now.given (sets g.now) table.now w from w) }
 {
     for i in 0..machines.len() {
         let w = machines[i];
-        match machine_keeps_off(p, g, w, part_of(part, w), from, None, table) {
+        match machine_keeps_off(p, g, w, w.0 as usize, from, None, table) {
+            Seen::Clear => {}
+            Seen::Doubtful(d) => return Seen::Doubtful(d),
+            Seen::Unknown => return Seen::Unknown,
+        }
+    }
+    Seen::Clear
+}
+
+// whether so is each machine of a part
+fn part_keeps_off(
+    p: &Problem,
+    g: &Region,
+    machines: &[VmId],
+    part: usize,
+    from: Instant,
+    table: &Table,
+) -> Seen
+    requires region { IsSized p.now.given g.now }
+    requires machines { list_all (λ x. nat_lt x.0 (machine_count p.now.given)) machines.now ≡ true }
+    ensures { OnClear result ((w : ℕ) → IsMember machines.now w → KeepsOff p.now.given (sets g.now) table.now part from w) }
+{
+    let ends = ends_of(table, part, from);
+    for i in 0..machines.len() {
+        match machine_keeps_off(p, g, machines[i], part, from, Some(&ends), table) {
             Seen::Clear => {}
             Seen::Doubtful(d) => return Seen::Doubtful(d),
             Seen::Unknown => return Seen::Unknown,
@@ -268,7 +291,7 @@ fn parts_keep_off(p: &Problem, g: &Region, parts: &[Vms], from: Instant, table: 
     ensures { OnClear result ((j w : ℕ) → IsInPart parts.now j w → KeepsOff p.now.given (sets g.now) table.now j from w) }
 {
     for j in 0..parts.len() {
-        match machines_keep_off(p, g, parts[j].items(), Some(j), from, table) {
+        match part_keeps_off(p, g, parts[j].items(), j, from, table) {
             Seen::Clear => {}
             Seen::Doubtful(d) => return Seen::Doubtful(d),
             Seen::Unknown => return Seen::Unknown,
@@ -287,7 +310,7 @@ fn each_alone(p: &Problem, g: &Region, machines: &[VmId], from: Instant) -> Seen
     if !tell_machines(p, g, machines, None, &mut table) {
         return Seen::Unknown;
     }
-    machines_keep_off(p, g, machines, None, from, &table)
+    machines_keep_off(p, g, machines, from, &table)
 }
 
 // whether no two machines of different parts do

@@ -36,8 +36,8 @@ pub const NOBODY: Longest = Longest {
     second: NO_STAY,
 };
 
-// the longest of those that are of other parts than one
-fn of_others(x: Longest, part: usize) -> Stay
+/// The longest of those that are of other parts than one.
+pub(crate) fn of_others(x: Longest, part: usize) -> Stay
     ensures { result ≡ the_of_others x part }
 {
     if x.first.part == part {
@@ -107,6 +107,9 @@ pub fn stay_after(table: &Table, n: NodeId, part: usize, from: Instant) -> Optio
 {
     let i = n.0 as usize;
     if i >= MAX_NODES {
+        return None;
+    }
+    if table[i].first.until <= u64::from(from) && table[i].second.until <= u64::from(from) {
         return None;
     }
     let stay = of_others(table[i], part);

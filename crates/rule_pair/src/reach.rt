@@ -1,9 +1,9 @@
-//! Between which nodes machines of other parts stay: rows elsewhere need not be read.
-ghost use Rattle.std.specs.Prelude.{◌≡◌, ℕ, ◌<◌, ◌≤◌, length, slice_index_or, IfNone};
-ghost use Rattle.rule_pair.specs.Prelude.{Climbs, IsLate, IsReach, no_row, place_index};
+//! When and between which nodes machines of other parts stay: rows elsewhere need not be read, nor late ones asked.
+ghost use Rattle.std.specs.Prelude.{◌≡◌, ℕ, ◌<◌, ◌≤◌, List, length, slice_index_or, IfNone, IsTrue};
+ghost use Rattle.rule_pair.specs.Prelude.{AreEnds, Climbs, IsLate, IsReach, Longest as AnyLongest, no_row, place_index, told_until};
 
 use crate::clear::{Met, row_met};
-use crate::longest::{Table, stay_after};
+use crate::longest::{Table, of_others, stay_after};
 use cluster::limits::MAX_NODES;
 use rule_frame::{Instant, NodeId, Place, Row};
 
@@ -14,8 +14,16 @@ pub struct Reach {
     pub last: usize,
 }
 
-/// Between which places there are stays of other parts than one that end after an instant.
-pub(crate) fn reach_of(table: &Table, part: usize, from: Instant) -> Reach
+/// When at each node the last stay of other parts than one ends, and between which places there are any that do so after
+/// an instant.
+#[derive(Clone, Copy)]
+pub struct Ends {
+    pub reach: Reach,
+    pub until: [u64; MAX_NODES],
+}
+
+// between which places there are stays of other parts than one that end after an instant
+fn reach_of(table: &Table, part: usize, from: Instant) -> Reach
     ensures { IsReach table.now part from result }
 {
     let mut reach = Reach {
@@ -36,8 +44,30 @@ pub(crate) fn reach_of(table: &Table, part: usize, from: Instant) -> Reach
     reach
 }
 
-// the number of a place in the order of places
-fn number_of(place: Place) -> usize
+// when at each node the last stay of other parts than one ends
+#[tactic(auto, using(crate::proofs::ReachLemmas::told_more))]
+fn untils_of(table: &Table, part: usize) -> [u64; MAX_NODES]
+    ensures { (n : ℕ) → told_until table.now part n ≤ slice_index_or result n 0 }
+{
+    let mut until = [0; MAX_NODES];
+    for n in 0..MAX_NODES {
+        until[n] = of_others(table[n], part).until;
+    }
+    until
+}
+
+/// When the stays of other parts than one end, and where those are that do so after an instant.
+pub(crate) fn ends_of(table: &Table, part: usize, from: Instant) -> Ends
+    ensures { AreEnds table.now part from result }
+{
+    Ends {
+        reach: reach_of(table, part, from),
+        until: untils_of(table, part),
+    }
+}
+
+/// The number of a place in the order of places.
+pub(crate) fn number_of(place: Place) -> usize
     ensures { result ≡ place_index place }
 {
     match place {
@@ -46,8 +76,8 @@ fn number_of(place: Place) -> usize
     }
 }
 
-// how many rows are at places before that of a number, or fewer
-fn rows_before(rows: &[Row], number: usize) -> usize
+/// How many rows are at places before that of a number, or fewer.
+pub(crate) fn rows_before(rows: &[Row], number: usize) -> usize
     requires climbs { Climbs 0 rows.now }
     ensures within { result ≤ length rows.now }
     ensures before { (k : ℕ) → k < result → place_index (slice_index_or rows.now k no_row).place < number }
@@ -65,23 +95,49 @@ fn rows_before(rows: &[Row], number: usize) -> usize
     low
 }
 
-/// The first of some rows at which a stay between these places may still last when it starts.
-pub(crate) fn rows_met_between(
+// whether all stays at its place have ended when a row starts, or by an instant
+#[tactic(auto, using(crate::proofs::ReachLemmas::late_there))]
+fn is_late(row: Row, from: Instant, ends: &Ends) -> bool
+    ensures { IsTrue result → (xs : List AnyLongest) (part : ℕ) → AreEnds xs part from ends.now → IsLate xs part from row.place row.lo }
+{
+    match row.place {
+        Place::Nowhere => true,
+        Place::At(node) => {
+            let n = node.0 as usize;
+            n < MAX_NODES && ends.until[n] <= u64::from(row.lo.max(from))
+        }
+    }
+}
+
+// a stay that has such an end, and may still last when a row starts
+fn row_met_before(row: Row, part: usize, from: Instant, ends: &Ends, table: &Table) -> Option<Met>
+    requires { AreEnds table.now part from ends.now }
+    ensures { IfNone result (IsLate table.now part from row.place row.lo) }
+{
+    if is_late(row, from, ends) {
+        None
+    } else {
+        row_met(row, part, from, table)
+    }
+}
+
+/// The first of some rows at which a stay that has such an end may still last when it starts.
+pub(crate) fn rows_met_before(
     rows: &[Row],
     part: usize,
     from: Instant,
-    reach: Reach,
+    ends: &Ends,
     table: &Table,
 ) -> Option<Met>
     requires climbs { Climbs 0 rows.now }
-    requires reach { IsReach table.now part from reach }
+    requires ends { AreEnds table.now part from ends.now }
     ensures { IfNone result ((i : ℕ) → i < length rows.now → IsLate table.now part from (slice_index_or rows.now i no_row).place (slice_index_or rows.now i no_row).lo) }
 {
-    for i in rows_before(rows, reach.first)..rows.len() {
-        if number_of(rows[i].place) > reach.last {
+    for i in rows_before(rows, ends.reach.first)..rows.len() {
+        if number_of(rows[i].place) > ends.reach.last {
             return None;
         }
-        if let Some(met) = row_met(rows[i], part, from, table) {
+        if let Some(met) = row_met_before(rows[i], part, from, ends, table) {
             return Some(met);
         }
     }

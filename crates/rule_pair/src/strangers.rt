@@ -1,11 +1,11 @@
 //! Members that are to be alone: they keep off all other machines, and these off them.
 ghost use Rattle.std.specs.Prelude.{◌≡◌, ◌≢◌, ℕ, ◌<◌, nat_lt, true, IsTrue};
 ghost use Rattle.std.specs.List.{list_all};
-ghost use Rattle.rule_pair.specs.Prelude.{AreOrdered, class_of as the_class_of, has_machine, is_member, IsSized, IsTold, KeepsClear, KeepsOff, machine_count, OnClear, sets};
+ghost use Rattle.rule_pair.specs.Prelude.{AreEnds, AreOrdered, class_of as the_class_of, has_machine, is_member, IsSized, IsTold, KeepsClear, KeepsOff, machine_count, OnClear, sets};
 
 use crate::clear::{Seen, machine_keeps_off, tell_machine};
 use crate::longest::{NOBODY, Table};
-use crate::reach::reach_of;
+use crate::reach::{Ends, ends_of};
 use cluster::MachineSet;
 use cluster::limits::MAX_NODES;
 use rule_frame::{Instant, Problem, Region, VmId};
@@ -44,22 +44,43 @@ pub(crate) fn tell_all(p: &Problem, g: &Region, members: &MachineSet, table: &mu
     true
 }
 
+// whether a machine of a part is nowhere while one of the other part stays there
+fn one_keeps_off(
+    p: &Problem,
+    g: &Region,
+    w: VmId,
+    part: usize,
+    from: Instant,
+    strangers_ends: &Ends,
+    members_ends: &Ends,
+    table: &Table,
+) -> Seen
+    requires region { IsSized p.now.given g.now }
+    requires machine { w.0 < machine_count p.now.given }
+    requires strangers { AreEnds table.now 0 from strangers_ends.now }
+    requires members { AreEnds table.now 1 from members_ends.now }
+    ensures { OnClear result (KeepsOff p.now.given (sets g.now) table.now part from w.0) }
+{
+    if part == 0 {
+        return machine_keeps_off(p, g, w, 0, from, Some(strangers_ends), table);
+    }
+    if part == 1 {
+        return machine_keeps_off(p, g, w, 1, from, Some(members_ends), table);
+    }
+    machine_keeps_off(p, g, w, part, from, None, table)
+}
+
 // whether each machine is nowhere while one of the other part stays there
 fn all_keep_off(p: &Problem, g: &Region, members: &MachineSet, from: Instant, table: &Table) -> Seen
     requires region { IsSized p.now.given g.now }
     ensures { OnClear result ((w : ℕ) → w < machine_count p.now.given → KeepsOff p.now.given (sets g.now) table.now (the_class_of (has_machine members.now) w) from w) }
 {
-    let strangers_reach = reach_of(table, 0, from);
-    let members_reach = reach_of(table, 1, from);
+    let strangers_ends = ends_of(table, 0, from);
+    let members_ends = ends_of(table, 1, from);
     for i in 0..p.cluster().machines().len() {
         let w = VmId(i as u32);
         let part = class_of(members, w);
-        let reach = match part {
-            0 => Some(strangers_reach),
-            1 => Some(members_reach),
-            _ => None,
-        };
-        match machine_keeps_off(p, g, w, part, from, reach, table) {
+        match one_keeps_off(p, g, w, part, from, &strangers_ends, &members_ends, table) {
             Seen::Clear => {}
             Seen::Doubtful(d) => return Seen::Doubtful(d),
             Seen::Unknown => return Seen::Unknown,

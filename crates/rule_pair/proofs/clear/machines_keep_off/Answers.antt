@@ -1,5 +1,5 @@
-use Rattle.rule_pair.proofs.Prelude.{arith, KeepsOff, part_of, sets, each_member}
+use Rattle.rule_pair.proofs.Prelude.{arith, KeepsOff, sets, each_member}
 use Rattle.rule_pair.proofs.clear.machines_keep_off.Goals as goal
 
 pub returns : goal.returns
-returns c = each_member (λ w. KeepsOff c.args.p.now.given (sets c.args.g.now) c.args.table.now (part_of c.args.part w) c.args.from w) c.args.machines.now c.loop-i.i (omega arith) c.loop-i.invariant
+returns c = each_member (λ w. KeepsOff c.args.p.now.given (sets c.args.g.now) c.args.table.now w c.args.from w) c.args.machines.now c.loop-i.i (omega arith) c.loop-i.invariant

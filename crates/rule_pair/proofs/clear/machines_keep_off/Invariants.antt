@@ -1,5 +1,5 @@
-use Rattle.rule_pair.proofs.Prelude.{ℕ, ◌<◌, get_or, KeepsOff, part_of, sets, VmId}
+use Rattle.rule_pair.proofs.Prelude.{ℕ, ◌<◌, get_or, KeepsOff, sets, VmId}
 use Rattle.rule_pair.proofs.clear.machines_keep_off.Given as goal
 
 abbrev pub invariant-loop-i : goal.invariant-loop-i
-invariant-loop-i l = (k : ℕ) (d : VmId) → k < l.i → KeepsOff l.p.given (sets l.g) l.table (part_of l.part (get_or l.machines k d).0) l.from (get_or l.machines k d).0
+invariant-loop-i l = (k : ℕ) (d : VmId) → k < l.i → KeepsOff l.p.given (sets l.g) l.table (get_or l.machines k d).0 l.from (get_or l.machines k d).0
