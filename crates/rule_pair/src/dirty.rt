@@ -8,7 +8,7 @@ use crate::rule::Pairs;
 use crate::unmoved::is_unmoved_in;
 use rule_constraint::ConstraintIndex;
 use rule_constraint::disturb::set_looking_dirty;
-use rule_frame::{Before, DirtySet, Domain, Element, Problem, Region, VmId};
+use rule_frame::{Before, DirtySet, Domain, Element, Problem, ReasonKind, Region, VmId};
 
 // after a machine has lost choices: none, where it surely is nowhere where it was not before
 #[tactic(auto, using(crate::proofs::UnmovedLemmas::unmoved_disturbs_none))]
@@ -28,7 +28,7 @@ fn set_machine_dirty(
     requires fewer { AreFewer (sets g.now (Vm v)) (choices (domain_before before kept.now (domain_at g.now (Vm v)))) }
     ensures { IsDisturbed (watch_at pair_kinds p.now.given) p.now.given (Vm v) (choices (domain_before before kept.now (domain_at g.now (Vm v)))) (sets g.now (Vm v)) dirty.old dirty.new }
 {
-    if is_unmoved_in(p, g, v, before, kept) {
+    if k.has_clean(p, ReasonKind::Pair, v, dirty) && is_unmoved_in(p, g, v, before, kept) {
         return;
     }
     set_looking_dirty(&Pairs, k, p, g, Element::Vm(v), dirty);
