@@ -1,6 +1,6 @@
 //! What may be found at nodes, confirmed one by one.
 ghost use Rattle.std.specs.Prelude.{◌≡◌, ◌⊎◌, ℕ, ◌<◌, ◌≤◌, length, slice_index_or, IfSome, IsTrue};
-ghost use Rattle.rule_load.specs.Prelude.{AreKeptAt, choices, IsElement, IsEnd, IsLook, IsOverloaded, IsSized, load_watch, no_row, node_count, one, seen, sets, sure};
+ghost use Rattle.rule_load.specs.Prelude.{AreKeptAt, choices, IsEnd, IsLook, IsOverloaded, IsSized, load_watch, no_row, node_count, one, seen, sets, sure};
 
 use crate::Kept;
 use load_bounds::over::overloaded_at;

@@ -1,5 +1,5 @@
 //! Where a node may be overloaded during a period: what may be found there, which has to be confirmed.
-ghost use Rattle.std.specs.Prelude.{◌≡◌, ◌<◌, ◌≤◌, IfNone, length, slice_index_or};
+ghost use Rattle.std.specs.Prelude.{◌<◌, ◌≤◌, IfNone, length, slice_index_or};
 ghost use Rattle.rule_load.specs.Prelude.{Amount as AmountOf, AreKeptAt, IsElement, IsFreeDuring, IsOverload, IsOverloaded, IsSized, MachinesFit, max_capacity, most_kept, no_standing, node_count, one, sets};
 
 use crate::room::{node_fits, room_of};

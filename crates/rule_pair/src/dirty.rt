@@ -1,5 +1,5 @@
 //! Which constraints that keep machines apart are dirty after a change.
-ghost use Rattle.std.specs.Prelude.{◌≡◌, ◌<◌, ◌≤◌, length};
+ghost use Rattle.std.specs.Prelude.{◌<◌, ◌≤◌, length};
 ghost use Rattle.rule_constraint.specs.Prelude.{IsIndexOf};
 ghost use Rattle.rule_pair.specs.Prelude.{AreFewer, choices, domain_at, domain_before, IsDisturbed, IsElement, IsSized, machine_count, pair_kinds, sets, watch_at};
 ghost use Rattle.cluster.specs.declared.ids.Element.TheVariants.{Vm};

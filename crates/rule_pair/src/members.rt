@@ -1,6 +1,6 @@
 //! Whether machines are members, found at once in a list that is in order.
-ghost use Rattle.std.specs.Prelude.{◌≡◌, ◌≢◌, ℕ, ◌<◌, ◌≤◌, length, IfSome, IsTrue};
-ghost use Rattle.rule_pair.specs.Prelude.{Apart, ForbidsPair, IsInPart, IsMember, Separates, separation_seen};
+ghost use Rattle.std.specs.Prelude.{◌≢◌, ℕ, ◌<◌, IfSome, IsTrue};
+ghost use Rattle.rule_pair.specs.Prelude.{ForbidsPair, IsInPart, IsMember, Separates, separation_seen};
 
 use crate::pairs::separation_of;
 use rule_frame::{Constraint, Separation, VmId, Vms};

@@ -1,5 +1,5 @@
 //! A look at a constraint that tells quickly whether it is kept, and where two machines are not kept apart.
-ghost use Rattle.std.specs.Prelude.{◌≡◌, ◌<◌, ◌≤◌, IfSome, IsTrue, length};
+ghost use Rattle.std.specs.Prelude.{◌<◌, ◌≤◌, IfSome, IsTrue, length};
 ghost use Rattle.rule_pair.specs.Prelude.{broken_at, choices, constraint_watch, IsEnd, IsLook, IsMetWith, IsSized, machine_count, node_count, sets, setting, sure, vm};
 
 use crate::clear::{Doubt, Seen, look_over};

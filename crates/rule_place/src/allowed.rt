@@ -1,5 +1,5 @@
 //! Whether machines are only where a constraint lets them be, told for all instants up to the horizon at once.
-ghost use Rattle.std.specs.Prelude.{◌≡◌, ◌≢◌, ℕ, [], ◌<◌, ◌≤◌, ◌&&◌, ◌||◌, ◌==◌, false, length, nat_lt, true, slice_index_or, IsTrue};
+ghost use Rattle.std.specs.Prelude.{◌≡◌, ◌≢◌, ℕ, [], ◌<◌, ◌&&◌, false, length, nat_lt, true, slice_index_or, IsTrue};
 ghost use Rattle.std.specs.List.{list_all};
 ghost use Rattle.rule_place.specs.Prelude.{Allowed, choices, constraint_watch, ForbidsPlace, form_of as the_form_of, inventory_of, is_rule, IsAllowed, IsClean, IsHarmless, IsMember, IsOffHost, IsSized, machine_count, MayGo, no_row, places_seen, rule_watch, sets, Vm};
 

@@ -1,5 +1,5 @@
 //! Nodes that may stay usable or shut down, told for all instants up to the horizon at once.
-ghost use Rattle.std.specs.Prelude.{◌≡◌, ℕ, ◌<◌, ◌≤◌, false, IfSome, IsTrue};
+ghost use Rattle.std.specs.Prelude.{◌≡◌, ℕ, ◌<◌, false, IfSome, IsTrue};
 ghost use Rattle.std.specs.List.{Contains};
 ghost use Rattle.rule_place.specs.Prelude.{Choice as AnyChoice, goes_in, IsAway, IsClean, IsShutdown, IsSized, LetsGo, machine_count, node_count, one, sets, usable_watch};
 

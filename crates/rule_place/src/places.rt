@@ -1,5 +1,5 @@
 //! A machine where a constraint lets it not be, and one that needs a node that is not usable, looked for.
-ghost use Rattle.std.specs.Prelude.{◌≡◌, ℕ, ◌<◌, ◌≤◌, false, length, IfNone, IfSome, IsTrue};
+ghost use Rattle.std.specs.Prelude.{◌≡◌, ℕ, ◌<◌, ◌≤◌, false, length, IfNone, IfSome};
 ghost use Rattle.rule_place.specs.Prelude.{Allowed, Applies, broken_at, FailHolds, ForbidsPlace, form_of as the_form_of, HasPlace, Instance, IsNeeded, IsPlace, IsSized, IsUnusable, machine_count, node_count, places_seen, seen, sure, usable_watch};
 
 use relax::elements::{is_place, is_unusable};

@@ -10,7 +10,7 @@ use profiles::standing::leaves::leaves_of;
 use profiles::standing::numbers::Leaving;
 use rule_constraint::leaving::may_leave_by;
 use rule_frame::{
-    Change, Choice, Domain, Element, Instant, NodeId, Part, Place, Problem, Region, Row, Side, VmId,
+    Change, Choice, Element, Instant, NodeId, Part, Place, Problem, Region, Row, Side, VmId,
 };
 use slices::choice::usable;
 

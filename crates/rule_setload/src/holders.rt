@@ -1,6 +1,6 @@
 //! The machines that have something on the nodes of a constraint at present: no change of a region changes it.
-ghost use Rattle.std.specs.Prelude.{◌≡◌, ◌<◌, ◌≤◌, ◌∷◌, ◌++◌, [], IfOk, IsTrue, OnOk, length, slice_index_or, true};
-ghost use Rattle.rule_setload.specs.Prelude.{AreAllHolders, AreHolders, AreKept, bound_of as the_bound_of, form_of, has_node, inventory_of, is_rule, IsKept, IsWeight, machine_count, max_amount, node_count};
+ghost use Rattle.std.specs.Prelude.{◌≡◌, ◌<◌, ◌∷◌, ◌++◌, [], IfOk, IsTrue, OnOk, length, slice_index_or, true};
+ghost use Rattle.rule_setload.specs.Prelude.{AreAllHolders, AreHolders, AreKept, bound_of as the_bound_of, form_of, has_node, inventory_of, is_rule, IsKept, IsWeight, machine_count, node_count};
 
 use crate::bounds::{Bound, bound_of};
 use profiles::standing::uses::base;

@@ -1,6 +1,6 @@
 //! What one machine holds on the nodes of a bound during a period: at the most, and surely.
-ghost use Rattle.std.specs.Prelude.{◌≡◌, ℕ, ◌*◌, ◌<◌, ◌≤◌, IsTrue, nat_lt, true};
-ghost use Rattle.rule_setload.specs.Prelude.{Choice as AnyChoice, goes_in as the_goes_in, has_node, has_started as the_has_started, if_so, HoldsLeast, IsKept, IsShare, IsSized, IsStanding, IsWeight, leave_of, machine_count, max_amount, sets, stay_of, unit_of, vm};
+ghost use Rattle.std.specs.Prelude.{◌≡◌, ℕ, ◌*◌, ◌<◌, ◌≤◌, nat_lt};
+ghost use Rattle.rule_setload.specs.Prelude.{Choice as AnyChoice, goes_in as the_goes_in, has_node, has_started as the_has_started, if_so, HoldsLeast, IsKept, IsShare, IsStanding, IsWeight, leave_of, machine_count, max_amount, sets, stay_of, unit_of, vm};
 
 use crate::bounds::Bound;
 use crate::holders::is_among;

@@ -1,5 +1,5 @@
 //! Cuts that are worth a try where an amount is nearly reached: what is asked of them is left to the caller.
-ghost use Rattle.std.specs.Prelude.{◌≡◌, ◌<◌, ◌≤◌, length};
+ghost use Rattle.std.specs.Prelude.{◌≡◌, ◌<◌, length};
 ghost use Rattle.rule_setload.specs.Prelude.{AreConcerned, has_node, IsSized, IsWeight, machine_count, sets};
 
 use crate::bounds::Bound;

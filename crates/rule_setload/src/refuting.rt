@@ -1,5 +1,5 @@
 //! Whether an amount is seen to be exceeded, told by where machines surely stand.
-ghost use Rattle.std.specs.Prelude.{◌≡◌, ◌*◌, ◌<◌, ◌≤◌, IsTrue, length};
+ghost use Rattle.std.specs.Prelude.{◌<◌, ◌≤◌, IsTrue, length};
 ghost use Rattle.rule_setload.specs.Prelude.{Applies, AreAllHolders, AreKept, AreStanding, has_node, IsKept, IsSetLoad, IsSized, IsStanding, IsWeight, machine_count, max_held, seen, sets, sure, total, vm};
 
 use crate::bounds::{Bound, bound_of};

@@ -1,5 +1,5 @@
 //! What all machines have on the nodes of a constraint at present: no change of a region changes it.
-ghost use Rattle.std.specs.Prelude.{◌≡◌, ◌+◌, ◌*◌, ◌<◌, ◌≤◌, IfOk, length, true};
+ghost use Rattle.std.specs.Prelude.{◌≡◌, ◌+◌, ◌<◌, ◌≤◌, IfOk, length, true};
 ghost use Rattle.rule_setload.specs.Prelude.{AreAllStayers, AreStayersOf, AreStayersTo, bound_of as the_bound_of, form_of, has_node, inventory_of, is_rule, IsWeight, machine_count, max_amount, stay_of, unit_of};
 
 use crate::bounds::{Bound, bound_of};
