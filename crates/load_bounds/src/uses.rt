@@ -1,5 +1,6 @@
 //! What machines use of a node at the most during a period.
 ghost use Rattle.std.specs.Prelude.{◌≡◌, ◌≢◌, ℕ, None, false, IfSome, ◌+◌, ◌*◌, ◌<◌, ◌≤◌, length, slice_index_or, IsTrue, if◌then◌else◌};
+ghost use Rattle.std.specs.List.{Contains};
 ghost use Rattle.load_bounds.specs.Prelude.{Amount as AmountOf, AreKeptAt, base as the_base, gain as the_gain, HasLeft, hosted_in, IsElement, IsFixed, IsMost, IsMostBrought, IsMostLeft, IsSized, machine_count, max_amount, max_capacity, max_machines, most_kept as the_most_kept, no_standing, one, sets, StartsPast, state_of, sum_to, vm};
 
 use crate::measures::LeftOver;
@@ -177,6 +178,26 @@ pub fn may_come(p: &Problem, kept: Kept<'_>, _g: &Region, v: VmId, n: NodeId, by
     ensures { result ≡ false → StartsPast (sets _g.now (vm v.0)) n.0 by }
 {
     kept.firsts[v.0 as usize] <= by && !goes_elsewhere(kept.standings[v.0 as usize].come, n)
+}
+
+/// Whether a machine is seen not to start at a node by the end of a period. One that is not near the node either uses
+/// nothing there.
+#[tactic(auto, using(crate::proofs::UseLemmas::away_fits))]
+pub fn stays_away(
+    p: &Problem,
+    kept: Kept<'_>,
+    _g: &Region,
+    v: VmId,
+    n: NodeId,
+    _r: u8,
+    x: Period,
+) -> bool
+    requires kept { AreKeptAt p.now.given (sets _g.now) n.0 kept.fixed.now kept.standings.now kept.near.now kept.firsts.now }
+    requires machine { IsElement p.now.given (Element.Vm v) }
+    requires period { x.to ≤ p.now.given.horizon }
+    ensures { IsTrue result → (Contains kept.entry.near.now v.0 → ⊥) → (bound : ℕ) → IsMost p.now.given v.0 (sets _g.now (vm v.0)) _r (one n.0) x bound }
+{
+    kept.firsts[v.0 as usize] > x.to
 }
 
 // the most that a machine has brought to a node by an instant, told without its rows

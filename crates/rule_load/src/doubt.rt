@@ -1,9 +1,10 @@
 //! Where a node may be overloaded during a period: what may be found there, which has to be confirmed.
-ghost use Rattle.std.specs.Prelude.{◌<◌, ◌≤◌, IfNone, length, slice_index_or};
-ghost use Rattle.rule_load.specs.Prelude.{Amount as AmountOf, AreKeptAt, IsElement, IsFreeDuring, IsOverload, IsOverloaded, IsSized, MachinesFit, max_capacity, most_kept, no_standing, node_count, one, sets};
+ghost use Rattle.std.specs.Prelude.{ℕ, ◌+◌, ◌<◌, ◌≤◌, IfNone, IsTrue, length, slice_index_or};
+ghost use Rattle.std.specs.List.{Contains};
+ghost use Rattle.rule_load.specs.Prelude.{Amount as AmountOf, AreKeptAt, IsElement, IsFreeDuring, IsMost, IsOverload, IsOverloaded, IsSized, MachinesFit, max_capacity, most_kept, no_standing, node_count, one, sets, vm};
 
 use crate::room::{node_fits, room_of};
-use crate::uses::{machine_fits, most_brought, most_used};
+use crate::uses::{machine_fits, most_brought, most_used, stays_away};
 use crate::{Kept, Leaving, Period, leaves_of, resource_total};
 use domains::measure::Measure;
 use rule_frame::{
@@ -72,7 +73,56 @@ fn of_machine(p: &Problem, g: &Region, v: VmId, n: NodeId, r: u8, x: Period) -> 
     Look::Cut(e, staying(p, v, domain, x.from), x.from)
 }
 
-// the case of a machine that may use more of a node than is spare
+// the case of a machine near a node that may use more of it than is spare
+fn near_doubt(
+    p: &Problem,
+    g: &Region,
+    kept: Kept<'_>,
+    n: NodeId,
+    r: u8,
+    x: Period,
+    spare: u64,
+) -> Option<Look>
+    requires region { IsSized p.now.given g.now }
+    requires kept { AreKeptAt p.now.given (sets g.now) n.0 kept.fixed.now kept.standings.now kept.near.now kept.firsts.now }
+    requires resource { r < length p.now.given.resources }
+    requires period { x.to ≤ p.now.given.horizon }
+    requires small { spare ≤ max_capacity }
+    ensures { IfNone result ((v : ℕ) → Contains kept.entry.near.now v → IsMost p.now.given v (sets g.now (vm v)) r (one n.0) x (spare + most_kept p.now.given v (AmountOf r) n.0 x (slice_index_or kept.entry.standings.now v no_standing))) }
+{
+    for i in 0..kept.near.len() {
+        let v = VmId(kept.near[i]);
+        if !machine_fits(p, g, kept, v, n, r, x, spare) {
+            return Some(of_machine(p, g, v, n, r, x));
+        }
+    }
+    None
+}
+
+// whether a machine uses no more of a node than is spare, or is near it
+fn fits_from_afar(
+    p: &Problem,
+    g: &Region,
+    kept: Kept<'_>,
+    v: VmId,
+    n: NodeId,
+    r: u8,
+    x: Period,
+    spare: u64,
+) -> bool
+    requires region { IsSized p.now.given g.now }
+    requires kept { AreKeptAt p.now.given (sets g.now) n.0 kept.fixed.now kept.standings.now kept.near.now kept.firsts.now }
+    requires machine { IsElement p.now.given (Element.Vm v) }
+    requires resource { r < length p.now.given.resources }
+    requires period { x.to ≤ p.now.given.horizon }
+    requires small { spare ≤ max_capacity }
+    ensures { IsTrue result → (Contains kept.entry.near.now v.0 → ⊥) → IsMost p.now.given v.0 (sets g.now (vm v.0)) r (one n.0) x (spare + most_kept p.now.given v.0 (AmountOf r) n.0 x (slice_index_or kept.entry.standings.now v.0 no_standing)) }
+{
+    stays_away(p, kept, g, v, n, r, x) || machine_fits(p, g, kept, v, n, r, x, spare)
+}
+
+// the case of a machine that may use more of a node than is spare: those near it first, since where one of them has to
+// leave, or may not be raised, fewer others have to be kept away
 fn machine_doubt(
     p: &Problem,
     g: &Region,
@@ -89,6 +139,9 @@ fn machine_doubt(
     requires small { spare ≤ max_capacity }
     ensures { IfNone result (MachinesFit p.now.given (sets g.now) r (one n.0) x (λ v. most_kept p.now.given v (AmountOf r) n.0 x (slice_index_or kept.entry.standings.now v no_standing)) spare) }
 {
+    if let Some(doubt) = near_doubt(p, g, kept, n, r, x, spare) {
+        return Some(doubt);
+    }
     let order = kept.fixed.order(p, r);
     // what each before it has and brings is spare
     let first = order.partition_point(|x| x.most <= spare);
@@ -97,7 +150,7 @@ fn machine_doubt(
     'machines: while first < k {
         k -= 1;
         let v = order[k].machine;
-        if !machine_fits(p, g, kept, v, n, r, x, spare) {
+        if !fits_from_afar(p, g, kept, v, n, r, x, spare) {
             return Some(of_machine(p, g, v, n, r, x));
         }
     }
