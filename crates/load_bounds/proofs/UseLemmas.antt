@@ -196,6 +196,14 @@ past-come cs n by (Act (At m) s) t past i l e =
 pub past_brought : (p : Instance) (v : ℕ) (cs : List Choice) (n r by : ℕ) → StartsPast cs n by → IsMostBrought p v cs n r by 0
 past_brought p v cs n r by past = record { each = λ c t i l. unless (has_come n t c) (gain p v (Amount r) n) (past-come cs n by c t past i l) }
 
+-- one that is not near a node uses no more of it than it demands
+pub demand_fits : (p : Instance) (s : Sets) (n v r bound : ℕ) (x : Period) (xs : List ℕ) → AreNearAt p s n xs → v < machine_count p → x.to < never → demand_of p v r ≤ bound → ¬ Contains xs v → IsMost p v (s (vm v)) r (one n) x bound
+demand_fits p s n v r bound x xs near low short fits out = by (hosted_in (state_of p v) (one n)) refl
+  where
+    by : (h : Bool) → hosted_in (state_of p v) (one n) ≡ h → IsMost p v (s (vm v)) r (one n) x bound
+    by true is = absurd (out (near.hosted v low is))
+    by false is = fits_ever p v (s (vm v)) r n x 0 (demand_of p v r) bound short (sym (rw is refl)) (demand_brought p v (s (vm v)) n r x.to) (omega (arith, fits))
+
 -- one that is not near a node, and starts there past a period, uses nothing of it
 pub away_fits : (p : Instance) (s : Sets) (n v r d bound : ℕ) (x : Period) (xs fs : List ℕ) → AreNearAt p s n xs → AreFirstAt p s n fs → v < machine_count p → x.to < never → x.to < slice_index_or fs v d → ¬ Contains xs v → IsMost p v (s (vm v)) r (one n) x bound
 away_fits p s n v r d bound x xs fs near firsts low short late out = by (hosted_in (state_of p v) (one n)) refl

@@ -180,10 +180,10 @@ pub fn may_come(p: &Problem, kept: Kept<'_>, _g: &Region, v: VmId, n: NodeId, by
     kept.firsts[v.0 as usize] <= by && !goes_elsewhere(kept.standings[v.0 as usize].come, n)
 }
 
-/// Whether a machine is seen not to start at a node by the end of a period. One that is not near the node either uses
-/// nothing there.
+// whether a machine is seen not to start at a node by the end of a period. One that is not near the node either uses
+// nothing there
 #[tactic(auto, using(crate::proofs::UseLemmas::away_fits))]
-pub fn stays_away(
+fn stays_away(
     p: &Problem,
     kept: Kept<'_>,
     _g: &Region,
@@ -198,6 +198,47 @@ pub fn stays_away(
     ensures { IsTrue result → (Contains kept.entry.near.now v.0 → ⊥) → (bound : ℕ) → IsMost p.now.given v.0 (sets _g.now (vm v.0)) _r (one n.0) x bound }
 {
     kept.firsts[v.0 as usize] > x.to
+}
+
+// whether a machine demands no more than is spare. One that is not near a node uses no more there
+fn demands_little(
+    p: &Problem,
+    _kept: Kept<'_>,
+    _g: &Region,
+    v: VmId,
+    _n: NodeId,
+    r: u8,
+    _x: Period,
+    spare: u64,
+) -> bool
+    requires kept { AreKeptAt p.now.given (sets _g.now) _n.0 _kept.fixed.now _kept.standings.now _kept.near.now _kept.firsts.now }
+    requires machine { IsElement p.now.given (Element.Vm v) }
+    requires resource { r < length p.now.given.resources }
+    requires period { _x.to ≤ p.now.given.horizon }
+    ensures { IsTrue result → (Contains _kept.entry.near.now v.0 → ⊥) → (more : ℕ) → IsMost p.now.given v.0 (sets _g.now (vm v.0)) r (one _n.0) _x (spare + more) }
+{
+    p.demand(v, r) <= spare
+}
+
+/// Whether a machine is seen to use no more of a node than is spare, if it is not near the node: it does not start there by the
+/// end of a period, or it demands no more.
+pub fn asks_little(
+    p: &Problem,
+    kept: Kept<'_>,
+    g: &Region,
+    v: VmId,
+    n: NodeId,
+    r: u8,
+    x: Period,
+    spare: u64,
+) -> bool
+    requires kept { AreKeptAt p.now.given (sets g.now) n.0 kept.fixed.now kept.standings.now kept.near.now kept.firsts.now }
+    requires machine { IsElement p.now.given (Element.Vm v) }
+    requires resource { r < length p.now.given.resources }
+    requires period { x.to ≤ p.now.given.horizon }
+    ensures { IsTrue result → (Contains kept.entry.near.now v.0 → ⊥) → (more : ℕ) → IsMost p.now.given v.0 (sets g.now (vm v.0)) r (one n.0) x (spare + more) }
+{
+    stays_away(p, kept, g, v, n, r, x) || demands_little(p, kept, g, v, n, r, x, spare)
 }
 
 // the most that a machine has brought to a node by an instant, told without its rows

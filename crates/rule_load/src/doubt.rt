@@ -4,7 +4,7 @@ ghost use Rattle.std.specs.List.{Contains};
 ghost use Rattle.rule_load.specs.Prelude.{Amount as AmountOf, AreKeptAt, IsElement, IsFreeDuring, IsMost, IsOverload, IsOverloaded, IsSized, MachinesFit, max_capacity, most_kept, no_standing, node_count, one, sets, vm};
 
 use crate::room::{node_fits, room_of};
-use crate::uses::{machine_fits, most_brought, most_used, stays_away};
+use crate::uses::{asks_little, machine_fits, most_brought, most_used};
 use crate::{Kept, Leaving, Period, leaves_of, resource_total};
 use domains::measure::Measure;
 use rule_frame::{
@@ -118,7 +118,7 @@ fn fits_from_afar(
     requires small { spare ≤ max_capacity }
     ensures { IsTrue result → (Contains kept.entry.near.now v.0 → ⊥) → IsMost p.now.given v.0 (sets g.now (vm v.0)) r (one n.0) x (spare + most_kept p.now.given v.0 (AmountOf r) n.0 x (slice_index_or kept.entry.standings.now v.0 no_standing)) }
 {
-    stays_away(p, kept, g, v, n, r, x) || machine_fits(p, g, kept, v, n, r, x, spare)
+    asks_little(p, kept, g, v, n, r, x, spare) || machine_fits(p, g, kept, v, n, r, x, spare)
 }
 
 // the case of a machine that may use more of a node than is spare: those near it first, since where one of them has to
