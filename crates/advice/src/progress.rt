@@ -10,6 +10,9 @@ use std::time::Instant;
 /// How long it is silent before the first line, and between two, in seconds.
 const PAUSE_SECONDS: u64 = 2;
 
+// after how many calls the clock is asked
+const SKIPPED_CALLS: u32 = 63;
+
 const BYTES_OF_MEGABYTE: u64 = 1_000_000;
 
 /// What was read and written so far: of a certificate, by the first word of each of its lines.
@@ -72,11 +75,24 @@ impl Done {
 struct Progress<'a, R: Clock + Eprint> {
     rt: &'a R,
     told: Option<Instant>,
+    // how often nothing was asked of the clock since it was asked last
+    skipped: u32,
     done: Done,
     least: Least,
 }
 
 impl<R: Clock + Eprint> Progress<'_, R> {
+    // tells how far it is, as `tell` does, in one of many calls: a line of a certificate is written in less time than it takes to
+    // ask the clock
+    fn tell_at_times(&mut self) {
+        if self.skipped < SKIPPED_CALLS {
+            self.skipped += 1;
+            return;
+        }
+        self.skipped = 0;
+        self.tell();
+    }
+
     // tells how far it is where the last line is long ago
     fn tell(&mut self) {
         let Some(told) = self.told else {
@@ -121,6 +137,7 @@ impl<'a, D: Desk + Drop, R: Clock + Eprint> TellingDesk<'a, D, R> {
         let progress = Progress {
             rt,
             told: Instant::now(rt).ok(),
+            skipped: 0,
             done,
             least,
         };
@@ -176,7 +193,7 @@ impl<D: Desk + Drop, R: Clock + Eprint> Desk for TellingDesk<'_, D, R> {
     }
 
     fn append(&mut self, name: &str, piece: &[u8]) -> Result<(), OutFault> {
-        self.progress.tell();
+        self.progress.tell_at_times();
         self.progress.done.see(piece);
         let appended = self.desk.append(name, piece);
         self.has_failed = appended.is_err();
