@@ -1,5 +1,5 @@
 //! Which action an element takes, how long it lasts, and which choices are legal.
-ghost use Rattle.std.specs.Prelude.{◌≡◌, ◌<◌, ◌≤◌, Bool, length, unwrap_or, IsTrue, IfSome};
+ghost use Rattle.std.specs.Prelude.{◌≡◌, ◌<◌, ◌≤◌, Bool, Some, length, unwrap_or, IsTrue, IfSome};
 ghost use Rattle.slices.specs.Prelude.{amount_at, choice_duration, common_of, demand_of, differs_in, duration_amount, duration_of, end_of, end_wish, is_legal, is_raised, IsElement, kind_duration, kind_of, machine_kind, max_action, max_amount, max_resources, may_idle, may_machine_idle, may_node_idle, node_kind, own_of, stage_at, stage_from, start_of, state_of, use_of, wanted_of, wanted_state};
 ghost use Rattle.cluster.proofs.Public.{IsDuration};
 
@@ -140,13 +140,62 @@ fn wanted_state(p: &Problem, v: VmId) -> Wish
 }
 
 /// The kind of a machine's action at a place of the instance.
+#[inline(always)]
 fn machine_kind(p: &Problem, v: VmId, place: Place) -> Option<Kind>
     requires { IsElement p.now.given (Element.Vm v) }
     ensures { result ≡ machine_kind (state_of p.now.given v.0) (wanted_state p.now.given v.0)
         (is_raised p.now.given v.0) place }
 {
     let state = state_of(p, v);
-    match wanted_state(p, v) {
+    let wish = p.wanted(Element::Vm(v));
+    if migrates(state, wish, place) {
+        return Some(Kind::Migrate);
+    }
+    kind_of_state(p, v, state, end_wish(state, wish), place)
+}
+
+/// Whether a machine that runs, and is to go on running, moves to another node. Of most kinds that are asked for this is
+/// all that has to be told.
+#[inline(always)]
+fn migrates(state: State, wish: Wish, place: Place) -> bool
+    ensures { IsTrue result → (raised : Bool) → machine_kind state (end_wish state wish) raised place ≡ Some Kind.Migrate }
+{
+    match state {
+        State::Running(host) => keeps_running(wish) && is_elsewhere(host, place),
+        State::Init | State::Ready | State::Sleeping(_) | State::Gone => false,
+    }
+}
+
+/// Whether a machine that runs is wanted running at the end.
+#[inline(always)]
+fn keeps_running(wish: Wish) -> bool
+    ensures { IsTrue result → (h : NodeId) → end_wish (State.Running h) wish ≡ Wish.To Target.Running }
+{
+    match wish {
+        Wish::Keep => true,
+        Wish::To(target) => matches!(target, Target::Running),
+        Wish::Clash => false,
+    }
+}
+
+/// Whether a place is a node other than a host, to which one moves.
+#[inline(always)]
+fn is_elsewhere(host: NodeId, place: Place) -> bool
+    ensures { IsTrue result → (raised : Bool) → machine_kind (State.Running host) (Wish.To Target.Running) raised place ≡ Some Kind.Migrate }
+{
+    match place {
+        Place::Nowhere => false,
+        Place::At(n) => n.0 != host.0,
+    }
+}
+
+/// The kind of a machine's action at a place of the instance, by its state and what is wanted of it.
+#[inline(never)]
+fn kind_of_state(p: &Problem, v: VmId, state: State, wanted: Wish, place: Place) -> Option<Kind>
+    requires { IsElement p.now.given (Element.Vm v) }
+    ensures { result ≡ machine_kind state wanted (is_raised p.now.given v.0) place }
+{
+    match wanted {
         Wish::Keep | Wish::Clash => None,
         Wish::To(target) => match target {
             Target::Online | Target::Offline => None,
@@ -184,6 +233,7 @@ fn node_kind(online: bool, wish: Wish, place: Place) -> Option<Kind>
 }
 
 /// The kind of an element's action at a place; None where no legal choice acts there.
+#[inline]
 #[tactic(auto, unfolding(crate::specs::Actions::kind_of))]
 pub fn kind_of(p: &Problem, e: Element, place: Place) -> Option<Kind>
     requires { IsElement p.now.given e }
@@ -284,6 +334,7 @@ fn amount_of(p: &Problem, e: Element, resource: Option<u8>) -> u64
 }
 
 /// How long an element's action of a kind lasts: base + per * amount.
+#[inline]
 #[tactic(auto, unfolding(crate::specs::Actions::duration_of))]
 pub fn duration(p: &Problem, e: Element, kind: Kind) -> u64
     requires { IsElement p.now.given e }
