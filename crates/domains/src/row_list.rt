@@ -5,7 +5,7 @@ ghost use Rattle.domains.specs.Choices.{Climbs, place_index};
 ghost use Rattle.domains.specs.Rows.{IsFound, IsGap};
 
 use crate::parts::Row;
-use crate::rows::find;
+use crate::rows::{WHOLE, find};
 use base::Memory;
 use cluster::Place;
 use smallvec::SmallVec;
@@ -23,6 +23,8 @@ pub struct RowList {
     free: usize,
     // for so many rows there is memory
     most: usize,
+    // of each `WHOLE` rows that there once were about so many are left
+    share: usize,
 }
 
 impl Model for RowList {
@@ -45,6 +47,7 @@ impl RowList {
             slots: SmallVec::new(alloc),
             free: 0,
             most: 0,
+            share: WHOLE,
         }
     }
 
@@ -56,6 +59,7 @@ impl RowList {
             slots: SmallVec::from_buf(alloc, [row]),
             free: 0,
             most: 1,
+            share: WHOLE,
         }
     }
 
@@ -84,7 +88,7 @@ impl RowList {
         ensures found { IfOk result (IsFound self.now.rows (place_index place)) }
         ensures gap { IfErr result (IsGap self.now.rows (place_index place)) }
     {
-        find(self.as_slice(), place, self.most)
+        find(self.as_slice(), place, self.share)
     }
 
     /// Adds a row after all others.
@@ -108,6 +112,7 @@ impl RowList {
             slots,
             free: 0,
             most: self.most,
+            share: self.share,
         })
     }
 
@@ -122,6 +127,7 @@ impl RowList {
         }
         self.free = 0;
         self.most = other.most;
+        self.share = other.share;
         copy_rows(&mut self.slots, other.as_slice());
         Ok(())
     }
@@ -141,6 +147,7 @@ impl RowList {
         requires { i < length self.old.rows }
         ensures { self.new ≡ record { rows = remove self.old.rows i; slots = self.old.slots } }
     {
+        self.share = share_of(self.slots.len() - self.free - 1, self.most);
         if i < self.slots.len() - self.free - i {
             remove_up(&mut self.slots, self.free, i);
             self.free += 1;
@@ -156,6 +163,7 @@ impl RowList {
         requires room { length self.old.rows + 1 ≤ self.old.slots }
         ensures { self.new ≡ record { rows = insert self.old.rows i row; slots = self.old.slots } }
     {
+        self.share = share_of(self.slots.len() - self.free + 1, self.most);
         let full = self.slots.len() == self.slots.capacity();
         if self.free > 0 && (full || i <= self.slots.len() - self.free - i) {
             self.free -= 1;
@@ -164,6 +172,11 @@ impl RowList {
             insert_up(&mut self.slots, self.free + i, row);
         }
     }
+}
+
+// how many rows are left of each `WHOLE` where there were `most`
+fn share_of(len: usize, most: usize) -> usize {
+    len.saturating_mul(WHOLE) / most.max(1)
 }
 
 // copies rows into memory that is there

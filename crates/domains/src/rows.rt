@@ -5,6 +5,9 @@ ghost use Rattle.domains.specs.Prelude.{Choice as AnyChoice, Climbs, in_part, Is
 use crate::parts::{Part, Row};
 use cluster::{Instant, Place};
 
+/// Of so many nodes it is said how many have a row.
+pub const WHOLE: usize = 65_536;
+
 /// A place's number in the order of places.
 pub fn index(place: Place) -> u64
     ensures { result ≡ place_index place }
@@ -24,9 +27,9 @@ pub fn is_same(a: Place, b: Place) -> bool
 
 /// Where the row at a place stands, or else where it would.
 ///
-/// It is sought first where it stands if there was a row at each of the first `slots` places and some were lost here
-/// and there, then as far from that as the places differ, and then by halving. So `slots` is only a hint.
-pub fn find(rows: &[Row], place: Place, slots: usize) -> Result<usize, usize>
+/// It is sought first where it stands if of the nodes before its own there is a row at so many of each `WHOLE` as
+/// `share` says, then as far from that as the places differ, and then by halving. So `share` is only a hint.
+pub fn find(rows: &[Row], place: Place, share: usize) -> Result<usize, usize>
     requires { Climbs 0 rows.now }
     ensures found { IfOk result (IsFound rows.now (place_index place)) }
     ensures gap { IfErr result (IsGap rows.now (place_index place)) }
@@ -34,7 +37,7 @@ pub fn find(rows: &[Row], place: Place, slots: usize) -> Result<usize, usize>
     let key = index(place);
     let mut from = 0;
     let mut to = rows.len();
-    let mut guess = (key as usize).wrapping_mul(to) / slots.max(1);
+    let mut guess = (key.saturating_sub(1) as usize).wrapping_mul(share) / WHOLE;
     let mut guesses: u32 = 2;
     while from < to {
         let middle = probe(guess, guesses, from, to);
