@@ -18,6 +18,8 @@ use std::marker::Model;
 #[derive(Drop)]
 pub struct Firsts {
     starts: Levelled<Instant>,
+    // whether machines that may only stay are written too: that pays where little is spare
+    is_crowded: bool,
     alloc: Global,
 }
 
@@ -96,6 +98,40 @@ fn slot_of(p: &Problem, n: NodeId, v: VmId) -> u32
     n.0 * p.cluster().machines().len() as u32 + v.0
 }
 
+// what machines demand of a resource, all together
+fn demand_of_all(p: &Problem, r: u8) -> u64
+    requires { r < length p.now.given.resources }
+{
+    let mut sum: u64 = 0;
+    for i in 0..p.cluster().machines().len() {
+        sum = sum.saturating_add(p.demand(VmId(i as u32), r));
+    }
+    sum
+}
+
+// what nodes have room for, all together
+fn capacity_of_all(p: &Problem, r: u8) -> u64
+    requires { r < length p.now.given.resources }
+{
+    let mut sum: u64 = 0;
+    for i in 0..p.cluster().nodes().len() {
+        sum = sum.saturating_add(p.capacity(NodeId(i as u32), r));
+    }
+    sum
+}
+
+// whether machines demand more than four fifths of a resource
+fn is_crowded(p: &Problem) -> bool {
+    for r in 0..p.cluster().resources().len() {
+        if demand_of_all(p, r as u8).saturating_mul(5)
+            > capacity_of_all(p, r as u8).saturating_mul(4)
+        {
+            return true;
+        }
+    }
+    false
+}
+
 impl Firsts {
     /// Of no machine, with one level. It takes no memory.
     pub fn new(alloc: Global) -> Firsts
@@ -103,6 +139,7 @@ impl Firsts {
     {
         Firsts {
             starts: Levelled::new(alloc),
+            is_crowded: false,
             alloc,
         }
     }
@@ -125,6 +162,7 @@ impl Firsts {
         let mut starts = Vec::new(self.alloc);
         starts.resize(p.cluster().nodes().len() * p.cluster().machines().len(), 0)?;
         self.starts.reset(starts);
+        self.is_crowded = is_crowded(p);
         Ok(())
     }
 
@@ -180,9 +218,24 @@ impl Firsts {
         Ok(())
     }
 
+    // of a machine that may do nothing but stay as it is, where that pays: each node has to be written, and to be put back
+    fn put_stayer(&mut self, p: &Problem, g: &Region, e: Element) -> Result<(), Memory>
+        requires region { IsSized p.now.given g.now }
+        requires element { IsElement p.now.given e }
+        requires right { AreFirsts p.now.given (sets g.now) self.old.top }
+        ensures older { self.new.older ≡ self.old.older }
+        ensures top { OnOk result (AreFirsts p.now.given (sets g.now) self.new.top) }
+    {
+        if self.is_crowded {
+            self.put_everywhere(p, g, e)
+        } else {
+            Ok(())
+        }
+    }
+
     /// Is told of a change that has led to a region, for which these are right already: that of its machine and its
-    /// node is written anew, where it is of one node, and those of all nodes where the machine stays as it is now. The
-    /// only error is want of memory.
+    /// node is written anew, where it is of one node, and those of all nodes where the machine stays as it is now and
+    /// nodes are crowded. The only error is want of memory.
     pub fn told(&mut self, p: &Problem, g: &Region, change: Change) -> Result<(), Memory>
         requires region { IsSized p.now.given g.now }
         requires element { IsElement p.now.given change.element }
@@ -192,7 +245,7 @@ impl Firsts {
     {
         match change.part {
             Part::Idle => match change.side {
-                Side::Inside => self.put_everywhere(p, g, change.element),
+                Side::Inside => self.put_stayer(p, g, change.element),
                 Side::Outside => Ok(()),
             },
             Part::Upto(place, _) | Part::From(place, _) => self.put_at(p, g, change.element, place),

@@ -65,6 +65,7 @@ pub fn leaves_of(p: &Problem, v: VmId) -> Option<Leaves>
 }
 
 /// Until when a choice keeps the host, where it goes to another node.
+#[inline(always)]
 pub fn left_by(p: &Problem, v: VmId, leaves: Leaves, c: Choice) -> Option<u64>
     requires { AreLeaves p.now.given v.0 leaves }
     ensures { IfSome result (λ l. l ≡ leave_of p.now.given v.0 c) }

@@ -73,6 +73,7 @@ fn kept_until(kind: Option<Kind>, end: u64) -> u64
 }
 
 // until when a choice keeps what its machine has on its host, told by the kind of its action
+#[inline(never)]
 fn left_under(p: &Problem, v: VmId, c: Choice) -> u64
     requires { IsElement p.now.given (Element.Vm v) }
     ensures { result ≡ leave_of p.now.given v.0 c }
@@ -97,6 +98,7 @@ pub struct Leaving<'a> {
 }
 
 // the same, by how the machine leaves, where that is known and tells it
+#[inline(always)]
 fn left_as_known(p: &Problem, v: VmId, leaves: Option<Leaves>, c: Choice) -> Option<u64>
     requires { IfSome leaves (AreLeaves p.now.given v.0) }
     ensures { IfSome result (λ l. l ≡ leave_of p.now.given v.0 c) }
@@ -125,6 +127,7 @@ impl Measure for Leaving<'_> {
         true
     }
 
+    #[inline(always)]
     fn value(&self, c: Choice) -> u64 {
         match left_as_known(self.problem, self.machine, self.leaves, c) {
             Some(left) => left,
@@ -162,6 +165,7 @@ impl Measure for LeavingFrom<'_> {
         true
     }
 
+    #[inline(always)]
     fn value(&self, c: Choice) -> u64 {
         self.leaving.value(c).max(self.floor)
     }
