@@ -1,5 +1,5 @@
 -- Watches that are looked at one after the other.
-use Rattle.rule_frame.proofs.Prelude.{◌≡◌, ◌≢◌, ◌⊎◌, inl, inr, ℕ, ◌+◌, ◌<◌, ◌≤◌, false, length, get_or, set, sym, subst, ◌∙◌, arith, cases_eq, get_or-set_other, length-set, get_or-set_at, AllClean, Instance, IsClean, IsCleanUpTo, Levels, Sets, Watch}
+use Rattle.rule_frame.proofs.Prelude.{◌≡◌, ◌≢◌, ◌⊎◌, inl, inr, ℕ, ◌+◌, ◌<◌, ◌≤◌, false, length, get_or, set, sym, subst, ◌∙◌, arith, cases_eq, get_or-set_other, length-set, get_or-set_at, refl, Bool, List, AllClean, AreClean, Instance, IsClean, IsCleanUpTo, IsKept, Levels, Sets, Watch}
 
 module _ (watch : ℕ → Watch) (p : Instance) (s : Sets) (i : ℕ) (m n : Levels) (so_far : IsCleanUpTo watch p s i m n) where
   -- the next watch is not dirty
@@ -30,3 +30,11 @@ module _ (watch : ℕ → Watch) (p : Instance) (s : Sets) (i : ℕ) (m n : Leve
 
   pub clean_all : (count : ℕ) → length m.top ≡ count → count ≤ i → AllClean watch p s count
   clean_all count many past = record { clean = λ k h. so_far.kept.clean.clean k (omega (arith, h, so_far.kept.count, many)) (so_far.done k (omega (arith, h, past))) }
+
+-- no watch is dirty, so each is clean
+pub all_clean : (watch : ℕ → Watch) (p : Instance) (s : Sets) (flags : List Bool) (count : ℕ) → AreClean watch p s flags → length flags ≡ count → ((i : ℕ) → i < length flags → get_or flags i false ≡ false) → AllClean watch p s count
+all_clean watch p s flags count clean many none = record { clean = λ i h. clean.clean i (omega (arith, h, many)) (none i (omega (arith, h, many))) }
+
+-- where nothing is changed all is kept
+pub kept_same : (watch : ℕ → Watch) (p : Instance) (s : Sets) (m : Levels) → AreClean watch p s m.top → IsKept watch p s m m
+kept_same watch p s m clean = record { older = refl; count = refl; clean = clean }

@@ -1,5 +1,5 @@
 //! Which watches are dirty, with levels.
-ghost use Rattle.std.specs.Prelude.{◌≡◌, ℕ, ◌<◌, [], ◌∷◌, ◌++◌, length, OnOk, OnErr, true, false, replicate, slice_index_or, slice_set};
+ghost use Rattle.std.specs.Prelude.{◌≡◌, ℕ, ◌<◌, [], ◌∷◌, ◌++◌, length, IsTrue, OnOk, OnErr, true, false, replicate, slice_index_or, slice_set};
 
 use crate::Memory;
 use std::alloc::Global;
@@ -76,6 +76,13 @@ impl DirtySet {
         ensures { (i : ℕ) → i < result → slice_index_or self.now.top i false ≡ false }
     {
         self.first
+    }
+
+    /// Whether it is seen that no watch is dirty. It need not be seen.
+    pub fn is_clean(&self) -> bool
+        ensures { IsTrue result → (i : ℕ) → i < length self.now.top → slice_index_or self.now.top i false ≡ false }
+    {
+        self.first >= self.top.len()
     }
 
     /// Keeps a number before which no watch is dirty.

@@ -1,8 +1,8 @@
 //! A rule: watches, each dirty or clean, and what is kept beside them.
-ghost use Rattle.std.specs.Prelude.{◌≡◌, ◌<◌, ◌≤◌, IfOk, length};
+ghost use Rattle.std.specs.Prelude.{◌≡◌, ◌<◌, ◌≤◌, IfOk, IsTrue, length};
 ghost use Rattle.prop_core.specs.Prelude.{counted, IsRegionOf, sets};
 ghost use Rattle.prop_core.specs.declared.propagator.Answer.TheVariants.{Cut};
-ghost use Rattle.rule_frame.specs.Asked.{IsAskedOf};
+ghost use Rattle.rule_frame.specs.Asked.{AllClean, IsAskedOf};
 ghost use Rattle.rule_frame.specs.Caches.{IsCacheFor};
 ghost use Rattle.rule_frame.specs.Changes.{AreClean, IsKept};
 ghost use Rattle.rule_frame.specs.Rules.{AnswerHolds, meaning_of};
@@ -124,8 +124,59 @@ fn cut(it: Suggestion) -> Answer
     Answer::Cut(it.element, it.part, it.reason)
 }
 
-// what one call answers: a cut of the list that holds, or else what asking the watches finds, which may be a cut of the list too
+// whether it is seen that no watch has to be looked at
+#[inline(always)]
+#[tactic(auto, using(crate::proofs::AskLemmas::all_clean))]
+fn are_clean<K: Keeper, W: Watcher<K>>(
+    _w: &W,
+    _k: &K,
+    _p: &Problem,
+    _g: &Region,
+    dirty: &DirtySet,
+) -> bool
+    requires count { length dirty.now.top ≡ W.count_of _w.now _p.now.given }
+    requires agreed { AreClean (W.watch _w.now _p.now.given) _p.now.given (sets _g.now) dirty.now.top }
+    ensures { IsTrue result → AllClean (W.watch _w.now _p.now.given) _p.now.given (sets _g.now) (W.count_of _w.now _p.now.given) }
+{
+    dirty.is_clean()
+}
+
+// the answer where each watch is clean
+#[inline(always)]
+fn quiet<K: Keeper, W: Watcher<K>>(_w: &W, _k: &K, _p: &Problem, _g: &Region) -> Answer
+    requires { AllClean (W.watch _w.now _p.now.given) _p.now.given (sets _g.now) (W.count_of _w.now _p.now.given) }
+    ensures { AnswerHolds (W.kinds _w.now) _p.now.given (sets _g.now) result }
+{
+    Answer::Quiet
+}
+
+// what one call answers: that all is quiet, where nothing is left to be asked, as after most changes
+#[inline(always)]
+#[tactic(auto, using(crate::proofs::AskLemmas::kept_same))]
 fn next_answer<K: Keeper, W: Watcher<K>>(
+    w: &W,
+    k: &K,
+    p: &Problem,
+    g: &Region,
+    dirty: &mut DirtySet,
+    suggestions: &mut Vec<Suggestion>,
+) -> Result<Answer, Memory>
+    requires region { IsRegionOf p.now.given g.now }
+    requires right { IsCacheFor (K.cache k.now) p.now.given (sets g.now) }
+    requires count { length dirty.old.top ≡ W.count_of w.now p.now.given }
+    requires agreed { AreClean (W.watch w.now p.now.given) p.now.given (sets g.now) dirty.old.top }
+    ensures kept { IsKept (W.watch w.now p.now.given) p.now.given (sets g.now) dirty.old dirty.new }
+    ensures answer { IfOk result (AnswerHolds (W.kinds w.now) p.now.given (sets g.now)) }
+{
+    if suggestions.is_empty() && are_clean(w, k, p, g, dirty) {
+        return Ok(quiet(w, k, p, g));
+    }
+    asked_answer(w, k, p, g, dirty, suggestions)
+}
+
+// what one call answers: a cut of the list that holds, or else what asking the watches finds, which may be a cut of the list too
+#[inline(never)]
+fn asked_answer<K: Keeper, W: Watcher<K>>(
     w: &W,
     k: &K,
     p: &Problem,
