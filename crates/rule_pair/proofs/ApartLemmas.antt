@@ -1,6 +1,6 @@
 -- Machines that are told to keep apart at all instants.
-use Rattle.rule_pair.proofs.Prelude.{if◌then◌else◌, IsTrue, slice_index_or, ◌≡◌, ◌≢◌, ◌⊎◌, inl, inr, ℕ, zero, suc, ◌+◌, ◌<◌, ◌≤◌, Bool, true, false, ◌&&◌, ◌||◌, ◌==◌, max, nat_lt, List, [], ◌∷◌, length, get_or, Some, refl, sym, ◌∙◌, arith, and_parts, cases_eq, eqb-true, false≢true, nat_tests, get_or_default, part_listed, sound_form, surely_each, end_is_choice, ends_of_rows, some_end, present_law, and-true, arrival, arrived, numbers, of_one, other-vm, own_present, same_present, vm_or}
-use Rattle.rule_pair.specs.Prelude.{Act, Apart, are_below, AreClear, AreLonger, AreOrdered, At, base, Between, Choice, choices, class_of, Clear, Climbs, comes_by, Constraint, DomainView, Doubtful, Each, Element, form_of, FromOthers, gain, has_come, HasPosts, hosted_in, Idle, Instance, inventory_of, is_continuous, is_member, is_rule, IsAt, IsClean, IsEnd, IsInPart, IsLate, IsMember, IsStanding, IsTold, KeepsClear, KeepsOff, kept_use, least, leave_of, Longest, machine_count, never, no_row, Nowhere, of_kind, OnClear, one, Pair, place_index, Posts, Presence, present_at, reason_kind, Row, row_at, rule_watch, Seen, separated, Separation, Sets, setting, Standing, StandsWithin, state_of, sure, told_until, Unknown, vm, VmId}
+use Rattle.rule_pair.proofs.Prelude.{if◌then◌else◌, IsTrue, slice_index_or, ◌≡◌, ◌≢◌, ◌⊎◌, inl, inr, ℕ, zero, suc, ◌+◌, ◌<◌, ◌≤◌, Bool, true, false, ◌&&◌, ◌||◌, ◌==◌, max, nat_lt, List, [], ◌∷◌, length, get_or, Some, ap, Contains, eq-eqb, nat_le, refl, sym, ◌∙◌, arith, and_parts, cases_eq, eqb-true, false≢true, nat_tests, get_or_default, part_listed, sound_form, surely_each, end_is_choice, ends_of_rows, some_end, present_law, and-true, arrival, arrived, numbers, of_one, other-vm, own_present, same_present, vm_or}
+use Rattle.rule_pair.specs.Prelude.{Act, Apart, are_below, AreClear, AreLonger, AreOrdered, Arrival, At, base, Between, Choice, choices, class_of, Clear, Climbs, comes_by, ComesLate, Constraint, DomainView, Doubtful, Each, Element, form_of, FromOthers, gain, has_come, have_come, HasPosts, hosted_in, Idle, Instance, inventory_of, is_continuous, is_member, is_rule, IsAt, IsClean, IsEnd, IsInPart, IsLate, IsMember, IsStanding, IsTold, KeepsClear, KeepsOff, kept_use, least, leave_of, Longest, machine_count, never, no_row, Nowhere, of_kind, OnClear, one, Pair, place_index, Posts, Presence, present_at, reason_kind, Row, row_at, rule_watch, Seen, separated, Separation, Sets, setting, Standing, StandsWithin, state_of, sure, told_until, Unknown, vm, VmId}
 use Rattle.cluster.specs.declared.choices.Place.{Place}
 use Rattle.profiles.specs.Prelude.{leave_climbs}
 
@@ -114,6 +114,24 @@ host_late p xs part from w cs late n t c f before there end = absurd (omega (ari
 pub host_left : (p : Instance) (xs : List Longest) (part from w : ℕ) (cs : List Choice) → ((c : Choice) → IsEnd cs c → leave_of p w c ≤ from) → (n t : ℕ) (c : Choice) → from ≤ t → t < told_until xs part n → IsTrue (hosted_in (state_of p w) (one n)) → IsEnd cs c → leave_of p w c ≤ t
 host_left p xs part from w cs left n t c f before there end = omega (arith, left c end, f)
 
+pub comes_late : (xs : List Longest) (part from : ℕ) (k : Standing) (a : Arrival) → k.come ≡ Some a → told_until xs part a.node.0 ≤ from → ComesLate xs part from k
+comes_late xs part from k a is ended = record { arrival = a; come = is; ended = ended }
+
+-- of choices that have all come to a node by an instant each has
+each-come : (n t : ℕ) (cs : List Choice) (c : Choice) → have_come n t cs ≡ true → Contains cs c → has_come n t c ≡ true
+each-come n t [] c on h = absurd (false≢true on)
+each-come n t (d ∷ ds) c on h = surely_each (has_come n t) (d ∷ ds) c h on
+
+-- a choice comes to one node alone
+one-node : (m u n t : ℕ) (c : Choice) → has_come m u c ≡ true → has_come n t c ≡ true → m ≡ n
+one-node m u n t Idle first second = absurd (false≢true first)
+one-node m u n t (Act Nowhere q) first second = absurd (false≢true first)
+one-node m u n t (Act (At x) q) first second = sym (eqb-true x.0 m (and_parts (one m x.0) _ first).0) ∙ eqb-true x.0 n (and_parts (one n x.0) _ second).0
+
+-- an arrival has come by its last start
+come-last : (a : Arrival) → comes_by a.node.0 a.last (Some a) ≡ true
+come-last a = let last : nat_le a.last a.last ≡ true = grind (arith, nat_tests) in rw (eq-eqb a.node.0 a.node.0 refl) last
+
 module _ (p : Instance) (s : Sets) (xs : List Longest) (part from w : ℕ) (short : p.horizon < never) where
   -- under an end that has come to no stay, and has left its host where there is one
   off-end : (n t : ℕ) (c : Choice) → t ≤ p.horizon → (IsTrue (hosted_in (state_of p w) (one n)) → leave_of p w c ≤ t) → has_come n t c ≡ false → present_at p w (one n) t c ≡ false
@@ -132,6 +150,23 @@ module _ (p : Instance) (s : Sets) (xs : List Longest) (part from w : ℕ) (shor
       come : (n t : ℕ) (c : Choice) → from ≤ t → t < told_until xs part n → IsEnd (choices d) c → has_come n t c ≡ false
       come n t Idle f before end = refl
       come n t (Act q u) f before end = let r = (ends_of_rows d own (Act q u)).0 end in by n t r.0 u q f before r.1 r.2 r.3
+
+  -- all choices go to one node, at which no stay goes on
+  pub keeps_off_there : (cs : List Choice) (k : Standing) → s (vm w) ≡ cs → cs ≢ [] → IsStanding p w (s (vm w)) k → ComesLate xs part from k → ((n t : ℕ) (c : Choice) → from ≤ t → t < told_until xs part n → IsTrue (hosted_in (state_of p w) (one n)) → IsEnd cs c → leave_of p w c ≤ t) → KeepsOff p s xs part from w
+  keeps_off_there cs k is some standing late host = record { some = rw is some; off = λ n t c f l before end. let there : IsEnd cs c = rw is at end in off-end n t c l (λ here. host n t c f before here there) (come n t c f before end) }
+    where
+      all-come : have_come late.arrival.node.0 late.arrival.last (s (vm w)) ≡ true
+      all-come = sym (standing.come late.arrival.node.0 late.arrival.last) ∙ (ap (comes_by late.arrival.node.0 late.arrival.last) late.come ∙ come-last late.arrival)
+
+      never-there : (n t : ℕ) (c : Choice) → from ≤ t → t < told_until xs part n → IsEnd (s (vm w)) c → (b : Bool) → has_come n t c ≡ b → b ≡ false
+      never-there n t c f before end false e = refl
+      never-there n t c f before end true e =
+          let here = each-come late.arrival.node.0 late.arrival.last (s (vm w)) c all-come (end_is_choice (s (vm w)) c end) in
+          let ended : told_until xs part n ≤ from = rw (one-node late.arrival.node.0 late.arrival.last n t c here e) at late.ended in
+          absurd (omega (arith, ended, f, before))
+
+      come : (n t : ℕ) (c : Choice) → from ≤ t → t < told_until xs part n → IsEnd (s (vm w)) c → has_come n t c ≡ false
+      come n t c f before end = never-there n t c f before end (has_come n t c) refl
 
 -- one that keeps off what is told of another one keeps clear of it
 pub keeps_clear : (p : Instance) (s : Sets) (xs : List Longest) (from i j v w : ℕ) → i ≢ j → IsTold p s xs i v → KeepsOff p s xs j from w → KeepsClear p s from v w

@@ -1,8 +1,8 @@
 mod Prelude
 mod ApartLemmas
 mod BrokenLemmas
+mod KeptLemmas
 mod LongestLemmas
-pub mod PastLemmas
 mod StayLemmas
 mod StrangerLemmas
 mod UnmovedLemmas

@@ -1,6 +1,6 @@
 -- Helping only: where a machine may surely be up to the horizon, and who keeps off.
 use Rattle.std.specs.Prelude.{◌≡◌, ◌≢◌, ◌⊎◌, ℕ, ◌<◌, ◌≤◌, Bool, false, List, [], max, Option, Some, None, if◌then◌else◌, IsTrue}
-use Rattle.rule_constraint.specs.Prelude.{Instance, IsEnd, machine_count, one, present_at, Separates, Separation, Sets, sure, vm}
+use Rattle.rule_constraint.specs.Prelude.{Arrival, Instance, IsEnd, machine_count, one, present_at, Separates, Separation, Sets, Standing, sure, vm}
 use Rattle.cluster.specs.declared.choices.Choice.{Choice}
 use Rattle.cluster.specs.declared.choices.Place.{Place}
 use Rattle.cluster.specs.declared.choices.Place.TheVariants.{Nowhere, At}
@@ -33,6 +33,12 @@ pub record IsTold (p : Instance) (s : Sets) (xs : List Longest) (part v : ℕ) :
 abbrev pub IsLate : List Longest → ℕ → ℕ → Place → ℕ → Type 0
 IsLate xs part from Nowhere start = Unit {0}
 IsLate xs part from (At n) start = told_until xs part n.0 ≤ max start from
+
+-- all choices that have these numbers go to one node, at which the stays of other parts end by an instant
+pub record ComesLate (xs : List Longest) (part from : ℕ) (k : Standing) : Type 0 where
+  pub arrival : Arrival
+  pub come : k.come ≡ Some arrival
+  pub ended : told_until xs part arrival.node.0 ≤ from
 
 -- from an instant on, machine w of a part has a choice, and is under no end of its choices at a node where a stay of another part is told
 pub record KeepsOff (p : Instance) (s : Sets) (xs : List Longest) (part from w : ℕ) : Type 0 where

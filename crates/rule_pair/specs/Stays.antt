@@ -1,6 +1,6 @@
 -- Helping only: how long a machine may stay on its host.
-use Rattle.std.specs.Prelude.{◌≡◌, ◌≢◌, ℕ, ◌+◌, ◌<◌, ◌≤◌, List}
-use Rattle.rule_constraint.specs.Prelude.{comes_by, have_come, Instance, least, leave_of, node_count}
+use Rattle.std.specs.Prelude.{◌≡◌, ℕ, ◌≤◌, List}
+use Rattle.rule_constraint.specs.Prelude.{comes_by, have_come, Instance, least, leave_of}
 use Rattle.cluster.specs.declared.choices.Choice.{Choice}
 use Rattle.profiles.specs.declared.standing.numbers.Standing.{Standing}
 
@@ -8,9 +8,3 @@ use Rattle.profiles.specs.declared.standing.numbers.Standing.{Standing}
 pub record StandsWithin (p : Instance) (v : ℕ) (cs : List Choice) (k : Standing) : Type 0 where
   pub leave : least (leave_of p v) cs ≤ k.leave
   pub come : (n t : ℕ) → comes_by n t k.come ≡ have_come n t cs
-
--- a place of this number is a node of the problem, and not the node n
-pub record IsElsewhere (p : Instance) (n i : ℕ) : Type 0 where
-  pub node : 0 < i
-  pub within : i ≤ node_count p
-  pub other : i ≢ n + 1

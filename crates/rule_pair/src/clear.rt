@@ -2,7 +2,7 @@
 ghost use Rattle.std.specs.Prelude.{◌≡◌, ◌≢◌, ℕ, ◌<◌, ◌≤◌, ◌||◌, ◌==◌, nat_lt, true, length, option_copied, slice_index_or, IfNone, IfSome, IsTrue};
 ghost use Rattle.std.specs.List.{list_all};
 ghost use Rattle.cluster.specs.declared.choices.Choice.{Choice as AnyChoice};
-ghost use Rattle.rule_pair.specs.Prelude.{are_below, AreClear, AreEnds, AreLonger, AreOrdered, choices, Climbs, hosted_in, inventory_of, is_continuous, is_rule, IsClean, IsEnd, IsInPart, IsLate, IsMember, IsSized, IsTold, KeepsClear, KeepsOff, leave_of, machine_count, no_row, OnClear, one, part_of as the_part_of, rule_watch, separated, separation_seen, sets, state_of, told_until};
+ghost use Rattle.rule_pair.specs.Prelude.{are_below, AreClear, AreEnds, AreLonger, AreOrdered, AreRight, choices, Climbs, ComesLate, hosted_in, inventory_of, is_continuous, is_rule, IsClean, IsEnd, IsInPart, IsLate, IsMember, IsSized, IsTold, KeepsClear, KeepsOff, leave_of, machine_count, no_row, no_standing, OnClear, one, part_of as the_part_of, rule_watch, separated, separation_seen, sets, state_of, told_until};
 
 use crate::longest::{NOBODY, Stay, Table, stay_after, tell};
 use crate::pairs::separation_of;
@@ -11,6 +11,7 @@ use crate::reach::{Ends, ends_of, rows_met_before};
 use crate::stays::leaves_by;
 use crate::strangers::strangers_alone;
 use cluster::limits::MAX_NODES;
+use profiles::standing::numbers::Standing;
 use rule_constraint::host;
 use rule_frame::{
     Constraint, Domain, Element, Instant, NodeId, Place, Problem, Region, Row, Separation, VmId,
@@ -66,8 +67,16 @@ pub(crate) fn part_of(part: Option<usize>, v: VmId) -> usize
 
 /// Tells where a machine surely stays. False where that is not known.
 #[tactic(auto, using(crate::proofs::ApartLemmas::told_posts, crate::proofs::ApartLemmas::longer_both))]
-pub(crate) fn tell_machine(p: &Problem, g: &Region, v: VmId, part: usize, table: &mut Table) -> bool
+pub(crate) fn tell_machine(
+    p: &Problem,
+    g: &Region,
+    kept: &[Standing],
+    v: VmId,
+    part: usize,
+    table: &mut Table,
+) -> bool
     requires region { IsSized p.now.given g.now }
+    requires kept { AreRight p.now.given (sets g.now) kept.now }
     requires machine { v.0 < machine_count p.now.given }
     requires ordered { AreOrdered table.old }
     ensures ordered { AreOrdered table.new }
@@ -77,7 +86,7 @@ pub(crate) fn tell_machine(p: &Problem, g: &Region, v: VmId, part: usize, table:
     if g.domain(Element::Vm(v)).is_empty() {
         return false;
     }
-    let posts = posts_of(p, g, v);
+    let posts = posts_of(p, g, kept, v);
     tell(table, v, part, posts.host) && tell(table, v, part, posts.come)
 }
 
@@ -85,11 +94,13 @@ pub(crate) fn tell_machine(p: &Problem, g: &Region, v: VmId, part: usize, table:
 pub(crate) fn tell_machines(
     p: &Problem,
     g: &Region,
+    kept: &[Standing],
     machines: &[VmId],
     part: Option<usize>,
     table: &mut Table,
 ) -> bool
     requires region { IsSized p.now.given g.now }
+    requires kept { AreRight p.now.given (sets g.now) kept.now }
     requires machines { list_all (λ x. nat_lt x.0 (machine_count p.now.given)) machines.now ≡ true }
     requires ordered { AreOrdered table.old }
     ensures ordered { AreOrdered table.new }
@@ -98,7 +109,7 @@ pub(crate) fn tell_machines(
 {
     for i in 0..machines.len() {
         let v = machines[i];
-        if !tell_machine(p, g, v, part_of(part, v), table) {
+        if !tell_machine(p, g, kept, v, part_of(part, v), table) {
             return false;
         }
     }
@@ -106,14 +117,21 @@ pub(crate) fn tell_machines(
 }
 
 /// Tells it of each machine of each part.
-pub(crate) fn tell_parts(p: &Problem, g: &Region, parts: &[Vms], table: &mut Table) -> bool
+pub(crate) fn tell_parts(
+    p: &Problem,
+    g: &Region,
+    kept: &[Standing],
+    parts: &[Vms],
+    table: &mut Table,
+) -> bool
     requires region { IsSized p.now.given g.now }
+    requires kept { AreRight p.now.given (sets g.now) kept.now }
     requires machines { list_all (list_all (λ x. nat_lt x.0 (machine_count p.now.given))) parts.now ≡ true }
     requires ordered { AreOrdered table.old }
     ensures { IsTrue result → (i v : ℕ) → IsInPart parts.now i v → IsTold p.now.given (sets g.now) table.new i v }
 {
     for i in 0..parts.len() {
-        if !tell_machines(p, g, parts[i].items(), Some(i), table) {
+        if !tell_machines(p, g, kept, parts[i].items(), Some(i), table) {
             return false;
         }
     }
@@ -207,11 +225,30 @@ fn make_doubt(p: &Problem, w: VmId, met: Met) -> Doubt {
     }
 }
 
+#[tactic(auto, using(crate::proofs::ApartLemmas::comes_late))]
+// whether it is seen that all choices of a machine go to one node at which the stays of other parts end by an instant
+fn comes_late(kept: &[Standing], w: VmId, part: usize, from: Instant, table: &Table) -> bool
+    ensures { IsTrue result → (w.0 < length kept.now) × ComesLate table.now part from (slice_index_or kept.now w.0 no_standing) }
+{
+    let i = w.0 as usize;
+    if i >= kept.len() {
+        return false;
+    }
+    let Some(a) = kept[i].come else {
+        return false;
+    };
+    match stay_after(table, a.node, part, from) {
+        None => true,
+        Some(_) => false,
+    }
+}
+
 /// Whether a machine is nowhere while one of another part stays there, from an instant on. When such stays end is handed
 /// in, where that is known.
 pub(crate) fn machine_keeps_off(
     p: &Problem,
     g: &Region,
+    kept: &[Standing],
     w: VmId,
     part: usize,
     from: Instant,
@@ -219,6 +256,7 @@ pub(crate) fn machine_keeps_off(
     table: &Table,
 ) -> Seen
     requires region { IsSized p.now.given g.now }
+    requires kept { AreRight p.now.given (sets g.now) kept.now }
     requires machine { w.0 < machine_count p.now.given }
     requires ends { IfSome (option_copied ends) (AreEnds table.now part from) }
     ensures { OnClear result (KeepsOff p.now.given (sets g.now) table.now part from w.0) }
@@ -229,6 +267,9 @@ pub(crate) fn machine_keeps_off(
     }
     if let Some(met) = host_doubt(p, w, domain, part, from, table) {
         return Seen::Doubtful(make_doubt(p, w, met));
+    }
+    if comes_late(kept, w, part, from, table) {
+        return Seen::Clear;
     }
     let rows = domain.rows();
     match rows_met_in(rows, part, from, ends, table) {
@@ -241,17 +282,19 @@ pub(crate) fn machine_keeps_off(
 fn machines_keep_off(
     p: &Problem,
     g: &Region,
+    kept: &[Standing],
     machines: &[VmId],
     from: Instant,
     table: &Table,
 ) -> Seen
     requires region { IsSized p.now.given g.now }
+    requires kept { AreRight p.now.given (sets g.now) kept.now }
     requires machines { list_all (λ x. nat_lt x.0 (machine_count p.now.given)) machines.now ≡ true }
     ensures { OnClear result ((w : ℕ) → IsMember machines.now w → KeepsOff p.now.given (sets g.now) table.now w from w) }
 {
     for i in 0..machines.len() {
         let w = machines[i];
-        match machine_keeps_off(p, g, w, w.0 as usize, from, None, table) {
+        match machine_keeps_off(p, g, kept, w, w.0 as usize, from, None, table) {
             Seen::Clear => {}
             Seen::Doubtful(d) => return Seen::Doubtful(d),
             Seen::Unknown => return Seen::Unknown,
@@ -264,18 +307,20 @@ fn machines_keep_off(
 fn part_keeps_off(
     p: &Problem,
     g: &Region,
+    kept: &[Standing],
     machines: &[VmId],
     part: usize,
     from: Instant,
     table: &Table,
 ) -> Seen
     requires region { IsSized p.now.given g.now }
+    requires kept { AreRight p.now.given (sets g.now) kept.now }
     requires machines { list_all (λ x. nat_lt x.0 (machine_count p.now.given)) machines.now ≡ true }
     ensures { OnClear result ((w : ℕ) → IsMember machines.now w → KeepsOff p.now.given (sets g.now) table.now part from w) }
 {
     let ends = ends_of(table, part, from);
     for i in 0..machines.len() {
-        match machine_keeps_off(p, g, machines[i], part, from, Some(&ends), table) {
+        match machine_keeps_off(p, g, kept, machines[i], part, from, Some(&ends), table) {
             Seen::Clear => {}
             Seen::Doubtful(d) => return Seen::Doubtful(d),
             Seen::Unknown => return Seen::Unknown,
@@ -285,13 +330,21 @@ fn part_keeps_off(
 }
 
 // whether so is each machine of each part
-fn parts_keep_off(p: &Problem, g: &Region, parts: &[Vms], from: Instant, table: &Table) -> Seen
+fn parts_keep_off(
+    p: &Problem,
+    g: &Region,
+    kept: &[Standing],
+    parts: &[Vms],
+    from: Instant,
+    table: &Table,
+) -> Seen
     requires region { IsSized p.now.given g.now }
+    requires kept { AreRight p.now.given (sets g.now) kept.now }
     requires machines { list_all (list_all (λ x. nat_lt x.0 (machine_count p.now.given))) parts.now ≡ true }
     ensures { OnClear result ((j w : ℕ) → IsInPart parts.now j w → KeepsOff p.now.given (sets g.now) table.now j from w) }
 {
     for j in 0..parts.len() {
-        match part_keeps_off(p, g, parts[j].items(), j, from, table) {
+        match part_keeps_off(p, g, kept, parts[j].items(), j, from, table) {
             Seen::Clear => {}
             Seen::Doubtful(d) => return Seen::Doubtful(d),
             Seen::Unknown => return Seen::Unknown,
@@ -301,53 +354,63 @@ fn parts_keep_off(p: &Problem, g: &Region, parts: &[Vms], from: Instant, table: 
 }
 
 // whether no two of these machines meet
-fn each_alone(p: &Problem, g: &Region, machines: &[VmId], from: Instant) -> Seen
+fn each_alone(p: &Problem, g: &Region, kept: &[Standing], machines: &[VmId], from: Instant) -> Seen
     requires region { IsSized p.now.given g.now }
+    requires kept { AreRight p.now.given (sets g.now) kept.now }
     requires machines { list_all (λ x. nat_lt x.0 (machine_count p.now.given)) machines.now ≡ true }
     ensures { OnClear result ((v w : ℕ) → IsMember machines.now v → IsMember machines.now w → v ≢ w → KeepsClear p.now.given (sets g.now) from v w) }
 {
     let mut table = [NOBODY; MAX_NODES];
-    if !tell_machines(p, g, machines, None, &mut table) {
+    if !tell_machines(p, g, kept, machines, None, &mut table) {
         return Seen::Unknown;
     }
-    machines_keep_off(p, g, machines, from, &table)
+    machines_keep_off(p, g, kept, machines, from, &table)
 }
 
 // whether no two machines of different parts do
-fn parts_alone(p: &Problem, g: &Region, parts: &[Vms], from: Instant) -> Seen
+fn parts_alone(p: &Problem, g: &Region, kept: &[Standing], parts: &[Vms], from: Instant) -> Seen
     requires region { IsSized p.now.given g.now }
+    requires kept { AreRight p.now.given (sets g.now) kept.now }
     requires machines { list_all (list_all (λ x. nat_lt x.0 (machine_count p.now.given))) parts.now ≡ true }
     ensures { OnClear result ((i j v w : ℕ) → i ≢ j → IsInPart parts.now i v → IsInPart parts.now j w → KeepsClear p.now.given (sets g.now) from v w) }
 {
     let mut table = [NOBODY; MAX_NODES];
-    if !tell_parts(p, g, parts, &mut table) {
+    if !tell_parts(p, g, kept, parts, &mut table) {
         return Seen::Unknown;
     }
-    parts_keep_off(p, g, parts, from, &table)
+    parts_keep_off(p, g, kept, parts, from, &table)
 }
 
 // whether no two machines meet that are kept apart
-fn all_alone(p: &Problem, g: &Region, separation: &Separation, from: Instant) -> Seen
+fn all_alone(
+    p: &Problem,
+    g: &Region,
+    kept: &[Standing],
+    separation: &Separation,
+    from: Instant,
+) -> Seen
     requires region { IsSized p.now.given g.now }
+    requires kept { AreRight p.now.given (sets g.now) kept.now }
     requires machines { are_below (machine_count p.now.given) (separated (separation_seen separation.now)) ≡ true }
     ensures { OnClear result (AreClear p.now.given (sets g.now) from (separation_seen separation.now)) }
 {
     match separation {
-        Separation::Each(machines) => each_alone(p, g, machines.items(), from),
-        Separation::Between(parts) => parts_alone(p, g, parts.items(), from),
-        Separation::FromOthers(machines) => strangers_alone(p, g, machines.items(), from),
+        Separation::Each(machines) => each_alone(p, g, kept, machines.items(), from),
+        Separation::Between(parts) => parts_alone(p, g, kept, parts.items(), from),
+        Separation::FromOthers(machines) => strangers_alone(p, g, kept, machines.items(), from),
     }
 }
 
 /// Whether a constraint is seen to be kept at all instants at which it is to hold. Of machines that are to keep apart it
 /// is told where each surely stays, and then asked of each whether it may be anywhere that one of another part stays.
-pub fn look_over(p: &Problem, g: &Region, constraint: &Constraint) -> Seen
+pub fn look_over(p: &Problem, g: &Region, kept: &[Standing], constraint: &Constraint) -> Seen
     requires region { IsSized p.now.given g.now }
+    requires kept { AreRight p.now.given (sets g.now) kept.now }
     requires rule { is_rule (inventory_of p.now.given) constraint.now ≡ true }
     ensures { OnClear result (IsClean (rule_watch p.now.given constraint.now) p.now.given (sets g.now)) }
 {
     match separation_of(constraint) {
         None => Seen::Unknown,
-        Some(separation) => all_alone(p, g, &separation, first_instant(p, constraint)),
+        Some(separation) => all_alone(p, g, kept, &separation, first_instant(p, constraint)),
     }
 }

@@ -5,6 +5,7 @@ ghost use Rattle.rule_pair.specs.Prelude.{are_below, FailHolds, IsSized, machine
 
 use crate::pairs::separation_of;
 use profiles::standing::leaves::runs_on;
+use profiles::standing::numbers::Standing;
 use relax::refutes::refutes;
 use rule_frame::{
     Domain, Element, NodeId, NodeSet, Place, Problem, Reason, Region, Separation, VmId,
@@ -79,41 +80,68 @@ fn add_member(p: &Problem, g: &Region, v: VmId, room: &mut Room)
     }
 }
 
+// the node that all choices of a machine go to, where that is kept
+fn settled_at(kept: &[Standing], v: VmId) -> Option<NodeId> {
+    let i = v.0 as usize;
+    if i >= kept.len() {
+        return None;
+    }
+    match kept[i].come {
+        None => None,
+        Some(a) => Some(a.node),
+    }
+}
+
+// the nodes of the machines that have come to one; of these no row is read
+fn add_settled(p: &Problem, kept: &[Standing], machines: &[VmId], room: &mut Room) {
+    for v in machines {
+        if let Some(n) = settled_at(kept, *v) {
+            room.add(p, n);
+        }
+    }
+}
+
 // the nodes on which those of the machines may be that cannot be off, if they are seen to be too few
-fn too_few(p: &Problem, g: &Region, machines: &[VmId]) -> Option<NodeSet>
+fn too_few(p: &Problem, g: &Region, kept: &[Standing], machines: &[VmId]) -> Option<NodeSet>
     requires region { IsSized p.now.given g.now }
     requires machines { list_all (λ x. nat_lt x.0 (machine_count p.now.given)) machines.now ≡ true }
 {
     let mut room = Room::new(machines.len());
+    add_settled(p, kept, machines, &mut room);
     for v in machines {
-        add_member(p, g, *v, &mut room);
         if room.missing == 0 {
             return None;
         }
+        if settled_at(kept, *v).is_none() {
+            add_member(p, g, *v, &mut room);
+        }
+    }
+    if room.missing == 0 {
+        return None;
     }
     Some(room.nodes)
 }
 
 // the nodes that are too few for machines that are kept apart, each from each other one
-fn crowded(p: &Problem, g: &Region, separation: &Separation) -> Option<NodeSet>
+fn crowded(p: &Problem, g: &Region, kept: &[Standing], separation: &Separation) -> Option<NodeSet>
     requires region { IsSized p.now.given g.now }
     requires machines { are_below (machine_count p.now.given) (separated (separation_seen separation.now)) ≡ true }
 {
     match separation {
-        Separation::Each(machines) => too_few(p, g, machines.items()),
+        Separation::Each(machines) => too_few(p, g, kept, machines.items()),
         Separation::Between(_) | Separation::FromOthers(_) => None,
     }
 }
 
 /// A reason that refutes the region, where the members of a spread are seen to be more than the nodes on which
 /// they may be at the horizon. The nodes are a guess: whether they refute the region is asked exactly.
-pub(crate) fn hall_reason(p: &Problem, g: &Region, c: u32) -> Option<Reason>
+pub(crate) fn hall_reason(p: &Problem, g: &Region, kept: &[Standing], c: u32) -> Option<Reason>
     requires region { IsSized p.now.given g.now }
     requires constraint { c < length p.now.given.constraints }
     ensures { IfSome result (FailHolds p.now.given (sets g.now)) }
 {
     let separation = separation_of(&p.constraints()[c as usize])?;
-    let nodes = crowded(p, g, &separation)?;
+    let nodes = crowded(p, g, kept, &separation)?;
     let reason = Reason::Hall(c, p.horizon(), nodes);
     if refutes(p, None, g, &reason) {
         Some(reason)

@@ -4,6 +4,7 @@
 mod clear;
 mod dirty;
 mod hall;
+pub mod keeper;
 mod longest;
 mod members;
 mod pair_look;

@@ -1,6 +1,6 @@
 //! Where a machine may surely be, told for all instants up to the horizon at once.
 ghost use Rattle.std.specs.Prelude.{◌≡◌, ◌≢◌, ℕ, ◌<◌, ◌≤◌, ◌&&◌, nat_lt, [], Some, IfNone, IfSome, IsTrue};
-ghost use Rattle.rule_pair.specs.Prelude.{choices, comes_by, HasPosts, hosted_in, IsAt, IsSized, machine_count, one, sets, StandsWithin, state_of};
+ghost use Rattle.rule_pair.specs.Prelude.{AreRight, choices, comes_by, HasPosts, hosted_in, IsAt, IsSized, machine_count, one, sets, StandsWithin, state_of};
 
 use crate::stays::leave_or_later;
 use profiles::standing::numbers::{Arrival, Standing, standing_of};
@@ -80,14 +80,31 @@ fn stand(p: &Problem, v: VmId, domain: &Domain) -> Standing
     }
 }
 
-/// The posts of a machine that has a choice.
-pub fn posts_of(p: &Problem, g: &Region, v: VmId) -> Posts
+// where a machine surely stands, and for how long at most, by what is kept of it where it is kept
+#[tactic(auto, using(crate::proofs::StayLemmas::stands_within))]
+fn stand_as_kept(p: &Problem, g: &Region, kept: &[Standing], v: VmId) -> Standing
     requires region { IsSized p.now.given g.now }
+    requires kept { AreRight p.now.given (sets g.now) kept.now }
+    requires machine { v.0 < machine_count p.now.given }
+    ensures { StandsWithin p.now.given v.0 (sets g.now (Element.Vm v)) result }
+{
+    let i = v.0 as usize;
+    if i < kept.len() {
+        kept[i]
+    } else {
+        stand(p, v, g.domain(Element::Vm(v)))
+    }
+}
+
+/// The posts of a machine that has a choice.
+pub fn posts_of(p: &Problem, g: &Region, kept: &[Standing], v: VmId) -> Posts
+    requires region { IsSized p.now.given g.now }
+    requires kept { AreRight p.now.given (sets g.now) kept.now }
     requires machine { v.0 < machine_count p.now.given }
     requires some { sets g.now (Element.Vm v) ≢ [] }
     ensures { HasPosts p.now.given (sets g.now) v.0 result }
 {
-    let k = stand(p, v, g.domain(Element::Vm(v)));
+    let k = stand_as_kept(p, g, kept, v);
     Posts {
         host: host_post(p, v, k.leave),
         come: come_post(p, k.come),

@@ -82,8 +82,13 @@ pub(crate) fn rows_before(rows: &[Row], number: usize) -> usize
     ensures within { result ≤ length rows.now }
     ensures before { (k : ℕ) → k < result → place_index (slice_index_or rows.now k no_row).place < number }
 {
+    let count = rows.len();
+    if count == 0 {
+        return 0;
+    }
+    // from row to row the number rises by one at least
     let mut low = 0;
-    let mut high = rows.len();
+    let mut high = count.min(number.saturating_sub(number_of(rows[0].place)));
     while low < high {
         let middle = low + (high - low) / 2;
         if number_of(rows[middle].place) < number {
@@ -121,7 +126,9 @@ fn row_met_before(row: Row, part: usize, from: Instant, ends: &Ends, table: &Tab
     }
 }
 
-/// The first of some rows at which a stay that has such an end may still last when it starts.
+/// The first of some rows at which a stay that has such an end may still last when it starts. Where there is no such stay
+/// no row is read.
+#[tactic(auto, using(crate::proofs::ReachLemmas::late_nowhere))]
 pub(crate) fn rows_met_before(
     rows: &[Row],
     part: usize,
@@ -133,6 +140,9 @@ pub(crate) fn rows_met_before(
     requires ends { AreEnds table.now part from ends.now }
     ensures { IfNone result ((i : ℕ) → i < length rows.now → IsLate table.now part from (slice_index_or rows.now i no_row).place (slice_index_or rows.now i no_row).lo) }
 {
+    if ends.reach.last < ends.reach.first {
+        return None;
+    }
     for i in rows_before(rows, ends.reach.first)..rows.len() {
         if number_of(rows[i].place) > ends.reach.last {
             return None;

@@ -1,71 +1,152 @@
 //! Whether a reason is seen to refute a region with what is inside a part of an element's choices.
-ghost use Rattle.std.specs.Prelude.{◌≡◌, ◌<◌, ℕ, IsTrue, Option as AnyOption, true};
-ghost use Rattle.rule_pair.specs.Prelude.{in_part, IsSized, keeping, machine_count, one, Refutes, seen, sets, sure};
+ghost use Rattle.std.specs.Prelude.{◌≡◌, ◌<◌, ℕ, IfSome, IsTrue, None, Option as AnyOption, true};
+ghost use Rattle.rule_pair.specs.Prelude.{AreRight, in_part, IsSized, keeping, kept_use as the_kept_use, machine_count, one, Presence, Refutes, sets, StandsIn, sure, vm};
 
 use crate::members::keeps_apart;
-use crate::stays::stays_past;
-use profiles::seen::is_narrowed;
-use profiles::standing::leaves::runs_on;
+use profiles::standing::numbers::{Standing, standing_of};
 use profiles::standing::stays::surely_at;
+use profiles::standing::uses::kept_use;
 use relax::named::is_named;
 use relax::refutes::refutes_inside;
 use rule_frame::{Element, Instant, Lens, NodeId, Part, Problem, Reason, Region, View, VmId};
+use slices::Weight;
 
-// whether a machine that may stay is on a node on which it runs under each of its choices, where the lens shows them all
-#[tactic(auto, using(crate::proofs::PastLemmas::present_past))]
-fn stays_at(p: &Problem, view: &View, v: VmId, n: NodeId, t: Instant) -> bool
-    requires region { IsSized p.now.given view.now.region.now }
+// where a machine surely stands that keeps the choices in a part, if it has one there
+#[tactic(auto, using(crate::proofs::KeptLemmas::stands_inside))]
+fn standing_inside(p: &Problem, g: &Region, v: VmId, part: Part) -> Option<Standing>
+    requires region { IsSized p.now.given g.now }
     requires machine { v.0 < machine_count p.now.given }
-    ensures { IsTrue result → (sure p.now.given (seen view.now.region.now view.now.lens) t).present v.0 (one n.0) ≡ true }
+    ensures { IfSome result (StandsIn p.now.given (keeping (vm v.0) (in_part part) (sets g.now)) v.0) }
 {
-    let Some(h) = runs_on(p, v) else {
-        return false;
-    };
-    if h.0 != n.0 {
-        return false;
+    let inside = g.domain(Element::Vm(v)).inside(part);
+    if inside.is_empty() {
+        None
+    } else {
+        Some(standing_of(p, v, &inside))
     }
-    if is_narrowed(view.lens, v) {
-        return false;
-    }
-    stays_past(p, v, view.region.domain(Element::Vm(v)), t)
 }
 
-// whether a machine is on a node under each of its choices that are seen
-fn is_at(p: &Problem, view: &View, v: VmId, n: NodeId, t: Instant) -> bool
-    requires region { IsSized p.now.given view.now.region.now }
+// where a machine surely stands, if that is kept and it has a choice
+#[tactic(auto, using(crate::proofs::KeptLemmas::stands_kept))]
+fn standing_kept(p: &Problem, g: &Region, kept: &[Standing], v: VmId) -> Option<Standing>
+    requires region { IsSized p.now.given g.now }
+    requires kept { AreRight p.now.given (sets g.now) kept.now }
     requires machine { v.0 < machine_count p.now.given }
-    ensures { IsTrue result → (sure p.now.given (seen view.now.region.now view.now.lens) t).present v.0 (one n.0) ≡ true }
+    ensures { IfSome result (StandsIn p.now.given (sets g.now) v.0) }
 {
-    stays_at(p, view, v, n, t) || surely_at(p, view, v, n, t)
+    let i = v.0 as usize;
+    if i >= kept.len() || g.domain(Element::Vm(v)).is_empty() {
+        None
+    } else {
+        Some(kept[i])
+    }
+}
+
+// where a machine surely stands that keeps the choices in a part if it is the element, if that is known
+#[tactic(auto, using(crate::proofs::KeptLemmas::stands_itself, crate::proofs::KeptLemmas::stands_beside, crate::proofs::KeptLemmas::stands_apart))]
+fn standing_seen(
+    p: &Problem,
+    g: &Region,
+    kept: &[Standing],
+    e: Element,
+    part: Part,
+    v: VmId,
+) -> Option<Standing>
+    requires region { IsSized p.now.given g.now }
+    requires kept { AreRight p.now.given (sets g.now) kept.now }
+    requires machine { v.0 < machine_count p.now.given }
+    ensures { IfSome result (StandsIn p.now.given (keeping e (in_part part) (sets g.now)) v.0) }
+{
+    match e {
+        Element::Vm(x) => {
+            if x.0 == v.0 {
+                standing_inside(p, g, v, part)
+            } else {
+                standing_kept(p, g, kept, v)
+            }
+        }
+        Element::Node(_) => standing_kept(p, g, kept, v),
+    }
+}
+
+// whether a machine with these numbers surely is on a node
+fn is_there(p: &Problem, v: VmId, n: NodeId, t: Instant, k: Standing) -> bool
+    requires machine { v.0 < machine_count p.now.given }
+    ensures { IsTrue result → 0 < the_kept_use p.now.given v.0 Presence n.0 t k }
+{
+    kept_use(p, v, Weight::Presence, n, t, k) > 0
+}
+
+// whether a machine is on a node under each of its choices, where an element keeps those in a part
+#[tactic(auto, using(crate::proofs::KeptLemmas::present_kept))]
+fn is_at(
+    p: &Problem,
+    g: &Region,
+    kept: &[Standing],
+    e: Element,
+    part: Part,
+    v: VmId,
+    n: NodeId,
+    t: Instant,
+) -> bool
+    requires region { IsSized p.now.given g.now }
+    requires kept { AreRight p.now.given (sets g.now) kept.now }
+    requires machine { v.0 < machine_count p.now.given }
+    ensures { IsTrue result → (sure p.now.given (keeping e (in_part part) (sets g.now)) t).present v.0 (one n.0) ≡ true }
+{
+    match standing_seen(p, g, kept, e, part, v) {
+        Some(k) => is_there(p, v, n, t, k),
+        None => {
+            let view = View {
+                region: g,
+                lens: Lens::Inside(e, part),
+            };
+            surely_at(p, &view, v, n, t)
+        }
+    }
 }
 
 // whether a pair is seen to refute what is seen of a region. Its machines are sought in lists as in those that are in order
-fn is_seen(p: &Problem, view: &View, c: u32, t: Instant, v: VmId, w: VmId, n: NodeId) -> bool
-    requires region { IsSized p.now.given view.now.region.now }
-    ensures { IsTrue result → (bound : AnyOption ℕ) → Refutes p.now.given bound (seen view.now.region.now view.now.lens) (Reason.Pair c t v w n) }
+fn is_seen(
+    p: &Problem,
+    g: &Region,
+    kept: &[Standing],
+    e: Element,
+    part: Part,
+    c: u32,
+    t: Instant,
+    v: VmId,
+    w: VmId,
+    n: NodeId,
+) -> bool
+    requires region { IsSized p.now.given g.now }
+    requires kept { AreRight p.now.given (sets g.now) kept.now }
+    ensures { IsTrue result → (bound : AnyOption ℕ) → Refutes p.now.given bound (keeping e (in_part part) (sets g.now)) (Reason.Pair c t v w n) }
 {
     if !is_named(p, &Reason::Pair(c, t, v, w, n)) || !p.applies(c, t) {
         return false;
     }
     v.0 != w.0
         && keeps_apart(&p.constraints()[c as usize], v, w)
-        && is_at(p, view, v, n, t)
-        && is_at(p, view, w, n, t)
+        && is_at(p, g, kept, e, part, v, n, t)
+        && is_at(p, g, kept, e, part, w, n, t)
 }
 
-/// Whether it is seen that a reason does.
-pub(crate) fn refutes_part(p: &Problem, g: &Region, e: Element, part: Part, reason: &Reason) -> bool
+/// Whether it is seen that a reason does. Where machines stand that keep all their choices is read from what is kept.
+pub(crate) fn refutes_part(
+    p: &Problem,
+    g: &Region,
+    kept: &[Standing],
+    e: Element,
+    part: Part,
+    reason: &Reason,
+) -> bool
     requires region { IsSized p.now.given g.now }
+    requires kept { AreRight p.now.given (sets g.now) kept.now }
     ensures { IsTrue result → Refutes p.now.given None (keeping e (in_part part) (sets g.now)) reason.now }
 {
     match reason {
-        Reason::Pair(c, t, v, w, n) => {
-            let view = View {
-                region: g,
-                lens: Lens::Inside(e, part),
-            };
-            is_seen(p, &view, *c, *t, *v, *w, *n)
-        }
+        Reason::Pair(c, t, v, w, n) => is_seen(p, g, kept, e, part, *c, *t, *v, *w, *n),
         Reason::Empty(_)
         | Reason::Bound
         | Reason::Load(..)

@@ -1,13 +1,14 @@
 //! Members that are to be alone: they keep off all other machines, and these off them.
 ghost use Rattle.std.specs.Prelude.{◌≡◌, ◌≢◌, ℕ, ◌<◌, nat_lt, true, IsTrue};
 ghost use Rattle.std.specs.List.{list_all};
-ghost use Rattle.rule_pair.specs.Prelude.{AreEnds, AreOrdered, class_of as the_class_of, has_machine, is_member, IsSized, IsTold, KeepsClear, KeepsOff, machine_count, OnClear, sets};
+ghost use Rattle.rule_pair.specs.Prelude.{AreEnds, AreOrdered, AreRight, class_of as the_class_of, has_machine, is_member, IsSized, IsTold, KeepsClear, KeepsOff, machine_count, OnClear, sets};
 
 use crate::clear::{Seen, machine_keeps_off, tell_machine};
 use crate::longest::{NOBODY, Table};
 use crate::reach::{Ends, ends_of};
 use cluster::MachineSet;
 use cluster::limits::MAX_NODES;
+use profiles::standing::numbers::Standing;
 use rule_frame::{Instant, Problem, Region, VmId};
 
 /// The machines of a list.
@@ -30,14 +31,21 @@ pub(crate) fn class_of(members: &MachineSet, v: VmId) -> usize
 }
 
 /// Tells of each machine where it surely stays. False where that is not known.
-pub(crate) fn tell_all(p: &Problem, g: &Region, members: &MachineSet, table: &mut Table) -> bool
+pub(crate) fn tell_all(
+    p: &Problem,
+    g: &Region,
+    kept: &[Standing],
+    members: &MachineSet,
+    table: &mut Table,
+) -> bool
     requires region { IsSized p.now.given g.now }
+    requires kept { AreRight p.now.given (sets g.now) kept.now }
     requires ordered { AreOrdered table.old }
     ensures { IsTrue result → (v : ℕ) → v < machine_count p.now.given → IsTold p.now.given (sets g.now) table.new (the_class_of (has_machine members.now) v) v }
 {
     for i in 0..p.cluster().machines().len() {
         let v = VmId(i as u32);
-        if !tell_machine(p, g, v, class_of(members, v), table) {
+        if !tell_machine(p, g, kept, v, class_of(members, v), table) {
             return false;
         }
     }
@@ -48,6 +56,7 @@ pub(crate) fn tell_all(p: &Problem, g: &Region, members: &MachineSet, table: &mu
 fn one_keeps_off(
     p: &Problem,
     g: &Region,
+    kept: &[Standing],
     w: VmId,
     part: usize,
     from: Instant,
@@ -56,23 +65,32 @@ fn one_keeps_off(
     table: &Table,
 ) -> Seen
     requires region { IsSized p.now.given g.now }
+    requires kept { AreRight p.now.given (sets g.now) kept.now }
     requires machine { w.0 < machine_count p.now.given }
     requires strangers { AreEnds table.now 0 from strangers_ends.now }
     requires members { AreEnds table.now 1 from members_ends.now }
     ensures { OnClear result (KeepsOff p.now.given (sets g.now) table.now part from w.0) }
 {
     if part == 0 {
-        return machine_keeps_off(p, g, w, 0, from, Some(strangers_ends), table);
+        return machine_keeps_off(p, g, kept, w, 0, from, Some(strangers_ends), table);
     }
     if part == 1 {
-        return machine_keeps_off(p, g, w, 1, from, Some(members_ends), table);
+        return machine_keeps_off(p, g, kept, w, 1, from, Some(members_ends), table);
     }
-    machine_keeps_off(p, g, w, part, from, None, table)
+    machine_keeps_off(p, g, kept, w, part, from, None, table)
 }
 
 // whether each machine is nowhere while one of the other part stays there
-fn all_keep_off(p: &Problem, g: &Region, members: &MachineSet, from: Instant, table: &Table) -> Seen
+fn all_keep_off(
+    p: &Problem,
+    g: &Region,
+    kept: &[Standing],
+    members: &MachineSet,
+    from: Instant,
+    table: &Table,
+) -> Seen
     requires region { IsSized p.now.given g.now }
+    requires kept { AreRight p.now.given (sets g.now) kept.now }
     ensures { OnClear result ((w : ℕ) → w < machine_count p.now.given → KeepsOff p.now.given (sets g.now) table.now (the_class_of (has_machine members.now) w) from w) }
 {
     let strangers_ends = ends_of(table, 0, from);
@@ -80,7 +98,17 @@ fn all_keep_off(p: &Problem, g: &Region, members: &MachineSet, from: Instant, ta
     for i in 0..p.cluster().machines().len() {
         let w = VmId(i as u32);
         let part = class_of(members, w);
-        match one_keeps_off(p, g, w, part, from, &strangers_ends, &members_ends, table) {
+        match one_keeps_off(
+            p,
+            g,
+            kept,
+            w,
+            part,
+            from,
+            &strangers_ends,
+            &members_ends,
+            table,
+        ) {
             Seen::Clear => {}
             Seen::Doubtful(d) => return Seen::Doubtful(d),
             Seen::Unknown => return Seen::Unknown,
@@ -90,22 +118,36 @@ fn all_keep_off(p: &Problem, g: &Region, members: &MachineSet, from: Instant, ta
 }
 
 // whether no machine of a set meets one that is none of it
-fn set_alone(p: &Problem, g: &Region, members: &MachineSet, from: Instant) -> Seen
+fn set_alone(
+    p: &Problem,
+    g: &Region,
+    kept: &[Standing],
+    members: &MachineSet,
+    from: Instant,
+) -> Seen
     requires region { IsSized p.now.given g.now }
+    requires kept { AreRight p.now.given (sets g.now) kept.now }
     ensures { OnClear result ((v w : ℕ) → v < machine_count p.now.given → w < machine_count p.now.given → the_class_of (has_machine members.now) v ≢ the_class_of (has_machine members.now) w → KeepsClear p.now.given (sets g.now) from v w) }
 {
     let mut table = [NOBODY; MAX_NODES];
-    if !tell_all(p, g, members, &mut table) {
+    if !tell_all(p, g, kept, members, &mut table) {
         return Seen::Unknown;
     }
-    all_keep_off(p, g, members, from, &table)
+    all_keep_off(p, g, kept, members, from, &table)
 }
 
 /// Whether no member of a list meets a machine that is none.
-pub(crate) fn strangers_alone(p: &Problem, g: &Region, machines: &[VmId], from: Instant) -> Seen
+pub(crate) fn strangers_alone(
+    p: &Problem,
+    g: &Region,
+    kept: &[Standing],
+    machines: &[VmId],
+    from: Instant,
+) -> Seen
     requires region { IsSized p.now.given g.now }
+    requires kept { AreRight p.now.given (sets g.now) kept.now }
     requires machines { list_all (λ x. nat_lt x.0 (machine_count p.now.given)) machines.now ≡ true }
     ensures { OnClear result ((v w : ℕ) → v < machine_count p.now.given → w < machine_count p.now.given → the_class_of (is_member machines.now) v ≢ the_class_of (is_member machines.now) w → KeepsClear p.now.given (sets g.now) from v w) }
 {
-    set_alone(p, g, &members(p, machines), from)
+    set_alone(p, g, kept, &members(p, machines), from)
 }

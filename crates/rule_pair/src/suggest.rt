@@ -1,7 +1,7 @@
 //! Cuts that are worth a try after one was found of machines that are kept apart: all that stays of others refute.
 ghost use Rattle.std.specs.Prelude.{◌≡◌, ◌<◌, IfSome, length, nat_lt, true};
 ghost use Rattle.std.specs.List.{list_all};
-ghost use Rattle.rule_pair.specs.Prelude.{are_below, IsSized, machine_count, separated, separation_seen};
+ghost use Rattle.rule_pair.specs.Prelude.{are_below, AreRight, IsSized, machine_count, separated, separation_seen, sets};
 
 use crate::clear::{Met, first_instant, part_of, row_met, tell_machines, tell_parts};
 use crate::longest::{NOBODY, Table, stay_after};
@@ -11,6 +11,7 @@ use crate::posts::last_before;
 use crate::strangers::{class_of, members, tell_all};
 use cluster::MachineSet;
 use cluster::limits::MAX_NODES;
+use profiles::standing::numbers::Standing;
 use rule_constraint::host;
 use rule_frame::{
     Change, Element, Instant, Memory, NodeId, Part, Place, Problem, Reason, Region, Separation,
@@ -129,15 +130,17 @@ fn suggest_each(
 fn suggest_list(
     p: &Problem,
     g: &Region,
+    kept: &[Standing],
     asked: Asked,
     machines: &[VmId],
     them: &mut Vec<Suggestion>,
 ) -> Result<(), Memory>
     requires region { IsSized p.now.given g.now }
+    requires kept { AreRight p.now.given (sets g.now) kept.now }
     requires machines { list_all (λ x. nat_lt x.0 (machine_count p.now.given)) machines.now ≡ true }
 {
     let mut table = [NOBODY; MAX_NODES];
-    if !tell_machines(p, g, machines, None, &mut table) {
+    if !tell_machines(p, g, kept, machines, None, &mut table) {
         return Ok(());
     }
     suggest_each(p, g, asked, machines, None, &table, them)
@@ -147,15 +150,17 @@ fn suggest_list(
 fn suggest_parts(
     p: &Problem,
     g: &Region,
+    kept: &[Standing],
     asked: Asked,
     parts: &[Vms],
     them: &mut Vec<Suggestion>,
 ) -> Result<(), Memory>
     requires region { IsSized p.now.given g.now }
+    requires kept { AreRight p.now.given (sets g.now) kept.now }
     requires machines { list_all (list_all (λ x. nat_lt x.0 (machine_count p.now.given))) parts.now ≡ true }
 {
     let mut table = [NOBODY; MAX_NODES];
-    if !tell_parts(p, g, parts, &mut table) {
+    if !tell_parts(p, g, kept, parts, &mut table) {
         return Ok(());
     }
     for i in 0..parts.len() {
@@ -168,14 +173,16 @@ fn suggest_parts(
 fn suggest_strangers(
     p: &Problem,
     g: &Region,
+    kept: &[Standing],
     asked: Asked,
     members: &MachineSet,
     them: &mut Vec<Suggestion>,
 ) -> Result<(), Memory>
     requires region { IsSized p.now.given g.now }
+    requires kept { AreRight p.now.given (sets g.now) kept.now }
 {
     let mut table = [NOBODY; MAX_NODES];
-    if !tell_all(p, g, members, &mut table) {
+    if !tell_all(p, g, kept, members, &mut table) {
         return Ok(());
     }
     for i in 0..p.cluster().machines().len() {
@@ -189,18 +196,20 @@ fn suggest_strangers(
 fn suggest_apart(
     p: &Problem,
     g: &Region,
+    kept: &[Standing],
     asked: Asked,
     separation: &Separation,
     them: &mut Vec<Suggestion>,
 ) -> Result<(), Memory>
     requires region { IsSized p.now.given g.now }
+    requires kept { AreRight p.now.given (sets g.now) kept.now }
     requires machines { are_below (machine_count p.now.given) (separated (separation_seen separation.now)) ≡ true }
 {
     match separation {
-        Separation::Each(machines) => suggest_list(p, g, asked, machines.items(), them),
-        Separation::Between(parts) => suggest_parts(p, g, asked, parts.items(), them),
+        Separation::Each(machines) => suggest_list(p, g, kept, asked, machines.items(), them),
+        Separation::Between(parts) => suggest_parts(p, g, kept, asked, parts.items(), them),
         Separation::FromOthers(machines) => {
-            suggest_strangers(p, g, asked, &members(p, machines.items()), them)
+            suggest_strangers(p, g, kept, asked, &members(p, machines.items()), them)
         }
     }
 }
@@ -394,11 +403,13 @@ fn suggest_apart_from(
 pub(crate) fn suggest_pairs(
     p: &Problem,
     g: &Region,
+    kept: &[Standing],
     c: u32,
     found: &Suggestion,
     them: &mut Vec<Suggestion>,
 ) -> Result<(), Memory>
     requires region { IsSized p.now.given g.now }
+    requires kept { AreRight p.now.given (sets g.now) kept.now }
     requires constraint { c < length p.now.given.constraints }
 {
     let constraint = &p.constraints()[c as usize];
@@ -410,7 +421,7 @@ pub(crate) fn suggest_pairs(
         return Ok(());
     };
     match in_the_way(p, g, found) {
-        None => suggest_apart(p, g, asked, &separation, them),
+        None => suggest_apart(p, g, kept, asked, &separation, them),
         Some(settled) => suggest_apart_from(p, g, asked, &separation, settled, them),
     }
 }

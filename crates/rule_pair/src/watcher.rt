@@ -5,8 +5,13 @@ ghost use Rattle.rule_pair.specs.Covers.{pair_kinds};
 ghost use Rattle.std.specs.Prelude.{refl};
 
 use crate::dirty::set_moved_dirty;
+use crate::hall::hall_reason;
+use crate::keeper::PairKeeper;
+use crate::pair_look::look_at_pairs;
+use crate::refuting::refutes_part;
 use crate::rule::Pairs;
-use rule_constraint::{ConstraintIndex, ConstraintWatcher};
+use crate::suggest::suggest_pairs;
+use rule_constraint::ConstraintWatcher;
 use rule_frame::{
     Before, Change, DirtySet, Domain, Element, Instant, Look, Memory, Part, Problem, Reason,
     ReasonKind, Region, Suggestion, View, Watcher,
@@ -19,7 +24,7 @@ pub struct PairWatcher {
     constraints: ConstraintWatcher<Pairs>,
 }
 
-impl Watcher<ConstraintIndex> for PairWatcher {
+impl Watcher<PairKeeper> for PairWatcher {
     ghost watch = { λ w. watch_at pair_kinds };
 
     ghost count_of = { λ w. watch_count };
@@ -36,7 +41,7 @@ impl Watcher<ConstraintIndex> for PairWatcher {
 
     fn disturb(
         &self,
-        k: &ConstraintIndex,
+        k: &PairKeeper,
         p: &Problem,
         g: &Region,
         change: Change,
@@ -44,50 +49,43 @@ impl Watcher<ConstraintIndex> for PairWatcher {
         kept: &Domain,
         dirty: &mut DirtySet,
     ) {
-        set_moved_dirty(k, p, g, change.element, before, kept, dirty);
+        set_moved_dirty(k.index(), p, g, change.element, before, kept, dirty);
     }
 
-    fn refuted(&self, k: &ConstraintIndex, p: &Problem, g: &Region, i: usize) -> Option<Reason> {
-        self.constraints.refuted(k, p, g, i)
+    fn refuted(&self, k: &PairKeeper, p: &Problem, g: &Region, i: usize) -> Option<Reason> {
+        hall_reason(p, g, k.standings(p, g), i as u32)
     }
 
-    fn look(&self, k: &ConstraintIndex, p: &Problem, g: &Region, i: usize) -> Look {
-        self.constraints.look(k, p, g, i)
+    fn look(&self, k: &PairKeeper, p: &Problem, g: &Region, i: usize) -> Look {
+        look_at_pairs(p, g, k.standings(p, g), i)
     }
 
-    fn reason(
-        &self,
-        k: &ConstraintIndex,
-        p: &Problem,
-        view: &View,
-        i: usize,
-        t: Instant,
-    ) -> Reason {
-        self.constraints.reason(k, p, view, i, t)
+    fn reason(&self, k: &PairKeeper, p: &Problem, view: &View, i: usize, t: Instant) -> Reason {
+        self.constraints.reason(k.index(), p, view, i, t)
     }
 
     fn refutes(
         &self,
-        k: &ConstraintIndex,
+        k: &PairKeeper,
         p: &Problem,
         g: &Region,
         e: Element,
         part: Part,
         reason: &Reason,
     ) -> bool {
-        self.constraints.refutes(k, p, g, e, part, reason)
+        refutes_part(p, g, k.standings(p, g), e, part, reason)
     }
 
     fn suggest(
         &self,
-        k: &ConstraintIndex,
+        k: &PairKeeper,
         p: &Problem,
         g: &Region,
         i: usize,
         found: &Suggestion,
         them: &mut Vec<Suggestion>,
     ) -> Result<(), Memory> {
-        self.constraints.suggest(k, p, g, i, found, them)
+        suggest_pairs(p, g, k.standings(p, g), i as u32, found, them)
     }
 
     ghost local = { λ w. watches_are_local pair_kinds };
