@@ -1,6 +1,6 @@
 //! The watches of constraints that give reasons of some kinds.
-ghost use Rattle.std.specs.Prelude.{◌≡◌, ◌<◌, length, slice_get};
-ghost use Rattle.rule_frame.specs.Prelude.{IsLook, IsSized, sets};
+ghost use Rattle.std.specs.Prelude.{◌≡◌, ◌<◌, length, slice_get, IsTrue};
+ghost use Rattle.rule_frame.specs.Prelude.{IsClean, IsLook, IsSized, sets};
 ghost use Rattle.rule_constraint.specs.Watches.{kept_watch, watch_at, watch_count};
 ghost use Rattle.rule_constraint.specs.Quiet.{kinds_are_quiet, watches_are_local};
 
@@ -17,7 +17,7 @@ use rule_frame::{
 /// The kinds of reasons that a rule covers, of those that constraints give, and how it looks at a constraint.
 pub trait Kinds: Drop {
     ghost use Rattle.std.specs.Prelude.{◌≡◌, ◌<◌, ◌≤◌, Bool, IfSome, IsTrue, None, false, length, slice_get};
-    ghost use Rattle.rule_frame.specs.Prelude.{broken_at, constraint_watch, in_part, IsElement, IsLook, IsSized, keeping, machine_count, seen, sets, sure, Vm};
+    ghost use Rattle.rule_frame.specs.Prelude.{broken_at, constraint_watch, in_part, IsClean, IsElement, IsLook, IsSized, keeping, machine_count, seen, sets, sure, Vm};
     ghost use Rattle.reasons.specs.declared.reason.ReasonKind.{ReasonKind as AnyKind};
     ghost use Rattle.reasons.specs.declared.reason.ReasonKind.TheVariants.{Load, Usable};
     ghost use Rattle.prop_core.specs.Propagators.{FailHolds, MayAnswer};
@@ -53,6 +53,15 @@ pub trait Kinds: Drop {
         ensures { IfSome result (FailHolds _p.now.given (sets g.now)) }
     {
         None
+    }
+
+    /// Whether it is seen at once that a constraint is clean. It need not be seen, and then cuts are proposed, and it is looked at.
+    fn is_clean(&self, p: &Problem, g: &Region, c: u32) -> bool
+        requires region { IsSized p.now.given g.now }
+        requires constraint { c < length p.now.given.constraints }
+        ensures { IsTrue result → IsClean (constraint_watch p.now.given c) p.now.given (sets g.now) }
+    {
+        false
     }
 
     /// Whether it is seen that a constraint, where it was clean before a machine lost choices, is clean with those that it has
@@ -129,6 +138,18 @@ fn look_at<S: Kinds>(kinds: &S, p: &Problem, g: &Region, c: usize) -> Look
     }
 }
 
+// whether it is seen at once that the watch of the constraint of a number is clean
+fn is_clean_of<S: Kinds>(kinds: &S, p: &Problem, g: &Region, c: usize) -> bool
+    requires region { IsSized p.now.given g.now }
+    requires constraint { c < length p.now.given.constraints }
+    ensures { IsTrue result → IsClean (kept_watch (S.kinds kinds.now) p.now.given (slice_get p.now.given.constraints c)) p.now.given (sets g.now) }
+{
+    match reason_kind(&p.constraints()[c]) {
+        None => true,
+        Some(kind) => !kinds.covers(kind) || kinds.is_clean(p, g, c as u32),
+    }
+}
+
 /// The watches of the constraints that give reasons of some kinds, by their numbers.
 #[derive(Default, Drop)]
 pub struct ConstraintWatcher<S> {
@@ -165,6 +186,10 @@ impl<S: Kinds> Watcher<ConstraintIndex> for ConstraintWatcher<S> {
 
     fn refuted(&self, _k: &ConstraintIndex, p: &Problem, g: &Region, i: usize) -> Option<Reason> {
         self.kinds.refuted(p, g, i as u32)
+    }
+
+    fn is_clean(&self, _k: &ConstraintIndex, p: &Problem, g: &Region, i: usize) -> bool {
+        is_clean_of(&self.kinds, p, g, i)
     }
 
     fn propose(

@@ -1,11 +1,13 @@
 -- A machine that runs and goes to other nodes is at its host or there.
-use Rattle.base.proofs.Public.{flat_map, lt-ltb, ne_eqb, le-leb, ◌++◌}
-use Rattle.rule_group.proofs.Prelude.{and_parts, ap, arith, Bool, cases_lt, cond, eq-eqb, false, inl, inr, IsTrue, kept_law, length, List, nat_le, nat_lt, None, not, of_one, numbers, refl, slice_index_or, Some, suc, sym, true, zero, [], ℕ, ◌&&◌, ◌+◌, ◌<◌, ◌==◌, ◌∙◌, ◌∷◌, ◌≡◌, ◌≢◌, ◌≤◌, ◌⊎◌}
-use Rattle.rule_group.specs.Prelude.{Act, AnyPlace, AreLeaves, At, Choice, choices, DomainView, Idle, Instance, IsOut, leave_of, never, no_row, node_count, NodeId, Nodes, Nowhere, one, Presence, present_at, Row, Sets, state_of, sure, surely, vm}
+use Rattle.base.proofs.Public.{filter, flat_map, lt-ltb, ne_eqb, le-leb, ◌++◌}
+use Rattle.rule_group.proofs.Prelude.{and_parts, ap, arith, Bool, cases_lt, cond, eq-eqb, eqb-true, false, false≢true, inl, inr, IsTrue, kept_law, leb-true, length, List, nat_le, nat_lt, None, not, of_one, numbers, refl, slice_index_or, Some, suc, sym, true, zero, [], ℕ, ◌&&◌, ◌+◌, ◌<◌, ◌==◌, ◌∙◌, ◌∷◌, ◌≡◌, ◌≢◌, ◌≤◌, ◌⊎◌}
+use Rattle.rule_group.specs.Prelude.{Act, AnyPlace, AreLeaves, At, Choice, choices, DomainView, Idle, Instance, in_part, IsOut, keeping, leave_of, MovesTo, never, no_row, node_count, NodeId, Nodes, Nowhere, one, Presence, present_at, Row, Sets, StandsAt, StandsUnder, state_of, sure, surely, Vm, vm, VmId}
 use Rattle.reasons.specs.Prelude.{is_raised, kind_of, wanted_state}
 use Rattle.slices.specs.Actions.{machine_kind}
 use Rattle.slices.proofs.Public.{present_on_set}
-use Rattle.domains.specs.Prelude.{row_choices, starts_from}
+use Rattle.rule_constraint.specs.Prelude.{Upto}
+use Rattle.relax.specs.Prelude.{Part}
+use Rattle.domains.specs.Prelude.{place_index, row_choices, same_place, starts_from}
 use Rattle.profiles.specs.declared.standing.leaves.Leaves.{Leaves}
 use Rattle.cluster.specs.declared.kinds.Kind.TheVariants.{Migrate}
 use Rattle.cluster.specs.declared.states.State.{State}
@@ -122,3 +124,42 @@ goes_elsewhere p s v t h x set d rows short is are runs same leaves host out =
 pub same_present : (p : Instance) (s r : Sets) (v t : ℕ) (set : Nodes) → s (vm v) ≡ r (vm v) → IsTrue ((sure p r t).present v set) → IsTrue ((sure p s t).present v set)
 unfolding sure
 same_present p s r v t set same h = rw same h
+
+-- ---- a machine that goes to a node by an instant
+
+surely-kept : (f test : Choice → Bool) (cs : List Choice) → ((c : Choice) → IsTrue (test c) → IsTrue (f c)) → IsTrue (surely f (filter test cs))
+surely-kept f test [] h = refl
+surely-kept f test (c ∷ cs) h = by (surely-kept f test cs h) (test c) refl
+  where
+    by : IsTrue (surely f (filter test cs)) → (b : Bool) → test c ≡ b → IsTrue (surely f (filter test (c ∷ cs)))
+    by rest true e = let first : f c ≡ true = h c e in rw (e, first) rest
+    by rest false e = rw e rest
+
+of-part : (q : AnyPlace) (s last : ℕ) (n : NodeId) → IsTrue (in_part (Upto (At n) last) (Act q s)) → (m : NodeId) × (q ≡ At m) × (m.0 ≡ n.0) × (s ≤ last)
+of-part Nowhere s last n h = let both = and_parts (same_place Nowhere (At n)) (nat_le s last) h in let at = eqb-true (place_index Nowhere) (place_index (At n)) both.0 in absurd (omega (arith, at))
+of-part (At m) s last n h =
+    let both = and_parts (same_place (At m) (At n)) (nat_le s last) h in
+    let at = eqb-true (place_index (At m)) (place_index (At n)) both.0 in
+    (m, refl, omega (arith, at), leb-true s last both.1)
+
+module _ (p : Instance) (v : ℕ) (h n : NodeId) (x : Leaves) (t last : ℕ) (runs : state_of p v ≡ Running h) (same : h.0 ≡ x.host.0) (leaves : AreLeaves p v x) (short : t < never) (low : n.0 < node_count p) (other : n.0 ≢ h.0) (early : last ≤ t) (set : Nodes) (lacks : set n.0 ≡ false) where
+  has-come : (c : Choice) → IsTrue (in_part (Upto (At n) last) c) → IsTrue (present_at p v (λ k. not (set k)) t c)
+  has-come Idle inside = absurd (false≢true inside)
+  has-come (Act q s) inside =
+      let at = of-part q s last n inside in
+      let m = at.0 in
+      let out : IsTrue (not (set m.0)) = rw (at.2, lacks) refl in
+      rw at.1 (present_on_set p v m.0 (λ k. not (set k)) t (Act (At m) s) out (at-place p v h x runs same leaves t s m short (rw at.2 low) (rw at.2 other) (omega (arith, at.3, early))))
+
+-- it stands there under each choice of the part
+goes-to : (p : Instance) (s : Sets) (v : VmId) (h n : NodeId) (x : Leaves) (t last : ℕ) → state_of p v.0 ≡ Running h → h.0 ≡ x.host.0 → AreLeaves p v.0 x → t < never → n.0 < node_count p → n.0 ≢ h.0 → last ≤ t → StandsAt (sure p (keeping (Vm v) (in_part (Upto (At n) last)) s) t) v.0 (record { host = None; place = Some n })
+unfolding sure
+goes-to p s v h n x t last runs same leaves short low other early = record {
+  outside = λ set host lacks.
+      let own : (v.0 == v.0) ≡ true = eq-eqb v.0 v.0 refl in
+      rw own (surely-kept (present_at p v.0 (λ k. not (set k)) t) (in_part (Upto (At n) last)) (s (vm v.0)) (has-come p v.0 h n x t last runs same leaves short low other early set lacks));
+}
+
+-- so it is where it moves to that node
+pub stands_under : (p : Instance) (v : VmId) (n : NodeId) (t last : ℕ) (part : Part) (q : AnyPlace) → part ≡ Upto q last → q ≡ At n → MovesTo p v.0 n → t < never → last ≤ t → StandsUnder p v part t (record { host = None; place = Some n })
+stands_under p v n t last part q is at m short early = rw (is, at) record { stands = λ s. goes-to p s v m.host n m.leaves t last m.runs m.same m.are short m.low m.other early }

@@ -1,6 +1,6 @@
 -- Members that are told to be together.
 use Rattle.rule_group.proofs.Prelude.{All, arith, Bool, cases_eq, Contains, end_is_choice, ends_of_rows, eqb-true, false, false≢true, get_or, get_or-map, get_or-map-range_with_len, inl, inr, IsTrue, length, length-map, length-map-range_with_len, List, map, not, or_cases, other-vm, range_with_len, refl, row_end, setting_sets, Some, some_end, slice_index_or, sound_form, subst, surely_each, sym, true, ◌==◌, ◌||◌, ◌<◌, ◌∙◌, ◌∷◌, ◌⊎◌, ◌≡◌, ◌≢◌, ℕ, []}
-use Rattle.rule_group.specs.Prelude.{Act, AnyNode, AnyOf, AnyPlace, are_below, AreCommon, AreScattered, AreSpots, Choice, choices, Climbs, Constraint, DomainView, Element, FitsAt, FitsMember, Form, form_of, Group, group_count, group_nodes, group_sets, Groups, has_node, HasOutside, Idle, Instance, inventory_of, is_continuous, is_member, is_rule, IsClean, IsDue, IsEnd, IsFound, IsInside, IsInstance, IsMember, IsServed, machine_count, members, never, no_row, node_count, Node as TheNode, Nodes, NodeSet, of_kind, one, present_at, reason_kind, Row, row_at, rule_watch, Sets, setting, Snapshot, Spots, sure, Together, Vm, vm, VmId}
+use Rattle.rule_group.specs.Prelude.{Act, AnyNode, AnyOf, AnyPlace, are_below, AreCommon, AreNodesOf, AreScattered, AreSpots, Choice, choices, Climbs, Constraint, DomainView, Element, FitsAt, FitsMember, Form, form_of, Group, group_count, group_nodes, group_sets, Groups, has_node, HasOutside, Idle, Instance, inventory_of, is_continuous, is_member, is_rule, IsAtOne, IsClean, IsDue, IsEnd, IsFound, IsHad, IsInside, IsInstance, IsMember, IsServed, machine_count, members, never, no_row, node_count, Node as TheNode, NodeId, Nodes, NodeSet, of_kind, one, present_at, reason_kind, Row, row_at, rule_watch, Sets, setting, Snapshot, Spots, sure, Together, Vm, vm, VmId}
 use Rattle.cluster.specs.Sets.{no_nodes}
 use Rattle.rule_group.proofs.SpotLemmas.{inside_by_spots}
 
@@ -48,6 +48,24 @@ more_served P found new i is before here j h =
       | inl same ↦ subst P (sym (eqb-true j i same)) here
       | inr old ↦ before j old
     ]
+
+-- a group that has the one node on which a machine may be has the node
+pub had_by_served : (p : Instance) (groups : Groups) (among : NodeSet) (x : Spots) (n : NodeId) (i : ℕ) → x.place ≡ Some n → IsServed p groups among x i → IsHad p groups among n.0
+had_by_served p groups among x n i place served = record { group = i; listed = served.listed; count = served.count; has = rw place at served.has.place }
+
+-- one node more is put into a set of nodes
+pub more_had : (P : ℕ → Type 0) (old new : NodeSet) (n : ℕ) → ((m : ℕ) → has_node new m ≡ ((m == n) || has_node old m)) → P n → (m : ℕ) → IsTrue (has_node new m) → IsTrue (has_node old m) ⊎ P m
+more_had P old new n is here m h =
+    elim (or_cases (m == n) (has_node old m) (sym (is m) ∙ h)) [
+      | inl same ↦ inr (subst P (sym (eqb-true m n same)) here)
+      | inr before ↦ inl before
+    ]
+
+-- a machine on one node alone is served by a group that has it
+pub served_at_one : (p : Instance) (groups : Groups) (among nodes : NodeSet) (x : Spots) → AreNodesOf p groups among nodes → IsAtOne nodes x → (i : ℕ) × IsServed p groups among x i
+served_at_one p groups among nodes x are at =
+    let had = are.each at.node.0 at.listed in
+    (had.group, record { listed = had.listed; count = had.count; has = record { host = rw at.host tt; place = rw at.place had.has } })
 
 -- the members of a constraint without a fault are listed
 pub listed_members : (p : Instance) (k : Constraint) (f : Form) → form_of k ≡ f → is_rule (inventory_of p) k ≡ true → are_below (machine_count p) (members f) ≡ true

@@ -25,8 +25,8 @@ pub use Rattle.reasons.specs.declared.reason.ReasonKind.TheVariants.{Bound, Empt
 pub use Rattle.rule_constraint.specs.Broken.{of_kind}
 pub use Rattle.rule_group.specs.Covers.{group_kinds}
 pub use Rattle.rule_group.specs.Spots.{AreSpots, HasHost, HasSpots, IsDue, IsPlaceSpot, IsSpot, IsSpotIn}
-pub use Rattle.rule_group.specs.Together.{AreCommon, FitsAt, FitsMember, group_count, group_nodes, IsFound, IsInside, IsServed, MayBeIn}
-pub use Rattle.rule_group.specs.Scattered.{IsOut, LacksSpot, StandsAt}
+pub use Rattle.rule_group.specs.Together.{AreCommon, AreNodesOf, FitsAt, FitsMember, group_count, group_nodes, IsAtOne, IsFound, IsHad, IsInside, IsServed, MayBeIn}
+pub use Rattle.rule_group.specs.Scattered.{IsOut, LacksSpot, MovesTo, StandsAt, StandsUnder}
 pub use Rattle.rule_group.specs.Acting.{AreEndedBy, AreStartedFrom, AvoidsSpan, EndsBy, HasSpan, IsClearOf, KeepsOff, StartsFrom}
 pub use Rattle.rule_group.specs.declared.acting.Span.{Span}
 pub use Rattle.rule_group.specs.declared.spots.Spots.{Spots}

@@ -1,7 +1,7 @@
 -- Helping only: members that are told to be together.
-use Rattle.std.specs.Prelude.{◌≡◌, ◌≢◌, ℕ, ◌<◌, Bool, false, not, [], List, length, slice_index_or, IsTrue}
+use Rattle.std.specs.Prelude.{◌≡◌, ◌≢◌, ℕ, ◌<◌, Bool, false, not, [], List, length, slice_index_or, IsTrue, None, Some}
 use Rattle.std.specs.List.{Contains}
-use Rattle.rule_constraint.specs.Prelude.{has_node, Instance, IsEnd, IsMember, node_count, Nodes, NodeSet, one, present_at, Sets, vm, VmId}
+use Rattle.rule_constraint.specs.Prelude.{has_node, Instance, IsEnd, IsMember, node_count, NodeId, Nodes, NodeSet, one, present_at, Sets, vm, VmId}
 use Rattle.cluster.specs.Sets.{no_nodes}
 use Rattle.slices.specs.Prelude.{AnyNode, AnyOf, Groups}
 use Rattle.cluster.specs.declared.choices.Choice.{Choice}
@@ -22,6 +22,24 @@ pub record IsServed (p : Instance) (groups : Groups) (among : NodeSet) (x : Spot
   pub listed : IsTrue (has_node among i)
   pub count : i < group_count p groups
   pub has : HasSpots (group_nodes groups i) x
+
+-- one of the groups among some has the node
+pub record IsHad (p : Instance) (groups : Groups) (among : NodeSet) (n : ℕ) : Type 0 where
+  pub group : ℕ
+  pub listed : IsTrue (has_node among group)
+  pub count : group < group_count p groups
+  pub has : IsTrue (group_nodes groups group n)
+
+-- so it is of each of these nodes
+pub record AreNodesOf (p : Instance) (groups : Groups) (among nodes : NodeSet) : Type 0 where
+  pub each : (n : ℕ) → IsTrue (has_node nodes n) → IsHad p groups among n
+
+-- a machine may be on one node alone, which is one of these
+pub record IsAtOne (nodes : NodeSet) (x : Spots) : Type 0 where
+  pub node : NodeId
+  pub host : x.host ≡ None
+  pub place : x.place ≡ Some node
+  pub listed : IsTrue (has_node nodes node.0)
 
 -- under the choice machine v is on no node outside the set, whenever the constraint is due
 pub record IsInside (p : Instance) (always : Bool) (v : ℕ) (set : Nodes) (c : Choice) : Type 0 where

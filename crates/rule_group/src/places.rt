@@ -1,6 +1,6 @@
 //! The groups of nodes of a constraint, by their numbers: each node by itself, or the sets that it lists.
 ghost use Rattle.std.specs.Prelude.{◌≡◌, ◌⊎◌, ℕ, ◌<◌, ◌≤◌, IsTrue};
-ghost use Rattle.rule_group.specs.Prelude.{group_count as the_group_count, group_nodes, groups_seen, has_node, HasSpots, IsServed, IsSpotIn, max_nodes};
+ghost use Rattle.rule_group.specs.Prelude.{AreNodesOf, group_count as the_group_count, group_nodes, groups_seen, has_node, HasSpots, IsAtOne, IsHad, IsServed, IsSpotIn, max_nodes};
 
 use crate::spots::Spots;
 use cluster::limits::MAX_NODES;
@@ -129,4 +129,70 @@ pub fn all_groups(p: &Problem, groups: &Groups) -> NodeSet
         all.insert(NodeId(i as u32));
     }
     all
+}
+
+// puts a node in, where one of some groups has it
+fn add_if_had(p: &Problem, groups: &Groups, among: &NodeSet, n: NodeId, nodes: &mut NodeSet)
+    requires { n.0 < max_nodes }
+    ensures { (m : ℕ) → IsTrue (has_node nodes.new m) → IsTrue (has_node nodes.old m) ⊎ IsHad p.now.given (groups_seen groups.now) among.now m }
+{
+    let there = Spots {
+        host: None,
+        place: Some(n),
+    };
+    if !is_served(p, groups, there, among) {
+        return;
+    }
+    nodes.insert(n);
+}
+
+// before which number nodes are asked: all nodes, none where each is a group by itself
+fn end_of_nodes(p: &Problem, groups: &Groups) -> usize
+    ensures { result ≤ max_nodes }
+{
+    match groups {
+        Groups::AnyNode => 0,
+        Groups::AnyOf(_) => p.cluster().nodes().len().min(MAX_NODES),
+    }
+}
+
+/// The nodes that some of the sets have. Where each node is a group by itself none is told, since that is asked as soon.
+pub fn nodes_of(p: &Problem, groups: &Groups, among: &NodeSet) -> NodeSet
+    ensures { AreNodesOf p.now.given (groups_seen groups.now) among.now result }
+{
+    let end = end_of_nodes(p, groups);
+    let mut nodes = NodeSet::new();
+    for n in 0..end {
+        add_if_had(p, groups, among, NodeId(n as u32), &mut nodes);
+    }
+    nodes
+}
+
+// whether a machine may be on one node alone, which is one of these
+fn is_at_one(spots: Spots, nodes: &NodeSet) -> bool
+    ensures { IsTrue result → IsAtOne nodes.now spots }
+{
+    if spots.host.is_some() {
+        return false;
+    }
+    match spots.place {
+        None => false,
+        Some(n) => nodes.has(n),
+    }
+}
+
+/// Whether one of some groups has all nodes on which a machine may be; of one node that is told by the nodes that they have.
+pub fn is_served_by(
+    p: &Problem,
+    groups: &Groups,
+    spots: Spots,
+    among: &NodeSet,
+    nodes: &NodeSet,
+) -> bool
+    ensures { AreNodesOf p.now.given (groups_seen groups.now) among.now nodes.now → IsTrue result → (i : ℕ) × IsServed p.now.given (groups_seen groups.now) among.now spots i }
+{
+    if is_at_one(spots, nodes) {
+        return true;
+    }
+    is_served(p, groups, spots, among)
 }

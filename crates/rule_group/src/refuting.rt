@@ -4,20 +4,21 @@
 //! host, it is outside each group that has neither, and of the few other groups alone all members are asked.
 ghost use Rattle.std.specs.Prelude.{◌≡◌, ◌⊎◌, ℕ, ◌<◌, None, nat_lt, not, true, IfSome, IsTrue};
 ghost use Rattle.std.specs.List.{list_all};
-ghost use Rattle.rule_group.specs.Prelude.{AreScattered, group_count as the_group_count, group_nodes, group_sets, groups_seen, has_node, HasOutside, in_part, inventory_of, is_rule, IsElement, IsGroup, IsMember, IsSized, IsSpot, keeping, LacksSpot, machine_count, Refutes, seen, sets, StandsAt, sure};
+ghost use Rattle.rule_group.specs.Prelude.{AreScattered, group_count as the_group_count, group_nodes, group_sets, groups_seen, has_node, HasOutside, in_part, inventory_of, is_rule, IsElement, IsGroup, IsMember, IsSized, IsSpot, keeping, LacksSpot, machine_count, MovesTo, Refutes, seen, sets, StandsAt, StandsUnder, sure};
 
 use crate::elsewhere::stays_elsewhere;
 use crate::places::{group_count, has};
 use crate::spots::{Spots, place_spot};
 use cluster::limits::MAX_NODES;
 use profiles::seen::is_narrowed;
+use profiles::standing::leaves::{leaves_of, runs_on};
 use relax::named::is_named;
 use relax::refutes::refutes_inside;
 use relax::surely_in;
 use rule_constraint::host;
 use rule_frame::{
-    Area, Constraint, Element, Form, Instant, Lens, NodeId, NodeSet, Part, Problem, Reason, Region,
-    View, VmId, form_of,
+    Area, Constraint, Element, Form, Instant, Lens, NodeId, NodeSet, Part, Place, Problem, Reason,
+    Region, View, VmId, form_of,
 };
 use slices::form::Groups;
 
@@ -69,11 +70,15 @@ fn most_settled(p: &Problem, g: &Region, machines: &[VmId]) -> usize
             fewest = count;
             best = i;
         }
+        if count <= 1 {
+            return i;
+        }
     }
     best
 }
 
-// whether one of some machines is; the one with the fewest places to go is asked first, which is told soonest
+// whether one of some machines is. The first one, of which cuts are tried first, is asked where that is quick, and then the one
+// with the fewest places to go, which is told soonest
 fn has_outside(
     p: &Problem,
     view: &View,
@@ -87,6 +92,9 @@ fn has_outside(
     requires group { i < the_group_count p.now.given (groups_seen groups.now) }
     ensures { IsTrue result → HasOutside (sure p.now.given (seen view.now.region.now view.now.lens) t) machines.now (group_nodes (groups_seen groups.now) i) }
 {
+    if machines.len() > 0 && is_told_outside(p, view, machines[0], groups, i, t) {
+        return true;
+    }
     let first = most_settled(p, view.region, machines);
     if first < machines.len() && is_outside(p, view, machines[first], groups, i, t) {
         return true;
@@ -202,12 +210,50 @@ fn target_of(part: Part) -> Option<NodeId> {
     }
 }
 
-// where a machine surely is under the choices of a part: where it goes, or else there or at its host
+// whether a machine that runs, and is to run on, goes to a node other than its host
+fn moves_to(p: &Problem, v: VmId, n: NodeId) -> bool
+    requires { v.0 < machine_count p.now.given }
+    ensures { IsTrue result → MovesTo p.now.given v.0 n }
+{
+    let Some(h) = runs_on(p, v) else {
+        return false;
+    };
+    let Some(leaves) = leaves_of(p, v) else {
+        return false;
+    };
+    h.0 == leaves.host.0 && n.0 != h.0 && (n.0 as usize) < p.cluster().nodes().len()
+}
+
+// the node to which it goes under each choice of a part, by an instant
+fn spots_gone_to(p: &Problem, v: VmId, part: Part, t: Instant) -> Option<Spots>
+    requires { v.0 < machine_count p.now.given }
+    ensures { IfSome result (StandsUnder p.now.given v part t) }
+{
+    let Part::Upto(place, last) = part else {
+        return None;
+    };
+    let Place::At(n) = place else {
+        return None;
+    };
+    if last > t || !moves_to(p, v, n) {
+        return None;
+    }
+    Some(Spots {
+        host: None,
+        place: Some(n),
+    })
+}
+
+// where a machine surely is under the choices of a part, which alone are seen: where it goes, or else there or at its host
 fn spots_of_part(p: &Problem, view: &View, v: VmId, part: Part, t: Instant) -> Option<Spots>
     requires region { IsSized p.now.given view.now.region.now }
     requires machine { v.0 < machine_count p.now.given }
+    requires part { seen view.now.region.now view.now.lens ≡ keeping (Element.Vm v) (in_part part) (sets view.now.region.now) }
     ensures { IfSome result (StandsAt (sure p.now.given (seen view.now.region.now view.now.lens) t) v.0) }
 {
+    if let Some(there) = spots_gone_to(p, v, part, t) {
+        return Some(there);
+    }
     let place = target_of(part);
     let there = Spots { host: None, place };
     if place.is_some() && stands_at(p, view, v, there, t) {
@@ -238,6 +284,7 @@ fn is_broken(
 ) -> Option<bool>
     requires region { IsSized p.now.given view.now.region.now }
     requires element { IsElement p.now.given e }
+    requires part { seen view.now.region.now view.now.lens ≡ keeping e (in_part part) (sets view.now.region.now) }
     requires rule { is_rule (inventory_of p.now.given) constraint.now ≡ true }
     ensures { IfSome result (λ b. IsTrue b → IsGroup p.now.given (sure p.now.given (seen view.now.region.now view.now.lens) t) constraint.now) }
 {

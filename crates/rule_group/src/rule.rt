@@ -3,12 +3,11 @@ ghost use Rattle.std.specs.Prelude.{refl};
 ghost use Rattle.rule_group.specs.Covers.{group_kinds};
 
 use crate::cuts::propose_cuts;
-use crate::kept::look_quickly;
+use crate::kept::is_kept;
 use crate::refuting::refutes_part;
 use rule_constraint::{ConstraintIndex, ConstraintWatcher, Kinds};
 use rule_frame::{
-    Element, Instant, Look, Memory, Part, Problem, Reason, ReasonKind, Region, Rule, Suggestion,
-    View,
+    Element, Instant, Memory, Part, Problem, Reason, ReasonKind, Region, Rule, Suggestion, View,
 };
 
 /// Whole groups of machines: `gather`, `among`, `precedence`, `serialize`.
@@ -22,8 +21,8 @@ impl Kinds for Groups {
         matches!(kind, ReasonKind::Group)
     }
 
-    fn look(&self, p: &Problem, g: &Region, c: u32) -> Look {
-        look_quickly(p, g, c)
+    fn is_clean(&self, p: &Problem, g: &Region, c: u32) -> bool {
+        is_kept(p, g, c)
     }
 
     fn propose(

@@ -1,9 +1,9 @@
 //! On which nodes a machine may be under a choice, whenever a constraint is due.
-ghost use Rattle.std.specs.Prelude.{◌<◌, ◌≤◌, IfSome, IsTrue};
+ghost use Rattle.std.specs.Prelude.{◌≡◌, ◌<◌, ◌≤◌, IfSome, IsTrue};
 ghost use Rattle.rule_group.specs.Prelude.{AreLeaves, AreSpots, Choice as AnyChoice, HasHost, IsElement, IsPlaceSpot, leave_of, machine_count};
 
 use domains::measure::Measure;
-use profiles::standing::leaves::Leaves;
+use profiles::standing::leaves::{Leaves, left_by};
 use profiles::standing::numbers::Leaving;
 use rule_constraint::host;
 use rule_frame::{Choice, Element, NodeId, Place, Problem, Row, VmId};
@@ -13,6 +13,25 @@ use rule_frame::{Choice, Element, NodeId, Place, Problem, Row, VmId};
 pub struct Spots {
     pub host: Option<NodeId>,
     pub place: Option<NodeId>,
+}
+
+// until when a choice keeps what a machine has on its host; how it leaves is mostly known
+fn left(p: &Problem, v: VmId, leaves: Option<Leaves>, c: Choice) -> u64
+    requires machine { IsElement p.now.given (Element.Vm v) }
+    requires leaves { IfSome leaves (AreLeaves p.now.given v.0) }
+    ensures { result ≡ leave_of p.now.given v.0 c }
+{
+    if let Some(known) = leaves {
+        if let Some(left) = left_by(p, v, known, c) {
+            return left;
+        }
+    }
+    let leaving = Leaving {
+        problem: p,
+        machine: v,
+        leaves,
+    };
+    leaving.value(c)
 }
 
 // whether a machine leaves its host by the horizon under both ends of a row
@@ -29,13 +48,8 @@ fn leaves_in_time(p: &Problem, v: VmId, leaves: Option<Leaves>, row: Row) -> boo
         place: row.place,
         start: row.hi,
     };
-    let leaving = Leaving {
-        problem: p,
-        machine: v,
-        leaves,
-    };
     let end = u64::from(p.horizon());
-    leaving.value(first) <= end && leaving.value(last) <= end
+    left(p, v, leaves, first) <= end && left(p, v, leaves, last) <= end
 }
 
 // the host of a machine, where it may be there under an end of a row when the constraint is due
@@ -46,12 +60,12 @@ fn host_spot(p: &Problem, always: bool, v: VmId, leaves: Option<Leaves>, row: Ro
     ensures first { HasHost p.now.given always v.0 (AnyChoice.Act row.place row.lo) result }
     ensures last { HasHost p.now.given always v.0 (AnyChoice.Act row.place row.hi) result }
 {
-    let Some(h) = host(p, v) else {
-        return None;
-    };
     if !always && leaves_in_time(p, v, leaves, row) {
         return None;
     }
+    let Some(h) = host(p, v) else {
+        return None;
+    };
     Some(h)
 }
 

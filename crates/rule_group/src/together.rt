@@ -2,9 +2,9 @@
 //! each member may be in, each choice of each member has one.
 ghost use Rattle.std.specs.Prelude.{◌≡◌, ◌⊎◌, ℕ, ◌<◌, length, nat_lt, true, slice_index_or, IfSome, IsTrue};
 ghost use Rattle.std.specs.List.{list_all};
-ghost use Rattle.rule_group.specs.Prelude.{AreCommon, AreLeaves, Choice as AnyChoice, choices, Climbs, FitsAt, FitsMember, form_of as the_form_of, groups_seen, has_node, IsClean, IsFound, IsMember, IsSized, machine_count, no_row, rule_watch, sets, Together, vm};
+ghost use Rattle.rule_group.specs.Prelude.{AreCommon, AreLeaves, AreNodesOf, Choice as AnyChoice, choices, Climbs, FitsAt, FitsMember, form_of as the_form_of, groups_seen, has_node, IsClean, IsFound, IsMember, IsSized, machine_count, no_row, rule_watch, sets, Together, vm};
 
-use crate::places::{add_serving, all_groups, is_served};
+use crate::places::{add_serving, all_groups, is_served, is_served_by, nodes_of};
 use crate::spots::{spots_of_idle, spots_of_row};
 use profiles::standing::leaves::{Leaves, leaves_of};
 use rule_frame::{Constraint, Domain, Element, NodeSet, Problem, Region, Row, VmId};
@@ -32,7 +32,7 @@ fn groups_of_idle(
     found
 }
 
-// puts in those that it may be in under a row, where some are still out
+// puts in those that it may be in under a row
 fn add_row(
     p: &Problem,
     always: bool,
@@ -49,9 +49,6 @@ fn add_row(
     requires row { i < length domain.now.rows }
     ensures { (j : ℕ) → IsTrue (has_node found.new j) → IsTrue (has_node found.old j) ⊎ IsFound p.now.given (choices domain.now) always v.0 (groups_seen groups.now) among.now j }
 {
-    if *found == *among {
-        return;
-    }
     let rows = domain.rows();
     let spots = spots_of_row(p, always, v, leaves, rows[i]);
     add_serving(p, groups, spots, among, found);
@@ -75,6 +72,9 @@ pub fn groups_of(
     let mut found = groups_of_idle(p, always, groups, v, domain, among);
     for i in 0..domain.rows().len() {
         add_row(p, always, groups, v, leaves, domain, i, among, &mut found);
+        if found == *among {
+            break;
+        }
     }
     found
 }
@@ -107,13 +107,21 @@ fn row_fits(
     leaves: Option<Leaves>,
     row: Row,
     common: &NodeSet,
+    nodes: &NodeSet,
 ) -> bool
     requires machine { v.0 < machine_count p.now.given }
     requires leaves { IfSome leaves (AreLeaves p.now.given v.0) }
+    requires nodes { AreNodesOf p.now.given (groups_seen groups.now) common.now nodes.now }
     ensures first { IsTrue result → FitsAt p.now.given always (groups_seen groups.now) common.now v.0 (AnyChoice.Act row.place row.lo) }
     ensures last { IsTrue result → FitsAt p.now.given always (groups_seen groups.now) common.now v.0 (AnyChoice.Act row.place row.hi) }
 {
-    is_served(p, groups, spots_of_row(p, always, v, leaves, row), common)
+    is_served_by(
+        p,
+        groups,
+        spots_of_row(p, always, v, leaves, row),
+        common,
+        nodes,
+    )
 }
 
 // so for each row
@@ -124,14 +132,16 @@ fn rows_fit(
     v: VmId,
     rows: &[Row],
     common: &NodeSet,
+    nodes: &NodeSet,
 ) -> bool
-    requires { v.0 < machine_count p.now.given }
+    requires machine { v.0 < machine_count p.now.given }
+    requires nodes { AreNodesOf p.now.given (groups_seen groups.now) common.now nodes.now }
     ensures first { IsTrue result → (i : ℕ) → i < length rows.now → FitsAt p.now.given always (groups_seen groups.now) common.now v.0 (AnyChoice.Act (slice_index_or rows.now i no_row).place (slice_index_or rows.now i no_row).lo) }
     ensures last { IsTrue result → (i : ℕ) → i < length rows.now → FitsAt p.now.given always (groups_seen groups.now) common.now v.0 (AnyChoice.Act (slice_index_or rows.now i no_row).place (slice_index_or rows.now i no_row).hi) }
 {
     let leaves = leaves_of(p, v);
     for i in 0..rows.len() {
-        if !row_fits(p, always, groups, v, leaves, rows[i], common) {
+        if !row_fits(p, always, groups, v, leaves, rows[i], common, nodes) {
             return false;
         }
     }
@@ -164,9 +174,11 @@ fn machine_fits(
     groups: &Groups,
     v: VmId,
     common: &NodeSet,
+    nodes: &NodeSet,
 ) -> bool
     requires region { IsSized p.now.given g.now }
     requires machine { v.0 < machine_count p.now.given }
+    requires nodes { AreNodesOf p.now.given (groups_seen groups.now) common.now nodes.now }
     ensures { IsTrue result → FitsMember p.now.given (sets g.now) always (groups_seen groups.now) common.now v.0 }
 {
     let domain = g.domain(Element::Vm(v));
@@ -174,7 +186,8 @@ fn machine_fits(
         return false;
     }
     let rows = domain.rows();
-    idle_fits(p, always, groups, v, domain, common) && rows_fit(p, always, groups, v, rows, common)
+    idle_fits(p, always, groups, v, domain, common)
+        && rows_fit(p, always, groups, v, rows, common, nodes)
 }
 
 // so for each machine of a list
@@ -185,13 +198,15 @@ fn members_fit(
     groups: &Groups,
     machines: &[VmId],
     common: &NodeSet,
+    nodes: &NodeSet,
 ) -> bool
     requires region { IsSized p.now.given g.now }
     requires machines { list_all (λ x. nat_lt x.0 (machine_count p.now.given)) machines.now ≡ true }
+    requires nodes { AreNodesOf p.now.given (groups_seen groups.now) common.now nodes.now }
     ensures { IsTrue result → (v : ℕ) → IsMember machines.now v → FitsMember p.now.given (sets g.now) always (groups_seen groups.now) common.now v }
 {
     for i in 0..machines.len() {
-        if !machine_fits(p, g, always, groups, machines[i], common) {
+        if !machine_fits(p, g, always, groups, machines[i], common, nodes) {
             return false;
         }
     }
@@ -213,5 +228,6 @@ pub fn are_together(
 {
     let always = constraint.is_continuous();
     let common = common_groups(p, g, always, groups, machines);
-    members_fit(p, g, always, groups, machines, &common)
+    let nodes = nodes_of(p, groups, &common);
+    members_fit(p, g, always, groups, machines, &common, &nodes)
 }

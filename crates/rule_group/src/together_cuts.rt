@@ -6,33 +6,34 @@ ghost use Rattle.rule_group.specs.Prelude.{AreLeaves, IsSized, machine_count};
 
 use crate::acting::ends_of;
 use crate::cuts::{instant_of, put};
-use crate::places::is_served;
+use crate::places::{is_served, is_served_by, nodes_of};
 use crate::spots::{spots_of_idle, spots_of_row};
 use crate::together::common_groups;
 use profiles::standing::leaves::{Leaves, leaves_of};
 use rule_frame::{Element, Memory, NodeSet, Part, Problem, Region, Row, Suggestion, VmId};
 use slices::form::Groups;
 
-// a constraint by its number, and the groups that each member may be in: always, or at the horizon
+// a constraint by its number, and the groups that each member may be in, with their nodes: always, or at the horizon
 #[derive(Clone, Copy)]
 struct Aim<'a> {
     constraint: u32,
     always: bool,
     groups: Groups<'a>,
     common: NodeSet,
+    nodes: NodeSet,
 }
 
 // whether none of these groups has all nodes on which a machine may be under a row
-fn is_lost(p: &Problem, aim: Aim, v: VmId, leaves: Option<Leaves>, row: Row) -> bool
+fn is_lost(p: &Problem, aim: &Aim, v: VmId, leaves: Option<Leaves>, row: Row) -> bool
     requires machine { v.0 < machine_count p.now.given }
     requires leaves { IfSome leaves (AreLeaves p.now.given v.0) }
 {
     let spots = spots_of_row(p, aim.always, v, leaves, row);
-    !is_served(p, &aim.groups, spots, &aim.common)
+    !is_served_by(p, &aim.groups, spots, &aim.common, &aim.nodes)
 }
 
 // whether a machine may stay where none of these groups has its host
-fn is_idle_lost(p: &Problem, g: &Region, aim: Aim, v: VmId) -> bool
+fn is_idle_lost(p: &Problem, g: &Region, aim: &Aim, v: VmId) -> bool
     requires region { IsSized p.now.given g.now }
     requires machine { v.0 < machine_count p.now.given }
 {
@@ -44,7 +45,7 @@ fn is_idle_lost(p: &Problem, g: &Region, aim: Aim, v: VmId) -> bool
 fn cut_at_end(
     p: &Problem,
     g: &Region,
-    aim: Aim,
+    aim: &Aim,
     v: VmId,
     them: &mut Vec<Suggestion>,
 ) -> Result<(), Memory>
@@ -68,7 +69,7 @@ fn cut_at_end(
 fn cut_all_at_end(
     p: &Problem,
     g: &Region,
-    aim: Aim,
+    aim: &Aim,
     machines: &[VmId],
     them: &mut Vec<Suggestion>,
 ) -> Result<(), Memory>
@@ -85,7 +86,7 @@ fn cut_all_at_end(
 fn cut_actions(
     p: &Problem,
     g: &Region,
-    aim: Aim,
+    aim: &Aim,
     v: VmId,
     them: &mut Vec<Suggestion>,
 ) -> Result<(), Memory>
@@ -105,7 +106,7 @@ fn cut_actions(
 }
 
 // whether a row of a machine is lost
-fn has_lost(p: &Problem, g: &Region, aim: Aim, v: VmId) -> bool
+fn has_lost(p: &Problem, g: &Region, aim: &Aim, v: VmId) -> bool
     requires region { IsSized p.now.given g.now }
     requires machine { v.0 < machine_count p.now.given }
 {
@@ -130,7 +131,7 @@ fn lasts(p: &Problem, v: VmId) -> u64
 
 // of the machines with a row that is lost the one whose action lasts longest: the fewest cuts bring it into one group,
 // and the others are then lost at the horizon
-fn slowest(p: &Problem, g: &Region, aim: Aim, machines: &[VmId]) -> Option<usize>
+fn slowest(p: &Problem, g: &Region, aim: &Aim, machines: &[VmId]) -> Option<usize>
     requires region { IsSized p.now.given g.now }
     requires machines { list_all (λ x. nat_lt x.0 (machine_count p.now.given)) machines.now ≡ true }
 {
@@ -150,7 +151,7 @@ fn slowest(p: &Problem, g: &Region, aim: Aim, machines: &[VmId]) -> Option<usize
 fn cut_before_end(
     p: &Problem,
     g: &Region,
-    aim: Aim,
+    aim: &Aim,
     machines: &[VmId],
     them: &mut Vec<Suggestion>,
 ) -> Result<(), Memory>
@@ -177,22 +178,26 @@ pub fn cut_together(
     requires machines { list_all (λ x. nat_lt x.0 (machine_count p.now.given)) machines.now ≡ true }
 {
     let common = common_groups(p, g, false, groups, machines);
+    let nodes = nodes_of(p, groups, &common);
     let aim = Aim {
         constraint: c,
         always: false,
         groups: *groups,
         common,
+        nodes,
     };
-    cut_all_at_end(p, g, aim, machines, them)?;
+    cut_all_at_end(p, g, &aim, machines, them)?;
     if !always || them.len() > 0 {
         return Ok(());
     }
     let common = common_groups(p, g, true, groups, machines);
+    let nodes = nodes_of(p, groups, &common);
     let aim = Aim {
         constraint: c,
         always: true,
         groups: *groups,
         common,
+        nodes,
     };
-    cut_before_end(p, g, aim, machines, them)
+    cut_before_end(p, g, &aim, machines, them)
 }
