@@ -5,6 +5,7 @@ mod HeldLemmas
 mod HoldOnLemmas
 mod LooseLemmas
 mod NodeRoomLemmas
+mod OrderLemmas
 mod OverLemmas
 mod RoomLemmas
 mod TotalLemmas

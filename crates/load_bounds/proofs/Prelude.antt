@@ -1,5 +1,5 @@
 -- What proofs of this crate cite together of what stands below them, passed on from one place. Declares nothing.
-pub use Rattle.base.proofs.Public.{Bool, Contains, Contains-get_or, Decides-eqb, IfSome, List, None, Option, Some, [], ap, append-nil, arith, cases_eq, cases_lt, cond, false, false≢true, filter, flat_map, get_or, get_or_default, inl, inr, length, list_any, list_any-append, lt-ltb, nat_le, nat_lt, nat_tests, ne_eqb, not, refl, rules, slice_index_or, subst, suc, sum_by, sum_by-cons, sum_to-le, sum_to-term, sym, take, true, zero, ℕ, ◌&&◌, ◌*◌, ◌++◌, ◌+◌, ◌-◌, ◌<◌, ◌==◌, ◌||◌, ◌∙◌, ◌∷◌, ◌≡◌, ◌≢◌, ◌≤◌, ◌⊎◌}
+pub use Rattle.base.proofs.Public.{Bool, Contains, Contains-get_or, Decides-eqb, IfSome, IsPartitionPoint-from_clause, IsPartitionedBy-leb, List, None, Option, Some, [], ap, append-nil, arith, cases_eq, cases_lt, cond, false, false≢true, filter, flat_map, get_or, get_or_default, inl, inr, leb, leb-true, length, list_any, list_any-append, lt-ltb, nat_le, nat_lt, nat_tests, ne_eqb, not, refl, rules, slice_index_or, subst, suc, sum_by, sum_by-cons, sum_to-le, sum_to-term, sym, take, true, zero, ℕ, ◌&&◌, ◌*◌, ◌++◌, ◌+◌, ◌-◌, ◌<◌, ◌==◌, ◌||◌, ◌∙◌, ◌∷◌, ◌≡◌, ◌≢◌, ◌≤◌, ◌⊎◌}
 pub use Rattle.cluster.specs.declared.choices.Place.{Place}
 pub use Rattle.domains.proofs.Public.{contains_filter, contains_here, least_of_each, may_by_least, may_each, surely_by_least, surely_each}
 pub use Rattle.domains.specs.declared.undo.Lost.TheVariants.{Row as LostRow}

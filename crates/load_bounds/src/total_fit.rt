@@ -66,6 +66,24 @@ fn is_under(
     left_at(p, v, c) <= u64::from(x.from)
 }
 
+// whether it uses no more with either end of a row; where both are past the period, what it has tells that
+#[tactic(auto, using(crate::proofs::TotalLemmas::later_under))]
+fn row_is_under(p: &Problem, v: VmId, r: u8, row: Row, needs: Needs, x: Period, bound: u64) -> bool
+    requires machine { IsElement p.now.given (Element.Vm v) }
+    requires had { needs.had ≡ the_base p.now.given v.0 (AmountOf r) }
+    requires demand { needs.demand ≡ demand_of p.now.given v.0 r }
+    requires small { needs.had + needs.demand ≤ 2 * max_amount }
+    requires period { x.to ≤ p.now.given.horizon }
+    ensures first { IsTrue result → IsMostUnder p.now.given v.0 (AnyChoice.Act row.place row.lo) r (all_nodes p.now.given) x bound }
+    ensures last { IsTrue result → IsMostUnder p.now.given v.0 (AnyChoice.Act row.place row.hi) r (all_nodes p.now.given) x bound }
+{
+    if needs.had <= bound && row.lo > x.to && row.hi > x.to {
+        return true;
+    }
+    is_under(p, v, r, row, row.lo, needs, x, bound)
+        && is_under(p, v, r, row, row.hi, needs, x, bound)
+}
+
 // whether a machine that may stay uses no more than a bound as it is
 fn idle_is_under(domain: &Domain, needs: Needs, bound: u64) -> bool
     ensures { IsTrue result → domain.now.idle ≡ true → needs.had ≤ bound }
@@ -97,10 +115,7 @@ fn ends_are_under(
     }
     let rows = domain.rows();
     for i in 0..rows.len() {
-        if !is_under(p, v, r, rows[i], rows[i].lo, needs, x, bound) {
-            return false;
-        }
-        if !is_under(p, v, r, rows[i], rows[i].hi, needs, x, bound) {
+        if !row_is_under(p, v, r, rows[i], needs, x, bound) {
             return false;
         }
     }
@@ -132,8 +147,22 @@ pub fn any_fits(p: &Problem, f: &Fixed, r: u8, spare: u64) -> bool
     f.most(p, r) <= spare
 }
 
+// whether a machine with these numbers uses no more than what is spare and what it surely uses itself
+fn machine_fits(p: &Problem, g: &Region, v: VmId, k: Standing, r: u8, x: Period, spare: u64) -> bool
+    requires region { IsSized p.now.given g.now }
+    requires machine { IsElement p.now.given (Element.Vm v) }
+    requires resource { r < length p.now.given.resources }
+    requires period { x.to ≤ p.now.given.horizon }
+    requires small { spare ≤ max_nodes * max_capacity }
+    ensures { IsTrue result → IsMost p.now.given v.0 (sets g.now (vm v.0)) r (all_nodes p.now.given) x (spare + the_most_anywhere p.now.given v.0 r x (the_may_wait p.now.given (sets g.now) x v.0) k) }
+{
+    let bound = spare + most_anywhere(p, v, r, x, may_wait(p, g, v, x), k);
+    is_below(p, g, v, r, x, bound)
+}
+
 /// Whether each machine uses no more on all nodes during a period, under any end of its choices, than what is spare and
-/// what it surely uses itself. A no may be one too many.
+/// what it surely uses itself: those are asked whose present use and demand are more, the greatest first. A no may be one
+/// too many.
 pub fn machines_fit(
     p: &Problem,
     f: &Fixed,
@@ -151,13 +180,14 @@ pub fn machines_fit(
     requires small { spare ≤ max_nodes * max_capacity }
     ensures { IsTrue result → MachinesFit p.now.given (sets g.now) r (all_nodes p.now.given) x (λ v. the_most_anywhere p.now.given v r x (the_may_wait p.now.given (sets g.now) x v) (slice_index_or ks.now v no_standing)) spare }
 {
-    if any_fits(p, f, r, spare) {
-        return true;
-    }
-    for i in 0..p.cluster().machines().len() {
-        let v = VmId(i as u32);
-        let bound = spare + most_anywhere(p, v, r, x, may_wait(p, g, v, x), ks[i]);
-        if !is_below(p, g, v, r, x, bound) {
+    let order = f.order(p, r);
+    // what each before it has and brings is spare
+    let first = order.partition_point(|x| x.most <= spare);
+    let mut k = order.len();
+    'machines: while first < k {
+        k -= 1;
+        let v = order[k].machine;
+        if !machine_fits(p, g, v, ks[v.0 as usize], r, x, spare) {
             return false;
         }
     }

@@ -13,53 +13,8 @@ use load_bounds::total_fit::{any_fits, machines_fit};
 use load_bounds::total_uses::{most_at_once, most_total};
 use rule_frame::{Look, Problem, Region};
 
-// whether it is seen that of a resource those nodes have enough during a period that are usable under all their choices
-fn has_steady_room(
-    p: &Problem,
-    f: &Fixed,
-    g: &Region,
-    ks: &[Standing],
-    movers: &[u32],
-    r: u8,
-    x: Period,
-) -> bool
-    requires region { IsSized p.now.given g.now }
-    requires fixed { IsFixed p.now.given f.now }
-    requires right { AreStanding p.now.given (sets g.now) ks.now }
-    requires movers { AreMovers p.now.given (sets g.now) movers.now }
-    requires resource { r < length p.now.given.resources }
-    requires period { x.to ≤ p.now.given.horizon }
-    ensures { IsTrue result → IsFreeDuring (λ b. IsOverload p.now.given b r (all_nodes p.now.given)) p.now.given (sets g.now) x }
-{
-    let used = most_total(p, f, g, ks, movers, r, x);
-    let room = steady_room(p, g, r, x);
-    used <= room && machines_fit(p, f, g, ks, r, x, room - used)
-}
-
-// whether those have that may be usable, also without any one of them
-fn has_loose_room(
-    p: &Problem,
-    f: &Fixed,
-    g: &Region,
-    ks: &[Standing],
-    movers: &[u32],
-    r: u8,
-    x: Period,
-) -> bool
-    requires region { IsSized p.now.given g.now }
-    requires fixed { IsFixed p.now.given f.now }
-    requires right { AreStanding p.now.given (sets g.now) ks.now }
-    requires movers { AreMovers p.now.given (sets g.now) movers.now }
-    requires resource { r < length p.now.given.resources }
-    requires period { x.to ≤ p.now.given.horizon }
-    ensures { IsTrue result → IsFreeDuring (λ b. IsOverload p.now.given b r (all_nodes p.now.given)) p.now.given (sets g.now) x }
-{
-    let used = most_total(p, f, g, ks, movers, r, x);
-    let room = loose_room(p, g, r, x);
-    used + room.at_stake <= room.total && machines_fit(p, f, g, ks, r, x, room.total - used)
-}
-
-// whether it is seen that of a resource enough is there during a period
+// whether it is seen that of a resource enough is there during a period: those nodes have it that are usable under all their
+// choices, or those that may be usable, also without any one of them, where these have more
 fn has_enough(
     p: &Problem,
     f: &Fixed,
@@ -77,7 +32,16 @@ fn has_enough(
     requires period { x.to ≤ p.now.given.horizon }
     ensures { IsTrue result → IsFreeDuring (λ b. IsOverload p.now.given b r (all_nodes p.now.given)) p.now.given (sets g.now) x }
 {
-    has_steady_room(p, f, g, ks, movers, r, x) || has_loose_room(p, f, g, ks, movers, r, x)
+    let used = most_total(p, f, g, ks, movers, r, x);
+    let steady = steady_room(p, g, r, x);
+    if used <= steady && machines_fit(p, f, g, ks, r, x, steady - used) {
+        return true;
+    }
+    let loose = loose_room(p, g, r, x);
+    if loose.total <= steady {
+        return false;
+    }
+    used + loose.at_stake <= loose.total && machines_fit(p, f, g, ks, r, x, loose.total - used)
 }
 
 // whether that much use leaves of a room what one node may lack, or any machine may use more

@@ -5,7 +5,7 @@ use Rattle.rule_setload.proofs.AmountLemmas.{held_most}
 
 -- ---- told by its rows
 
-goes-any : (place : Place) (set : Nodes) (a b : ℕ) → goes_in (Act place a) set ≡ goes_in (Act place b) set
+pub goes-any : (place : Place) (set : Nodes) (a b : ℕ) → goes_in (Act place a) set ≡ goes_in (Act place b) set
 goes-any Nowhere set a b = refl
 goes-any (At n) set a b = refl
 

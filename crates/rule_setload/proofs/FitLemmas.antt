@@ -1,7 +1,9 @@
 -- Where each machine fits in what is spare, what all hold stays within the amount.
-use Rattle.rule_setload.proofs.Prelude.{◌≡◌, inl, inr, ℕ, suc, zero, ◌+◌, ◌<◌, ◌≤◌, ◌==◌, ◌||◌, Bool, true, false, List, [], ◌∷◌, length, slice_index_or, refl, subst, ◌∙◌, arith, IsTrue, Contains, cases_eq, nat_tests, end_is_choice, ends_of_rows}
-use Rattle.rule_setload.specs.Prelude.{Act, AreWithin, Choice, choices, Climbs, DomainView, HoldsLeast, Idle, Instance, IsEnd, IsFit, IsInstance, IsRowEnd, IsShare, machine_count, no_row, Nodes, Period, Row, Sets, StaysAt, StaysDuring, StaysIn, StaysWhenDue, stay_of, sum_to, sure, unit_of, vm, Weight}
+use Rattle.rule_setload.proofs.Prelude.{◌≡◌, inl, inr, ℕ, suc, zero, ◌+◌, ◌<◌, ◌≤◌, ◌==◌, ◌||◌, Bool, true, false, List, [], ◌∷◌, length, slice_index_or, refl, subst, ◌∙◌, arith, IsTrue, Contains, cases_eq, nat_tests, end_is_choice, ends_of_rows, Place}
+use Rattle.rule_setload.specs.Prelude.{Act, AreWithin, Choice, choices, Climbs, DomainView, goes_in, HoldsLeast, Idle, Instance, IsEnd, IsFit, IsInstance, IsRowEnd, IsShare, machine_count, no_row, Nodes, Period, Row, Sets, StaysAt, StaysDuring, StaysIn, StaysWhenDue, stay_of, sum_to, sure, unit_of, vm, Weight}
 use Rattle.rule_setload.proofs.AmountLemmas.{held_ever}
+use Rattle.rule_setload.proofs.AsideLemmas.{goes-any}
+use Rattle.rule_setload.proofs.HoldLemmas.{ever_share}
 
 module _ (p : Instance) (s : Sets) (w : Weight) (set : Nodes) (x : Period) where
   -- ---- one machine
@@ -32,21 +34,29 @@ module _ (p : Instance) (s : Sets) (w : Weight) (set : Nodes) (x : Period) where
   pub ever_fits : IsInstance p → x.to ≤ p.horizon → (v spare : ℕ) → stay_of p w set v + unit_of p v w ≤ spare → IsFit p s w set v x spare
   ever_fits sound within v spare l = record { each = λ t c h end. omega (arith, held_ever p sound w set v t c (omega (arith, h.1, within)), l) }
 
+  pub limit_fits : IsInstance p → x.to ≤ p.horizon → (v spare surely limit : ℕ) → limit ≡ spare + surely → HoldsLeast p s w set v x surely → stay_of p w set v + unit_of p v w ≤ limit → IsFit p s w set v x spare
+  limit_fits sound within v spare surely limit is least l = record { each = λ t c h end. omega (arith, is, least.each t h, held_ever p sound w set v t c (omega (arith, h.1, within)), l) }
+
   pub shares_fit : (v spare surely limit : ℕ) → limit ≡ spare + surely → HoldsLeast p s w set v x surely → ((c : Choice) → IsEnd (s (vm v)) c → IsShare p w set v c x limit) → IsFit p s w set v x spare
   shares_fit v spare surely limit is least shares = record { each = λ t c h end. omega (arith, is, least.each t h, (shares c end).each t h) }
 
-  -- both ends of each row
-  abbrev pub RowsFit : ℕ → List Row → ℕ → ℕ → Type 0
-  RowsFit v rows count limit = (i : ℕ) → i < count → IsShare p w set v (Act (slice_index_or rows i no_row).place (slice_index_or rows i no_row).lo) x limit × IsShare p w set v (Act (slice_index_or rows i no_row).place (slice_index_or rows i no_row).hi) x limit
+  -- both ends of a row
+  abbrev pub RowFits : ℕ → List Row → ℕ → ℕ → Type 0
+  RowFits v rows limit i = IsShare p w set v (Act (slice_index_or rows i no_row).place (slice_index_or rows i no_row).lo) x limit × IsShare p w set v (Act (slice_index_or rows i no_row).place (slice_index_or rows i no_row).hi) x limit
 
-  pub all_fit : (v limit count : ℕ) (d : DomainView) (rows : List Row) → s (vm v) ≡ choices d → rows ≡ d.rows → Climbs 0 rows → length rows ≤ count → (d.idle ≡ true → IsShare p w set v Idle x limit) → RowsFit v rows count limit → (c : Choice) → IsEnd (s (vm v)) c → IsShare p w set v c x limit
-  all_fit v limit count d rows seen same climbs past idle fit c end = at c ((ends_of_rows d (rw same at climbs) c).0 (rw seen at end))
+  pub all_fit : (v limit : ℕ) (d : DomainView) (rows : List Row) → s (vm v) ≡ choices d → rows ≡ d.rows → Climbs 0 rows → (d.idle ≡ true → IsShare p w set v Idle x limit) → ((i : ℕ) → i < length rows → RowFits v rows limit i) → (c : Choice) → IsEnd (s (vm v)) c → IsShare p w set v c x limit
+  all_fit v limit d rows seen same climbs idle fit c end = at c ((ends_of_rows d (rw same at climbs) c).0 (rw seen at end))
     where
       at : (c : Choice) → IsRowEnd d c → IsShare p w set v c x limit
       at Idle e = idle e
       at (Act place start) e =
-          let both = fit e.0 (let low : e.0 < length rows = rw same e.1 in omega (arith, past, low)) in
+          let both = fit e.0 (rw same e.1) in
           elim e.3 [ inl lo ↦ rw (← e.2, ← lo) (rw same at both.0) | inr hi ↦ rw (← e.2, ← hi) (rw same at both.1) ]
+
+  -- a row at no node of the set fits where what the machine has does
+  pub row_out : IsInstance p → x.to ≤ p.horizon → (v stays limit u : ℕ) (place : Place) → stays ≡ stay_of p w set v → stays ≤ limit → goes_in (Act place 0) set ≡ false → IsShare p w set v (Act place u) x limit
+  row_out sound within v stays limit u place is fits out =
+      ever_share p sound w set v x within (Act place u) stays 0 limit is (λ t l. let off : goes_in (Act place u) set ≡ false = goes-any place set u 0 ∙ out in rw off (omega arith)) (omega (arith, fits))
 
   -- ---- all machines
 

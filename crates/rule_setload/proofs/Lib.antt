@@ -9,4 +9,5 @@ mod OverLemmas
 mod PowerLemmas
 mod KeptLemmas
 mod BrokenLemmas
+mod SpanLemmas
 mod SparedLemmas

@@ -1,13 +1,14 @@
 -- Helping only: what machines hold on a set of nodes during a period, at the most and surely.
-use Rattle.std.specs.Prelude.{◌≡◌, ℕ, ◌+◌, ◌<◌, ◌≤◌, ◌||◌, ◌==◌, Bool, false, nat_le, IsTrue}
+use Rattle.std.specs.Prelude.{◌≡◌, ℕ, ◌+◌, ◌<◌, ◌≤◌, ◌||◌, ◌==◌, Bool, true, false, nat_le, IsTrue}
 use Rattle.rule_constraint.specs.Prelude.{goes_in, held_at, Instance, IsEnd, machine_count, Nodes, Sets, sum_to, sure, vm}
 use Rattle.cluster.specs.Sets.{has_machine}
 use Rattle.cluster.specs.declared.choices.Choice.{Choice}
 use Rattle.cluster.specs.declared.choices.Choice.TheVariants.{Act, Idle}
-use Rattle.cluster.specs.declared.sets.MachineSet.{MachineSet}
 use Rattle.slices.specs.declared.slice.Weight.{Weight}
 use Rattle.rule_setload.specs.Amounts.{stay_of}
+use Rattle.rule_setload.specs.declared.concerned.Members.{Members}
 use Rattle.rule_setload.specs.declared.period.Period.{Period}
+use Rattle.rule_setload.specs.declared.span.Span.{Span}
 
 -- more than can be spare anywhere
 abbrev pub max_spare : ℕ
@@ -46,9 +47,14 @@ pub record IsAside (p : Instance) (s : Sets) (w : Weight) (set : Nodes) (v : ℕ
 
 -- ---- all machines
 
+-- each node of the set has a number from the first one on and before the end
+abbrev pub IsSpan : Nodes → Span → Type 0
+IsSpan set x = (m : ℕ) → set m ≡ true → (x.first ≤ m) × (m < x.end)
+
 -- whoever is none of these is aside
-pub record AreConcerned (p : Instance) (s : Sets) (w : Weight) (set : Nodes) (members : MachineSet) : Type 0 where
-  pub others : (v : ℕ) → v < machine_count p → has_machine members v ≡ false → IsAside p s w set v
+pub record AreConcerned (p : Instance) (s : Sets) (w : Weight) (set : Nodes) (members : Members) : Type 0 where
+  pub others : (v : ℕ) → v < machine_count p → has_machine members.machines v ≡ false → IsAside p s w set v
+  pub span : IsSpan set members.span
 
 -- together they surely hold no more than this
 pub record AreWithin (p : Instance) (s : Sets) (w : Weight) (set : Nodes) (x : Period) (total : ℕ) : Type 0 where

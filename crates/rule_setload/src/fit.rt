@@ -1,16 +1,17 @@
 //! Whether each machine fits in what is spare on the nodes of a bound during a period, under any of its choices.
-ghost use Rattle.std.specs.Prelude.{◌≡◌, ◌+◌, ◌<◌, ◌≤◌, ℕ, IsTrue, true};
-ghost use Rattle.rule_setload.specs.Prelude.{AreConcerned, AreStanding, Choice as AnyChoice, has_node, IsEnd, IsFit, IsShare, IsSized, IsStanding, IsWeight, machine_count, max_amount, max_spare, sets, StaysDuring, stay_of, vm};
+ghost use Rattle.std.specs.Prelude.{◌≡◌, ◌⊎◌, ◌+◌, ◌<◌, ◌≤◌, ℕ, IsTrue, false, length, slice_index_or, true};
+ghost use Rattle.rule_setload.specs.Prelude.{AreConcerned, AreStanding, Choice as AnyChoice, Climbs, goes_in, has_node, IsEnd, IsFit, IsShare, IsSized, IsSpan, IsStanding, IsWeight, machine_count, max_amount, max_spare, no_row, sets, StaysDuring, stay_of, vm};
 
 use crate::bounds::Bound;
+use crate::concerned::Members;
 use crate::holders::kept_amount;
 use crate::holding::{act, brought, kept, surely_held};
 use crate::most::most_total;
 use crate::period::Period;
+use crate::span::{RowRange, Span, rows_within};
 use crate::stayers::{stay, unit};
-use cluster::MachineSet;
 use profiles::standing::numbers::Standing;
-use rule_frame::{Choice, Element, Problem, Region, VmId};
+use rule_frame::{Choice, Element, Problem, Region, Row, VmId};
 
 /// More than can be spare anywhere.
 const MOST: u64 = 1_000_000_000_000_000_000;
@@ -44,12 +45,30 @@ fn idle_fits(idle: bool, stays: u64, limit: u64) -> bool
     !idle || stays <= limit
 }
 
+// the rows of which not both ends are seen to fit at once: those at no node of the bound do where what the machine has fits
+fn rows_in_doubt(rows: &[Row], bound: &Bound, span: Span, stays: u64, limit: u64) -> RowRange
+    requires climbs { Climbs 0 rows.now }
+    requires span { IsSpan (has_node bound.now.nodes) span }
+    ensures within { result.to ≤ length rows.now }
+    ensures others { (k : ℕ) → k < length rows.now → (k < result.from) ⊎ (result.to ≤ k) → (stays ≤ limit) × (goes_in (AnyChoice.Act (slice_index_or rows.now k no_row).place 0) (has_node bound.now.nodes) ≡ false) }
+{
+    if stays <= limit {
+        rows_within(rows, &bound.nodes, span)
+    } else {
+        RowRange {
+            from: 0,
+            to: rows.len(),
+        }
+    }
+}
+
 // whether the ends of a machine's choices fit
 fn ends_fit(
     p: &Problem,
     g: &Region,
     v: VmId,
     bound: &Bound,
+    span: Span,
     stays: u64,
     x: Period,
     limit: u64,
@@ -57,6 +76,7 @@ fn ends_fit(
     requires region { IsSized p.now.given g.now }
     requires machine { v.0 < machine_count p.now.given }
     requires weight { IsWeight p.now.given bound.now.weight }
+    requires span { IsSpan (has_node bound.now.nodes) span }
     requires stays { stays ≡ stay_of p.now.given bound.now.weight (has_node bound.now.nodes) v.0 }
     requires few { stays ≤ max_amount }
     requires period { x.to ≤ p.now.given.horizon }
@@ -67,7 +87,8 @@ fn ends_fit(
         return false;
     }
     let rows = domain.rows();
-    for i in 0..rows.len() {
+    let doubt = rows_in_doubt(rows, bound, span, stays, limit);
+    for i in doubt.from..doubt.to {
         let first = act(rows[i], rows[i].lo);
         let last = act(rows[i], rows[i].hi);
         if !end_fits(p, v, bound, stays, first, x, limit) {
@@ -81,13 +102,14 @@ fn ends_fit(
 }
 
 // whether a machine does
-#[tactic(auto, using(crate::proofs::FitLemmas::one_fits, crate::proofs::FitLemmas::ever_fits, crate::proofs::FitLemmas::shares_fit))]
+#[tactic(auto, using(crate::proofs::FitLemmas::one_fits, crate::proofs::FitLemmas::ever_fits, crate::proofs::FitLemmas::limit_fits, crate::proofs::FitLemmas::shares_fit))]
 fn machine_fits(
     p: &Problem,
     g: &Region,
     k: Standing,
     v: VmId,
     bound: &Bound,
+    span: Span,
     x: Period,
     spare: u64,
 ) -> bool
@@ -95,19 +117,21 @@ fn machine_fits(
     requires machine { v.0 < machine_count p.now.given }
     requires standing { IsStanding p.now.given v.0 (sets g.now (vm v.0)) k }
     requires weight { IsWeight p.now.given bound.now.weight }
+    requires span { IsSpan (has_node bound.now.nodes) span }
     requires period { x.to ≤ p.now.given.horizon }
     requires small { spare ≤ max_spare }
     ensures { IsTrue result → IsFit p.now.given (sets g.now) bound.now.weight (has_node bound.now.nodes) v.0 x spare }
 {
     let stays = stay(p, v, bound);
-    if stays + unit(p, v, bound.weight) <= spare {
+    let ever = stays + unit(p, v, bound.weight);
+    if ever <= spare {
         return true;
     }
     if g.domain(Element::Vm(v)).is_one() {
         return true;
     }
     let limit = spare + surely_held(p, g, v, k, kept_amount(p, v, bound), bound, x);
-    ends_fit(p, g, v, bound, stays, x, limit)
+    ever <= limit || ends_fit(p, g, v, bound, span, stays, x, limit)
 }
 
 // whether one of all machines does: one that holds nothing does
@@ -118,7 +142,7 @@ fn fits_among(
     k: Standing,
     v: VmId,
     bound: &Bound,
-    machines: &MachineSet,
+    members: &Members,
     x: Period,
     spare: u64,
 ) -> bool
@@ -126,13 +150,13 @@ fn fits_among(
     requires machine { v.0 < machine_count p.now.given }
     requires standing { IsStanding p.now.given v.0 (sets g.now (vm v.0)) k }
     requires weight { IsWeight p.now.given bound.now.weight }
-    requires machines { AreConcerned p.now.given (sets g.now) bound.now.weight (has_node bound.now.nodes) machines.now }
+    requires members { AreConcerned p.now.given (sets g.now) bound.now.weight (has_node bound.now.nodes) members.now }
     requires period { x.to ≤ p.now.given.horizon }
     requires small { spare ≤ max_spare }
     ensures { IsTrue result → IsFit p.now.given (sets g.now) bound.now.weight (has_node bound.now.nodes) v.0 x spare }
 {
-    if machines.has(v) {
-        return machine_fits(p, g, k, v, bound, x, spare);
+    if members.machines.has(v) {
+        return machine_fits(p, g, k, v, bound, members.span, x, spare);
     }
     true
 }
@@ -143,20 +167,20 @@ fn machines_fit(
     g: &Region,
     ks: &[Standing],
     bound: &Bound,
-    machines: &MachineSet,
+    members: &Members,
     x: Period,
     spare: u64,
 ) -> bool
     requires region { IsSized p.now.given g.now }
     requires standings { AreStanding p.now.given (sets g.now) ks.now }
     requires weight { IsWeight p.now.given bound.now.weight }
-    requires machines { AreConcerned p.now.given (sets g.now) bound.now.weight (has_node bound.now.nodes) machines.now }
+    requires members { AreConcerned p.now.given (sets g.now) bound.now.weight (has_node bound.now.nodes) members.now }
     requires period { x.to ≤ p.now.given.horizon }
     requires small { spare ≤ max_spare }
     ensures { IsTrue result → (v : ℕ) → v < machine_count p.now.given → IsFit p.now.given (sets g.now) bound.now.weight (has_node bound.now.nodes) v x spare }
 {
     for i in 0..p.cluster().machines().len() {
-        if !fits_among(p, g, ks[i], VmId(i as u32), bound, machines, x, spare) {
+        if !fits_among(p, g, ks[i], VmId(i as u32), bound, members, x, spare) {
             return false;
         }
     }
@@ -180,20 +204,20 @@ pub(crate) fn stays_during(
     g: &Region,
     ks: &[Standing],
     bound: &Bound,
-    machines: &MachineSet,
+    members: &Members,
     x: Period,
 ) -> bool
     requires region { IsSized p.now.given g.now }
     requires standings { AreStanding p.now.given (sets g.now) ks.now }
     requires weight { IsWeight p.now.given bound.now.weight }
-    requires machines { AreConcerned p.now.given (sets g.now) bound.now.weight (has_node bound.now.nodes) machines.now }
+    requires members { AreConcerned p.now.given (sets g.now) bound.now.weight (has_node bound.now.nodes) members.now }
     requires period { x.to ≤ p.now.given.horizon }
     ensures { IsTrue result → StaysDuring p.now.given (sets g.now) bound.now.weight (has_node bound.now.nodes) bound.now.amount x }
 {
-    let total = most_total(p, g, ks, bound, machines, x);
+    let total = most_total(p, g, ks, bound, members, x);
     if total > bound.amount {
         return false;
     }
     let spare = spare_of(bound.amount, total);
-    machines_fit(p, g, ks, bound, machines, x, spare)
+    machines_fit(p, g, ks, bound, members, x, spare)
 }

@@ -14,6 +14,7 @@ mod power;
 mod propose;
 mod refuting;
 pub mod rule;
+mod span;
 mod spared;
 mod stayers;
 mod walk;

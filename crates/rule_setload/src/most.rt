@@ -3,10 +3,10 @@ ghost use Rattle.std.specs.Prelude.{◌≡◌, ◌+◌, ◌*◌, ◌<◌, ◌≤
 ghost use Rattle.rule_setload.specs.Prelude.{AreConcerned, AreWithin, domain_at, has_node, HoldsMost, IsSized, IsWeight, machine_count, max_amount, max_machines, no_row, sets, stay_of, vm};
 
 use crate::bounds::Bound;
+use crate::concerned::Members;
 use crate::holding::{act, share};
 use crate::period::Period;
 use crate::stayers::{stay, unit};
-use cluster::MachineSet;
 use profiles::standing::numbers::Standing;
 use rule_frame::{Domain, Element, Problem, Region, Row, VmId};
 
@@ -121,18 +121,18 @@ fn most_of(
     k: Standing,
     v: VmId,
     bound: &Bound,
-    machines: &MachineSet,
+    members: &Members,
     x: Period,
 ) -> u64
     requires region { IsSized p.now.given g.now }
     requires machine { v.0 < machine_count p.now.given }
     requires weight { IsWeight p.now.given bound.now.weight }
-    requires machines { AreConcerned p.now.given (sets g.now) bound.now.weight (has_node bound.now.nodes) machines.now }
+    requires members { AreConcerned p.now.given (sets g.now) bound.now.weight (has_node bound.now.nodes) members.now }
     requires period { x.to ≤ p.now.given.horizon }
     ensures most { HoldsMost p.now.given (sets g.now) bound.now.weight (has_node bound.now.nodes) v.0 x result }
     ensures small { result ≤ 2 * max_amount }
 {
-    if machines.has(v) {
+    if members.machines.has(v) {
         return most_held(p, g, k, v, bound, x);
     }
     0
@@ -144,20 +144,20 @@ pub(crate) fn most_total(
     g: &Region,
     ks: &[Standing],
     bound: &Bound,
-    machines: &MachineSet,
+    members: &Members,
     x: Period,
 ) -> u64
     requires region { IsSized p.now.given g.now }
     requires count { length ks.now ≡ machine_count p.now.given }
     requires weight { IsWeight p.now.given bound.now.weight }
-    requires machines { AreConcerned p.now.given (sets g.now) bound.now.weight (has_node bound.now.nodes) machines.now }
+    requires members { AreConcerned p.now.given (sets g.now) bound.now.weight (has_node bound.now.nodes) members.now }
     requires period { x.to ≤ p.now.given.horizon }
     ensures within { AreWithin p.now.given (sets g.now) bound.now.weight (has_node bound.now.nodes) x result }
     ensures small { result ≤ max_machines * (2 * max_amount) }
 {
     let mut total = 0;
     for i in 0..p.cluster().machines().len() {
-        total += most_of(p, g, ks[i], VmId(i as u32), bound, machines, x);
+        total += most_of(p, g, ks[i], VmId(i as u32), bound, members, x);
     }
     total
 }

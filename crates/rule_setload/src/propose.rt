@@ -3,13 +3,12 @@ ghost use Rattle.std.specs.Prelude.{◌≡◌, ◌<◌, length};
 ghost use Rattle.rule_setload.specs.Prelude.{AreConcerned, has_node, IsSized, IsWeight, machine_count, sets};
 
 use crate::bounds::Bound;
-use crate::concerned::concerned;
+use crate::concerned::{Members, concerned};
 use crate::holding::{act, goes_in, left_at};
 use crate::most::{most_held, most_total};
 use crate::period::Period;
 use crate::stayers::{stay, unit};
 use crate::walk::next_change;
-use cluster::MachineSet;
 use profiles::standing::numbers::Standing;
 use rule_frame::{Element, Instant, Memory, Part, Problem, Reason, Region, Row, Suggestion, VmId};
 use std::alloc::Global;
@@ -28,24 +27,24 @@ fn spares(
     g: &Region,
     ks: &[Standing],
     bound: &Bound,
-    machines: &MachineSet,
+    members: &Members,
     always: bool,
 ) -> Result<Vec<Spare>, Memory>
     requires region { IsSized p.now.given g.now }
     requires count { length ks.now ≡ machine_count p.now.given }
     requires weight { IsWeight p.now.given bound.now.weight }
-    requires machines { AreConcerned p.now.given (sets g.now) bound.now.weight (has_node bound.now.nodes) machines.now }
+    requires members { AreConcerned p.now.given (sets g.now) bound.now.weight (has_node bound.now.nodes) members.now }
 {
     let mut spares = Vec::new(alloc);
     let end = u64::from(p.horizon()) + 1;
     let mut from = if always { 0 } else { u64::from(p.horizon()) };
     'periods: while from < end {
-        let next = next_change(p, g, ks, bound, machines, from);
+        let next = next_change(p, g, ks, bound, members, from);
         let period = Period {
             from: from as u32,
             to: (next - 1) as u32,
         };
-        let total = most_total(p, g, ks, bound, machines, period);
+        let total = most_total(p, g, ks, bound, members, period);
         spares.push(Spare {
             period,
             amount: bound.amount.saturating_sub(total),
@@ -181,12 +180,15 @@ impl Member<'_> {
     fn put_twice(&self, p: &Problem, row: Row, them: &mut Vec<Suggestion>) -> Result<(), Memory>
         requires { self.now.machine.0 < machine_count p.now.given }
     {
-        let left = left_at(p, self.machine, act(row, row.lo));
-        let lasts = left.saturating_sub(u64::from(row.lo)).min(1_000_000_000) as u32;
-        if self.stays == 0 || lasts == 0 {
+        if self.stays == 0 {
             return Ok(());
         }
+        let left = left_at(p, self.machine, act(row, row.lo));
+        let lasts = left.saturating_sub(u64::from(row.lo)).min(1_000_000_000) as u32;
         let need = self.stays.saturating_add(self.unit);
+        if lasts == 0 || self.first_short(need).is_none() {
+            return Ok(());
+        }
         let mut cuts = Vec::new(*them.allocator());
         let mut low = row.lo;
         for _ in row.lo..row.hi.saturating_add(1) {
@@ -290,11 +292,11 @@ pub(crate) fn propose_amount(
     requires count { length ks.now ≡ machine_count p.now.given }
     requires weight { IsWeight p.now.given bound.now.weight }
 {
-    let machines = concerned(p, g, bound);
-    let spares = spares(*them.allocator(), p, g, ks, bound, &machines, always)?;
+    let members = concerned(p, g, bound);
+    let spares = spares(*them.allocator(), p, g, ks, bound, &members, always)?;
     for i in 0..p.cluster().machines().len() {
         let v = VmId(i as u32);
-        if machines.has(v) {
+        if members.machines.has(v) {
             propose_machine(p, g, ks[i], v, bound, c, &spares, them)?;
         }
     }

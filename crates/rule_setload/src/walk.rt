@@ -3,11 +3,10 @@ ghost use Rattle.std.specs.Prelude.{◌≡◌, ◌+◌, ◌<◌, ◌≤◌, IfSo
 ghost use Rattle.rule_setload.specs.Prelude.{AreConcerned, AreStanding, has_node, IsSized, IsWeight, machine_count, sets, StaysAt, StaysIn, StaysPast, StaysWhenDue};
 
 use crate::bounds::Bound;
-use crate::concerned::concerned;
+use crate::concerned::{Members, concerned};
 use crate::fit::stays_during;
 use crate::movers_hold::is_outside;
 use crate::period::Period;
-use cluster::MachineSet;
 use profiles::standing::numbers::Standing;
 use rule_constraint::host;
 use rule_frame::{Element, NodeSet, Problem, Region, Row, VmId};
@@ -81,7 +80,7 @@ pub(crate) fn next_change(
     g: &Region,
     ks: &[Standing],
     bound: &Bound,
-    machines: &MachineSet,
+    members: &Members,
     after: u64,
 ) -> u64
     requires region { IsSized p.now.given g.now }
@@ -93,7 +92,7 @@ pub(crate) fn next_change(
     let mut next = u64::from(p.horizon()) + 1;
     for i in 0..p.cluster().machines().len() {
         let v = VmId(i as u32);
-        if machines.has(v) {
+        if members.machines.has(v) {
             next = next_of_machine(p, g, ks[i], v, bound, after, next);
         }
     }
@@ -106,22 +105,22 @@ fn stays_until(
     g: &Region,
     ks: &[Standing],
     bound: &Bound,
-    machines: &MachineSet,
+    members: &Members,
     from: u64,
 ) -> Option<u64>
     requires region { IsSized p.now.given g.now }
     requires standings { AreStanding p.now.given (sets g.now) ks.now }
     requires weight { IsWeight p.now.given bound.now.weight }
-    requires machines { AreConcerned p.now.given (sets g.now) bound.now.weight (has_node bound.now.nodes) machines.now }
+    requires members { AreConcerned p.now.given (sets g.now) bound.now.weight (has_node bound.now.nodes) members.now }
     requires within { from ≤ p.now.given.horizon }
     ensures { IfSome result (StaysPast p.now.given (sets g.now) bound.now.weight (has_node bound.now.nodes) bound.now.amount from) }
 {
-    let next = next_change(p, g, ks, bound, machines, from);
+    let next = next_change(p, g, ks, bound, members, from);
     let x = Period {
         from: from as u32,
         to: (next - 1) as u32,
     };
-    if stays_during(p, g, ks, bound, machines, x) {
+    if stays_during(p, g, ks, bound, members, x) {
         return Some(next);
     }
     None
@@ -133,18 +132,18 @@ fn stays_by_periods(
     g: &Region,
     ks: &[Standing],
     bound: &Bound,
-    machines: &MachineSet,
+    members: &Members,
 ) -> bool
     requires region { IsSized p.now.given g.now }
     requires standings { AreStanding p.now.given (sets g.now) ks.now }
     requires weight { IsWeight p.now.given bound.now.weight }
-    requires machines { AreConcerned p.now.given (sets g.now) bound.now.weight (has_node bound.now.nodes) machines.now }
+    requires members { AreConcerned p.now.given (sets g.now) bound.now.weight (has_node bound.now.nodes) members.now }
     ensures { IsTrue result → StaysIn p.now.given (sets g.now) bound.now.weight (has_node bound.now.nodes) bound.now.amount }
 {
     let end = u64::from(p.horizon()) + 1;
     let mut from = 0u64;
     'periods: while from < end {
-        let Some(until) = stays_until(p, g, ks, bound, machines, from) else {
+        let Some(until) = stays_until(p, g, ks, bound, members, from) else {
             return false;
         };
         from = until;
@@ -153,45 +152,33 @@ fn stays_by_periods(
 }
 
 // whether it is seen at all instants: of all at once, or else period by period
-fn stays_always(
-    p: &Problem,
-    g: &Region,
-    ks: &[Standing],
-    bound: &Bound,
-    machines: &MachineSet,
-) -> bool
+fn stays_always(p: &Problem, g: &Region, ks: &[Standing], bound: &Bound, members: &Members) -> bool
     requires region { IsSized p.now.given g.now }
     requires standings { AreStanding p.now.given (sets g.now) ks.now }
     requires weight { IsWeight p.now.given bound.now.weight }
-    requires machines { AreConcerned p.now.given (sets g.now) bound.now.weight (has_node bound.now.nodes) machines.now }
+    requires members { AreConcerned p.now.given (sets g.now) bound.now.weight (has_node bound.now.nodes) members.now }
     ensures { IsTrue result → StaysIn p.now.given (sets g.now) bound.now.weight (has_node bound.now.nodes) bound.now.amount }
 {
     let whole = Period {
         from: 0,
         to: p.horizon(),
     };
-    stays_during(p, g, ks, bound, machines, whole) || stays_by_periods(p, g, ks, bound, machines)
+    stays_during(p, g, ks, bound, members, whole) || stays_by_periods(p, g, ks, bound, members)
 }
 
 // whether it is seen at the horizon
-fn stays_last(
-    p: &Problem,
-    g: &Region,
-    ks: &[Standing],
-    bound: &Bound,
-    machines: &MachineSet,
-) -> bool
+fn stays_last(p: &Problem, g: &Region, ks: &[Standing], bound: &Bound, members: &Members) -> bool
     requires region { IsSized p.now.given g.now }
     requires standings { AreStanding p.now.given (sets g.now) ks.now }
     requires weight { IsWeight p.now.given bound.now.weight }
-    requires machines { AreConcerned p.now.given (sets g.now) bound.now.weight (has_node bound.now.nodes) machines.now }
+    requires members { AreConcerned p.now.given (sets g.now) bound.now.weight (has_node bound.now.nodes) members.now }
     ensures { IsTrue result → StaysAt p.now.given (sets g.now) bound.now.weight (has_node bound.now.nodes) bound.now.amount p.now.given.horizon }
 {
     let last = Period {
         from: p.horizon(),
         to: p.horizon(),
     };
-    stays_during(p, g, ks, bound, machines, last)
+    stays_during(p, g, ks, bound, members, last)
 }
 
 /// Whether it is seen whenever it has to be so: always, or at the horizon alone.
@@ -207,9 +194,9 @@ pub(crate) fn stays_when_due(
     requires weight { IsWeight p.now.given bound.now.weight }
     ensures { IsTrue result → StaysWhenDue p.now.given (sets g.now) bound.now.weight (has_node bound.now.nodes) bound.now.amount always }
 {
-    let machines = concerned(p, g, bound);
+    let members = concerned(p, g, bound);
     if always {
-        return stays_always(p, g, ks, bound, &machines);
+        return stays_always(p, g, ks, bound, &members);
     }
-    stays_last(p, g, ks, bound, &machines)
+    stays_last(p, g, ks, bound, &members)
 }
