@@ -1,5 +1,5 @@
 -- Helping only: what machines hold on the nodes of a constraint while they stay as they are, and what they may hold more.
-use Rattle.std.specs.Prelude.{◌≡◌, ℕ, ◌+◌, ◌-◌, ◌*◌, ◌<◌, ◌≤◌, List, [], length, Option, Some, None, slice_get, slice_index_or}
+use Rattle.std.specs.Prelude.{◌≡◌, ℕ, ◌+◌, ◌-◌, ◌*◌, ◌<◌, ◌≤◌, Bool, true, List, [], length, Option, Some, None, slice_get, slice_index_or}
 use Rattle.std.specs.List.{sum_by}
 use Rattle.rule_constraint.specs.Prelude.{Allowed, Apart, AreMovers, base, Bounded, Form, form_of, has_node, held_at, hosted_in, if_so, Instance, InTurn, IsIndexOf, Lists, machine_count, max_amount, Nodes, Ordered, Powered, Sets, Settled, state_of, sum_to, sure, Together, unit_of}
 use Rattle.profiles.specs.Prelude.{AreStanding, IsStanding, least, level_at, Levels, Tables}
@@ -87,15 +87,15 @@ pub record AreExtra (p : Instance) (s : Sets) (w : Weight) (set : Nodes) (xs : L
 
 -- ---- what is kept beside the rule
 
--- the index of the constraints, for each constraint what all have at present and who has it, and of a level where each machine surely
--- stands, and the machines that may not stay
-pub record AreAmountsKept (p : Instance) (s : Sets) (l : Lists) (m : Tables) (xs : Levels ℕ) (ys : List Stayers) (zs : List (List Holder)) (k : ℕ) : Type 0 where
+-- the index of the constraints, for each constraint what all have at present and who has it, and of a level, where a constraint bounds
+-- what machines hold, where each machine surely stands, and the machines that may not stay
+pub record AreAmountsKept (p : Instance) (s : Sets) (on : Bool) (l : Lists) (m : Tables) (xs : Levels ℕ) (ys : List Stayers) (zs : List (List Holder)) (k : ℕ) : Type 0 where
   pub index : IsIndexOf p (length p.constraints) l
-  pub standing : AreStanding p s (level_at m k)
-  pub movers : AreMovers p s (level_at xs k)
+  pub standing : on ≡ true → AreStanding p s (level_at m k)
+  pub movers : on ≡ true → AreMovers p s (level_at xs k)
   pub alike : length xs.older ≡ length m.older
   pub stayers : AreAllStayers p (length p.constraints) ys
   pub holders : AreAllHolders p (length p.constraints) zs
 
-abbrev pub cache_of : Lists → Tables → Levels ℕ → List Stayers → List (List Holder) → Cache
-cache_of l m xs ys zs = record { right = λ p k s. AreAmountsKept p s l m xs ys zs k; level = length m.older }
+abbrev pub cache_of : Bool → Lists → Tables → Levels ℕ → List Stayers → List (List Holder) → Cache
+cache_of on l m xs ys zs = record { right = λ p k s. AreAmountsKept p s on l m xs ys zs k; level = length m.older }

@@ -18,8 +18,8 @@ use profiles::standing::numbers::Standing;
 use profiles::standing::table::Table;
 use rule_constraint::{ConstraintIndex, ConstraintWatcher};
 use rule_frame::{
-    Before, Change, Constraint, DirtySet, Domain, Element, Instant, Keeper, Lens, Look, Memory,
-    Part, Problem, Reason, ReasonKind, Region, Suggestion, View, Watcher,
+    Before, Change, Constraint, DirtySet, Domain, Element, Form, Instant, Keeper, Lens, Look,
+    Memory, Part, Problem, Reason, ReasonKind, Region, Suggestion, View, Watcher, form_of,
 };
 use std::alloc::Global;
 use std::default::MadeWith;
@@ -29,11 +29,23 @@ use std::default::MadeWith;
 #[derive(Drop)]
 pub struct AmountKeeper {
     index: ConstraintIndex,
+    // whether a constraint bounds what machines hold: else no machine is kept
+    bounded: bool,
     movers: Movers,
     stayers: Vec<Stayers>,
     holders: Holders,
     table: Table,
     alloc: Global,
+}
+
+// whether a constraint bounds what machines hold
+fn has_bounds(p: &Problem) -> bool {
+    for c in 0..p.constraints().len() {
+        if matches!(form_of(&p.constraints()[c]), Form::Bounded(..)) {
+            return true;
+        }
+    }
+    false
 }
 
 // whether it is seen that no more nodes are powered than the constraint of a number lets be
@@ -55,6 +67,7 @@ impl AmountKeeper {
     pub fn new(alloc: Global) -> AmountKeeper {
         AmountKeeper {
             index: ConstraintIndex::new(alloc),
+            bounded: false,
             movers: Movers::none(alloc),
             stayers: Vec::new(alloc),
             holders: Holders::none(alloc),
@@ -66,7 +79,7 @@ impl AmountKeeper {
     // whether it is seen that what the constraint of a number bounds stays within its amount
     fn is_clean(&self, p: &Problem, g: &Region, c: usize) -> bool
         requires region { IsSized p.now.given g.now }
-        requires right { IsCacheFor (cache_of self.now.index.lists self.now.table self.now.movers self.now.stayers.items self.now.holders) p.now.given (sets g.now) }
+        requires right { IsCacheFor (cache_of self.now.bounded self.now.index.lists self.now.table self.now.movers self.now.stayers.items self.now.holders) p.now.given (sets g.now) }
         requires constraint { c < length p.now.given.constraints }
         ensures { IsTrue result → IsClean (watch_at set_kinds p.now.given c) p.now.given (sets g.now) }
     {
@@ -76,7 +89,7 @@ impl AmountKeeper {
     // the same, with the constraint at hand
     fn is_clean_as(&self, p: &Problem, g: &Region, c: usize, constraint: &Constraint) -> bool
         requires region { IsSized p.now.given g.now }
-        requires right { IsCacheFor (cache_of self.now.index.lists self.now.table self.now.movers self.now.stayers.items self.now.holders) p.now.given (sets g.now) }
+        requires right { IsCacheFor (cache_of self.now.bounded self.now.index.lists self.now.table self.now.movers self.now.stayers.items self.now.holders) p.now.given (sets g.now) }
         requires constraint { c < length p.now.given.constraints }
         requires there { slice_get p.now.given.constraints c ≡ Some constraint.now }
         requires rule { is_rule (inventory_of p.now.given) constraint.now ≡ true }
@@ -92,12 +105,15 @@ impl AmountKeeper {
     #[tactic(auto, using(crate::proofs::FitLemmas::due_always))]
     fn stays(&self, p: &Problem, g: &Region, bound: &Bound, c: usize, always: bool) -> bool
         requires region { IsSized p.now.given g.now }
-        requires right { IsCacheFor (cache_of self.now.index.lists self.now.table self.now.movers self.now.stayers.items self.now.holders) p.now.given (sets g.now) }
+        requires right { IsCacheFor (cache_of self.now.bounded self.now.index.lists self.now.table self.now.movers self.now.stayers.items self.now.holders) p.now.given (sets g.now) }
         requires constraint { c < length p.now.given.constraints }
         requires bound { bound_in (slice_get p.now.given.constraints c) ≡ Some bound.now }
         requires weight { IsWeight p.now.given bound.now.weight }
         ensures { IsTrue result → StaysWhenDue p.now.given (sets g.now) bound.now.weight (has_node bound.now.nodes) bound.now.amount always }
     {
+        if !self.bounded {
+            return false;
+        }
         self.is_ample(p, g, bound, c) || stays_when_due(p, g, self.standings(p, g), bound, always)
     }
 
@@ -105,7 +121,8 @@ impl AmountKeeper {
     #[tactic(auto, using(crate::proofs::KeptLemmas::kept_movers))]
     fn is_ample(&self, p: &Problem, g: &Region, bound: &Bound, c: usize) -> bool
         requires region { IsSized p.now.given g.now }
-        requires right { IsCacheFor (cache_of self.now.index.lists self.now.table self.now.movers self.now.stayers.items self.now.holders) p.now.given (sets g.now) }
+        requires on { self.now.bounded ≡ true }
+        requires right { IsCacheFor (cache_of self.now.bounded self.now.index.lists self.now.table self.now.movers self.now.stayers.items self.now.holders) p.now.given (sets g.now) }
         requires constraint { c < length p.now.given.constraints }
         requires bound { bound_in (slice_get p.now.given.constraints c) ≡ Some bound.now }
         requires weight { IsWeight p.now.given bound.now.weight }
@@ -123,7 +140,7 @@ impl AmountKeeper {
         them: &mut Vec<Suggestion>,
     ) -> Result<(), Memory>
         requires region { IsSized p.now.given g.now }
-        requires right { IsCacheFor (cache_of self.now.index.lists self.now.table self.now.movers self.now.stayers.items self.now.holders) p.now.given (sets g.now) }
+        requires right { IsCacheFor (cache_of self.now.bounded self.now.index.lists self.now.table self.now.movers self.now.stayers.items self.now.holders) p.now.given (sets g.now) }
         requires constraint { c < length p.now.given.constraints }
     {
         self.propose_as(p, g, c, &p.constraints()[c], them)
@@ -139,7 +156,7 @@ impl AmountKeeper {
         them: &mut Vec<Suggestion>,
     ) -> Result<(), Memory>
         requires region { IsSized p.now.given g.now }
-        requires right { IsCacheFor (cache_of self.now.index.lists self.now.table self.now.movers self.now.stayers.items self.now.holders) p.now.given (sets g.now) }
+        requires right { IsCacheFor (cache_of self.now.bounded self.now.index.lists self.now.table self.now.movers self.now.stayers.items self.now.holders) p.now.given (sets g.now) }
         requires constraint { c < length p.now.given.constraints }
         requires there { slice_get p.now.given.constraints c ≡ Some constraint.now }
         requires rule { is_rule (inventory_of p.now.given) constraint.now ≡ true }
@@ -147,6 +164,9 @@ impl AmountKeeper {
         let Some(bound) = bound_of(p, constraint) else {
             return Ok(());
         };
+        if !self.bounded {
+            return Ok(());
+        }
         if self.is_ample(p, g, &bound, c) {
             return Ok(());
         }
@@ -157,11 +177,14 @@ impl AmountKeeper {
     // whether a reason is seen to refute what is inside a part of an element's choices
     fn refutes(&self, p: &Problem, g: &Region, e: Element, part: Part, reason: &Reason) -> bool
         requires region { IsSized p.now.given g.now }
-        requires right { IsCacheFor (cache_of self.now.index.lists self.now.table self.now.movers self.now.stayers.items self.now.holders) p.now.given (sets g.now) }
+        requires right { IsCacheFor (cache_of self.now.bounded self.now.index.lists self.now.table self.now.movers self.now.stayers.items self.now.holders) p.now.given (sets g.now) }
         requires element { IsElement p.now.given e }
         requires may { MayAnswer reason.now }
         ensures { IsTrue result → FailHolds p.now.given (keeping e (in_part part) (sets g.now)) reason.now }
     {
+        if !self.bounded {
+            return false;
+        }
         let view = View {
             region: g,
             lens: Lens::Inside(e, part),
@@ -186,7 +209,8 @@ impl AmountKeeper {
     /// Where each machine surely stands in the region of which this was told last.
     #[tactic(auto, using(crate::proofs::KeptLemmas::kept_standings))]
     pub(crate) fn standings(&self, p: &Problem, _g: &Region) -> &[Standing]
-        requires { IsCacheFor (cache_of self.now.index.lists self.now.table self.now.movers self.now.stayers.items self.now.holders) p.now.given (sets _g.now) }
+        requires on { self.now.bounded ≡ true }
+        requires right { IsCacheFor (cache_of self.now.bounded self.now.index.lists self.now.table self.now.movers self.now.stayers.items self.now.holders) p.now.given (sets _g.now) }
         ensures { AreStanding p.now.given (sets _g.now) result.now }
     {
         self.table.standings()
@@ -202,10 +226,11 @@ impl MadeWith<Global> for AmountKeeper {
 impl Keeper for AmountKeeper {
     ghost use Rattle.rule_setload.specs.Amounts.{cache_of};
 
-    ghost cache = { λ k. cache_of k.index.lists k.table k.movers k.stayers.items k.holders };
+    ghost cache = { λ k. cache_of k.bounded k.index.lists k.table k.movers k.stayers.items k.holders };
 
     fn post(&mut self, p: &Problem, g: &Region) -> Result<(), Memory> {
         self.index.post(p, g)?;
+        self.bounded = has_bounds(p);
         self.movers = Movers::of(self.alloc, p, g)?;
         self.stayers = all_stayers(self.alloc, p)?;
         self.holders = Holders::of(self.alloc, p)?;
@@ -221,6 +246,9 @@ impl Keeper for AmountKeeper {
         before: Before,
         kept: &Domain,
     ) -> Result<(), Memory> {
+        if !self.bounded {
+            return Ok(());
+        }
         self.table.told(p, g, change, before, kept)?;
         self.movers.told(p, g, change.element)?;
         Ok(())
