@@ -8,4 +8,7 @@ pub mod PlanLemmas
 pub mod WholeLemmas
 pub mod StandLemmas
 pub mod FollowLemmas
+pub mod CountedLemmas
+pub mod KnownLemmas
+pub mod ScatteredLemmas
 pub mod WeighedLemmas

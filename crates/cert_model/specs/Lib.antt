@@ -9,4 +9,5 @@ pub mod Laws
 -- what the code keeps beside it
 pub mod Frontiers
 pub mod Weighed
+pub mod Posts
 pub mod Prelude

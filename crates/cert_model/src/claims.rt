@@ -1,10 +1,10 @@
 //! What a step claims of the region that is due, tried in order.
 ghost use Rattle.std.specs.Prelude.{filter, ◌≡◌, ◌↔◌, [], false, IfOk, IfSome, IsTrue};
-ghost use Rattle.cert_model.specs.Prelude.{AreLegal, HasElement, inside, IsElement, IsFault, IsPlanLeaf, IsSized, IsSplit, least_cost, on_side, PartHolds, PlanHolds, ReasonHolds, Refutes, seen, sets, StepHolds};
+ghost use Rattle.cert_model.specs.Prelude.{AreKnown, AreLegal, HasElement, inside, IsElement, IsFault, IsPlanLeaf, IsSized, IsSplit, least_cost, on_side, PartHolds, PlanHolds, ReasonHolds, Refutes, seen, sets, StepHolds};
 
 use crate::ends::sum_seen;
-use crate::nearby::Nearby;
-use crate::weighed::is_seen;
+use crate::known::Known;
+use crate::quick::is_seen;
 use crate::why::Why;
 use base::Memory;
 use catalogue::Problem;
@@ -22,13 +22,14 @@ use trees::Step;
 pub fn fault(
     alloc: Global,
     p: &Problem,
-    nearby: &Nearby,
+    known: &Known,
     bound: Option<u64>,
     g: &Region,
     sum: u64,
     step: &Step,
 ) -> Result<Option<Why>, Memory>
     requires region { IsSized p.now.given g.now }
+    requires known { AreKnown p.now.given (sets g.now) known.now.standings.now }
     requires legal { AreLegal p.now.given (sets g.now) }
     requires sum { sum ≡ least_cost p.now.given (sets g.now) }
     ensures holds { IfOk result (λ why. why ≡ None → StepHolds p.now.given bound (sets g.now) step.now) }
@@ -37,7 +38,7 @@ pub fn fault(
     if !part_holds(p, g, step) {
         return Ok(Some(Why::Part));
     }
-    if !reason_holds(p, nearby, bound, g, sum, step) {
+    if !reason_holds(p, known, bound, g, sum, step) {
         return Ok(Some(Why::Reason));
     }
     if !plan_holds(alloc, p, bound, g, sum, step)? {
@@ -89,13 +90,14 @@ fn leaves_none(g: &Region, element: Element, part: Part, side: Side) -> bool
 // whether the reason of a step refutes
 fn reason_holds(
     p: &Problem,
-    nearby: &Nearby,
+    known: &Known,
     bound: Option<u64>,
     g: &Region,
     sum: u64,
     step: &Step,
 ) -> bool
     requires region { IsSized p.now.given g.now }
+    requires known { AreKnown p.now.given (sets g.now) known.now.standings.now }
     requires legal { AreLegal p.now.given (sets g.now) }
     requires sum { sum ≡ least_cost p.now.given (sets g.now) }
     requires part { PartHolds p.now.given (sets g.now) step.now }
@@ -103,8 +105,8 @@ fn reason_holds(
     ensures no { result ≡ false → ¬ ReasonHolds p.now.given bound (sets g.now) step.now }
 {
     match step {
-        Step::Fail(reason) => refutes_all(p, nearby, bound, g, sum, reason),
-        Step::Cut(x, part, reason) => refutes_inside(p, nearby, bound, g, sum, *x, *part, reason),
+        Step::Fail(reason) => refutes_all(p, known, bound, g, sum, reason),
+        Step::Cut(x, part, reason) => refutes_inside(p, known, bound, g, sum, *x, *part, reason),
         Step::Decide(_, _) | Step::Plan(_) | Step::Left => true,
     }
 }
@@ -112,18 +114,19 @@ fn reason_holds(
 // whether a reason refutes what is seen of the region; the machines near a node are asked first
 fn is_refuted(
     p: &Problem,
-    nearby: &Nearby,
+    known: &Known,
     bound: Option<u64>,
     least: Option<u128>,
     view: &View,
     reason: &Reason,
 ) -> bool
     requires region { IsSized p.now.given view.now.region.now }
+    requires known { AreKnown p.now.given (sets view.now.region.now) known.now.standings.now }
     requires least { IfSome least (λ n. n ≡ least_cost p.now.given (seen view.now.region.now view.now.lens)) }
     ensures yes { IsTrue result → Refutes p.now.given bound (seen view.now.region.now view.now.lens) reason.now }
     ensures no { result ≡ false → ¬ Refutes p.now.given bound (seen view.now.region.now view.now.lens) reason.now }
 {
-    if is_seen(p, nearby, view, reason) {
+    if is_seen(p, known, view, reason) {
         return true;
     }
     refutes_seen(p, bound, least, view, reason)
@@ -132,13 +135,14 @@ fn is_refuted(
 // whether a reason refutes the region, whose least ends have that sum
 fn refutes_all(
     p: &Problem,
-    nearby: &Nearby,
+    known: &Known,
     bound: Option<u64>,
     g: &Region,
     sum: u64,
     reason: &Reason,
 ) -> bool
     requires region { IsSized p.now.given g.now }
+    requires known { AreKnown p.now.given (sets g.now) known.now.standings.now }
     requires sum { sum ≡ least_cost p.now.given (sets g.now) }
     ensures yes { IsTrue result → Refutes p.now.given bound (sets g.now) reason.now }
     ensures no { result ≡ false → ¬ Refutes p.now.given bound (sets g.now) reason.now }
@@ -147,13 +151,13 @@ fn refutes_all(
         region: g,
         lens: Lens::Whole,
     };
-    is_refuted(p, nearby, bound, Some(u128::from(sum)), &view, reason)
+    is_refuted(p, known, bound, Some(u128::from(sum)), &view, reason)
 }
 
 // whether a reason refutes what is inside a part; the sum there is asked for by one reason alone
 fn refutes_inside(
     p: &Problem,
-    nearby: &Nearby,
+    known: &Known,
     bound: Option<u64>,
     g: &Region,
     sum: u64,
@@ -162,6 +166,7 @@ fn refutes_inside(
     reason: &Reason,
 ) -> bool
     requires region { IsSized p.now.given g.now }
+    requires known { AreKnown p.now.given (sets g.now) known.now.standings.now }
     requires legal { AreLegal p.now.given (sets g.now) }
     requires sum { sum ≡ least_cost p.now.given (sets g.now) }
     requires element { IsElement p.now.given x }
@@ -176,7 +181,7 @@ fn refutes_inside(
         region: g,
         lens: Lens::Inside(x, part),
     };
-    is_refuted(p, nearby, bound, least, &view, reason)
+    is_refuted(p, known, bound, least, &view, reason)
 }
 
 // whether a plan that a step names is there

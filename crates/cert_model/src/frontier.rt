@@ -4,6 +4,7 @@ ghost use Rattle.cert_model.specs.Prelude.{AreSame, AreSameSize, FollowFrontier,
 
 use crate::followers::Followers;
 use crate::nearby::Nearby;
+use crate::seats::Seats;
 use base::Memory;
 use catalogue::Problem;
 use cluster::Element;
@@ -46,7 +47,9 @@ pub struct Frontier {
     pub outers: Vec<Outer>,
     /// Which machines to look at first where a load is asked for.
     pub nearby: Nearby,
-    /// Whether the propagators that are handed in follow the trail.
+    /// At which place of the list of a constraint to look for a machine.
+    pub seats: Seats,
+    /// Whether the propagators that are handed in follow the trail, and where machines surely stand in it.
     pub followers: Followers,
 }
 
@@ -57,6 +60,7 @@ impl Frontier {
         region: Region,
         sum: u64,
         nearby: Nearby,
+        seats: Seats,
         followers: Followers,
     ) -> Frontier
         ensures trail { result.trail ≡ record { region = region; marks = [] } }
@@ -71,6 +75,7 @@ impl Frontier {
             sum,
             outers: Vec::new(alloc),
             nearby,
+            seats,
             followers,
         }
     }

@@ -12,8 +12,10 @@ use crate::counts::{cheaper, counted, goal_shown, is_same_goal, least_with, lowe
 use crate::ends::sum_seen;
 use crate::followers::Followers;
 use crate::frontier::{Due, Frontier, Outer};
+use crate::known::Known;
 use crate::lean::is_lean;
 use crate::nearby::Nearby;
+use crate::seats::Seats;
 use crate::why::Why;
 use base::Memory;
 use bound::lower_bound::sum_of;
@@ -60,6 +62,8 @@ impl Model for Walk {
       bound = w.bound;
       strict = w.strict;
       follow = w.frontier.followers.follow;
+      counted = w.frontier.followers.counted;
+      table = w.frontier.followers.table;
     } };
 
     ghost invariant = { λ w. IsKept w.frontier };
@@ -87,9 +91,10 @@ impl Walk {
         let region = start_region(alloc, p)?;
         let sum = sum_of(p, &region);
         let nearby = Nearby::of(alloc, p)?;
+        let seats = Seats::of(alloc, p)?;
         let followers = Followers::new(alloc, p, &region, strict, rules);
         Ok(Walk {
-            frontier: Frontier::new(alloc, region, sum, nearby, followers),
+            frontier: Frontier::new(alloc, region, sum, nearby, seats, followers),
             decisions: 0,
             cheapest: None,
             least_left: None,
@@ -194,15 +199,12 @@ fn refusal(
 {
     let alloc = *frontier.outers.allocator();
     let region = frontier.trail.region();
-    if let Some(why) = fault(
-        alloc,
-        p,
-        &frontier.nearby,
-        bound,
-        region,
-        frontier.sum,
-        step,
-    )? {
+    let known = Known {
+        nearby: &frontier.nearby,
+        seats: &frontier.seats,
+        standings: frontier.followers.standings(),
+    };
+    if let Some(why) = fault(alloc, p, &known, bound, region, frontier.sum, step)? {
         return Ok(Some(why));
     }
     if !strict {

@@ -1,16 +1,13 @@
-//! Whether a reason is seen to refute: some machines alone use too much of the nodes of a set, or two are on a node.
-ghost use Rattle.std.specs.Prelude.{◌≡◌, ℕ, ◌<◌, length, IsTrue, Option as AnyOption};
-ghost use Rattle.cert_model.specs.Prelude.{has_node, IsOverload, IsSized, IsWeighed, machine_count, nodes_of, Refutes, seen, sure};
+//! Whether some machines alone are seen to use too much of the nodes of a set.
+ghost use Rattle.std.specs.Prelude.{◌≡◌, ◌<◌, length, IsTrue};
+ghost use Rattle.cert_model.specs.Prelude.{AreKnown, has_node, IsOverload, IsSized, IsWeighed, machine_count, nodes_of, seen, sets, sure};
 
-use crate::nearby::Nearby;
+use crate::known::{Known, used};
 use catalogue::Problem;
 use cluster::{Instant, NodeSet, VmId};
 use domains::{Lens, View};
-use profiles::standing::pairs::pair_refutes;
-use reasons::Reason;
-use relax::named::is_named;
-use relax::{Area, area_of, least_held, narrowed, room};
-use slices::Weight;
+use profiles::standing::numbers::Standing;
+use relax::{Area, area_of, narrowed, room};
 
 /// What some of the machines before a number surely use together.
 #[derive(Clone, Copy)]
@@ -35,9 +32,19 @@ fn other_of(p: &Problem, lens: Lens) -> u32 {
 }
 
 // with a machine more, if there is such a one and it is not before the number
-fn with(p: &Problem, view: &View, r: u8, area: &Area, t: Instant, sum: Weighed, v: u32) -> Weighed
+fn with(
+    p: &Problem,
+    view: &View,
+    ks: &[Standing],
+    r: u8,
+    area: &Area,
+    t: Instant,
+    sum: Weighed,
+    v: u32,
+) -> Weighed
     requires region { IsSized p.now.given view.now.region.now }
     requires resource { r < length p.now.given.resources }
+    requires known { AreKnown p.now.given (sets view.now.region.now) ks.now }
     requires sum { IsWeighed p.now.given (sure p.now.given (seen view.now.region.now view.now.lens) t) r (nodes_of p.now.given area.now) sum }
     ensures { IsWeighed p.now.given (sure p.now.given (seen view.now.region.now view.now.lens) t) r (nodes_of p.now.given area.now) result }
 {
@@ -47,7 +54,7 @@ fn with(p: &Problem, view: &View, r: u8, area: &Area, t: Instant, sum: Weighed, 
     }
     Weighed {
         next: i + 1,
-        total: sum.total + least_held(p, view, VmId(v), Weight::Amount(r), area, t),
+        total: sum.total + used(p, view, ks, r, area, t, VmId(v)),
     }
 }
 
@@ -55,6 +62,7 @@ fn with(p: &Problem, view: &View, r: u8, area: &Area, t: Instant, sum: Weighed, 
 fn listed(
     p: &Problem,
     view: &View,
+    ks: &[Standing],
     r: u8,
     area: &Area,
     t: Instant,
@@ -63,47 +71,29 @@ fn listed(
 ) -> Weighed
     requires region { IsSized p.now.given view.now.region.now }
     requires resource { r < length p.now.given.resources }
+    requires known { AreKnown p.now.given (sets view.now.region.now) ks.now }
     ensures { IsWeighed p.now.given (sure p.now.given (seen view.now.region.now view.now.lens) t) r (nodes_of p.now.given area.now) result }
 {
     let mut sum = Weighed { next: 0, total: 0 };
     for i in 0..list.len() {
         if other < list[i] {
-            sum = with(p, view, r, area, t, sum, other);
+            sum = with(p, view, ks, r, area, t, sum, other);
         }
-        sum = with(p, view, r, area, t, sum, list[i]);
+        sum = with(p, view, ks, r, area, t, sum, list[i]);
     }
-    with(p, view, r, area, t, sum, other)
+    with(p, view, ks, r, area, t, sum, other)
 }
 
-// whether they use more than there is room for
-fn is_over(p: &Problem, view: &View, r: u8, set: &NodeSet, t: Instant, list: &[u32]) -> bool
+/// Whether the machines near the first node of a set use more of a resource there than there is room for.
+pub fn is_over(p: &Problem, view: &View, known: &Known, r: u8, set: &NodeSet, t: Instant) -> bool
     requires region { IsSized p.now.given view.now.region.now }
     requires resource { r < length p.now.given.resources }
+    requires known { AreKnown p.now.given (sets view.now.region.now) known.now.standings.now }
     ensures { IsTrue result → IsOverload p.now.given (sure p.now.given (seen view.now.region.now view.now.lens) t) r (has_node set.now) }
 {
     let area = area_of(p, set);
-    let sum = listed(p, view, r, &area, t, list, other_of(p, view.lens));
+    let list = known.nearby.of_first(set);
+    let other = other_of(p, view.lens);
+    let sum = listed(p, view, known.standings, r, &area, t, list, other);
     room(p, view, r, &area, t) < sum.total
-}
-
-/// Whether it is seen that a reason refutes: that of a load by the machines near its first node, that of a pair by how
-/// long machines stay.
-pub fn is_seen(p: &Problem, nearby: &Nearby, view: &View, reason: &Reason) -> bool
-    requires region { IsSized p.now.given view.now.region.now }
-    ensures { IsTrue result → (bound : AnyOption ℕ) → Refutes p.now.given bound (seen view.now.region.now view.now.lens) reason.now }
-{
-    match reason {
-        Reason::Load(t, r, set) => {
-            is_named(p, reason) && is_over(p, view, *r, set, *t, nearby.of_first(set))
-        }
-        Reason::Pair(c, t, v, w, n) => pair_refutes(p, view, *c, *t, *v, *w, *n),
-        Reason::Empty(_)
-        | Reason::Bound
-        | Reason::Place(..)
-        | Reason::Group(..)
-        | Reason::SetLoad(..)
-        | Reason::Power(..)
-        | Reason::Usable(..)
-        | Reason::Hall(..) => false,
-    }
 }
