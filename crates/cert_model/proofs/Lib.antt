@@ -10,5 +10,6 @@ pub mod StandLemmas
 pub mod FollowLemmas
 pub mod CountedLemmas
 pub mod KnownLemmas
+pub mod ElsewhereLemmas
 pub mod ScatteredLemmas
 pub mod WeighedLemmas

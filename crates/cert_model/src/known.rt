@@ -2,6 +2,7 @@
 ghost use Rattle.std.specs.Prelude.{◌≡◌, ◌≤◌, ◌<◌, ℕ, nat_lt, length, IfSome, IsTrue};
 ghost use Rattle.cert_model.specs.Prelude.{Amount as AmountOf, AreKnown, IsElement, IsSized, IsStanding, kept_use as the_kept_use, machine_count, max_held, nodes_of, one, Presence, seen, sets, sure, vm};
 
+use crate::elsewhere::is_always_in;
 use crate::nearby::Nearby;
 use crate::seats::Seats;
 use catalogue::Problem;
@@ -110,12 +111,14 @@ fn is_told_in(p: &Problem, view: &View, ks: &[Standing], v: VmId, area: &Area, t
     }
 }
 
-/// Whether a machine is seen to be in an area, by its numbers or else by its choices.
+/// Whether a machine is seen to be in an area, by its numbers, by where it goes, or else by its choices.
 pub fn is_in(p: &Problem, view: &View, ks: &[Standing], v: VmId, area: &Area, t: Instant) -> bool
     requires region { IsSized p.now.given view.now.region.now }
     requires machine { v.0 < machine_count p.now.given }
     requires known { AreKnown p.now.given (sets view.now.region.now) ks.now }
     ensures { IsTrue result → IsTrue ((sure p.now.given (seen view.now.region.now view.now.lens) t).present v.0 (nodes_of p.now.given area.now)) }
 {
-    is_told_in(p, view, ks, v, area, t) || surely_in(p, view, v, area, t)
+    is_told_in(p, view, ks, v, area, t)
+        || is_always_in(p, view, v, area, t)
+        || surely_in(p, view, v, area, t)
 }

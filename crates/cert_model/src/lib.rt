@@ -3,6 +3,7 @@
 
 mod claims;
 mod counts;
+mod elsewhere;
 mod ends;
 mod followers;
 mod frontier;
