@@ -10,6 +10,7 @@ pub mod StandLemmas
 pub mod FollowLemmas
 pub mod CountedLemmas
 pub mod KnownLemmas
+pub mod HoldLemmas
 pub mod ElsewhereLemmas
 pub mod ScatteredLemmas
 pub mod WeighedLemmas

@@ -14,7 +14,7 @@ module _ (p : Instance) (s : Snapshot) (r : ℕ) (set : Nodes) where
   pub weighed_none : IsWeighed p s r set (record { next = 0; total = 0 })
   weighed_none = record { within = omega arith; part = omega arith; small = omega arith }
 
-  pub weighed_more : (x : Weighed) (i held : ℕ) → IsWeighed p s r set x → x.next ≤ i → i < machine_count p → held ≡ s.held i (Amount r) set → held ≤ max_held → IsWeighed p s r set (record { next = i + 1; total = x.total + held })
+  pub weighed_more : (x : Weighed) (i held : ℕ) → IsWeighed p s r set x → x.next ≤ i → i < machine_count p → held ≤ s.held i (Amount r) set → held ≤ max_held → IsWeighed p s r set (record { next = i + 1; total = x.total + held })
   weighed_more x i held known later there is few = record {
     within = omega (arith, there);
     part = let next : i + 1 ≡ suc i = omega arith in rw next (omega (arith, known.part, is, grows x.next i (λ v. s.held v (Amount r) set) later));

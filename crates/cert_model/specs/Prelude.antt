@@ -1,6 +1,7 @@
 -- What is cited together of this crate and of those below it, passed on from one place. Declares nothing.
 pub use Rattle.trees.specs.Prelude.{AreFixed, AtEach, bound_of, children, Choices, decisions, Fact, gathered_along, goal_of, GoalHolds, has_left, HasElement, HaveChoices, in_part, inside, IsClosed, IsElement, IsFixed, IsHandedIn, IsInstance, IsLean, IsOnly, IsOverload, IsPlanLeaf, IsSplit, IsUndecided, keeping, Leads, LeanAt, least, least_shown, left_set, lower, lower_of, lower_option, lowest, max_cost, node, on_side, out_of_part, outside, plan_costs, Proves, Refutes, room, same_element, seen, shown, stays, StepHolds, steps_of, Tree, vm}
 unfoldable pub use Rattle.relax.specs.Prelude.{held_at}
+pub use Rattle.relax.specs.Prelude.{all_nodes, NodeId, state_of, Use, wanted_state, weight_of}
 unfoldable pub use Rattle.trees.specs.Prelude.{end_of, has_node, is_legal, IsValid, least_cost, start_sets, sure}
 pub use Rattle.bound.specs.Prelude.{Instance, machine_count, max_held, Nodes, RegionView, Sets, sets, Snapshot, sum_to}
 pub use Rattle.cluster.specs.declared.{choices.Choice.Choice, ids.Element.Element, ids.Element.TheVariants.Node, ids.Element.TheVariants.Vm}

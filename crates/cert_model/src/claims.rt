@@ -121,6 +121,7 @@ fn is_refuted(
     reason: &Reason,
 ) -> bool
     requires region { IsSized p.now.given view.now.region.now }
+    requires legal { AreLegal p.now.given (sets view.now.region.now) }
     requires known { AreKnown p.now.given (sets view.now.region.now) known.now.standings.now }
     requires least { IfSome least (λ n. n ≡ least_cost p.now.given (seen view.now.region.now view.now.lens)) }
     ensures yes { IsTrue result → Refutes p.now.given bound (seen view.now.region.now view.now.lens) reason.now }
@@ -142,6 +143,7 @@ fn refutes_all(
     reason: &Reason,
 ) -> bool
     requires region { IsSized p.now.given g.now }
+    requires legal { AreLegal p.now.given (sets g.now) }
     requires known { AreKnown p.now.given (sets g.now) known.now.standings.now }
     requires sum { sum ≡ least_cost p.now.given (sets g.now) }
     ensures yes { IsTrue result → Refutes p.now.given bound (sets g.now) reason.now }

@@ -1,8 +1,9 @@
 //! What is known beside a region, and what it tells of where machines surely are.
 ghost use Rattle.std.specs.Prelude.{◌≡◌, ◌≤◌, ◌<◌, ℕ, nat_lt, length, IfSome, IsTrue};
-ghost use Rattle.cert_model.specs.Prelude.{Amount as AmountOf, AreKnown, IsElement, IsSized, IsStanding, kept_use as the_kept_use, machine_count, max_held, nodes_of, one, Presence, seen, sets, sure, vm};
+ghost use Rattle.cert_model.specs.Prelude.{Amount as AmountOf, AreKnown, AreLegal, IsElement, IsSized, IsStanding, kept_use as the_kept_use, machine_count, max_held, nodes_of, one, Presence, seen, sets, sure, vm};
 
 use crate::elsewhere::is_always_in;
+use crate::holding::holds_on;
 use crate::nearby::Nearby;
 use crate::seats::Seats;
 use catalogue::Problem;
@@ -14,6 +15,8 @@ use profiles::standing::numbers::Standing;
 use profiles::standing::uses::kept_use;
 use relax::{Area, has, least_held, surely_in};
 use slices::Weight;
+use slices::holding::amount;
+use slices::slice::What;
 
 /// Where to look first, and where machines surely stand.
 #[derive(Clone, Copy)]
@@ -37,7 +40,8 @@ fn standing_of(p: &Problem, view: &View, ks: &[Standing], v: VmId) -> Option<Sta
     Some(ks[i])
 }
 
-/// What a machine surely uses of the nodes of an area. On one node its numbers tell it.
+/// What a machine surely uses of the nodes of an area, or less. On one node its numbers tell it; of all nodes one that holds on
+/// is not looked at closer.
 pub fn used(
     p: &Problem,
     view: &View,
@@ -50,14 +54,18 @@ pub fn used(
     requires region { IsSized p.now.given view.now.region.now }
     requires resource { r < length p.now.given.resources }
     requires machine { v.0 < machine_count p.now.given }
+    requires legal { AreLegal p.now.given (sets view.now.region.now) }
     requires known { AreKnown p.now.given (sets view.now.region.now) ks.now }
-    ensures held { result ≡ (sure p.now.given (seen view.now.region.now view.now.lens) t).held v.0 (AmountOf r) (nodes_of p.now.given area.now) }
+    ensures held { result ≤ (sure p.now.given (seen view.now.region.now view.now.lens) t).held v.0 (AmountOf r) (nodes_of p.now.given area.now) }
     ensures small { result ≤ max_held }
 {
     if let Area::One(n) = area {
         if let Some(k) = standing_of(p, view, ks, v) {
             return kept_use(p, v, Weight::Amount(r), *n, t, k);
         }
+    }
+    if matches!(area, Area::All) && holds_on(p, view, v) {
+        return amount(p, v, What::Use, r);
     }
     least_held(p, view, v, Weight::Amount(r), area, t)
 }

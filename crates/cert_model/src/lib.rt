@@ -7,6 +7,7 @@ mod elsewhere;
 mod ends;
 mod followers;
 mod frontier;
+mod holding;
 mod known;
 pub mod laws;
 mod lean;

@@ -1,6 +1,6 @@
 //! Whether a reason is seen to refute, by what is known beside the region. A yes is a yes; else it is asked exactly.
 ghost use Rattle.std.specs.Prelude.{◌≡◌, ℕ, ◌<◌, length, IsTrue, Option as AnyOption};
-ghost use Rattle.cert_model.specs.Prelude.{AreKnown, Applies, ForbidsPair, ForbidsPlace, IsElement, IsGroup, IsPair, IsPlace, IsSized, machine_count, Refutes, seen, sets, sure, is_member};
+ghost use Rattle.cert_model.specs.Prelude.{AreKnown, AreLegal, Applies, ForbidsPair, ForbidsPlace, IsElement, IsGroup, IsPair, IsPlace, IsSized, machine_count, Refutes, seen, sets, sure, is_member};
 
 use crate::known::{Known, is_on};
 use crate::scattered::is_scattered;
@@ -163,6 +163,7 @@ fn group_applies(p: &Problem, view: &View, known: &Known, c: u32, t: Instant) ->
 /// machines by where these surely stand, that of a group by where the member goes that is cut.
 pub fn is_seen(p: &Problem, known: &Known, view: &View, reason: &Reason) -> bool
     requires region { IsSized p.now.given view.now.region.now }
+    requires legal { AreLegal p.now.given (sets view.now.region.now) }
     requires known { AreKnown p.now.given (sets view.now.region.now) known.now.standings.now }
     ensures { IsTrue result → (bound : AnyOption ℕ) → Refutes p.now.given bound (seen view.now.region.now view.now.lens) reason.now }
 {

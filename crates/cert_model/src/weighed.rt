@@ -1,6 +1,6 @@
 //! Whether some machines alone are seen to use too much of the nodes of a set.
 ghost use Rattle.std.specs.Prelude.{◌≡◌, ◌<◌, length, IsTrue};
-ghost use Rattle.cert_model.specs.Prelude.{AreKnown, has_node, IsOverload, IsSized, IsWeighed, machine_count, nodes_of, seen, sets, sure};
+ghost use Rattle.cert_model.specs.Prelude.{AreKnown, AreLegal, has_node, IsOverload, IsSized, IsWeighed, machine_count, nodes_of, seen, sets, sure};
 
 use crate::known::{Known, used};
 use catalogue::Problem;
@@ -44,6 +44,7 @@ fn with(
 ) -> Weighed
     requires region { IsSized p.now.given view.now.region.now }
     requires resource { r < length p.now.given.resources }
+    requires legal { AreLegal p.now.given (sets view.now.region.now) }
     requires known { AreKnown p.now.given (sets view.now.region.now) ks.now }
     requires sum { IsWeighed p.now.given (sure p.now.given (seen view.now.region.now view.now.lens) t) r (nodes_of p.now.given area.now) sum }
     ensures { IsWeighed p.now.given (sure p.now.given (seen view.now.region.now view.now.lens) t) r (nodes_of p.now.given area.now) result }
@@ -71,6 +72,7 @@ fn listed(
 ) -> Weighed
     requires region { IsSized p.now.given view.now.region.now }
     requires resource { r < length p.now.given.resources }
+    requires legal { AreLegal p.now.given (sets view.now.region.now) }
     requires known { AreKnown p.now.given (sets view.now.region.now) ks.now }
     ensures { IsWeighed p.now.given (sure p.now.given (seen view.now.region.now view.now.lens) t) r (nodes_of p.now.given area.now) result }
 {
@@ -84,16 +86,62 @@ fn listed(
     with(p, view, ks, r, area, t, sum, other)
 }
 
-/// Whether the machines near the first node of a set use more of a resource there than there is room for.
+// what all machines use
+fn all_used(p: &Problem, view: &View, ks: &[Standing], r: u8, area: &Area, t: Instant) -> Weighed
+    requires region { IsSized p.now.given view.now.region.now }
+    requires resource { r < length p.now.given.resources }
+    requires legal { AreLegal p.now.given (sets view.now.region.now) }
+    requires known { AreKnown p.now.given (sets view.now.region.now) ks.now }
+    ensures { IsWeighed p.now.given (sure p.now.given (seen view.now.region.now view.now.lens) t) r (nodes_of p.now.given area.now) result }
+{
+    let mut sum = Weighed { next: 0, total: 0 };
+    for i in 0..machine_total(p) {
+        sum = with(p, view, ks, r, area, t, sum, i as u32);
+    }
+    sum
+}
+
+// what the machines use that count: those near the first node of a set, or all of them where it has all nodes
+fn used_in(
+    p: &Problem,
+    view: &View,
+    known: &Known,
+    r: u8,
+    set: &NodeSet,
+    area: &Area,
+    t: Instant,
+) -> Weighed
+    requires region { IsSized p.now.given view.now.region.now }
+    requires resource { r < length p.now.given.resources }
+    requires legal { AreLegal p.now.given (sets view.now.region.now) }
+    requires known { AreKnown p.now.given (sets view.now.region.now) known.now.standings.now }
+    ensures { IsWeighed p.now.given (sure p.now.given (seen view.now.region.now view.now.lens) t) r (nodes_of p.now.given area.now) result }
+{
+    if matches!(area, Area::All) {
+        return all_used(p, view, known.standings, r, area, t);
+    }
+    let list = known.nearby.of_first(set);
+    listed(
+        p,
+        view,
+        known.standings,
+        r,
+        area,
+        t,
+        list,
+        other_of(p, view.lens),
+    )
+}
+
+/// Whether machines use more of a resource on the nodes of a set than there is room for: those near its first node, or all.
 pub fn is_over(p: &Problem, view: &View, known: &Known, r: u8, set: &NodeSet, t: Instant) -> bool
     requires region { IsSized p.now.given view.now.region.now }
     requires resource { r < length p.now.given.resources }
+    requires legal { AreLegal p.now.given (sets view.now.region.now) }
     requires known { AreKnown p.now.given (sets view.now.region.now) known.now.standings.now }
     ensures { IsTrue result → IsOverload p.now.given (sure p.now.given (seen view.now.region.now view.now.lens) t) r (has_node set.now) }
 {
     let area = area_of(p, set);
-    let list = known.nearby.of_first(set);
-    let other = other_of(p, view.lens);
-    let sum = listed(p, view, known.standings, r, &area, t, list, other);
+    let sum = used_in(p, view, known, r, set, &area, t);
     room(p, view, r, &area, t) < sum.total
 }
