@@ -1,7 +1,8 @@
 -- What the numbers of machines tell.
-use Rattle.cert_model.proofs.Prelude.{IsTrue, ◌≡◌, ℕ, ◌<◌, ◌≤◌, ◌&&◌, nat_lt, Bool, List, [], ◌∷◌, refl, sym, arith, nat_tests, and_parts, true, lower, lower_option, Option, None, Some, lowest, kept_law, present_law, Amount, Choice, Instance, IsInstance, IsStanding, kept_use, least, max_held, never, Nodes, one, Presence, present_at, Sets, Standing, surely, vm}
+use Rattle.cert_model.proofs.Prelude.{IsTrue, ◌≡◌, ℕ, ◌<◌, ◌≤◌, ◌&&◌, nat_lt, Bool, List, [], ◌∷◌, refl, sym, arith, nat_tests, and_parts, true, lower, lower_option, Option, None, Some, lowest, kept_law, present_law, Amount, Choice, Instance, IsInstance, IsStanding, kept_use, least, max_held, never, Nodes, one, Presence, present_at, Sets, Standing, surely, vm, Weight}
 use Rattle.cert_model.specs.Prelude.{held_at, sure}
-use Rattle.slices.proofs.Public.{held_is_small, present_on_set}
+use Rattle.slices.proofs.Public.{held_is_small, held_on_more, present_on_set}
+use Rattle.slices.specs.declared.slice.Weight.TheVariants.{Image}
 
 -- ---- amounts
 
@@ -23,6 +24,28 @@ module _ (p : Instance) (s : Sets) (v t : ℕ) (k : Standing) (short : t < never
       let law : least (held_at p v (Amount r) (one n) t) (s (vm v)) ≡ kept_use p v (Amount r) n t k = kept_law p v (Amount r) n t (s (vm v)) k short is in
       let small : least (held_at p v (Amount r) (one n) t) (s (vm v)) ≤ max_held = least-below (held_at p v (Amount r) (one n) t) max_held (s (vm v)) (λ c. (held_is_small p sound v (one n) t c).amounts r) in
       omega (arith, law, small)
+
+least-more : (f g : Choice → ℕ) (cs : List Choice) → ((c : Choice) → f c ≤ g c) → least f cs ≤ least g cs
+least-more f g [] h = omega arith
+least-more f g (c ∷ []) h = omega (arith, h c)
+least-more f g (c ∷ d ∷ ds) h = omega (arith, h c, least-more f g (d ∷ ds) h)
+
+one-in : (set : Nodes) (n k : ℕ) → IsTrue (set n) → IsTrue (one n k) → IsTrue (set k)
+one-in set n k h e = let same : k ≡ n = grind (arith, nat_tests) in rw same h
+
+-- what a machine has on a node is no more than what it has on a set with it
+pub kept_inside : (p : Instance) (v : ℕ) (w : Weight) (n : ℕ) (set : Nodes) (t : ℕ) (cs : List Choice) (k : Standing) → t < never → IsTrue (set n) → IsStanding p v cs k → kept_use p v w n t k ≤ least (held_at p v w set t) cs
+kept_inside p v w n set t cs k short inside is =
+    let law : least (held_at p v w (one n) t) cs ≡ kept_use p v w n t k = kept_law p v w n t cs k short is in
+    omega (arith, law, least-more (held_at p v w (one n) t) (held_at p v w set t) cs (λ c. held_on_more p v w (one n) set t c (λ m e. one-in set n m inside e)))
+
+held-small : (p : Instance) → IsInstance p → (v : ℕ) (w : Weight) (set : Nodes) (t : ℕ) (c : Choice) → held_at p v w set t c ≤ max_held
+held-small p sound v (Amount r) set t c = (held_is_small p sound v set t c).amounts r
+held-small p sound v Presence set t c = omega (arith, (held_is_small p sound v set t c).presences)
+held-small p sound v Image set t c = omega (arith, (held_is_small p sound v set t c).images)
+
+pub least_is_small : (p : Instance) → IsInstance p → (v : ℕ) (w : Weight) (set : Nodes) (t : ℕ) (cs : List Choice) → least (held_at p v w set t) cs ≤ max_held
+least_is_small p sound v w set t cs = least-below (held_at p v w set t) max_held cs (held-small p sound v w set t)
 
 -- ---- presence
 

@@ -7,4 +7,4 @@ pub use Rattle.profiles.proofs.Public.{before_law, fewer_law, kept_law, present_
 pub use Rattle.reasons.proofs.Public.{only_costs, start_is_legal}
 pub use Rattle.trees.proofs.Public.{above_cheapest, at_each_both, at_each_map, certificates_hold, decisions_append, gathered_push, gathered_whole, IsAbove, leads_push, leads_same, leads_tree, lowest_push, plan_costs_append, tree_of}
 pub use Rattle.trees.specs.declared.steps.Step.TheVariants.{Plan}
-pub use Rattle.cert_model.specs.Prelude.{Amount, AreCounted, AreCountedAt, AreFewer, AreFixed, AreFollowing, AreKnown, AreScattered, AreStanding, choices, FollowWhile, has_node, IsMember, IsNarrowed, IsOneIn, IsPosted, IsStanding, kept_use, never, no_standing, node_count, NodeSet, one, Presence, present_at, Standing, surely, Tables, VmId, AreLegal, AtEach, BackSame, Before, bound_of, Change, children, Choice, Choices, Covered, Cut, Decide, decisions, domain_at, domain_before, DomainView, Due, due_sets, due_sums, Element, end_of, Fact, Fail, Frontier, gathered_along, goal_of, GoalHolds, has_left, in_part, Instance, is_legal, IsAsked, IsClosed, IsElement, IsFixed, IsInstance, IsLean, IsOnly, IsOverload, IsPlanLeaf, IsProof, IsRegionOf, IsSized, IsUndecided, IsValid, IsWeighed, keeping, Kept, later_sets, later_sums, Leads, LeadsTo, LeanAt, least, least_along, least_cost, least_shown, least_with, Left, left_along, left_set, lower, lower_of, lower_option, lowest, machine_count, Marked, MarkedSame, max_cost, max_held, Meaning, node, Node, Nodes, nodes_of, Nothing, on_side, open_of, open_sets, open_sums, out_of_part, outer_sets, Outside, outside, Pairs, plan_costs, PostedSame, ProofsHold, Proves, RegionView, room, same_element, SameCover, seen, sets, Sets, shown, Snapshot, Stands, start_sets, stays, Step, StepHolds, steps_of, sum_to, sums_of, sure, the_view, ToldSame, TopsAgree, Tree, vm, Vm, WalkAt, Weighed, Whole}
+pub use Rattle.cert_model.specs.Prelude.{Amount, total, Weight, AreCounted, AreCountedAt, AreFewer, AreFixed, AreFollowing, AreKnown, AreScattered, AreStanding, choices, FollowWhile, has_node, IsMember, IsNarrowed, IsOneIn, IsPosted, IsStanding, kept_use, never, no_standing, node_count, NodeSet, one, Presence, present_at, Standing, surely, Tables, VmId, AreLegal, AtEach, BackSame, Before, bound_of, Change, children, Choice, Choices, Covered, Cut, Decide, decisions, domain_at, domain_before, DomainView, Due, due_sets, due_sums, Element, end_of, Fact, Fail, Frontier, gathered_along, goal_of, GoalHolds, has_left, in_part, Instance, is_legal, IsAsked, IsClosed, IsElement, IsFixed, IsInstance, IsLean, IsOnly, IsOverload, IsPlanLeaf, IsProof, IsRegionOf, IsSized, IsUndecided, IsValid, IsWeighed, keeping, Kept, later_sets, later_sums, Leads, LeadsTo, LeanAt, least, least_along, least_cost, least_shown, least_with, Left, left_along, left_set, lower, lower_of, lower_option, lowest, machine_count, Marked, MarkedSame, max_cost, max_held, Meaning, node, Node, Nodes, nodes_of, Nothing, on_side, open_of, open_sets, open_sums, out_of_part, outer_sets, Outside, outside, Pairs, plan_costs, PostedSame, ProofsHold, Proves, RegionView, room, same_element, SameCover, seen, sets, Sets, shown, Snapshot, Stands, start_sets, stays, Step, StepHolds, steps_of, sum_to, sums_of, sure, the_view, ToldSame, TopsAgree, Tree, vm, Vm, WalkAt, Weighed, Whole}

@@ -6,7 +6,7 @@ unfoldable pub use Rattle.trees.specs.Prelude.{end_of, has_node, is_legal, IsVal
 pub use Rattle.bound.specs.Prelude.{Instance, machine_count, max_held, Nodes, RegionView, Sets, sets, Snapshot, sum_to}
 pub use Rattle.cluster.specs.declared.{choices.Choice.Choice, ids.Element.Element, ids.Element.TheVariants.Node, ids.Element.TheVariants.Vm}
 pub use Rattle.slices.specs.declared.slice.Weight.TheVariants.{Amount}
-pub use Rattle.relax.specs.Prelude.{AreFewer, AreLegal, Applies, AreScattered, choices, ForbidsPair, ForbidsPlace, is_member, is_rule, inventory_of, IsGroup, IsMember, IsOneIn, IsPair, IsPlace, IsSized, no_row, node_count, nodes_of, NodeSet, one, present_at, surely, VmId}
+pub use Rattle.relax.specs.Prelude.{AreFewer, AreLegal, Applies, AreScattered, choices, ForbidsPair, ForbidsPlace, is_member, is_rule, inventory_of, IsGroup, IsMember, IsOneIn, IsPair, IsPlace, IsSetLoad, IsSized, IsWeight, no_row, node_count, nodes_of, NodeSet, one, present_at, surely, total, VmId, Weight}
 pub use Rattle.profiles.specs.Prelude.{AreStanding, IsStanding, kept_use, never, no_standing, Presence, Tables}
 pub use Rattle.profiles.specs.declared.standing.numbers.Standing.{Standing}
 pub use Rattle.trees.specs.declared.steps.Step.{Step, TheVariants.Cut, TheVariants.Decide, TheVariants.Fail, TheVariants.Left}

@@ -1,6 +1,7 @@
 //! What is known beside a region, and what it tells of where machines surely are.
-ghost use Rattle.std.specs.Prelude.{◌≡◌, ◌≤◌, ◌<◌, ℕ, nat_lt, length, IfSome, IsTrue};
-ghost use Rattle.cert_model.specs.Prelude.{Amount as AmountOf, AreKnown, AreLegal, IsElement, IsSized, IsStanding, kept_use as the_kept_use, machine_count, max_held, nodes_of, one, Presence, seen, sets, sure, vm};
+ghost use Rattle.std.specs.Prelude.{◌≡◌, ◌≤◌, ◌<◌, ℕ, List, nat_lt, length, IfSome, IsTrue};
+ghost use Rattle.cluster.specs.declared.choices.Choice.{Choice as AnyChoice};
+ghost use Rattle.cert_model.specs.Prelude.{Amount as AmountOf, AreKnown, AreLegal, held_at, IsElement, IsSized, IsStanding, IsWeight, kept_use as the_kept_use, least, machine_count, max_held, nodes_of, one, Presence, seen, sets, sure, vm};
 
 use crate::elsewhere::is_always_in;
 use crate::holding::holds_on;
@@ -40,17 +41,9 @@ fn standing_of(p: &Problem, view: &View, ks: &[Standing], v: VmId) -> Option<Sta
     Some(ks[i])
 }
 
-/// What a machine surely uses of the nodes of an area, or less. On one node its numbers tell it; of all nodes one that holds on
-/// is not looked at closer.
-pub fn used(
-    p: &Problem,
-    view: &View,
-    ks: &[Standing],
-    r: u8,
-    area: &Area,
-    t: Instant,
-    v: VmId,
-) -> u64
+// what a machine surely uses of the nodes of an area, or less. On one node its numbers tell it; of all nodes one that holds on
+// is not looked at closer
+fn used(p: &Problem, view: &View, ks: &[Standing], r: u8, area: &Area, t: Instant, v: VmId) -> u64
     requires region { IsSized p.now.given view.now.region.now }
     requires resource { r < length p.now.given.resources }
     requires machine { v.0 < machine_count p.now.given }
@@ -68,6 +61,101 @@ pub fn used(
         return amount(p, v, What::Use, r);
     }
     least_held(p, view, v, Weight::Amount(r), area, t)
+}
+
+// what a machine with these numbers has on a node, if there is one and it is in an area
+#[tactic(auto, using(crate::proofs::KnownLemmas::kept_inside))]
+fn kept_on(
+    p: &Problem,
+    v: VmId,
+    weight: Weight,
+    area: &Area,
+    t: Instant,
+    k: Standing,
+    node: Option<NodeId>,
+) -> u64
+    requires machine { IsElement p.now.given (Element.Vm v) }
+    requires weight { IsWeight p.now.given weight }
+    ensures { (cs : List AnyChoice) → IsStanding p.now.given v.0 cs k → result ≤ least (held_at p.now.given v.0 weight (nodes_of p.now.given area.now) t) cs }
+{
+    match node {
+        None => 0,
+        Some(n) => if has(p, area, n) {
+            kept_use(p, v, weight, n, t, k)
+        } else {
+            0
+        },
+    }
+}
+
+// the node to which all choices of a machine with these numbers go
+fn goal_of(k: Standing) -> Option<NodeId> {
+    match k.come {
+        None => None,
+        Some(arrival) => Some(arrival.node),
+    }
+}
+
+// what a machine with these numbers has at its host, or where it goes, if that is more
+fn kept_in(p: &Problem, v: VmId, weight: Weight, area: &Area, t: Instant, k: Standing) -> u64
+    requires machine { IsElement p.now.given (Element.Vm v) }
+    requires weight { IsWeight p.now.given weight }
+    ensures { (cs : List AnyChoice) → IsStanding p.now.given v.0 cs k → result ≤ least (held_at p.now.given v.0 weight (nodes_of p.now.given area.now) t) cs }
+{
+    let here = kept_on(p, v, weight, area, t, k, host_of(p, v));
+    let there = kept_on(p, v, weight, area, t, k, goal_of(k));
+    if here < there { there } else { here }
+}
+
+// what a machine surely holds on the nodes of an area, or less: where its numbers are known, no row is read
+#[tactic(auto, using(crate::proofs::KnownLemmas::least_is_small), unfolding(reasons::specs::Sure::sure))]
+fn told_in(
+    p: &Problem,
+    view: &View,
+    ks: &[Standing],
+    weight: Weight,
+    area: &Area,
+    t: Instant,
+    v: VmId,
+) -> u64
+    requires region { IsSized p.now.given view.now.region.now }
+    requires weight { IsWeight p.now.given weight }
+    requires machine { v.0 < machine_count p.now.given }
+    requires known { AreKnown p.now.given (sets view.now.region.now) ks.now }
+    ensures held { result ≤ (sure p.now.given (seen view.now.region.now view.now.lens) t).held v.0 weight (nodes_of p.now.given area.now) }
+    ensures small { result ≤ max_held }
+{
+    match standing_of(p, view, ks, v) {
+        Some(k) => kept_in(p, v, weight, area, t, k),
+        None => least_held(p, view, v, weight, area, t),
+    }
+}
+
+/// What a machine surely holds on the nodes of an area, or less.
+pub fn held(
+    p: &Problem,
+    view: &View,
+    ks: &[Standing],
+    weight: Weight,
+    area: &Area,
+    t: Instant,
+    v: VmId,
+) -> u64
+    requires region { IsSized p.now.given view.now.region.now }
+    requires weight { IsWeight p.now.given weight }
+    requires machine { v.0 < machine_count p.now.given }
+    requires legal { AreLegal p.now.given (sets view.now.region.now) }
+    requires known { AreKnown p.now.given (sets view.now.region.now) ks.now }
+    ensures held { result ≤ (sure p.now.given (seen view.now.region.now view.now.lens) t).held v.0 weight (nodes_of p.now.given area.now) }
+    ensures small { result ≤ max_held }
+{
+    if let Area::In(_) = area {
+        return told_in(p, view, ks, weight, area, t, v);
+    }
+    match weight {
+        Weight::Amount(r) => used(p, view, ks, r, area, t, v),
+        Weight::Presence | Weight::Image => told_in(p, view, ks, weight, area, t, v),
+    }
 }
 
 // whether a machine with these numbers is on a node

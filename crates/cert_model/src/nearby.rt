@@ -1,8 +1,11 @@
-//! For each node machines that may surely have something there.
+//! For each node, and for the nodes of each bounded amount, machines that may surely have something there.
 use base::Memory;
 use catalogue::Problem;
+use cluster::limits::MAX_NODES;
 use cluster::{Element, NodeId, NodeSet, Place, VmId};
 use domains::Domain;
+use slices::Form;
+use slices::form::form_of;
 use std::alloc::Global;
 
 /// For each node, in ascending order, the machines that it hosts, and those of which once all choices went there.
@@ -11,7 +14,15 @@ use std::alloc::Global;
 #[derive(Drop)]
 pub struct Nearby {
     lists: Vec<Vec<u32>>,
+    // the constraints that bound an amount on each node, and the machines near the nodes of each of these
+    bounds: Vec<Vec<u32>>,
+    holders: Vec<Vec<u32>>,
+    // how many more of these are taken note of
+    left: usize,
 }
+
+// so many machines are taken note of near the nodes of all constraints together
+const MOST_HOLDERS: usize = 1_000_000;
 
 // the node to which all choices of a domain go
 fn only_goal(domain: &Domain) -> Option<NodeId> {
@@ -42,7 +53,11 @@ fn node_of(place: Place) -> Option<NodeId> {
 
 // puts a number into an ascending list, where it is not there; for want of memory it is left out
 fn insert(list: &mut Vec<u32>, number: u32) {
-    if list.contains(&number) {
+    let is_last = match list.last() {
+        None => true,
+        Some(last) => *last < number,
+    };
+    if !is_last && list.contains(&number) {
         return;
     }
     if list.push(number).is_err() {
@@ -56,15 +71,48 @@ fn insert(list: &mut Vec<u32>, number: u32) {
     }
 }
 
+// so many empty lists
+fn empty_lists(alloc: Global, count: usize) -> Result<Vec<Vec<u32>>, Memory> {
+    let mut lists = Vec::with_capacity(alloc, count)?;
+    for _ in 0..count {
+        lists.push(Vec::new(alloc))?;
+    }
+    Ok(lists)
+}
+
+// takes note of a constraint at each node of a set
+fn note_at(bounds: &mut Vec<Vec<u32>>, c: u32, nodes: &NodeSet) -> Result<(), Memory> {
+    for n in 0..bounds.len().min(MAX_NODES) {
+        if nodes.has(NodeId(n as u32)) {
+            if let Some(list) = bounds.get_mut(n) {
+                list.push(c)?;
+            }
+        }
+    }
+    Ok(())
+}
+
+// for each node the constraints that bound an amount there
+fn bounds_of(alloc: Global, p: &Problem) -> Result<Vec<Vec<u32>>, Memory> {
+    let mut bounds: Vec<Vec<u32>> = empty_lists(alloc, p.cluster().nodes().len())?;
+    for c in 0..p.constraints().len() {
+        if let Form::Bounded(_, nodes, _) = form_of(&p.constraints()[c]) {
+            note_at(&mut bounds, c as u32, nodes)?;
+        }
+    }
+    Ok(bounds)
+}
+
 impl Nearby {
     /// The machines that each node hosts. The only error is want of memory.
     pub fn of(alloc: Global, p: &Problem) -> Result<Nearby, Memory> {
-        let count = p.cluster().nodes().len();
-        let mut lists = Vec::with_capacity(alloc, count)?;
-        for _ in 0..count {
-            lists.push(Vec::new(alloc))?;
-        }
-        let mut nearby = Nearby { lists };
+        let lists = empty_lists(alloc, p.cluster().nodes().len())?;
+        let mut nearby = Nearby {
+            lists,
+            bounds: bounds_of(alloc, p)?,
+            holders: empty_lists(alloc, p.constraints().len())?,
+            left: MOST_HOLDERS,
+        };
         for i in 0..p.cluster().machines().len() {
             if let Some(h) = p.cluster().machines()[i].state.host() {
                 nearby.put(h, VmId(i as u32));
@@ -78,6 +126,15 @@ impl Nearby {
         let i = n.0 as usize;
         if i < self.lists.len() {
             insert(&mut self.lists[i], v.0);
+        }
+        if i < self.bounds.len() {
+            for c in &self.bounds[i] {
+                let c = *c as usize;
+                if c < self.holders.len() && self.left > 0 {
+                    insert(&mut self.holders[c], v.0);
+                    self.left -= 1;
+                }
+            }
         }
     }
 
@@ -95,6 +152,16 @@ impl Nearby {
         match set.first_from(0) {
             None => &[],
             Some(n) => self.at(n.0 as usize),
+        }
+    }
+
+    /// The machines near the nodes of the constraint of a number, if it bounds an amount.
+    pub fn of_constraint(&self, c: u32) -> &[u32] {
+        let i = c as usize;
+        if i < self.holders.len() {
+            &self.holders[i]
+        } else {
+            &[]
         }
     }
 

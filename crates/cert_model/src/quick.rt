@@ -1,11 +1,11 @@
 //! Whether a reason is seen to refute, by what is known beside the region. A yes is a yes; else it is asked exactly.
-ghost use Rattle.std.specs.Prelude.{◌≡◌, ℕ, ◌<◌, length, IsTrue, Option as AnyOption};
-ghost use Rattle.cert_model.specs.Prelude.{AreKnown, AreLegal, Applies, ForbidsPair, ForbidsPlace, IsElement, IsGroup, IsPair, IsPlace, IsSized, machine_count, Refutes, seen, sets, sure, is_member};
+ghost use Rattle.std.specs.Prelude.{◌≡◌, ℕ, ◌<◌, length, true, IsTrue, Option as AnyOption};
+ghost use Rattle.cert_model.specs.Prelude.{AreKnown, AreLegal, Applies, ForbidsPair, ForbidsPlace, IsElement, IsGroup, IsPair, IsPlace, IsSetLoad, IsSized, inventory_of, is_rule, machine_count, Refutes, seen, sets, sure, is_member};
 
 use crate::known::{Known, is_on};
 use crate::scattered::is_scattered;
 use crate::seats::Seats;
-use crate::weighed::is_over;
+use crate::weighed::{is_above, is_over};
 use catalogue::{Constraint, Problem, Vms};
 use cluster::{Element, Instant, NodeId, VmId};
 use domains::View;
@@ -159,8 +159,49 @@ fn group_applies(p: &Problem, view: &View, known: &Known, c: u32, t: Instant) ->
     p.applies(c, t) && is_scattered(p, view, known.standings, &p.constraints()[c as usize], t)
 }
 
+// whether machines are seen to hold more on the nodes of the constraint of a number than its amount
+fn is_exceeded(
+    p: &Problem,
+    view: &View,
+    known: &Known,
+    c: u32,
+    constraint: &Constraint,
+    t: Instant,
+) -> bool
+    requires region { IsSized p.now.given view.now.region.now }
+    requires legal { AreLegal p.now.given (sets view.now.region.now) }
+    requires known { AreKnown p.now.given (sets view.now.region.now) known.now.standings.now }
+    requires rule { is_rule (inventory_of p.now.given) constraint.now ≡ true }
+    ensures { IsTrue result → IsSetLoad p.now.given (sure p.now.given (seen view.now.region.now view.now.lens) t) constraint.now }
+{
+    match form_of(constraint) {
+        Form::Bounded(weight, nodes, amount) => {
+            is_above(p, view, known, c, weight, nodes, amount, t)
+        }
+        Form::Apart(..)
+        | Form::Allowed(..)
+        | Form::Together(..)
+        | Form::Ordered(..)
+        | Form::InTurn(..)
+        | Form::Powered(..)
+        | Form::Settled => false,
+    }
+}
+
+// whether it applies, and machines are seen to hold more on its nodes than its amount
+fn amount_applies(p: &Problem, view: &View, known: &Known, c: u32, t: Instant) -> bool
+    requires region { IsSized p.now.given view.now.region.now }
+    requires legal { AreLegal p.now.given (sets view.now.region.now) }
+    requires known { AreKnown p.now.given (sets view.now.region.now) known.now.standings.now }
+    requires constraint { c < length p.now.given.constraints }
+    ensures { IsTrue result → Applies p.now.given c t (IsSetLoad p.now.given (sure p.now.given (seen view.now.region.now view.now.lens) t)) }
+{
+    p.applies(c, t) && is_exceeded(p, view, known, c, &p.constraints()[c as usize], t)
+}
+
 /// Whether it is seen that a reason refutes: that of a load by the machines near its first node, those of one or two
-/// machines by where these surely stand, that of a group by where the member goes that is cut.
+/// machines by where these surely stand, that of a group by where the member goes that is cut, that of an amount by the
+/// machines near its nodes.
 pub fn is_seen(p: &Problem, known: &Known, view: &View, reason: &Reason) -> bool
     requires region { IsSized p.now.given view.now.region.now }
     requires legal { AreLegal p.now.given (sets view.now.region.now) }
@@ -175,9 +216,9 @@ pub fn is_seen(p: &Problem, known: &Known, view: &View, reason: &Reason) -> bool
         Reason::Pair(c, t, v, w, n) => pair_applies(p, view, known, *c, *t, *v, *w, *n),
         Reason::Place(c, t, v, n) => place_applies(p, view, known, *c, *t, *v, *n),
         Reason::Group(c, t) => group_applies(p, view, known, *c, *t),
+        Reason::SetLoad(c, t) => amount_applies(p, view, known, *c, *t),
         Reason::Empty(_)
         | Reason::Bound
-        | Reason::SetLoad(..)
         | Reason::Power(..)
         | Reason::Usable(..)
         | Reason::Hall(..) => false,

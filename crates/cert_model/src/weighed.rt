@@ -1,15 +1,16 @@
-//! Whether some machines alone are seen to use too much of the nodes of a set.
+//! Whether some machines alone are seen to hold too much on the nodes of a set.
 ghost use Rattle.std.specs.Prelude.{◌≡◌, ◌<◌, length, IsTrue};
-ghost use Rattle.cert_model.specs.Prelude.{AreKnown, AreLegal, has_node, IsOverload, IsSized, IsWeighed, machine_count, nodes_of, seen, sets, sure};
+ghost use Rattle.cert_model.specs.Prelude.{Amount as AmountOf, AreKnown, AreLegal, has_node, IsOverload, IsSized, IsWeighed, IsWeight, machine_count, nodes_of, seen, sets, sure, total};
 
-use crate::known::{Known, used};
+use crate::known::{Known, held};
 use catalogue::Problem;
 use cluster::{Instant, NodeSet, VmId};
 use domains::{Lens, View};
 use profiles::standing::numbers::Standing;
 use relax::{Area, area_of, narrowed, room};
+use slices::Weight;
 
-/// What some of the machines before a number surely use together.
+/// What some of the machines before a number surely hold together, or less.
 #[derive(Clone, Copy)]
 pub struct Weighed {
     pub next: usize,
@@ -36,18 +37,18 @@ fn with(
     p: &Problem,
     view: &View,
     ks: &[Standing],
-    r: u8,
+    weight: Weight,
     area: &Area,
     t: Instant,
     sum: Weighed,
     v: u32,
 ) -> Weighed
     requires region { IsSized p.now.given view.now.region.now }
-    requires resource { r < length p.now.given.resources }
+    requires weight { IsWeight p.now.given weight }
     requires legal { AreLegal p.now.given (sets view.now.region.now) }
     requires known { AreKnown p.now.given (sets view.now.region.now) ks.now }
-    requires sum { IsWeighed p.now.given (sure p.now.given (seen view.now.region.now view.now.lens) t) r (nodes_of p.now.given area.now) sum }
-    ensures { IsWeighed p.now.given (sure p.now.given (seen view.now.region.now view.now.lens) t) r (nodes_of p.now.given area.now) result }
+    requires sum { IsWeighed p.now.given (sure p.now.given (seen view.now.region.now view.now.lens) t) weight (nodes_of p.now.given area.now) sum }
+    ensures { IsWeighed p.now.given (sure p.now.given (seen view.now.region.now view.now.lens) t) weight (nodes_of p.now.given area.now) result }
 {
     let i = v as usize;
     if i < sum.next || i >= machine_total(p) {
@@ -55,35 +56,35 @@ fn with(
     }
     Weighed {
         next: i + 1,
-        total: sum.total + used(p, view, ks, r, area, t, VmId(v)),
+        total: sum.total + held(p, view, ks, weight, area, t, VmId(v)),
     }
 }
 
-// what the machines of a list and one other use; those out of order are left out
+// what the machines of a list and one other hold; those out of order are left out
 fn listed(
     p: &Problem,
     view: &View,
     ks: &[Standing],
-    r: u8,
+    weight: Weight,
     area: &Area,
     t: Instant,
     list: &[u32],
     other: u32,
 ) -> Weighed
     requires region { IsSized p.now.given view.now.region.now }
-    requires resource { r < length p.now.given.resources }
+    requires weight { IsWeight p.now.given weight }
     requires legal { AreLegal p.now.given (sets view.now.region.now) }
     requires known { AreKnown p.now.given (sets view.now.region.now) ks.now }
-    ensures { IsWeighed p.now.given (sure p.now.given (seen view.now.region.now view.now.lens) t) r (nodes_of p.now.given area.now) result }
+    ensures { IsWeighed p.now.given (sure p.now.given (seen view.now.region.now view.now.lens) t) weight (nodes_of p.now.given area.now) result }
 {
     let mut sum = Weighed { next: 0, total: 0 };
     for i in 0..list.len() {
         if other < list[i] {
-            sum = with(p, view, ks, r, area, t, sum, other);
+            sum = with(p, view, ks, weight, area, t, sum, other);
         }
-        sum = with(p, view, ks, r, area, t, sum, list[i]);
+        sum = with(p, view, ks, weight, area, t, sum, list[i]);
     }
-    with(p, view, ks, r, area, t, sum, other)
+    with(p, view, ks, weight, area, t, sum, other)
 }
 
 // what all machines use
@@ -92,11 +93,11 @@ fn all_used(p: &Problem, view: &View, ks: &[Standing], r: u8, area: &Area, t: In
     requires resource { r < length p.now.given.resources }
     requires legal { AreLegal p.now.given (sets view.now.region.now) }
     requires known { AreKnown p.now.given (sets view.now.region.now) ks.now }
-    ensures { IsWeighed p.now.given (sure p.now.given (seen view.now.region.now view.now.lens) t) r (nodes_of p.now.given area.now) result }
+    ensures { IsWeighed p.now.given (sure p.now.given (seen view.now.region.now view.now.lens) t) (AmountOf r) (nodes_of p.now.given area.now) result }
 {
     let mut sum = Weighed { next: 0, total: 0 };
     for i in 0..machine_total(p) {
-        sum = with(p, view, ks, r, area, t, sum, i as u32);
+        sum = with(p, view, ks, Weight::Amount(r), area, t, sum, i as u32);
     }
     sum
 }
@@ -115,7 +116,7 @@ fn used_in(
     requires resource { r < length p.now.given.resources }
     requires legal { AreLegal p.now.given (sets view.now.region.now) }
     requires known { AreKnown p.now.given (sets view.now.region.now) known.now.standings.now }
-    ensures { IsWeighed p.now.given (sure p.now.given (seen view.now.region.now view.now.lens) t) r (nodes_of p.now.given area.now) result }
+    ensures { IsWeighed p.now.given (sure p.now.given (seen view.now.region.now view.now.lens) t) (AmountOf r) (nodes_of p.now.given area.now) result }
 {
     if matches!(area, Area::All) {
         return all_used(p, view, known.standings, r, area, t);
@@ -125,7 +126,7 @@ fn used_in(
         p,
         view,
         known.standings,
-        r,
+        Weight::Amount(r),
         area,
         t,
         list,
@@ -144,4 +145,28 @@ pub fn is_over(p: &Problem, view: &View, known: &Known, r: u8, set: &NodeSet, t:
     let area = area_of(p, set);
     let sum = used_in(p, view, known, r, set, &area, t);
     room(p, view, r, &area, t) < sum.total
+}
+
+/// Whether the machines that are near the nodes of a constraint hold more there than an amount.
+pub fn is_above(
+    p: &Problem,
+    view: &View,
+    known: &Known,
+    c: u32,
+    weight: Weight,
+    set: &NodeSet,
+    amount: u64,
+    t: Instant,
+) -> bool
+    requires region { IsSized p.now.given view.now.region.now }
+    requires weight { IsWeight p.now.given weight }
+    requires legal { AreLegal p.now.given (sets view.now.region.now) }
+    requires known { AreKnown p.now.given (sets view.now.region.now) known.now.standings.now }
+    ensures { IsTrue result → amount < total p.now.given (sure p.now.given (seen view.now.region.now view.now.lens) t) weight (has_node set.now) }
+{
+    let area = area_of(p, set);
+    let list = known.nearby.of_constraint(c);
+    let other = other_of(p, view.lens);
+    let sum = listed(p, view, known.standings, weight, &area, t, list, other);
+    amount < sum.total
 }

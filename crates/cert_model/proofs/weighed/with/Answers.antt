@@ -3,5 +3,5 @@ use Rattle.cert_model.proofs.weighed.with.Goals as goal
 
 pub returns : goal.returns
 returns c =
-    weighed_more c.args.p.now.given (sure c.args.p.now.given (seen c.args.view.now.region.now c.args.view.now.lens) c.args.t) c.args.r (nodes_of c.args.p.now.given c.args.area.now) c.args.sum c.args.v c.used.result c.requires.sum
-    (omega (arith, c.if-i-sum.false)) (omega arith) c.used.ensures.held c.used.ensures.small
+    weighed_more c.args.p.now.given (sure c.args.p.now.given (seen c.args.view.now.region.now c.args.view.now.lens) c.args.t) c.args.weight (nodes_of c.args.p.now.given c.args.area.now) c.args.sum c.args.v c.held.result c.requires.sum
+    (omega (arith, c.if-i-sum.false)) (omega arith) c.held.ensures.held c.held.ensures.small
