@@ -4,6 +4,7 @@ use crate::elements::{Mover, Server, mover_at, server_at};
 use crate::ends::least_of;
 use crate::lines::{Event, Line};
 use crate::numbers::{NEVER, at, is_up, list_at, put, turn};
+use crate::orders::Span;
 use crate::rows::{first_leaving, machine_idle, node_idle, node_row};
 use crate::rules::{empty_lists, note_in};
 use crate::tables::Tables;
@@ -35,6 +36,8 @@ pub struct Draft<'a> {
     /// What is used on each node, and of each amount of the constraints.
     pub rooms: Vec<Line>,
     pub sums: Vec<Line>,
+    /// The actions of those that take turns, list by list, in the order of their begins.
+    pub in_turn: Vec<Vec<Span>>,
     pub events: Vec<Event>,
     pub level: Vec<u64>,
     /// What was changed since the draft was kept last, with the choice of then.
@@ -66,6 +69,7 @@ impl<'a> Draft<'a> {
             coming: empty_lists(alloc, nodes)?,
             rooms: empty_lines(alloc, nodes)?,
             sums: empty_lines(alloc, tables.rules.amounts.len())?,
+            in_turn: empty_spans(alloc, tables.rules.orders.list_count)?,
             events: Vec::new(alloc),
             level: vec![in alloc; 0; tables.width.max(1)]?,
             changed: Vec::new(alloc),
@@ -154,9 +158,11 @@ impl<'a> Draft<'a> {
             self.changed.push((v, old))?;
         }
         self.go_from(v, old);
+        self.leave_turns(v, old);
         put_choice(&mut self.choices, v, choice);
         self.count(v, old, choice);
         self.go_to(v, choice)?;
+        self.take_turns(v, choice)?;
         let mover = self.mover(v);
         if let Some(host) = mover.host {
             if mover.runs {
@@ -391,6 +397,14 @@ fn empty_lines(alloc: Global, count: usize) -> Result<Vec<Line>, Memory> {
         })?;
     }
     Ok(lines)
+}
+
+fn empty_spans(alloc: Global, count: usize) -> Result<Vec<Vec<Span>>, Memory> {
+    let mut lists = Vec::new(alloc);
+    for _ in 0..count {
+        lists.push(Vec::new(alloc))?;
+    }
+    Ok(lists)
 }
 
 fn first_leavings(alloc: Global, tables: &Tables, region: &Region) -> Result<Vec<u64>, Memory> {

@@ -308,7 +308,32 @@ impl<'a> Draft<'a> {
 
     /// The least start of a row that fits, for a machine that must have left its host by an instant.
     pub fn start_in(&mut self, v: usize, row: Row, limit: u64) -> Result<Option<u64>, Memory> {
-        let from = u64::from(row.lo);
+        let mut from = u64::from(row.lo);
+        for _ in 0..MOST_PUSHES {
+            let Some(start) = self.start_from(v, row, limit, from)? else {
+                return Ok(None);
+            };
+            match self.fit_order(v, row.place, start) {
+                None => return Ok(None),
+                Some(later) => {
+                    if later == start {
+                        return Ok(Some(start));
+                    }
+                    from = later;
+                }
+            }
+        }
+        Ok(None)
+    }
+
+    // the same from an instant on, whatever waits for what
+    fn start_from(
+        &mut self,
+        v: usize,
+        row: Row,
+        limit: u64,
+        from: u64,
+    ) -> Result<Option<u64>, Memory> {
         let start = match node_at(row.place) {
             None => Some(from),
             Some(n) => {

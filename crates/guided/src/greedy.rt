@@ -2,7 +2,7 @@
 
 use crate::best::Offer;
 use crate::draft::Draft;
-use crate::numbers::{insert, list_at};
+use crate::numbers::{at, insert, list_at};
 use crate::root::in_order;
 use crate::rows::{machine_rows, node_idle, node_row, row_at};
 use crate::rules::{Group, Power, Spots};
@@ -43,7 +43,8 @@ impl<'a> Draft<'a> {
         };
         let stays = self.may_stay(v);
         let acts = matches!(choice, Choice::Act { .. });
-        if stays && !acts || acts && !stays && !self.mover(v).lands {
+        let alone = !self.mover(v).lands && !self.tables.rules.orders.binds(v);
+        if stays && !acts || acts && !stays && alone {
             return self.set(v, Some(choice));
         }
         Ok(())
@@ -60,12 +61,17 @@ impl<'a> Draft<'a> {
         Ok(())
     }
 
-    // the machines without a choice, the greatest first
+    // the machines without a choice: those first that wait for others, the least end first, and then the greatest first
     fn by_size(&self) -> Result<Vec<usize>, Memory> {
         let mut keys: Vec<(u64, usize)> = Vec::new(self.alloc);
         for v in 0..self.choices.len() {
             if self.is_open(v) {
-                keys.push((u64::MAX - self.mover(v).size, v))?;
+                let key = if self.tables.rules.orders.binds(v) {
+                    at(&self.least, v)
+                } else {
+                    u64::MAX - self.mover(v).size
+                };
+                keys.push((key, v))?;
             }
         }
         in_order(self.alloc, keys)

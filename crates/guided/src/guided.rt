@@ -28,7 +28,8 @@ use std::alloc::Global;
 /// - the target costs the sum of the least ends of the root, so that no plan is cheaper: it splits as `StayFirst`, but
 ///   each time so that the inside holds what the target has, until a plan is met;
 /// - the target is dearer: it branches only on what breaks if all stays that may stay, and until a plan is met each
-///   time so that the inside holds what the target has.
+///   time so that the inside holds what the target has. Where actions wait for others it splits as `StayFirst`,
+///   toward the target until a plan is met.
 ///
 /// One element alone that is not fixed takes its choice with the least end. A brancher that is handed another problem,
 /// or a root again, thinks anew.
@@ -133,7 +134,7 @@ impl Guided {
         let Some(thought) = &mut self.thought else {
             return Ok(None);
         };
-        if thought.is_least {
+        if thought.is_plain {
             return Ok(None);
         }
         thought.outlook.look(&thought.tables, &thought.root, g)?;
@@ -207,6 +208,17 @@ impl Guided {
         match self.granted(p, g, Wish { element, part }) {
             Some(split) => split,
             None => (element, part),
+        }
+    }
+
+    // lets go of a dearer target that is followed no more, where all else is left to `StayFirst`
+    fn let_go(&mut self) {
+        let is_done = match &self.thought {
+            Some(thought) => thought.is_plain && !thought.is_least,
+            None => false,
+        };
+        if is_done {
+            self.thought = None;
         }
     }
 
@@ -342,6 +354,7 @@ impl Brancher for Guided {
         self.stay.met_plan(p, plan);
         self.best = Some(cost(p, plan));
         self.went_back = true;
+        self.let_go();
     }
 
     fn failed(&mut self, p: &Problem, element: Option<Element>, reason: &Reason) {

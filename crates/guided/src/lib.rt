@@ -14,6 +14,7 @@ mod mark;
 mod neighbourhoods;
 mod numbers;
 mod order;
+mod orders;
 mod outlook;
 mod race;
 mod root;

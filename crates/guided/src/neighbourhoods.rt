@@ -373,11 +373,14 @@ impl<'a> Draft<'a> {
     // the machines without a choice in an order of size with noise; in one of three rounds those that may stay come
     // last, the dearest for its size first
     fn noisy_order(&mut self, search: &Search) -> Result<Vec<usize>, Memory> {
+        let tables = self.tables;
         let by_cost = self.pick(3) == 0;
         let mut keys: Vec<(u64, usize)> = Vec::new(self.alloc);
         for v in &search.movable {
             if self.is_open(*v) {
-                let key = if by_cost && machine_idle(self.region, *v) {
+                let key = if tables.rules.orders.binds(*v) {
+                    at(&self.least, *v).saturating_add(self.pick(4) as u64)
+                } else if by_cost && machine_idle(self.region, *v) {
                     self.key_by_cost(*v, search.mean)
                 } else {
                     self.key_by_size(*v)

@@ -1,6 +1,7 @@
 //! What the constraints say, as far as a plan is sought with it.
 
 use crate::numbers::{cell, is_up, node, turn};
+use crate::orders::Orders;
 use base::Memory;
 use catalogue::lists::{Groups, Parts};
 use catalogue::{Constraint, Problem, Vms};
@@ -126,8 +127,7 @@ pub struct Rules {
     pub powers: Vec<Power>,
     /// Which machines are in a spread, a split or a group.
     pub is_bound: Vec<bool>,
-    /// Whether some constraint orders actions, of which nothing is kept.
-    pub has_orders: bool,
+    pub orders: Orders,
 }
 
 impl Rules {
@@ -147,7 +147,7 @@ impl Rules {
             amounts_of: empty_lists(alloc, p.cluster().nodes().len())?,
             powers: Vec::new(alloc),
             is_bound: vec![in alloc; false; machines]?,
-            has_orders: false,
+            orders: Orders::none(alloc, machines)?,
         };
         for constraint in p.constraints() {
             rules.note(constraint)?;
@@ -177,9 +177,12 @@ impl Rules {
                 self.note_amount(nodes, None, amount, always)
             }
             Form::Powered(nodes, amount) => self.note_power(nodes, amount),
-            Form::Ordered(..) | Form::InTurn(_) => {
-                self.has_orders = true;
-                Ok(())
+            Form::Ordered(before, after) => {
+                self.orders.note_pair(before.0 as usize, after.0 as usize)
+            }
+            Form::InTurn(machines) => {
+                let members = numbers_of(self.alloc, machines)?;
+                self.orders.note_turns(&members)
             }
             // where a machine may be, its rows tell; no constraint counts images
             Form::Allowed(..) | Form::Bounded(Weight::Image, ..) | Form::Settled => Ok(()),

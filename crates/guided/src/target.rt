@@ -31,9 +31,6 @@ impl Target {
         region: &Region,
         sum: u64,
     ) -> Result<Option<Target>, Memory> {
-        if tables.rules.has_orders {
-            return Ok(None);
-        }
         let mut draft = Draft::new(alloc, tables, region)?;
         draft.greedy(false)?;
         if draft.cost() != (sum, 0) {

@@ -18,11 +18,13 @@ const FEW_WAYS: u64 = 64;
 #[derive(Drop)]
 pub struct Thought {
     pub tables: Tables,
-    /// What the order of a proof takes from the root; nothing where there is nothing to prove.
+    /// What the order of a proof takes from the root; nothing where that is left to `StayFirst`.
     pub root: Root,
     pub target: Target,
     /// Whether the target costs the sum of the least ends of the root, so that nothing is cheaper.
     pub is_least: bool,
+    /// Whether what is split first is left to `StayFirst`: nothing is cheaper than the target, or actions wait for others.
+    pub is_plain: bool,
     /// The region that was looked at last. It counts in these tables alone, and so goes with them.
     pub outlook: Outlook,
 }
@@ -41,7 +43,8 @@ impl Thought {
         // which machines are apart is asked no more, and takes most of the memory
         tables.rules.apart.forget(alloc);
         let is_least = target.cost == sum;
-        let (root, outlook) = if is_least {
+        let is_plain = is_least || !tables.rules.orders.is_empty();
+        let (root, outlook) = if is_plain {
             (Root::new(alloc), Outlook::new(alloc))
         } else {
             (
@@ -54,6 +57,7 @@ impl Thought {
             root,
             target,
             is_least,
+            is_plain,
             outlook,
         }))
     }
