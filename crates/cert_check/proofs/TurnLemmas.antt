@@ -2,6 +2,11 @@
 use Rattle.cert_check.proofs.Prelude.{map, Result, Err, MatchOption, if◌then◌else◌, ◌≡◌, inl, inr, ℕ, ◌<◌, ◌==◌, Bool, true, false, List, [], ◌∷◌, ◌++◌, drop, Option, Some, None, Ok, IsErrAnd, refl, sym, ap, subst, ◌∙◌, arith, length-append, map-append, AreSteps, bytes_of, Concludes, End, end_at, end_of, Ends, Faults, first_line_at, Instance, IsEndWhy, IsLeast, IsMoved, IsProof, IsShown, IsTaken, IsTextWhy, IsUnderway, Kept, least_along, Line, line_at, LineFault, named_step, No, Over, Position, shown, start, StepText, TextAnswers, turn, Why, Yes, Goal, Step}
 use Rattle.cert_check.specs.Prelude.{Step as StepLine}
 use Rattle.cert_read.specs.declared.line.Line.{Line as ALine}
+use Rattle.cert_check.specs.declared.lines.Going.{Going}
+use Rattle.cert_check.specs.declared.lines.Going.TheVariants.{GoesOn, Ends as Decides}
+use Rattle.cert_check.specs.declared.verdict.Verdict.{Verdict}
+use Rattle.std.proofs.Common.{◌≢◌}
+use Rattle.cert_check.specs.Prelude.{TurnGives}
 
 -- ---- one more step that was read
 
@@ -101,3 +106,9 @@ moved_step old new line text is moved = let m = subst (IsMoved old new) is moved
 pub error_is : {A E : Type 0} (r : Result A E) (e : E) → IsErrAnd r (λ x. x ≡ e) → r ≡ Err e
 error_is (Ok a) e h = absurd h
 error_is (Err x) e h = ap (λ k. Err k) h
+
+-- ---- a line that does not decide
+
+pub goes_on : (p : Instance) (bound : Option ℕ) (strict : Bool) (tells : Type 0) (file : List ℕ) (at : Position) (w : Kept) (t : Going) → ((verdict : Verdict) → t ≢ Decides verdict) → TurnGives p bound strict tells file at w (Ok t) → IsUnderway p bound strict tells file at w
+goes_on p bound strict tells file at w GoesOn stays said = said
+goes_on p bound strict tells file at w (Decides verdict) stays said = absurd (stays verdict refl)
