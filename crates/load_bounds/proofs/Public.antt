@@ -4,4 +4,4 @@ pub use Rattle.load_bounds.proofs.HeldLemmas.{arrival_of, choice_stands, come_is
 pub use Rattle.load_bounds.proofs.NodeRoomLemmas.{rooms_told, rooms_widened}
 pub use Rattle.load_bounds.proofs.RoomLemmas.{steady-fits, steady-room}
 pub use Rattle.load_bounds.proofs.TotalLemmas.{are_most}
-pub use Rattle.load_bounds.proofs.UseLemmas.{fits_at_once, sure_most}
+pub use Rattle.load_bounds.proofs.UseLemmas.{away_fits, fits_at_once, sure_most}

@@ -149,6 +149,18 @@ demand_brought p v cs n r by = record {
 pub fits_ever : (p : Instance) (v : ℕ) (cs : List Choice) (r n : ℕ) (x : Period) (here come bound : ℕ) → x.to < never → here ≡ cond (hosted_in (state_of p v) (one n)) (base p v (Amount r)) 0 → IsMostBrought p v cs n r x.to come → here + come ≤ bound → IsMost p v cs r (one n) x bound
 fits_ever p v cs r n x here come bound short is brings fits = fits_now p v cs r n x here come bound short (some_left p v cs n r x.from here is) brings fits
 
+keep : (h : Bool) (from leave : ℕ) → from < leave → h ≡ true → (h && nat_lt from leave) ≡ true
+keep true from leave l e = grind (arith, nat_tests, l)
+keep false from leave l e = absurd (false≢true e)
+
+-- one that goes nowhere uses what it surely uses for as long as it surely keeps its host
+pub still_fits : (p : Instance) (s : Sets) (ks : List Standing) (n v r spare : ℕ) (x : Period) (d : Standing) → AreStanding p s ks → v < machine_count p → x.to < never → x.from < (slice_index_or ks v d).leave → IsMostBrought p v (s (vm v)) n r x.to 0 → IsMost p v (s (vm v)) r (one n) x (spare + most_kept p v (Amount r) n x (slice_index_or ks v no_standing))
+still_fits p s ks n v r spare x d are low short stays brings =
+    let same : slice_index_or ks v d ≡ slice_index_or ks v no_standing = get_or_default ks v d no_standing (omega (arith, low, are.count)) in
+    let long : x.from < (slice_index_or ks v no_standing).leave = subst (λ (k : Standing). x.from < k.leave) same stays in
+    let here = more (hosted_in (state_of p v) (one n)) (hosted_in (state_of p v) (one n) && nat_lt x.from (slice_index_or ks v no_standing).leave) (base p v (Amount r)) (keep (hosted_in (state_of p v) (one n)) x.from (slice_index_or ks v no_standing).leave long) in
+    fits_ever p v (s (vm v)) r n x (cond (hosted_in (state_of p v) (one n)) (base p v (Amount r)) 0) 0 (spare + most_kept p v (Amount r) n x (slice_index_or ks v no_standing)) short refl brings (omega (arith, here))
+
 -- what any machine has and brings is spare
 pub fits_at_once : (p : Instance) (v : ℕ) (cs : List Choice) (r n : ℕ) (x : Period) (most spare kept : ℕ) → x.to < never → base p v (Amount r) + demand_of p v r ≤ most → most ≤ spare → IsMost p v cs r (one n) x (spare + kept)
 fits_at_once p v cs r n x most spare kept short uses fits =

@@ -265,6 +265,29 @@ fn most_demanded(
     }
 }
 
+// whether it is seen at once that a machine goes nowhere, and surely keeps its host during a period: then it uses no more
+// than what it surely uses. So it is of most machines near a node
+#[inline(always)]
+#[tactic(auto, using(crate::proofs::UseLemmas::still_fits))]
+fn stands_still(
+    p: &Problem,
+    g: &Region,
+    kept: Kept<'_>,
+    v: VmId,
+    _n: NodeId,
+    _r: u8,
+    x: Period,
+    _spare: u64,
+) -> bool
+    requires region { IsSized p.now.given g.now }
+    requires kept { AreKeptAt p.now.given (sets g.now) _n.0 kept.fixed.now kept.standings.now kept.near.now kept.firsts.now }
+    requires machine { IsElement p.now.given (Element.Vm v) }
+    requires period { x.to ≤ p.now.given.horizon }
+    ensures { IsTrue result → IsMost p.now.given v.0 (sets g.now (vm v.0)) _r (one _n.0) x (_spare + the_most_kept p.now.given v.0 (AmountOf _r) _n.0 x (slice_index_or kept.entry.standings.now v.0 no_standing)) }
+{
+    u64::from(x.from) < kept.standings[v.0 as usize].leave && has_no_row(p, g, v)
+}
+
 /// Whether a machine uses no more of a node during a period, under any of its choices, than what is spare and what it
 /// surely uses there itself. Its rows are looked at only where its present use and its demand are more.
 #[tactic(auto, using(crate::proofs::UseLemmas::fits_ever))]
@@ -286,6 +309,9 @@ pub fn machine_fits(
     requires small { spare ≤ max_capacity }
     ensures { IsTrue result → IsMost p.now.given v.0 (sets g.now (vm v.0)) r (one n.0) x (spare + the_most_kept p.now.given v.0 (AmountOf r) n.0 x (slice_index_or kept.entry.standings.now v.0 no_standing)) }
 {
+    if stands_still(p, g, kept, v, n, r, x, spare) {
+        return true;
+    }
     let ever = most_here(p, kept.fixed, v, n, r) + most_demanded(p, kept, g, v, n, r, x.to);
     if ever <= spare {
         return true;

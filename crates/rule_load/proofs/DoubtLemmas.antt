@@ -1,6 +1,6 @@
 -- That all machines fit, told in the order of what they use.
-use Rattle.rule_load.proofs.Prelude.{◌≡◌, ◌⊎◌, inl, inr, ℕ, zero, suc, [], ◌∷◌, ◌+◌, ◌<◌, ◌≤◌, List, length, get_or, sym, ap, subst, ◌∙◌, arith, slice_index_or, Contains, cases_eq, cases_lt, get_or_default, Amount, Instance, IsMost, IsOrder, machine_count, MachinesFit, most_kept, most_use, MostUse, never, no_standing, one, Period, Sets, Standing, vm}
-use Rattle.load_bounds.proofs.Public.{fits_at_once}
+use Rattle.rule_load.proofs.Prelude.{◌≡◌, ◌⊎◌, inl, inr, ℕ, zero, suc, [], ◌∷◌, ◌+◌, ◌<◌, ◌≤◌, List, length, get_or, sym, ap, subst, ◌∙◌, arith, slice_index_or, Contains, cases_eq, cases_lt, get_or_default, Amount, AreFirstAt, AreNearAt, Instance, IsMost, IsOrder, machine_count, MachinesFit, most_kept, most_use, MostUse, never, no_standing, one, Period, Sets, Standing, StartNoSooner, vm}
+use Rattle.load_bounds.proofs.Public.{away_fits, fits_at_once}
 
 -- what is below a bound of each number of a list is so of the one at a place
 pub listed_low : (many : ℕ) (xs : List ℕ) (i e : ℕ) → ((v : ℕ) → Contains xs v → v < many) → i < length xs → get_or xs i e < many
@@ -73,3 +73,12 @@ module _ (p : Instance) (s : Sets) (ks : List Standing) (r n : ℕ) (x : Period)
   pub fits_all : (near : List ℕ) (xs : List MostUse) (first : ℕ) → x.to < never → IsOrder p r xs → ((k : ℕ) (d : MostUse) → k < first → (get_or xs k d).most ≤ spare) → ((v : ℕ) → Contains near v → Fits v) → ((k : ℕ) (d : MostUse) → first ≤ k → k < length xs → FitsAfar near (get_or xs k d).machine.0) → MachinesFit p s r (one n) x (λ v. most_kept p v (Amount r) n x (slice_index_or ks v no_standing)) spare
   fits_all near xs first short order early close late =
       fits_order xs first short order early (λ k d from to. elim (is-in near (get_or xs k d).machine.0) [ inl there ↦ close (get_or xs k d).machine.0 there | inr out ↦ late k d from to out ])
+
+  -- ---- where no other starts there
+
+  pub fits_alone : (near firsts : List ℕ) (start : ℕ) → AreNearAt p s n near → AreFirstAt p s n firsts → x.to < never → StartNoSooner p near firsts start → x.to < start → ((v : ℕ) → Contains near v → Fits v) → MachinesFit p s r (one n) x (λ v. most_kept p v (Amount r) n x (slice_index_or ks v no_standing)) spare
+  fits_alone near firsts start are first short none late close = record { each = λ v low. at v low (is-in near v) }
+    where
+      at : (v : ℕ) → v < machine_count p → Contains near v ⊎ ¬ Contains near v → Fits v
+      at v low (inl there) = close v there
+      at v low (inr out) = away_fits p s n v r 0 (spare + most_kept p v (Amount r) n x (slice_index_or ks v no_standing)) x near firsts are first low short (omega (arith, none v low out, late)) out

@@ -1,9 +1,9 @@
 -- What is kept beside the rule: where each machine surely stands, before when it does not start at a node, and the machines that may not
 -- stay, with levels; the machines near each node; the nodes that may not be usable at all times; and whether machines that may stay never
 -- have less than at present.
-use Rattle.std.specs.Prelude.{◌≡◌, ℕ, ◌<◌, Bool, true, List, length, slice_index_or}
+use Rattle.std.specs.Prelude.{◌≡◌, ℕ, ◌<◌, ◌≤◌, Bool, true, List, length, slice_index_or}
 use Rattle.std.specs.List.{Contains}
-use Rattle.profiles.specs.Prelude.{AreFirsts, AreMovers, AreStanding, comes_by, FixedView, have_come, Instance, IsFixed, IsNear, level_at, Levels, list_at, machine_count, no_standing, node_count, one, Sets, Tables, vm}
+use Rattle.profiles.specs.Prelude.{AreFirsts, AreMovers, AreStanding, comes_by, FixedView, have_come, Instance, IsFixed, IsNear, level_at, Levels, list_at, machine_count, no_standing, node_count, Sets, Tables, vm}
 use Rattle.load_bounds.specs.HoldOn.{StayersHoldOn}
 use Rattle.load_bounds.specs.NodeRooms.{AreRooms, RoomsView}
 use Rattle.rule_load.specs.Words.{Element, Vm, TheNode, Cache, Standing}
@@ -45,3 +45,9 @@ pub record IsListedBy (p : Instance) (v : ℕ) (k : Standing) (xs : List (List �
 abbrev pub IsListedFor : Instance → Element → List Standing → List (List ℕ) → Type 0
 IsListedFor p (Vm v) ks xs = IsListedBy p v.0 (slice_index_or ks v.0 no_standing) xs
 IsListedFor p (TheNode n) ks xs = Unit {0}
+
+-- ---- what does not start at a node yet
+
+-- no machine that is not near a node starts there before an instant, by before when each does not
+abbrev pub StartNoSooner : Instance → List ℕ → List ℕ → ℕ → Type 0
+StartNoSooner p near firsts t = (v : ℕ) → v < machine_count p → ¬ Contains near v → t ≤ slice_index_or firsts v 0

@@ -1,7 +1,7 @@
 //! Where a node may be overloaded during a period: what may be found there, which has to be confirmed.
 ghost use Rattle.std.specs.Prelude.{ℕ, ◌+◌, ◌<◌, ◌≤◌, IfNone, IsTrue, length, slice_index_or};
 ghost use Rattle.std.specs.List.{Contains};
-ghost use Rattle.rule_load.specs.Prelude.{Amount as AmountOf, AreKeptAt, IsElement, IsFreeDuring, IsMost, IsOverload, IsOverloaded, IsSized, MachinesFit, max_capacity, most_kept, no_standing, node_count, one, sets, vm};
+ghost use Rattle.rule_load.specs.Prelude.{Amount as AmountOf, AreKeptAt, IsElement, IsFreeDuring, IsMost, IsOverload, IsOverloaded, IsSized, MachinesFit, max_capacity, most_kept, no_standing, node_count, one, sets, StartNoSooner, vm};
 
 use crate::room::{node_fits, room_of};
 use crate::uses::{asks_little, machine_fits, most_brought, most_used};
@@ -121,6 +121,42 @@ fn fits_from_afar(
     asks_little(p, kept, g, v, n, r, x, spare) || machine_fits(p, g, kept, v, n, r, x, spare)
 }
 
+// the first instant by which a machine that is not near a node may start there
+fn first_afar(p: &Problem, _g: &Region, kept: Kept<'_>, _n: NodeId) -> Instant
+    requires kept { AreKeptAt p.now.given (sets _g.now) _n.0 kept.fixed.now kept.standings.now kept.near.now kept.firsts.now }
+    ensures { StartNoSooner p.now.given kept.entry.near.now kept.entry.firsts.now result }
+{
+    let mut first = Instant::MAX;
+    for v in 0..kept.firsts.len() {
+        let start = kept.firsts[v];
+        if start < first && !kept.near.contains(&(v as u32)) {
+            first = start;
+        }
+    }
+    first
+}
+
+// whether no machine that is not near a node starts there by the end of a period. The first start there is worked out
+// where it is asked for first, and is 0 until then
+fn stay_away(
+    p: &Problem,
+    g: &Region,
+    kept: Kept<'_>,
+    n: NodeId,
+    x: Period,
+    start: &mut Instant,
+) -> bool
+    requires kept { AreKeptAt p.now.given (sets g.now) n.0 kept.fixed.now kept.standings.now kept.near.now kept.firsts.now }
+    requires start { StartNoSooner p.now.given kept.near.now kept.firsts.now start.old }
+    ensures start { StartNoSooner p.now.given kept.entry.near.now kept.entry.firsts.now start.new }
+    ensures away { IsTrue result → x.to < start.new }
+{
+    if *start == 0 {
+        *start = first_afar(p, g, kept, n);
+    }
+    x.to < *start
+}
+
 // the case of a machine that may use more of a node than is spare: those near it first, since where one of them has to
 // leave, or may not be raised, fewer others have to be kept away
 fn machine_doubt(
@@ -131,13 +167,16 @@ fn machine_doubt(
     r: u8,
     x: Period,
     spare: u64,
+    start: &mut Instant,
 ) -> Option<Look>
     requires region { IsSized p.now.given g.now }
     requires kept { AreKeptAt p.now.given (sets g.now) n.0 kept.fixed.now kept.standings.now kept.near.now kept.firsts.now }
     requires resource { r < length p.now.given.resources }
     requires period { x.to ≤ p.now.given.horizon }
     requires small { spare ≤ max_capacity }
-    ensures { IfNone result (MachinesFit p.now.given (sets g.now) r (one n.0) x (λ v. most_kept p.now.given v (AmountOf r) n.0 x (slice_index_or kept.entry.standings.now v no_standing)) spare) }
+    requires start { StartNoSooner p.now.given kept.near.now kept.firsts.now start.old }
+    ensures start { StartNoSooner p.now.given kept.entry.near.now kept.entry.firsts.now start.new }
+    ensures none { IfNone result (MachinesFit p.now.given (sets g.now) r (one n.0) x (λ v. most_kept p.now.given v (AmountOf r) n.0 x (slice_index_or kept.entry.standings.now v no_standing)) spare) }
 {
     if let Some(doubt) = near_doubt(p, g, kept, n, r, x, spare) {
         return Some(doubt);
@@ -145,6 +184,10 @@ fn machine_doubt(
     let order = kept.fixed.order(p, r);
     // what each before it has and brings is spare
     let first = order.partition_point(|x| x.most <= spare);
+    // where most machines ask for more than is spare, none of them may come
+    if 4 * first < order.len() && stay_away(p, g, kept, n, x, start) {
+        return None;
+    }
     // the one that uses the most comes first: more of its choices are too much
     let mut k = order.len();
     'machines: while first < k {
@@ -186,20 +229,23 @@ fn resource_doubt(
     n: NodeId,
     r: u8,
     x: Period,
+    start: &mut Instant,
 ) -> Option<Look>
     requires region { IsSized p.now.given g.now }
     requires kept { AreKeptAt p.now.given (sets g.now) n.0 kept.fixed.now kept.standings.now kept.near.now kept.firsts.now }
     requires node { n.0 < node_count p.now.given }
     requires resource { r < length p.now.given.resources }
     requires period { x.to ≤ p.now.given.horizon }
-    ensures { IfNone result (IsFreeDuring (λ b. IsOverload p.now.given b r (one n.0)) p.now.given (sets g.now) x) }
+    requires start { StartNoSooner p.now.given kept.near.now kept.firsts.now start.old }
+    ensures start { StartNoSooner p.now.given kept.entry.near.now kept.entry.firsts.now start.new }
+    ensures none { IfNone result (IsFreeDuring (λ b. IsOverload p.now.given b r (one n.0)) p.now.given (sets g.now) x) }
 {
     let used = most_used(p, g, kept, n, r, x);
     let room = room_of(p, g, n, r, x);
     if used > room {
         return Some(Look::Fail(x.from));
     }
-    if let Some(doubt) = machine_doubt(p, g, kept, n, r, x, room - used) {
+    if let Some(doubt) = machine_doubt(p, g, kept, n, r, x, room - used, start) {
         return Some(doubt);
     }
     if node_fits(p, g, n, x, used) {
@@ -209,22 +255,26 @@ fn resource_doubt(
     }
 }
 
-/// A case in which a node may be overloaded during a period, if there is one.
+/// A case in which a node may be overloaded during a period, if there is one. The first start of a machine that is not near
+/// the node is handed in and kept; it is 0 as long as it is not known.
 pub(crate) fn load_doubt(
     p: &Problem,
     g: &Region,
     kept: Kept<'_>,
     n: NodeId,
     x: Period,
+    start: &mut Instant,
 ) -> Option<Look>
     requires region { IsSized p.now.given g.now }
     requires kept { AreKeptAt p.now.given (sets g.now) n.0 kept.fixed.now kept.standings.now kept.near.now kept.firsts.now }
     requires node { n.0 < node_count p.now.given }
     requires period { x.to ≤ p.now.given.horizon }
-    ensures { IfNone result (IsFreeDuring (IsOverloaded p.now.given (one n.0)) p.now.given (sets g.now) x) }
+    requires start { StartNoSooner p.now.given kept.near.now kept.firsts.now start.old }
+    ensures start { StartNoSooner p.now.given kept.entry.near.now kept.entry.firsts.now start.new }
+    ensures none { IfNone result (IsFreeDuring (IsOverloaded p.now.given (one n.0)) p.now.given (sets g.now) x) }
 {
     for r in 0..resource_total(p) {
-        if let Some(doubt) = resource_doubt(p, g, kept, n, r as u8, x) {
+        if let Some(doubt) = resource_doubt(p, g, kept, n, r as u8, x, start) {
             return Some(doubt);
         }
     }

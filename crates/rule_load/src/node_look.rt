@@ -17,13 +17,14 @@ fn first_doubt(p: &Problem, g: &Region, kept: Kept<'_>, n: NodeId) -> Option<Loo
     ensures { IfNone result (IsLook (load_watch p.now.given n.0) p.now.given (sets g.now) Look.Clean) }
 {
     let mut from = 0u64;
+    let mut start = 0;
     'periods: while from <= u64::from(p.horizon()) {
         let next = next_change(p, g, kept, n, from);
         let x = Period {
             from: from as u32,
             to: (next - 1) as u32,
         };
-        if let Some(doubt) = load_doubt(p, g, kept, n, x) {
+        if let Some(doubt) = load_doubt(p, g, kept, n, x, &mut start) {
             return Some(doubt);
         }
         from = next;

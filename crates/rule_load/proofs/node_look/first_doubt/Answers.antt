@@ -7,7 +7,8 @@ periods-preserved c =
     let x : Period = record { from = c.periods.from; to = c.next_change-next.result - 1 } in
     record {
       most = c.next_change-next.ensures.most;
-      clean = free_past c.args.p.now.given (sets c.args.g.now) (one c.args.n.0) x c.next_change-next.result (omega (arith, c.next_change-next.ensures.later)) c.periods.invariant.clean c.in_default.ensures;
+      clean = free_past c.args.p.now.given (sets c.args.g.now) (one c.args.n.0) x c.next_change-next.result (omega (arith, c.next_change-next.ensures.later)) c.periods.invariant.clean c.in_default.ensures.none;
+      start = c.in_default.ensures.start;
     }
 
 pub returns : goal.returns
