@@ -3,7 +3,7 @@
 
 use crate::elements::{mover_at, server_at};
 use crate::ends::least_of;
-use crate::numbers::{at, cell, is_up, list_at, node, real};
+use crate::numbers::{add, at, cell, is_up, list_at, node, put, real};
 use crate::outlook::Outlook;
 use crate::race::Race;
 use crate::rules::{Amount, Group, Power, Spots};
@@ -44,11 +44,12 @@ impl<'a> Breaks<'a> {
         for amount in &tables.rules.amounts {
             self.enter_amount(amount, race)?;
         }
+        let mut crowds = Crowds::of(self.alloc, tables.nodes.len())?;
         for members in &tables.rules.spreads {
-            self.enter_clashes(members, None, race)?;
+            self.enter_crowded(members, &mut crowds, race);
         }
         for group in &tables.rules.groups {
-            self.enter_clashes(&group.members, Some(group), race)?;
+            self.enter_scattered(group, race)?;
         }
         for power in &tables.rules.powers {
             self.enter_power(power, race);
@@ -161,20 +162,50 @@ impl<'a> Breaks<'a> {
         }
     }
 
-    // members that cannot all stay: the staying of one makes all others act that clash with it
-    fn enter_clashes(
-        &self,
-        members: &[usize],
-        group: Option<&Group>,
-        race: &mut Race,
-    ) -> Result<(), Memory> {
-        let mut torn = Vec::new(self.alloc);
+    // the host of a machine that runs, may stay and may act
+    fn torn_host(&self, v: usize) -> Option<usize> {
+        let mover = mover_at(&self.tables.machines, v);
+        match mover.host {
+            Some(host) if mover.runs && self.outlook.machine(v).is_torn() => Some(host),
+            Some(_) | None => None,
+        }
+    }
+
+    // members of which no two may stay on one node: the staying of one makes all others there act
+    fn enter_crowded(&self, members: &[usize], crowds: &mut Crowds, race: &mut Race) {
         for v in members {
-            let mover = mover_at(&self.tables.machines, *v);
-            if let Some(host) = mover.host {
-                if mover.runs && self.outlook.machine(*v).is_torn() {
-                    torn.push((*v, host, self.least(*v)))?;
+            if let Some(host) = self.torn_host(*v) {
+                crowds.count(host);
+            }
+        }
+        for v in members {
+            if let Some(host) = self.torn_host(*v) {
+                if crowds.is_crowded(host) {
+                    crowds.add(host, self.least(*v));
                 }
+            }
+        }
+        for v in members {
+            if let Some(host) = self.torn_host(*v) {
+                if crowds.is_crowded(host) {
+                    let acts = self.least(*v);
+                    self.enter_machine(*v, real(crowds.others(host, acts)), acts, race);
+                }
+            }
+        }
+        for v in members {
+            if let Some(host) = self.torn_host(*v) {
+                crowds.clear(host);
+            }
+        }
+    }
+
+    // members of a group that cannot all stay: the staying of one makes all others act that are outside of its spots
+    fn enter_scattered(&self, group: &Group, race: &mut Race) -> Result<(), Memory> {
+        let mut torn = Vec::new(self.alloc);
+        for v in &group.members {
+            if let Some(host) = self.torn_host(*v) {
+                torn.push((*v, host, self.least(*v)))?;
             }
         }
         for (v, host, acts) in &torn {
@@ -285,20 +316,57 @@ fn two_least(stayers: &[Stayer]) -> (u64, u64) {
     (first, second)
 }
 
-// whether two members may not stay on two hosts: on the same one, or for a group on two that no spot has
-fn do_clash(group: Option<&Group>, a: usize, b: usize) -> bool {
-    match group {
-        None => a == b,
-        Some(group) => match &group.spots {
-            Spots::Single => a != b,
-            Spots::Sets(sets) => {
-                for set in sets {
-                    if set.has(node(a)) && set.has(node(b)) {
-                        return false;
-                    }
+/// How many machines of one constraint are on each node, and the sum of their least ends.
+#[derive(Drop)]
+struct Crowds {
+    counts: Vec<u64>,
+    costs: Vec<u64>,
+}
+
+impl Crowds {
+    // so many nodes without a machine
+    fn of(alloc: Global, nodes: usize) -> Result<Crowds, Memory> {
+        let mut counts = Vec::new(alloc);
+        let mut costs = Vec::new(alloc);
+        counts.resize(nodes, 0)?;
+        costs.resize(nodes, 0)?;
+        Ok(Crowds { counts, costs })
+    }
+
+    fn count(&mut self, host: usize) {
+        add(&mut self.counts, host, 1);
+    }
+
+    fn is_crowded(&self, host: usize) -> bool {
+        at(&self.counts, host) > 1
+    }
+
+    fn add(&mut self, host: usize, cost: u64) {
+        add(&mut self.costs, host, cost);
+    }
+
+    // what all others on the node of one cost
+    fn others(&self, host: usize, own: u64) -> u64 {
+        at(&self.costs, host).saturating_sub(own)
+    }
+
+    fn clear(&mut self, host: usize) {
+        put(&mut self.counts, host, 0);
+        put(&mut self.costs, host, 0);
+    }
+}
+
+// whether two members of a group may not stay on two hosts: no spot has both
+fn do_clash(group: &Group, a: usize, b: usize) -> bool {
+    match &group.spots {
+        Spots::Single => a != b,
+        Spots::Sets(sets) => {
+            for set in sets {
+                if set.has(node(a)) && set.has(node(b)) {
+                    return false;
                 }
-                true
             }
-        },
+            true
+        }
     }
 }
