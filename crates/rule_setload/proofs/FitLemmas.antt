@@ -1,7 +1,7 @@
 -- Where each machine fits in what is spare, what all hold stays within the amount.
-use Rattle.rule_setload.proofs.Prelude.{◌≡◌, inl, inr, ℕ, suc, zero, ◌+◌, ◌<◌, ◌≤◌, ◌==◌, ◌||◌, Bool, true, false, List, [], ◌∷◌, length, slice_index_or, refl, subst, ◌∙◌, arith, IsTrue, Contains, cases_eq, nat_tests, end_is_choice, ends_of_rows, Place}
-use Rattle.rule_setload.specs.Prelude.{Act, AreWithin, Choice, choices, Climbs, DomainView, goes_in, HoldsLeast, Idle, Instance, IsEnd, IsFit, IsInstance, IsRowEnd, IsShare, machine_count, no_row, Nodes, Period, Row, Sets, StaysAt, StaysDuring, StaysIn, StaysWhenDue, stay_of, sum_to, sure, unit_of, vm, Weight}
-use Rattle.rule_setload.proofs.AmountLemmas.{held_ever}
+use Rattle.rule_setload.proofs.Prelude.{◌≡◌, inl, inr, ℕ, suc, zero, ◌+◌, ◌<◌, ◌≤◌, ◌==◌, ◌||◌, Bool, true, false, nat_le, List, [], ◌∷◌, length, slice_index_or, refl, subst, sym, ◌∙◌, arith, IsTrue, Contains, cases_eq, nat_tests, end_is_choice, ends_of_rows, Place}
+use Rattle.rule_setload.specs.Prelude.{Act, AreWithin, Choice, choices, Climbs, DomainView, goes_in, has_started, HoldsLeast, Idle, if_so, Instance, IsEnd, IsFit, IsInstance, IsLate, IsRowEnd, IsShare, machine_count, no_row, Nodes, Period, place_index, Row, Sets, StaysAt, StaysDuring, StaysIn, StaysWhenDue, stay_of, sum_to, sure, unit_of, vm, Weight}
+use Rattle.rule_setload.proofs.AmountLemmas.{held_ever, so_most}
 use Rattle.rule_setload.proofs.AsideLemmas.{goes-any}
 use Rattle.rule_setload.proofs.HoldLemmas.{ever_share}
 
@@ -57,6 +57,36 @@ module _ (p : Instance) (s : Sets) (w : Weight) (set : Nodes) (x : Period) where
   pub row_out : IsInstance p → x.to ≤ p.horizon → (v stays limit u : ℕ) (place : Place) → stays ≡ stay_of p w set v → stays ≤ limit → goes_in (Act place 0) set ≡ false → IsShare p w set v (Act place u) x limit
   row_out sound within v stays limit u place is fits out =
       ever_share p sound w set v x within (Act place u) stays 0 limit is (λ t l. let off : goes_in (Act place u) set ≡ false = goes-any place set u 0 ∙ out in rw off (omega arith)) (omega (arith, fits))
+
+  -- ---- one machine that has nothing there at present
+
+  pub unit_fits : IsInstance p → x.to ≤ p.horizon → (v spare most : ℕ) → stay_of p w set v ≡ 0 → unit_of p v w ≤ most → most ≤ spare → IsFit p s w set v x spare
+  unit_fits sound within v spare most none brings l = ever_fits sound within v spare (omega (arith, none, brings, l))
+
+  -- the starts of a row are in their order
+  ordered : (from : ℕ) (rows : List Row) (k : ℕ) → Climbs from rows → k < length rows → (slice_index_or rows k no_row).lo ≤ (slice_index_or rows k no_row).hi
+  ordered from [] k climbs low = absurd (omega (arith, low))
+  ordered from (r ∷ rs) zero climbs low = climbs.1
+  ordered from (r ∷ rs) (suc k) climbs low = ordered (place_index r.place + 1) rs k climbs.2 (omega (arith, low))
+
+  module _ (sound : IsInstance p) (within : x.to ≤ p.horizon) (v spare : ℕ) (none : stay_of p w set v ≡ 0) where
+    comes-not : (c : Choice) → ((t : ℕ) → t ≤ x.to → if_so (goes_in c set) (if_so (has_started t c) (unit_of p v w)) ≤ 0) → IsShare p w set v c x spare
+    comes-not c come = ever_share p sound w set v x within c 0 0 spare (sym none) come (omega arith)
+
+    not-there : (place : Place) (u t : ℕ) → goes_in (Act place 0) set ≡ false → if_so (goes_in (Act place u) set) (if_so (has_started t (Act place u)) (unit_of p v w)) ≤ 0
+    not-there place u t out = let off : goes_in (Act place u) set ≡ false = goes-any place set u 0 ∙ out in rw off (omega arith)
+
+    not-yet : (place : Place) (u t : ℕ) → t < u → if_so (goes_in (Act place u) set) (if_so (has_started t (Act place u)) (unit_of p v w)) ≤ 0
+    not-yet place u t later = let off : nat_le u t ≡ false = grind (arith, nat_tests, later) in rw off (so_most p sound w set (goes_in (Act place u) set) 0)
+
+    late-row : (row : Row) (u : ℕ) → row.lo ≤ u → IsLate set x.to row → IsShare p w set v (Act row.place u) x spare
+    late-row row u l late = elim late [ inl out ↦ comes-not (Act row.place u) (λ t to. not-there row.place u t out) | inr after ↦ comes-not (Act row.place u) (λ t to. not-yet row.place u t (omega (arith, after, l, to))) ]
+
+    pub late_fits : (d : DomainView) (rows : List Row) → s (vm v) ≡ choices d → rows ≡ d.rows → Climbs 0 rows → ((k : ℕ) → k < length rows → IsLate set x.to (slice_index_or rows k no_row)) → IsFit p s w set v x spare
+    late_fits d rows seen same climbs late =
+        shares_fit v spare 0 spare (omega arith) (record { each = λ t h. omega arith })
+        (all_fit v spare d rows seen same climbs (λ e. comes-not Idle (λ t l. omega arith))
+        (λ k low. (late-row (slice_index_or rows k no_row) (slice_index_or rows k no_row).lo (omega arith) (late k low), late-row (slice_index_or rows k no_row) (slice_index_or rows k no_row).hi (ordered 0 rows k climbs low) (late k low))))
 
   -- ---- all machines
 

@@ -1,5 +1,5 @@
 -- Between which numbers the nodes of a set stand, and the rows that are outside.
-use Rattle.rule_setload.proofs.Prelude.{◌≡◌, ◌⊎◌, inl, inr, ℕ, zero, suc, ◌+◌, ◌<◌, ◌≤◌, Bool, true, false, false≢true, List, [], ◌∷◌, length, slice_index_or, refl, sym, ◌∙◌, arith, cases_lt, Place}
+use Rattle.rule_setload.proofs.Prelude.{◌≡◌, ◌⊎◌, inl, inr, ℕ, zero, suc, ◌+◌, ◌-◌, ◌<◌, ◌≤◌, Bool, true, false, false≢true, List, [], ◌∷◌, length, slice_index_or, refl, sym, ◌∙◌, arith, cases_lt, Place}
 use Rattle.rule_setload.specs.Prelude.{Act, At, Climbs, goes_in, has_node, IsSpan, max_nodes, no_row, Nodes, NodeSet, Nowhere, place_index, Row, Span}
 use Rattle.base.proofs.Public.{get_or_default}
 use Rattle.cluster.proofs.Public.{has_node-past}
@@ -24,21 +24,23 @@ all_spanned nodes x within first m on = (low, high)
 
 -- ---- rows in their order
 
-climbs-at : (from : ℕ) (rows : List Row) (i : ℕ) (d : Row) → Climbs from rows → i < length rows → from ≤ place_index (slice_index_or rows i d).place
+climbs-at : (from : ℕ) (rows : List Row) (i : ℕ) (d : Row) → Climbs from rows → i < length rows → from + i ≤ place_index (slice_index_or rows i d).place
 climbs-at from [] i d c h = absurd (omega (arith, h))
-climbs-at from (r ∷ rs) zero d c h = c.0
+climbs-at from (r ∷ rs) zero d c h = let here : from ≤ place_index r.place = c.0 in omega (arith, here)
 climbs-at from (r ∷ rs) (suc i) d c h =
     let rest = climbs-at (place_index r.place + 1) rs i d c.2 (omega (arith, h)) in
     let here : from ≤ place_index r.place = c.0 in
     omega (arith, here, rest)
 
-climbs-up : (from : ℕ) (rows : List Row) (i j : ℕ) (d : Row) → Climbs from rows → i ≤ j → j < length rows → place_index (slice_index_or rows i d).place ≤ place_index (slice_index_or rows j d).place
+-- a row that is so many rows behind another one is at least so many places behind it
+climbs-up : (from : ℕ) (rows : List Row) (i j : ℕ) (d : Row) → Climbs from rows → i ≤ j → j < length rows → place_index (slice_index_or rows i d).place + j ≤ place_index (slice_index_or rows j d).place + i
 climbs-up from [] i j d c l h = absurd (omega (arith, h))
 climbs-up from (r ∷ rs) zero zero d c l h = omega arith
 climbs-up from (r ∷ rs) zero (suc j) d c l h =
     let there = climbs-at (place_index r.place + 1) rs j d c.2 (omega (arith, h)) in omega (arith, there)
 climbs-up from (r ∷ rs) (suc i) zero d c l h = absurd (omega (arith, l))
-climbs-up from (r ∷ rs) (suc i) (suc j) d c l h = climbs-up (place_index r.place + 1) rs i j d c.2 (omega (arith, l)) (omega (arith, h))
+climbs-up from (r ∷ rs) (suc i) (suc j) d c l h =
+    let there = climbs-up (place_index r.place + 1) rs i j d c.2 (omega (arith, l)) (omega (arith, h)) in omega (arith, there)
 
 module _ (rows : List Row) (climbs : Climbs 0 rows) (m n : ℕ) (d : Row) (low : m < length rows) where
   here : place_index (slice_index_or rows m no_row).place ≡ place_index (slice_index_or rows m d).place
@@ -69,6 +71,13 @@ module _ (set : Nodes) (x : Span) (span : IsSpan set x) where
       at true on = absurd (omega (arith, l, (span n.0 on).1))
       at false off = off
 
-  pub rows_outside : (rows : List Row) (from to : ℕ) → ((k : ℕ) → k < from → place_index (slice_index_or rows k no_row).place ≤ x.first) → ((k : ℕ) → to ≤ k → k < length rows → x.end < place_index (slice_index_or rows k no_row).place) →
+  rows-outside : (rows : List Row) (from to : ℕ) → ((k : ℕ) → k < from → place_index (slice_index_or rows k no_row).place ≤ x.first) → ((k : ℕ) → to ≤ k → k < length rows → x.end < place_index (slice_index_or rows k no_row).place) →
       (k : ℕ) → k < length rows → (k < from) ⊎ (to ≤ k) → goes_in (Act (slice_index_or rows k no_row).place 0) set ≡ false
-  rows_outside rows from to before behind k low outer = elim outer [ inl early ↦ before-out (slice_index_or rows k no_row).place (before k early) | inr late ↦ behind-out (slice_index_or rows k no_row).place (behind k late low) ]
+  rows-outside rows from to before behind k low outer = elim outer [ inl early ↦ before-out (slice_index_or rows k no_row).place (before k early) | inr late ↦ behind-out (slice_index_or rows k no_row).place (behind k late low) ]
+
+  -- of the rows behind the first place so many are between as there are places
+  pub rows_outside : (rows : List Row) (from to : ℕ) → Climbs 0 rows → ((k : ℕ) → k < from → place_index (slice_index_or rows k no_row).place ≤ x.first) → ((k : ℕ) → from ≤ k → k < length rows → x.first < place_index (slice_index_or rows k no_row).place) →
+      ((k : ℕ) → to ≤ k → k < length rows → from + (x.end - x.first) ≤ k) → (k : ℕ) → k < length rows → (k < from) ⊎ (to ≤ k) → goes_in (Act (slice_index_or rows k no_row).place 0) set ≡ false
+  rows_outside rows from to climbs before behind many = rows-outside rows from to before (λ k late low. let far = many k late low in
+      let first = behind from (omega arith) (omega (arith, far, low)) in
+      omega (arith, far, first, climbs-up 0 rows from k no_row climbs (omega (arith, far)) low))

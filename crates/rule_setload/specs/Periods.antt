@@ -1,11 +1,12 @@
 -- Helping only: what machines hold on a set of nodes during a period, at the most and surely.
-use Rattle.std.specs.Prelude.{◌≡◌, ℕ, ◌+◌, ◌<◌, ◌≤◌, ◌||◌, ◌==◌, Bool, true, false, nat_le, IsTrue}
-use Rattle.rule_constraint.specs.Prelude.{goes_in, held_at, Instance, IsEnd, machine_count, Nodes, Sets, sum_to, sure, vm}
+use Rattle.std.specs.Prelude.{◌≡◌, ◌⊎◌, ℕ, ◌+◌, ◌<◌, ◌≤◌, ◌||◌, ◌==◌, Bool, true, false, nat_le, IsTrue}
+use Rattle.rule_constraint.specs.Prelude.{goes_in, held_at, Instance, IsEnd, machine_count, Nodes, Sets, sum_to, sure, unit_of, vm}
 use Rattle.cluster.specs.Sets.{has_machine}
 use Rattle.cluster.specs.declared.choices.Choice.{Choice}
 use Rattle.cluster.specs.declared.choices.Choice.TheVariants.{Act, Idle}
 use Rattle.slices.specs.declared.slice.Weight.{Weight}
-use Rattle.rule_setload.specs.Amounts.{stay_of}
+use Rattle.domains.specs.declared.parts.Row.{Row}
+use Rattle.rule_setload.specs.Amounts.{IsExtra, stay_of}
 use Rattle.rule_setload.specs.declared.concerned.Members.{Members}
 use Rattle.rule_setload.specs.declared.period.Period.{Period}
 use Rattle.rule_setload.specs.declared.span.Span.{Span}
@@ -40,10 +41,14 @@ pub record HoldsLeast (p : Instance) (s : Sets) (w : Weight) (set : Nodes) (v : 
 pub record IsFit (p : Instance) (s : Sets) (w : Weight) (set : Nodes) (v : ℕ) (x : Period) (spare : ℕ) : Type 0 where
   pub each : (t : ℕ) (c : Choice) → IsDuring x t → IsEnd (s (vm v)) c → held_at p v w set t c ≤ spare + (sure p s t).held v w set
 
--- it has nothing on the nodes at present, and no end of its choices goes there
+-- it has nothing on the nodes at present, and surely brings nothing there
 pub record IsAside (p : Instance) (s : Sets) (w : Weight) (set : Nodes) (v : ℕ) : Type 0 where
   pub stays : stay_of p w set v ≡ 0
-  pub away : (c : Choice) → IsEnd (s (vm v)) c → goes_in c set ≡ false
+  pub extra : IsExtra p s w set v 0
+
+-- the row is at no node of the set, or its starts are later
+abbrev pub IsLate : Nodes → ℕ → Row → Type 0
+IsLate set by row = (goes_in (Act row.place 0) set ≡ false) ⊎ (by < row.lo)
 
 -- ---- all machines
 
@@ -51,10 +56,11 @@ pub record IsAside (p : Instance) (s : Sets) (w : Weight) (set : Nodes) (v : ℕ
 abbrev pub IsSpan : Nodes → Span → Type 0
 IsSpan set x = (m : ℕ) → set m ≡ true → (x.first ≤ m) × (m < x.end)
 
--- whoever is none of these is aside
+-- whoever is none of these is aside, and nobody brings more than the most
 pub record AreConcerned (p : Instance) (s : Sets) (w : Weight) (set : Nodes) (members : Members) : Type 0 where
   pub others : (v : ℕ) → v < machine_count p → has_machine members.machines v ≡ false → IsAside p s w set v
   pub span : IsSpan set members.span
+  pub most : (v : ℕ) → v < machine_count p → unit_of p v w ≤ members.most
 
 -- together they surely hold no more than this
 pub record AreWithin (p : Instance) (s : Sets) (w : Weight) (set : Nodes) (x : Period) (total : ℕ) : Type 0 where

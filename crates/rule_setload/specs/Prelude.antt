@@ -34,7 +34,7 @@ pub use Rattle.reasons.specs.declared.reason.ReasonKind.{ReasonKind}
 pub use Rattle.reasons.specs.declared.reason.ReasonKind.TheVariants.{Power, SetLoad}
 pub use Rattle.rule_constraint.specs.Broken.{of_kind}
 pub use Rattle.rule_setload.specs.Amounts.{AreAllHolders, AreAllStayers, AreAmountsKept, AreExtra, AreHolders, AreKept, AreStayersOf, AreStayersTo, bound_in, bound_of, cache_of, IsExtra, IsKept, no_holder, no_stayers, stay_of}
-pub use Rattle.rule_setload.specs.Periods.{AreConcerned, AreWithin, has_started, HoldsLeast, HoldsMost, IsAside, IsDuring, IsFit, IsShare, IsSpan, max_spare, StaysAt, StaysBefore, StaysDuring, StaysIn, StaysPast, StaysWhenDue}
+pub use Rattle.rule_setload.specs.Periods.{AreConcerned, AreWithin, has_started, HoldsLeast, HoldsMost, IsAside, IsDuring, IsFit, IsLate, IsShare, IsSpan, max_spare, StaysAt, StaysBefore, StaysDuring, StaysIn, StaysPast, StaysWhenDue}
 pub use Rattle.rule_setload.specs.Powers.{AreNotPowered, IsPoweredFit, power_most, power_of, powered_most, PowerStaysAt, PowerStaysDuring, PowerStaysPast, PowerStaysWhenDue}
 pub use Rattle.rule_setload.specs.declared.power.PowerBound.{PowerBound}
 pub use Rattle.rule_setload.specs.Covers.{set_kinds}

@@ -114,7 +114,11 @@ impl AmountKeeper {
         if !self.bounded {
             return false;
         }
-        self.is_ample(p, g, bound, c) || stays_when_due(p, g, self.standings(p, g), bound, always)
+        if self.is_ample(p, g, bound, c) {
+            return true;
+        }
+        let ks = self.standings(p, g);
+        stays_when_due(p, g, ks, bound, self.stayers[c], always)
     }
 
     // whether there is ample room
@@ -171,7 +175,8 @@ impl AmountKeeper {
             return Ok(());
         }
         let ks = self.standings(p, g);
-        propose_amount(p, g, ks, &bound, c as u32, constraint.is_continuous(), them)
+        let always = constraint.is_continuous();
+        propose_amount(p, g, ks, &bound, self.stayers[c], c as u32, always, them)
     }
 
     // whether a reason is seen to refute what is inside a part of an element's choices

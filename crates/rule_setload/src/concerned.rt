@@ -1,19 +1,22 @@
-//! The machines that may hold something on the nodes of a bound.
+//! The machines that may hold something on the nodes of a bound, and those that weigh on it.
 ghost use Rattle.std.specs.Prelude.{◌≡◌, ℕ, ◌<◌, false, length, slice_index_or};
-ghost use Rattle.rule_setload.specs.Prelude.{AreConcerned, Choice as AnyChoice, Climbs, goes_in, has_node, IsAside, IsSized, IsSpan, IsWeight, machine_count, no_row, sets};
+ghost use Rattle.rule_setload.specs.Prelude.{AreConcerned, AreStayersTo, Choice as AnyChoice, Climbs, goes_in, has_node, IsAside, IsSized, IsSpan, IsWeight, machine_count, no_row, sets};
 
 use crate::bounds::Bound;
 use crate::movers_hold::is_outside;
 use crate::span::{Span, rows_within, span_of};
-use crate::stayers::stay;
+use crate::spared::is_away;
+use crate::stayers::{Stayers, stay};
 use cluster::MachineSet;
 use rule_frame::{Element, NodeSet, Problem, Region, Row, VmId};
 
-/// The machines that may hold something on the nodes of a bound, and between which numbers these nodes stand.
+/// Machines among which are all that weigh on a bound, between which numbers its nodes stand, and the most that one machine
+/// brings.
 #[derive(Clone, Copy)]
 pub struct Members {
     pub machines: MachineSet,
     pub span: Span,
+    pub most: u64,
 }
 
 // whether one of the rows is at a node of a set
@@ -44,9 +47,10 @@ fn is_concerned(p: &Problem, g: &Region, v: VmId, bound: &Bound, span: Span) -> 
 }
 
 /// The machines that have something on the nodes at present, or may go there.
-pub(crate) fn concerned(p: &Problem, g: &Region, bound: &Bound) -> Members
+pub(crate) fn concerned(p: &Problem, g: &Region, bound: &Bound, stayers: Stayers) -> Members
     requires region { IsSized p.now.given g.now }
     requires weight { IsWeight p.now.given bound.now.weight }
+    requires stayers { AreStayersTo p.now.given bound.now.weight (has_node bound.now.nodes) (machine_count p.now.given) stayers }
     ensures { AreConcerned p.now.given (sets g.now) bound.now.weight (has_node bound.now.nodes) result }
 {
     let span = span_of(&bound.nodes);
@@ -57,5 +61,30 @@ pub(crate) fn concerned(p: &Problem, g: &Region, bound: &Bound) -> Members
             machines.insert(v);
         }
     }
-    Members { machines, span }
+    Members {
+        machines,
+        span,
+        most: stayers.most,
+    }
+}
+
+/// The machines that have something on the nodes at present, or may have to go there. Mostly they are few.
+pub(crate) fn weighing(p: &Problem, g: &Region, bound: &Bound, stayers: Stayers) -> Members
+    requires region { IsSized p.now.given g.now }
+    requires weight { IsWeight p.now.given bound.now.weight }
+    requires stayers { AreStayersTo p.now.given bound.now.weight (has_node bound.now.nodes) (machine_count p.now.given) stayers }
+    ensures { AreConcerned p.now.given (sets g.now) bound.now.weight (has_node bound.now.nodes) result }
+{
+    let mut machines = MachineSet::new();
+    for i in 0..p.cluster().machines().len() {
+        let v = VmId(i as u32);
+        if !is_away(p, g, v, bound) {
+            machines.insert(v);
+        }
+    }
+    Members {
+        machines,
+        span: span_of(&bound.nodes),
+        most: stayers.most,
+    }
 }

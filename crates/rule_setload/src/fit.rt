@@ -1,17 +1,18 @@
 //! Whether each machine fits in what is spare on the nodes of a bound during a period, under any of its choices.
 ghost use Rattle.std.specs.Prelude.{◌≡◌, ◌⊎◌, ◌+◌, ◌<◌, ◌≤◌, ℕ, IsTrue, false, length, slice_index_or, true};
-ghost use Rattle.rule_setload.specs.Prelude.{AreConcerned, AreStanding, Choice as AnyChoice, Climbs, goes_in, has_node, IsEnd, IsFit, IsShare, IsSized, IsSpan, IsStanding, IsWeight, machine_count, max_amount, max_spare, no_row, sets, StaysDuring, stay_of, vm};
+ghost use Rattle.rule_setload.specs.Prelude.{AreConcerned, AreStanding, Choice as AnyChoice, Climbs, goes_in, has_node, IsEnd, IsFit, IsLate, IsShare, IsSized, IsSpan, IsStanding, IsWeight, machine_count, max_amount, max_spare, no_row, sets, StaysDuring, stay_of, vm};
 
 use crate::bounds::Bound;
 use crate::concerned::Members;
 use crate::holders::kept_amount;
 use crate::holding::{act, brought, kept, surely_held};
 use crate::most::most_total;
+use crate::movers_hold::is_outside;
 use crate::period::Period;
 use crate::span::{RowRange, Span, rows_within};
 use crate::stayers::{stay, unit};
 use profiles::standing::numbers::Standing;
-use rule_frame::{Choice, Element, Problem, Region, Row, VmId};
+use rule_frame::{Choice, Element, Instant, NodeSet, Problem, Region, Row, VmId};
 
 /// More than can be spare anywhere.
 const MOST: u64 = 1_000_000_000_000_000_000;
@@ -134,8 +135,56 @@ fn machine_fits(
     ever <= limit || ends_fit(p, g, v, bound, span, stays, x, limit)
 }
 
-// whether one of all machines does: one that holds nothing does
-#[tactic(auto, using(crate::proofs::AsideLemmas::aside_fits))]
+// whether a row is seen to be at no node of a set, or later than an instant
+fn is_late(row: Row, nodes: &NodeSet, by: Instant) -> bool
+    ensures { IsTrue result → IsLate (has_node nodes.now) by row }
+{
+    row.lo > by || is_outside(row.place, nodes)
+}
+
+// whether each row is
+fn are_late(rows: &[Row], nodes: &NodeSet, span: Span, by: Instant) -> bool
+    requires climbs { Climbs 0 rows.now }
+    requires span { IsSpan (has_node nodes.now) span }
+    ensures { IsTrue result → (k : ℕ) → k < length rows.now → IsLate (has_node nodes.now) by (slice_index_or rows.now k no_row) }
+{
+    let near = rows_within(rows, nodes, span);
+    for i in near.from..near.to {
+        if !is_late(rows[i], nodes, by) {
+            return false;
+        }
+    }
+    true
+}
+
+// whether one that is aside does: all that it brings is spare, or it comes later
+#[tactic(auto, using(crate::proofs::FitLemmas::unit_fits, crate::proofs::FitLemmas::late_fits))]
+fn comer_fits(
+    p: &Problem,
+    g: &Region,
+    v: VmId,
+    bound: &Bound,
+    span: Span,
+    x: Period,
+    spare: u64,
+) -> bool
+    requires region { IsSized p.now.given g.now }
+    requires machine { v.0 < machine_count p.now.given }
+    requires weight { IsWeight p.now.given bound.now.weight }
+    requires span { IsSpan (has_node bound.now.nodes) span }
+    requires none { stay_of p.now.given bound.now.weight (has_node bound.now.nodes) v.0 ≡ 0 }
+    requires period { x.to ≤ p.now.given.horizon }
+    ensures { IsTrue result → IsFit p.now.given (sets g.now) bound.now.weight (has_node bound.now.nodes) v.0 x spare }
+{
+    if unit(p, v, bound.weight) <= spare {
+        return true;
+    }
+    let domain = g.domain(Element::Vm(v));
+    are_late(domain.rows(), &bound.nodes, span, x.to)
+}
+
+// whether one of all machines does: of one that is aside no more is asked where what any brings is spare
+#[tactic(auto, using(crate::proofs::FitLemmas::unit_fits))]
 fn fits_among(
     p: &Problem,
     g: &Region,
@@ -158,7 +207,7 @@ fn fits_among(
     if members.machines.has(v) {
         return machine_fits(p, g, k, v, bound, members.span, x, spare);
     }
-    true
+    members.most <= spare || comer_fits(p, g, v, bound, members.span, x, spare)
 }
 
 // whether each does

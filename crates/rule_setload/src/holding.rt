@@ -102,9 +102,9 @@ pub(crate) fn share(p: &Problem, v: VmId, bound: &Bound, stays: u64, c: Choice, 
     kept(p, v, stays, c, x.from) + brought(p, v, bound, c, x.to)
 }
 
-// what it has at present, while it keeps its host
+/// What a machine with these numbers has at present, while it keeps its host.
 #[tactic(auto, using(crate::proofs::HolderLemmas::kept_holds))]
-fn still_kept(
+pub(crate) fn still_kept(
     p: &Problem,
     _g: &Region,
     v: VmId,

@@ -1,13 +1,13 @@
 //! Cuts that are worth a try where an amount is nearly reached: what is asked of them is left to the caller.
 ghost use Rattle.std.specs.Prelude.{◌≡◌, ◌<◌, length};
-ghost use Rattle.rule_setload.specs.Prelude.{AreConcerned, has_node, IsSized, IsWeight, machine_count, sets};
+ghost use Rattle.rule_setload.specs.Prelude.{AreConcerned, AreStayersTo, has_node, IsSized, IsWeight, machine_count, sets};
 
 use crate::bounds::Bound;
 use crate::concerned::{Members, concerned};
 use crate::holding::{act, goes_in, left_at};
 use crate::most::{most_held, most_total};
 use crate::period::Period;
-use crate::stayers::{stay, unit};
+use crate::stayers::{Stayers, stay, unit};
 use crate::walk::next_change;
 use profiles::standing::numbers::Standing;
 use rule_frame::{Element, Instant, Memory, Part, Problem, Reason, Region, Row, Suggestion, VmId};
@@ -284,6 +284,7 @@ pub(crate) fn propose_amount(
     g: &Region,
     ks: &[Standing],
     bound: &Bound,
+    stayers: Stayers,
     c: u32,
     always: bool,
     them: &mut Vec<Suggestion>,
@@ -291,8 +292,9 @@ pub(crate) fn propose_amount(
     requires region { IsSized p.now.given g.now }
     requires count { length ks.now ≡ machine_count p.now.given }
     requires weight { IsWeight p.now.given bound.now.weight }
+    requires stayers { AreStayersTo p.now.given bound.now.weight (has_node bound.now.nodes) (machine_count p.now.given) stayers }
 {
-    let members = concerned(p, g, bound);
+    let members = concerned(p, g, bound, stayers);
     let spares = spares(*them.allocator(), p, g, ks, bound, &members, always)?;
     for i in 0..p.cluster().machines().len() {
         let v = VmId(i as u32);

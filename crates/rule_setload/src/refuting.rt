@@ -4,7 +4,7 @@ ghost use Rattle.rule_setload.specs.Prelude.{Applies, AreAllHolders, AreKept, Ar
 
 use crate::bounds::{Bound, bound_of};
 use crate::holders::{Holder, Holders};
-use crate::holding::surely_held;
+use crate::holding::{still_kept, surely_held};
 use crate::period::Period;
 use profiles::seen::{is_narrowed, narrowed};
 use profiles::standing::numbers::Standing;
@@ -55,6 +55,43 @@ fn held_seen(
         bound,
         Period { from: t, to: t },
     )
+}
+
+// whether a machine may hold more than what it has at present while it surely keeps that
+#[inline(always)]
+fn may_hold_more(k: Standing, stays: u64, t: Instant) -> bool {
+    if stays > 0 {
+        k.leave <= u64::from(t)
+    } else {
+        k.come.is_some()
+    }
+}
+
+// what it does, told at once for most machines: for one that surely keeps its host, or has nothing and need not come
+#[inline(always)]
+fn held_at_once(
+    p: &Problem,
+    view: &View,
+    v: VmId,
+    k: Standing,
+    stays: u64,
+    bound: &Bound,
+    t: Instant,
+) -> u64
+    requires region { IsSized p.now.given view.now.region.now }
+    requires machine { v.0 < machine_count p.now.given }
+    requires standing { IsStanding p.now.given v.0 (sets view.now.region.now (vm v.0)) k }
+    requires kept { IsKept p.now.given bound.now.weight (has_node bound.now.nodes) v.0 stays }
+    requires weight { IsWeight p.now.given bound.now.weight }
+    requires within { t ≤ p.now.given.horizon }
+    ensures held { result ≤ (sure p.now.given (seen view.now.region.now view.now.lens) t).held v.0 bound.now.weight (has_node bound.now.nodes) }
+    ensures small { result ≤ max_held }
+{
+    if is_narrowed(view.lens, v) || may_hold_more(k, stays, t) {
+        return held_seen(p, view, v, k, stays, bound, t);
+    }
+    let now = Period { from: t, to: t };
+    still_kept(p, view.region, v, k, stays, bound, now)
 }
 
 // the number of the next machine to count: that of a list, or another one where it comes first
@@ -108,7 +145,7 @@ fn listed_are_over(
         if stays > 0 {
             next = next.saturating_add(1);
         }
-        total += held_seen(p, view, v, ks[i], stays, bound, t);
+        total += held_at_once(p, view, v, ks[i], stays, bound, t);
         if total > bound.amount {
             return true;
         }
@@ -141,7 +178,7 @@ fn is_over(
         if stays > 0 {
             next = next.saturating_add(1);
         }
-        total += held_seen(p, view, v, ks[i], stays, bound, t);
+        total += held_at_once(p, view, v, ks[i], stays, bound, t);
         if total > bound.amount {
             return true;
         }

@@ -109,8 +109,8 @@ fn count_before(rows: &[Row], n: usize, guess: usize) -> usize
     from
 }
 
-/// The rows at places between which all nodes of a set stand: all others are at none of them.
-#[tactic(auto, using(crate::proofs::SpanLemmas::rows_outside))]
+/// Rows among which are all that are at places between which the nodes of a set stand: all others are at none of them. No more
+/// are taken than there are such places.
 pub(crate) fn rows_within(rows: &[Row], _nodes: &NodeSet, span: Span) -> RowRange
     requires climbs { Climbs 0 rows.now }
     requires span { IsSpan (has_node _nodes.now) span }
@@ -118,10 +118,9 @@ pub(crate) fn rows_within(rows: &[Row], _nodes: &NodeSet, span: Span) -> RowRang
     ensures others { (k : ℕ) → k < length rows.now → (k < result.from) ⊎ (result.to ≤ k) → goes_in (AnyChoice.Act (slice_index_or rows.now k no_row).place 0) (has_node _nodes.now) ≡ false }
 {
     let from = count_before(rows, span.first, span.first);
-    let to = count_before(
-        rows,
-        span.end,
-        from.saturating_add(span.end.saturating_sub(span.first)),
-    );
-    RowRange { from, to }
+    let many = span.end.saturating_sub(span.first);
+    RowRange {
+        from,
+        to: from.saturating_add(many).min(rows.len()),
+    }
 }

@@ -1,19 +1,19 @@
 //! The amounts on which a machine does not weigh that has lost choices.
 ghost use Rattle.std.specs.Prelude.{◌≡◌, ◌<◌, IsTrue, length};
-ghost use Rattle.rule_setload.specs.Prelude.{constraint_watch, has_node, IsExtra, IsHarmless, IsSized, IsWeight, machine_count, sets, stay_of, Vm};
+ghost use Rattle.rule_setload.specs.Prelude.{constraint_watch, has_node, IsAside, IsHarmless, IsSized, IsWeight, machine_count, sets, Vm};
 
 use crate::bounds::{Bound, bound_of};
 use crate::movers_hold::extra;
 use crate::stayers::stay;
 use rule_frame::{Problem, Region, VmId};
 
-// whether a machine has nothing on the nodes of a bound at present, and need not bring anything there
-fn is_away(p: &Problem, g: &Region, v: VmId, bound: &Bound) -> bool
+/// Whether a machine has nothing on the nodes of a bound at present, and need not bring anything there.
+#[tactic(auto, using(crate::proofs::AsideLemmas::none_aside))]
+pub(crate) fn is_away(p: &Problem, g: &Region, v: VmId, bound: &Bound) -> bool
     requires region { IsSized p.now.given g.now }
     requires machine { v.0 < machine_count p.now.given }
     requires weight { IsWeight p.now.given bound.now.weight }
-    ensures stays { IsTrue result → stay_of p.now.given bound.now.weight (has_node bound.now.nodes) v.0 ≡ 0 }
-    ensures extra { IsTrue result → IsExtra p.now.given (sets g.now) bound.now.weight (has_node bound.now.nodes) v.0 0 }
+    ensures { IsTrue result → IsAside p.now.given (sets g.now) bound.now.weight (has_node bound.now.nodes) v.0 }
 {
     stay(p, v, bound) == 0 && extra(p, g, v, bound) == 0
 }

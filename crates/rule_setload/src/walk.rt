@@ -1,12 +1,13 @@
 //! Periods one after the other, from one change of what machines hold on the nodes of a bound to the next.
 ghost use Rattle.std.specs.Prelude.{◌≡◌, ◌+◌, ◌<◌, ◌≤◌, IfSome, IsTrue, length};
-ghost use Rattle.rule_setload.specs.Prelude.{AreConcerned, AreStanding, has_node, IsSized, IsWeight, machine_count, sets, StaysAt, StaysIn, StaysPast, StaysWhenDue};
+ghost use Rattle.rule_setload.specs.Prelude.{AreConcerned, AreStanding, AreStayersTo, has_node, IsSized, IsWeight, machine_count, sets, StaysAt, StaysIn, StaysPast, StaysWhenDue};
 
 use crate::bounds::Bound;
-use crate::concerned::{Members, concerned};
+use crate::concerned::{Members, weighing};
 use crate::fit::stays_during;
 use crate::movers_hold::is_outside;
 use crate::period::Period;
+use crate::stayers::Stayers;
 use profiles::standing::numbers::Standing;
 use rule_constraint::host;
 use rule_frame::{Element, NodeSet, Problem, Region, Row, VmId};
@@ -187,14 +188,16 @@ pub(crate) fn stays_when_due(
     g: &Region,
     ks: &[Standing],
     bound: &Bound,
+    stayers: Stayers,
     always: bool,
 ) -> bool
     requires region { IsSized p.now.given g.now }
     requires standings { AreStanding p.now.given (sets g.now) ks.now }
     requires weight { IsWeight p.now.given bound.now.weight }
+    requires stayers { AreStayersTo p.now.given bound.now.weight (has_node bound.now.nodes) (machine_count p.now.given) stayers }
     ensures { IsTrue result → StaysWhenDue p.now.given (sets g.now) bound.now.weight (has_node bound.now.nodes) bound.now.amount always }
 {
-    let members = concerned(p, g, bound);
+    let members = weighing(p, g, bound, stayers);
     if always {
         return stays_always(p, g, ks, bound, &members);
     }

@@ -7,12 +7,12 @@ pub loop-i-preserved : goal.loop-i-preserved
 loop-i-preserved c =
     let next : c.loop-i.i + 1 ≡ suc c.loop-i.i = omega arith in
     record {
-      total = rw next (omega (arith, c.loop-i.invariant.total, c.held_seen-total.ensures.held));
-      small = omega (arith, c.loop-i.invariant.small, c.held_seen-total.ensures.small);
+      total = rw next (omega (arith, c.loop-i.invariant.total, c.held_at_once-total.ensures.held));
+      small = omega (arith, c.loop-i.invariant.small, c.held_at_once-total.ensures.small);
     }
 
 pub returns-then-total-bound : goal.returns-then-total-bound
 returns-then-total-bound c =
     let low : c.loop-i.i < machine_count c.args.p.now.given = search rules in
     let all = some_terms (λ k. (sure c.args.p.now.given (seen c.args.view.now.region.now c.args.view.now.lens) c.args.t).held k c.args.bound.now.weight (has_node c.args.bound.now.nodes)) (suc c.loop-i.i) (machine_count c.args.p.now.given) (omega (arith, low)) in
-    λ on. omega (arith, all, c.loop-i.invariant.total, c.held_seen-total.ensures.held, c.if-total-bound.true)
+    λ on. omega (arith, all, c.loop-i.invariant.total, c.held_at_once-total.ensures.held, c.if-total-bound.true)

@@ -7,4 +7,4 @@ pub returns-in-Some : goal.returns-in-Some
 returns-in-Some c =
     λ yes. away_harmless c.args.p.now.given (sets c.args.g.now) c.args.c c.index-constraints-c.result c.in-Some.bound c.args.v c.args.p.now.sound
     (slice_get_read c.args.p.now.given.constraints (length c.args.p.now.given.constraints) c.args.c _ refl c.requires.constraint (rw c.constraints.ensures.constraints at c.index-constraints-c.is))
-    (sym c.bound_of.ensures.bound ∙ c.in-Some.is) (c.is_away.ensures.stays yes) (c.is_away.ensures.extra yes)
+    (sym c.bound_of.ensures.bound ∙ c.in-Some.is) (c.is_away.ensures yes).stays (c.is_away.ensures yes).extra
