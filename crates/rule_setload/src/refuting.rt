@@ -9,7 +9,7 @@ use crate::period::Period;
 use profiles::seen::{is_narrowed, narrowed};
 use profiles::standing::numbers::Standing;
 use relax::sure::least_held;
-use rule_frame::{Area, Instant, Problem, View, VmId};
+use rule_frame::{Area, Instant, Lens, Problem, View, VmId};
 
 // what a machine has at present, where the next of a list is that machine: nothing where it is another one
 #[tactic(auto, using(crate::proofs::HolderLemmas::listed_kept, crate::proofs::HolderLemmas::none_kept))]
@@ -94,6 +94,23 @@ fn held_at_once(
     still_kept(p, view.region, v, k, stays, bound, now)
 }
 
+// the number of the machine of which not all choices are seen
+fn narrowed_number(lens: Lens) -> usize {
+    match narrowed(lens) {
+        None => usize::MAX,
+        Some(v) => v.0 as usize,
+    }
+}
+
+// whether the machine of a number may hold something: the next of a list, one that surely comes, or the other one
+#[inline(always)]
+fn may_hold(holders: &[Holder], next: usize, other: usize, i: usize, k: Standing) -> bool {
+    if i == other || k.come.is_some() {
+        return true;
+    }
+    next < holders.len() && holders[next].machine.0 as usize == i
+}
+
 // the number of the next machine to count: that of a list, or another one where it comes first
 fn next_number(holders: &[Holder], next: usize, other: usize, low: usize) -> usize {
     let listed = if next < holders.len() {
@@ -124,10 +141,7 @@ fn listed_are_over(
     requires within { t ≤ p.now.given.horizon }
     ensures { IsTrue result → bound.now.amount < total p.now.given (sure p.now.given (seen view.now.region.now view.now.lens) t) bound.now.weight (has_node bound.now.nodes) }
 {
-    let other = match narrowed(view.lens) {
-        None => usize::MAX,
-        Some(e) => e.0 as usize,
-    };
+    let other = narrowed_number(view.lens);
     let mut total = 0;
     let mut next = 0usize;
     let mut low = 0usize;
@@ -170,17 +184,20 @@ fn is_over(
     requires within { t ≤ p.now.given.horizon }
     ensures { IsTrue result → bound.now.amount < total p.now.given (sure p.now.given (seen view.now.region.now view.now.lens) t) bound.now.weight (has_node bound.now.nodes) }
 {
+    let other = narrowed_number(view.lens);
     let mut total = 0;
     let mut next = 0usize;
     for i in 0..p.cluster().machines().len() {
-        let v = VmId(i as u32);
-        let stays = stays_of(p, holders, next, v, bound);
-        if stays > 0 {
-            next = next.saturating_add(1);
-        }
-        total += held_at_once(p, view, v, ks[i], stays, bound, t);
-        if total > bound.amount {
-            return true;
+        if may_hold(holders, next, other, i, ks[i]) {
+            let v = VmId(i as u32);
+            let stays = stays_of(p, holders, next, v, bound);
+            if stays > 0 {
+                next = next.saturating_add(1);
+            }
+            total += held_at_once(p, view, v, ks[i], stays, bound, t);
+            if total > bound.amount {
+                return true;
+            }
         }
     }
     false

@@ -2,14 +2,23 @@ use Rattle.rule_setload.proofs.Prelude.{◌≡◌, ◌+◌, ◌<◌, rules, suc,
 use Rattle.rule_setload.specs.Prelude.{seen}
 use Rattle.rule_setload.proofs.OverLemmas.{some_terms}
 use Rattle.rule_setload.proofs.refuting.is_over.Goals as goal
+use Rattle.rule_setload.proofs.refuting.is_over.Goals.{then-may_hold+else-total-bound, else-may_hold}
 
 pub loop-i-preserved : goal.loop-i-preserved
 loop-i-preserved c =
     let next : c.loop-i.i + 1 ≡ suc c.loop-i.i = omega arith in
-    record {
-      total = rw next (omega (arith, c.loop-i.invariant.total, c.held_at_once-total.ensures.held));
-      small = omega (arith, c.loop-i.invariant.small, c.held_at_once-total.ensures.small);
-    }
+    elim c.if-may_hold.branch [
+      | then-may_hold+else-total-bound w ↦
+          record {
+            total = rw next (omega (arith, c.loop-i.invariant.total, w.total-is, w.held_at_once-total.ensures.held));
+            small = omega (arith, c.loop-i.invariant.small, w.total-is, w.held_at_once-total.ensures.small);
+          }
+      | else-may_hold w ↦
+          record {
+            total = rw next (omega (arith, c.loop-i.invariant.total, w.total-is));
+            small = omega (arith, c.loop-i.invariant.small, w.total-is);
+          }
+    ]
 
 pub returns-then-total-bound : goal.returns-then-total-bound
 returns-then-total-bound c =
