@@ -33,15 +33,15 @@ stays-on : (b : Bool) (t x y : ℕ) → x ≤ y → IsTrue (b && nat_lt t x) →
 stays-on true t x y l h = grind (arith, nat_tests, h, l)
 stays-on false t x y l h = h
 
-pub has_posts : (p : Instance) (s : Sets) (v : ℕ) (k : Standing) (x : Posts) → p.horizon < never → s (vm v) ≢ [] → StandsWithin p v (s (vm v)) k → ((n t : ℕ) → t ≤ p.horizon → IsTrue (hosted_in (state_of p v) (one n) && nat_lt t k.leave) → IsAt x.host n t) → ((n t : ℕ) → t ≤ p.horizon → IsTrue (comes_by n t k.come) → IsAt x.come n t) → HasPosts p s v x
+pub has_posts : (p : Instance) (s : Sets) (from v : ℕ) (k : Standing) (x : Posts) → p.horizon < never → StandsWithin p v (s (vm v)) k → ((n t : ℕ) → from ≤ t → t ≤ p.horizon → IsTrue (hosted_in (state_of p v) (one n) && nat_lt t k.leave) → IsAt x.host n t) → ((n t : ℕ) → t ≤ p.horizon → IsTrue (comes_by n t k.come) → IsAt x.come n t) → HasPosts p s from v x
 unfolding sure
-has_posts p s v k x short some is host come =
+has_posts p s from v k x short is host come =
     let own : Standing = record { leave = least (leave_of p v) (s (vm v)); come = k.come } in
     let exact : IsStanding p v (s (vm v)) own = record { leave = refl; come = is.come } in
     record {
-      each = λ n t l there.
+      each = λ some n t f l there.
           elim (by-number (hosted_in (state_of p v) (one n) && nat_lt t own.leave) (comes_by n t k.come) (base p v Presence) (gain p v Presence n) (sym (present_law p v n t (s (vm v)) own (omega (arith, l, short)) some exact) ∙ there)) [
-            | inl a ↦ inl (host n t l (stays-on (hosted_in (state_of p v) (one n)) t own.leave k.leave is.leave a))
+            | inl a ↦ inl (host n t f l (stays-on (hosted_in (state_of p v) (one n)) t own.leave k.leave is.leave a))
             | inr b ↦ inr (come n t l b)
           ];
     }
@@ -55,18 +55,18 @@ pub record AreTold (old new : List Longest) (more : Type 0) : Type 0 where
   pub told : more
 
 -- told stays, of which none is told to be shorter later on
-pub told_longer : (p : Instance) (s : Sets) (xs ys : List Longest) (part v : ℕ) → AreLonger xs ys → IsTold p s xs part v → IsTold p s ys part v
-told_longer p s xs ys part v longer told = record {
-  each = λ q n t ne l there. omega (arith, told.each q n t ne l there, longer.each q n);
+pub told_longer : (p : Instance) (s : Sets) (xs ys : List Longest) (from part v : ℕ) → AreLonger xs ys → IsTold p s xs from part v → IsTold p s ys from part v
+told_longer p s xs ys from part v longer told = record {
+  each = λ some q n t ne f l there. omega (arith, told.each some q n t ne f l there, longer.each q n);
 }
 
 pub longer_both : (xs ys zs : List Longest) → AreLonger xs ys → AreLonger ys zs → AreLonger xs zs
 longer_both xs ys zs first second = record { each = λ q n. omega (arith, first.each q n, second.each q n) }
 
 -- where both posts of a machine are told, the machine is
-pub told_posts : (p : Instance) (s : Sets) (v part : ℕ) (x : Posts) (ys zs : List Longest) → HasPosts p s v x → AreLonger ys zs → ((n t q : ℕ) → IsAt x.host n t → q ≢ part → t < told_until ys q n) → ((n t q : ℕ) → IsAt x.come n t → q ≢ part → t < told_until zs q n) → IsTold p s zs part v
-told_posts p s v part x ys zs posts longer host come = record {
-  each = λ q n t ne l there. elim (posts.each n t l there) [ inl a ↦ omega (arith, host n t q a ne, longer.each q n) | inr b ↦ come n t q b ne ];
+pub told_posts : (p : Instance) (s : Sets) (from v part : ℕ) (x : Posts) (ys zs : List Longest) → HasPosts p s from v x → AreLonger ys zs → ((n t q : ℕ) → IsAt x.host n t → q ≢ part → t < told_until ys q n) → ((n t q : ℕ) → IsAt x.come n t → q ≢ part → t < told_until zs q n) → IsTold p s zs from part v
+told_posts p s from v part x ys zs posts longer host come = record {
+  each = λ some q n t ne f l there. elim (posts.each some n t f l there) [ inl a ↦ omega (arith, host n t q a ne, longer.each q n) | inr b ↦ come n t q b ne ];
 }
 
 -- an action that starts late has not come where a stay goes on
@@ -169,8 +169,8 @@ module _ (p : Instance) (s : Sets) (xs : List Longest) (part from w : ℕ) (shor
       come n t c f before end = never-there n t c f before end (has_come n t c) refl
 
 -- one that keeps off what is told of another one keeps clear of it
-pub keeps_clear : (p : Instance) (s : Sets) (xs : List Longest) (from i j v w : ℕ) → i ≢ j → IsTold p s xs i v → KeepsOff p s xs j from w → KeepsClear p s from v w
-keeps_clear p s xs from i j v w ne told off = record { some = off.some; off = λ n t c f l there end. off.off n t c f l (told.each j n t (λ e. ne (sym e)) l there) end }
+pub keeps_clear : (p : Instance) (s : Sets) (xs : List Longest) (from i j v w : ℕ) → i ≢ j → s (vm v) ≢ [] → IsTold p s xs from i v → KeepsOff p s xs j from w → KeepsClear p s from v w
+keeps_clear p s xs from i j v w ne some told off = record { some = off.some; off = λ n t c f l there end. off.off n t c f l (told.each some j n t (λ e. ne (sym e)) f l there) end }
 
 -- a machine that passes a test and one that does not are of two parts
 two-classes : (a b : Bool) → IsTrue a → ¬ IsTrue b → class_of (λ v. a) 0 ≢ class_of (λ v. b) 0

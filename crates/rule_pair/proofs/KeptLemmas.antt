@@ -1,6 +1,6 @@
 -- Where machines stand, kept beside the rule, at the top and at each level below.
-use Rattle.rule_pair.proofs.Prelude.{◌≡◌, ◌≢◌, ℕ, ◌<◌, ◌≤◌, Bool, true, false, List, [], length, filter, refl, sym, ap, subst, ◌∙◌, arith, slice_index_or, eq-eqb, ne_eqb, false≢true, nat_lt, nat_tests, level_below, level_top, present_law, choices, Choice, DomainView, Instance, IsStanding, machine_count, Standing, sets}
-use Rattle.rule_pair.specs.Prelude.{sure, AreKept, AreRight, AreStanding, cache_of, domain_at, Element, IsIndexOf, in_part, keeping, kept_use, level_at, Lists, never, no_standing, one, Presence, Sets, StandsIn, Tables, Vm, vm, VmId}
+use Rattle.rule_pair.proofs.Prelude.{◌≡◌, ◌≢◌, ℕ, ◌<◌, Bool, true, false, List, [], length, filter, refl, sym, ap, subst, ◌∙◌, arith, slice_index_or, eq-eqb, ne_eqb, false≢true, nat_lt, nat_tests, level_below, level_top, present_law, choices, Choice, DomainView, Instance, IsStanding, Standing, sets}
+use Rattle.rule_pair.specs.Prelude.{sure, AreKept, AreRight, AreStanding, cache_of, domain_at, IsIndexOf, in_part, keeping, kept_use, Lists, never, no_standing, one, Presence, Sets, StandsIn, Tables, Vm, vm, VmId}
 use Rattle.cluster.specs.declared.ids.Element.TheVariants.{Node as TheNode}
 use Rattle.cluster.specs.declared.ids.NodeId.{NodeId}
 use Rattle.domains.specs.declared.parts.Part.{Part}

@@ -1,11 +1,11 @@
 -- Rows at places between which there is no stay.
-use Rattle.rule_pair.proofs.Prelude.{arith, cases_lt, inl, inr, IsLate, length, max, List, no_row, slice_index_or, suc, zero, [], ℕ, ◌+◌, ◌<◌, ◌∷◌, ◌≡◌, ◌≤◌, ◌⊎◌}
+use Rattle.rule_pair.proofs.Prelude.{arith, AreOrdered, Bool, true, false, cases_lt, if◌then◌else◌, inl, inr, IsLate, length, List, no_row, nobody, slice_index_or, suc, zero, [], ℕ, ◌+◌, ◌<◌, ◌==◌, ◌∷◌, ◌≡◌, ◌≤◌, ◌⊎◌}
 use Rattle.base.proofs.Public.{subst, sym}
 use Rattle.std.specs.Prelude.{slice_set}
 use Rattle.std.proofs.lemmas.Grind.{get_or-set_at}
 use Rattle.std.proofs.lemmas.List.{get_or-set_other}
 use Rattle.cluster.specs.declared.choices.Place.{Place as AnyPlace}
-use Rattle.rule_pair.specs.Prelude.{AreEnds, At, Climbs, Ends, IsReach, Longest, Nowhere, place_index, Reach, Row, told_until}
+use Rattle.rule_pair.specs.Prelude.{AreEnds, At, Climbs, Ends, Longest, Nowhere, place_index, Row, told_until}
 
 climbs-from : (from : ℕ) (rows : List Row) (k : ℕ) → Climbs from rows → k < length rows → from ≤ place_index (slice_index_or rows k no_row).place
 climbs-from from [] k c l = absurd (omega arith)
@@ -25,28 +25,34 @@ pub all_before : (rows : List Row) (m number : ℕ) → Climbs 0 rows → m < le
 all_before rows m number c l h k u = let le = places_climb 0 rows k m c (omega arith) l in omega (arith, le, h)
 
 -- a row outside starts after all stays
-pub late_outside : (xs : List Longest) (part from : ℕ) (x : Reach) (q : AnyPlace) (lo : ℕ) → IsReach xs part from x → (place_index q < x.first) ⊎ (x.last < place_index q) → IsLate xs part from q lo
-late_outside xs part from x Nowhere lo reach out = tt
-late_outside xs part from x (At n) lo reach out = elim (cases_lt from (told_until xs part n.0)) [
-  | inr none ↦ omega (arith, none)
-  | inl lasts ↦ let at = reach.each n.0 lasts in elim out [ inl early ↦ absurd (omega (arith, at.0, early)) | inr late ↦ absurd (omega (arith, at.1, late)) ]
-]
+pub late_outside : (xs : List Longest) (part from : ℕ) (x : Ends) (q : AnyPlace) (lo : ℕ) → AreEnds xs part from x → (place_index q < x.reach.first) ⊎ (x.reach.last < place_index q) → IsLate xs part from q lo
+late_outside xs part from x Nowhere lo ends out = tt
+late_outside xs part from x (At n) lo ends out =
+    let told = ends.until.each n.0 in
+    elim (cases_lt from (slice_index_or x.until n.0 0)) [
+      | inr none ↦ omega (arith, none, told)
+      | inl lasts ↦ let at = ends.reach.each n.0 lasts in elim out [ inl early ↦ absurd (omega (arith, at.0, early)) | inr late ↦ absurd (omega (arith, at.1, late)) ]
+    ]
 
-pub late_from : (xs : List Longest) (part from : ℕ) (x : Reach) (rows : List Row) (i : ℕ) → Climbs 0 rows → IsReach xs part from x → i < length rows → x.last < place_index (slice_index_or rows i no_row).place → ((k : ℕ) → k < i → IsLate xs part from (slice_index_or rows k no_row).place (slice_index_or rows k no_row).lo) → (k : ℕ) → k < length rows → IsLate xs part from (slice_index_or rows k no_row).place (slice_index_or rows k no_row).lo
-late_from xs part from x rows i c reach l past before k u = elim (cases_lt k i) [
+pub late_from : (xs : List Longest) (part from : ℕ) (x : Ends) (rows : List Row) (i : ℕ) → Climbs 0 rows → AreEnds xs part from x → i < length rows → x.reach.last < place_index (slice_index_or rows i no_row).place → ((k : ℕ) → k < i → IsLate xs part from (slice_index_or rows k no_row).place (slice_index_or rows k no_row).lo) → (k : ℕ) → k < length rows → IsLate xs part from (slice_index_or rows k no_row).place (slice_index_or rows k no_row).lo
+late_from xs part from x rows i c ends l past before k u = elim (cases_lt k i) [
   | inl early ↦ before k early
-  | inr later ↦ let le = places_climb 0 rows i k c later u in late_outside xs part from x (slice_index_or rows k no_row).place (slice_index_or rows k no_row).lo reach (inr (omega (arith, le, past)))
+  | inr later ↦ let le = places_climb 0 rows i k c later u in late_outside xs part from x (slice_index_or rows k no_row).place (slice_index_or rows k no_row).lo ends (inr (omega (arith, le, past)))
 ]
 
 -- where there is no stay so is each row
-pub late_nowhere : (xs : List Longest) (part from : ℕ) (x : Reach) (rows : List Row) → IsReach xs part from x → x.last < x.first → (i : ℕ) → i < length rows → IsLate xs part from (slice_index_or rows i no_row).place (slice_index_or rows i no_row).lo
-late_nowhere xs part from x rows reach none i low =
-    late_outside xs part from x (slice_index_or rows i no_row).place (slice_index_or rows i no_row).lo reach
-    (elim (cases_lt (place_index (slice_index_or rows i no_row).place) x.first) [ inl early ↦ inl early | inr later ↦ inr (omega (arith, later, none)) ])
+pub late_nowhere : (xs : List Longest) (part from : ℕ) (x : Ends) (rows : List Row) → AreEnds xs part from x → x.reach.last < x.reach.first → (i : ℕ) → i < length rows → IsLate xs part from (slice_index_or rows i no_row).place (slice_index_or rows i no_row).lo
+late_nowhere xs part from x rows ends none i low =
+    late_outside xs part from x (slice_index_or rows i no_row).place (slice_index_or rows i no_row).lo ends
+    (elim (cases_lt (place_index (slice_index_or rows i no_row).place) x.reach.first) [ inl early ↦ inl early | inr later ↦ inr (omega (arith, later, none)) ])
 
--- a start, or an instant, at which the stay that is told there has ended
-pub late_there : (xs : List Longest) (part from : ℕ) (x : Ends) (n lo : ℕ) → AreEnds xs part from x → slice_index_or x.until n 0 ≤ max lo from → told_until xs part n ≤ max lo from
-late_there xs part from x n lo ends early = let by = ends.until n in omega (arith, by, early)
+-- no stay of another part than one lasts longer than the longest
+pub told_first : (xs : List Longest) (part n : ℕ) → AreOrdered xs → told_until xs part n ≤ (slice_index_or xs n nobody).first.until
+told_first xs part n ordered = by ((slice_index_or xs n nobody).first.part == part)
+  where
+    by : (b : Bool) → (if b then (slice_index_or xs n nobody).second else (slice_index_or xs n nobody).first).until ≤ (slice_index_or xs n nobody).first.until
+    by true = ordered.each n
+    by false = omega arith
 
 -- the end of one stay more
 pub told_more : (xs : List Longest) (part : ℕ) (us : List ℕ) (n u : ℕ) → n < length us → told_until xs part n ≤ u → ((k : ℕ) → k < n → told_until xs part k ≤ slice_index_or us k 0) → (k : ℕ) → k < n + 1 → told_until xs part k ≤ slice_index_or (slice_set us n u) k 0

@@ -16,18 +16,18 @@ abbrev pub IsAt : Option Post → ℕ → ℕ → Type 0
 IsAt None n t = ⊥
 IsAt (Some a) n t = (a.node.0 ≡ n) × (t ≤ a.last)
 
--- up to the horizon a machine surely is nowhere but at its posts
-pub record HasPosts (p : Instance) (s : Sets) (v : ℕ) (x : Posts) : Type 0 where
-  pub each : (n t : ℕ) → t ≤ p.horizon → IsTrue ((sure p s t).present v (one n)) → IsAt x.host n t ⊎ IsAt x.come n t
+-- from an instant up to the horizon a machine that has a choice surely is nowhere but at its posts
+pub record HasPosts (p : Instance) (s : Sets) (from v : ℕ) (x : Posts) : Type 0 where
+  pub each : s (vm v) ≢ [] → (n t : ℕ) → from ≤ t → t ≤ p.horizon → IsTrue ((sure p s t).present v (one n)) → IsAt x.host n t ⊎ IsAt x.come n t
 
 -- the part of a machine: that of a number, or where each is to be alone its own
 abbrev pub part_of : Option ℕ → ℕ → ℕ
 part_of None v = v
 part_of (Some i) v = i
 
--- wherever machine v of a part surely is up to the horizon, machines of other parts are told so
-pub record IsTold (p : Instance) (s : Sets) (xs : List Longest) (part v : ℕ) : Type 0 where
-  pub each : (q n t : ℕ) → q ≢ part → t ≤ p.horizon → IsTrue ((sure p s t).present v (one n)) → t < told_until xs q n
+-- wherever machine v of a part surely is from an instant up to the horizon, if it has a choice, machines of other parts are told so
+pub record IsTold (p : Instance) (s : Sets) (xs : List Longest) (from part v : ℕ) : Type 0 where
+  pub each : s (vm v) ≢ [] → (q n t : ℕ) → q ≢ part → from ≤ t → t ≤ p.horizon → IsTrue ((sure p s t).present v (one n)) → t < told_until xs q n
 
 -- an action there starts after all stays of machines of other parts that last past an instant
 abbrev pub IsLate : List Longest → ℕ → ℕ → Place → ℕ → Type 0

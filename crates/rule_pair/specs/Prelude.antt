@@ -24,7 +24,7 @@ pub use Rattle.rule_pair.specs.Apart.{AreClear, class_of, ComesLate, HasPosts, I
 pub use Rattle.rule_pair.specs.Covers.{pair_kinds}
 pub use Rattle.rule_pair.specs.Kept.{AreKept, AreRight, cache_of, StandsIn}
 pub use Rattle.rule_pair.specs.Longest.{AreLonger, AreOrdered, IsOrdered, of_others, told_until}
-pub use Rattle.rule_pair.specs.Reach.{AreEnds, IsReach}
+pub use Rattle.rule_pair.specs.Reach.{AreEnds, AreUntils, IsReach}
 pub use Rattle.rule_pair.specs.Stays.{StandsWithin}
 pub use Rattle.rule_pair.specs.Unmoved.{IsUnmoved}
 pub use Rattle.rule_pair.specs.declared.clear.Seen.{Seen}

@@ -1,13 +1,13 @@
 //! Whether a constraint is kept, told at once for all instants from the first one at which it is to hold.
-ghost use Rattle.std.specs.Prelude.{◌≡◌, ◌≢◌, ℕ, ◌<◌, ◌≤◌, ◌||◌, ◌==◌, nat_lt, true, length, option_copied, slice_index_or, IfNone, IfSome, IsTrue};
+ghost use Rattle.std.specs.Prelude.{◌≡◌, ◌≢◌, ℕ, ◌<◌, ◌≤◌, ◌||◌, ◌==◌, nat_lt, true, length, slice_index_or, IfNone, IsTrue};
 ghost use Rattle.std.specs.List.{list_all};
 ghost use Rattle.cluster.specs.declared.choices.Choice.{Choice as AnyChoice};
-ghost use Rattle.rule_pair.specs.Prelude.{are_below, AreClear, AreEnds, AreLonger, AreOrdered, AreRight, choices, Climbs, ComesLate, hosted_in, inventory_of, is_continuous, is_rule, IsClean, IsEnd, IsInPart, IsLate, IsMember, IsSized, IsTold, KeepsClear, KeepsOff, leave_of, machine_count, no_row, no_standing, OnClear, one, part_of as the_part_of, rule_watch, separated, separation_seen, sets, state_of, told_until};
+ghost use Rattle.rule_pair.specs.Prelude.{are_below, AreClear, AreEnds, AreLonger, AreOrdered, AreRight, AreUntils, choices, Climbs, ComesLate, hosted_in, inventory_of, is_continuous, is_rule, IsClean, IsEnd, IsInPart, IsLate, IsMember, IsSized, IsTold, KeepsClear, KeepsOff, leave_of, machine_count, no_row, no_standing, OnClear, one, part_of as the_part_of, rule_watch, separated, separation_seen, sets, state_of, told_until};
 
 use crate::longest::{NOBODY, Stay, Table, stay_after, tell};
 use crate::pairs::separation_of;
 use crate::posts::{Post, last_before, posts_of};
-use crate::reach::{Ends, ends_of, rows_met_before};
+use crate::reach::{Ends, all_ends, ends_of, rows_met_before, stay_still};
 use crate::stays::leaves_by;
 use crate::strangers::strangers_alone;
 use cluster::limits::MAX_NODES;
@@ -65,7 +65,7 @@ pub(crate) fn part_of(part: Option<usize>, v: VmId) -> usize
     }
 }
 
-/// Tells where a machine surely stays. False where that is not known.
+/// Tells where a machine surely stays from an instant on. False where that is not known.
 #[tactic(auto, using(crate::proofs::ApartLemmas::told_posts, crate::proofs::ApartLemmas::longer_both))]
 pub(crate) fn tell_machine(
     p: &Problem,
@@ -73,6 +73,7 @@ pub(crate) fn tell_machine(
     kept: &[Standing],
     v: VmId,
     part: usize,
+    from: Instant,
     table: &mut Table,
 ) -> bool
     requires region { IsSized p.now.given g.now }
@@ -81,12 +82,9 @@ pub(crate) fn tell_machine(
     requires ordered { AreOrdered table.old }
     ensures ordered { AreOrdered table.new }
     ensures longer { AreLonger table.old table.new }
-    ensures told { IsTrue result → IsTold p.now.given (sets g.now) table.new part v.0 }
+    ensures told { IsTrue result → IsTold p.now.given (sets g.now) table.new from part v.0 }
 {
-    if g.domain(Element::Vm(v)).is_empty() {
-        return false;
-    }
-    let posts = posts_of(p, g, kept, v);
+    let posts = posts_of(p, g, kept, v, from);
     tell(table, v, part, posts.host) && tell(table, v, part, posts.come)
 }
 
@@ -97,6 +95,7 @@ pub(crate) fn tell_machines(
     kept: &[Standing],
     machines: &[VmId],
     part: Option<usize>,
+    from: Instant,
     table: &mut Table,
 ) -> bool
     requires region { IsSized p.now.given g.now }
@@ -105,11 +104,11 @@ pub(crate) fn tell_machines(
     requires ordered { AreOrdered table.old }
     ensures ordered { AreOrdered table.new }
     ensures longer { AreLonger table.old table.new }
-    ensures told { IsTrue result → (v : ℕ) → IsMember machines.now v → IsTold p.now.given (sets g.now) table.new (the_part_of part v) v }
+    ensures told { IsTrue result → (v : ℕ) → IsMember machines.now v → IsTold p.now.given (sets g.now) table.new from (the_part_of part v) v }
 {
     for i in 0..machines.len() {
         let v = machines[i];
-        if !tell_machine(p, g, kept, v, part_of(part, v), table) {
+        if !tell_machine(p, g, kept, v, part_of(part, v), from, table) {
             return false;
         }
     }
@@ -122,16 +121,17 @@ pub(crate) fn tell_parts(
     g: &Region,
     kept: &[Standing],
     parts: &[Vms],
+    from: Instant,
     table: &mut Table,
 ) -> bool
     requires region { IsSized p.now.given g.now }
     requires kept { AreRight p.now.given (sets g.now) kept.now }
     requires machines { list_all (list_all (λ x. nat_lt x.0 (machine_count p.now.given))) parts.now ≡ true }
     requires ordered { AreOrdered table.old }
-    ensures { IsTrue result → (i v : ℕ) → IsInPart parts.now i v → IsTold p.now.given (sets g.now) table.new i v }
+    ensures { IsTrue result → (i v : ℕ) → IsInPart parts.now i v → IsTold p.now.given (sets g.now) table.new from i v }
 {
     for i in 0..parts.len() {
-        if !tell_machines(p, g, kept, parts[i].items(), Some(i), table) {
+        if !tell_machines(p, g, kept, parts[i].items(), Some(i), from, table) {
             return false;
         }
     }
@@ -139,12 +139,20 @@ pub(crate) fn tell_parts(
 }
 
 // a stay of a machine of another part at the host of one, where it ends after an instant
-fn host_met(p: &Problem, w: VmId, part: usize, from: Instant, table: &Table) -> Option<Met>
+fn host_met(
+    p: &Problem,
+    w: VmId,
+    part: usize,
+    from: Instant,
+    ends: &Ends,
+    table: &Table,
+) -> Option<Met>
     requires machine { w.0 < machine_count p.now.given }
+    requires ends { AreUntils table.now part ends.now.until }
     ensures { IfNone result ((n : ℕ) → IsTrue (hosted_in (state_of p.now.given w.0) (one n)) → told_until table.now part n ≤ from) }
 {
     let node = host(p, w)?;
-    let stay = stay_after(table, node, part, from)?;
+    let stay = stay_still(table, ends, node, part, from)?;
     Some(Met { node, stay })
 }
 
@@ -156,13 +164,15 @@ fn host_doubt(
     domain: &Domain,
     part: usize,
     from: Instant,
+    ends: &Ends,
     table: &Table,
 ) -> Option<Met>
     requires machine { w.0 < machine_count p.now.given }
     requires climbs { Climbs 0 domain.now.rows }
+    requires ends { AreUntils table.now part ends.now.until }
     ensures { IfNone result ((n t : ℕ) (c : AnyChoice) → from ≤ t → t < told_until table.now part n → IsTrue (hosted_in (state_of p.now.given w.0) (one n)) → IsEnd (choices domain.now) c → leave_of p.now.given w.0 c ≤ t) }
 {
-    let met = host_met(p, w, part, from, table)?;
+    let met = host_met(p, w, part, from, ends, table)?;
     if leaves_by(p, w, domain, from) {
         None
     } else {
@@ -183,36 +193,6 @@ pub(crate) fn row_met(row: Row, part: usize, from: Instant, table: &Table) -> Op
     }
 }
 
-// the first such of some rows, of which those need not be asked that start when all stays there have ended
-fn rows_met_in(
-    rows: &[Row],
-    part: usize,
-    from: Instant,
-    ends: Option<&Ends>,
-    table: &Table,
-) -> Option<Met>
-    requires climbs { Climbs 0 rows.now }
-    requires ends { IfSome (option_copied ends) (AreEnds table.now part from) }
-    ensures { IfNone result ((i : ℕ) → i < length rows.now → IsLate table.now part from (slice_index_or rows.now i no_row).place (slice_index_or rows.now i no_row).lo) }
-{
-    match ends {
-        None => rows_met(rows, part, from, table),
-        Some(ends) => rows_met_before(rows, part, from, ends, table),
-    }
-}
-
-// the first such of some rows
-fn rows_met(rows: &[Row], part: usize, from: Instant, table: &Table) -> Option<Met>
-    ensures { IfNone result ((i : ℕ) → i < length rows.now → IsLate table.now part from (slice_index_or rows.now i no_row).place (slice_index_or rows.now i no_row).lo) }
-{
-    for i in 0..rows.len() {
-        if let Some(met) = row_met(rows[i], part, from, table) {
-            return Some(met);
-        }
-    }
-    None
-}
-
 // the doubt whether a machine may be at a node while another one stays there
 fn make_doubt(p: &Problem, w: VmId, met: Met) -> Doubt {
     Doubt {
@@ -227,7 +207,15 @@ fn make_doubt(p: &Problem, w: VmId, met: Met) -> Doubt {
 
 #[tactic(auto, using(crate::proofs::ApartLemmas::comes_late))]
 // whether it is seen that all choices of a machine go to one node at which the stays of other parts end by an instant
-fn comes_late(kept: &[Standing], w: VmId, part: usize, from: Instant, table: &Table) -> bool
+fn comes_late(
+    kept: &[Standing],
+    w: VmId,
+    part: usize,
+    from: Instant,
+    ends: &Ends,
+    table: &Table,
+) -> bool
+    requires { AreUntils table.now part ends.now.until }
     ensures { IsTrue result → (w.0 < length kept.now) × ComesLate table.now part from (slice_index_or kept.now w.0 no_standing) }
 {
     let i = w.0 as usize;
@@ -237,14 +225,14 @@ fn comes_late(kept: &[Standing], w: VmId, part: usize, from: Instant, table: &Ta
     let Some(a) = kept[i].come else {
         return false;
     };
-    match stay_after(table, a.node, part, from) {
+    match stay_still(table, ends, a.node, part, from) {
         None => true,
         Some(_) => false,
     }
 }
 
 /// Whether a machine is nowhere while one of another part stays there, from an instant on. When such stays end is handed
-/// in, where that is known.
+/// in.
 pub(crate) fn machine_keeps_off(
     p: &Problem,
     g: &Region,
@@ -252,27 +240,27 @@ pub(crate) fn machine_keeps_off(
     w: VmId,
     part: usize,
     from: Instant,
-    ends: Option<&Ends>,
+    ends: &Ends,
     table: &Table,
 ) -> Seen
     requires region { IsSized p.now.given g.now }
     requires kept { AreRight p.now.given (sets g.now) kept.now }
     requires machine { w.0 < machine_count p.now.given }
-    requires ends { IfSome (option_copied ends) (AreEnds table.now part from) }
+    requires ends { AreEnds table.now part from ends.now }
     ensures { OnClear result (KeepsOff p.now.given (sets g.now) table.now part from w.0) }
 {
     let domain = g.domain(Element::Vm(w));
     if domain.is_empty() {
         return Seen::Unknown;
     }
-    if let Some(met) = host_doubt(p, w, domain, part, from, table) {
+    if let Some(met) = host_doubt(p, w, domain, part, from, ends, table) {
         return Seen::Doubtful(make_doubt(p, w, met));
     }
-    if comes_late(kept, w, part, from, table) {
+    if comes_late(kept, w, part, from, ends, table) {
         return Seen::Clear;
     }
     let rows = domain.rows();
-    match rows_met_in(rows, part, from, ends, table) {
+    match rows_met_before(rows, part, from, ends, table) {
         None => Seen::Clear,
         Some(met) => Seen::Doubtful(make_doubt(p, w, met)),
     }
@@ -290,11 +278,13 @@ fn machines_keep_off(
     requires region { IsSized p.now.given g.now }
     requires kept { AreRight p.now.given (sets g.now) kept.now }
     requires machines { list_all (λ x. nat_lt x.0 (machine_count p.now.given)) machines.now ≡ true }
+    requires ordered { AreOrdered table.now }
     ensures { OnClear result ((w : ℕ) → IsMember machines.now w → KeepsOff p.now.given (sets g.now) table.now w from w) }
 {
+    let ends = all_ends(table, from);
     for i in 0..machines.len() {
         let w = machines[i];
-        match machine_keeps_off(p, g, kept, w, w.0 as usize, from, None, table) {
+        match machine_keeps_off(p, g, kept, w, w.0 as usize, from, &ends, table) {
             Seen::Clear => {}
             Seen::Doubtful(d) => return Seen::Doubtful(d),
             Seen::Unknown => return Seen::Unknown,
@@ -320,7 +310,7 @@ fn part_keeps_off(
 {
     let ends = ends_of(table, part, from);
     for i in 0..machines.len() {
-        match machine_keeps_off(p, g, kept, machines[i], part, from, Some(&ends), table) {
+        match machine_keeps_off(p, g, kept, machines[i], part, from, &ends, table) {
             Seen::Clear => {}
             Seen::Doubtful(d) => return Seen::Doubtful(d),
             Seen::Unknown => return Seen::Unknown,
@@ -361,7 +351,7 @@ fn each_alone(p: &Problem, g: &Region, kept: &[Standing], machines: &[VmId], fro
     ensures { OnClear result ((v w : ℕ) → IsMember machines.now v → IsMember machines.now w → v ≢ w → KeepsClear p.now.given (sets g.now) from v w) }
 {
     let mut table = [NOBODY; MAX_NODES];
-    if !tell_machines(p, g, kept, machines, None, &mut table) {
+    if !tell_machines(p, g, kept, machines, None, from, &mut table) {
         return Seen::Unknown;
     }
     machines_keep_off(p, g, kept, machines, from, &table)
@@ -375,7 +365,7 @@ fn parts_alone(p: &Problem, g: &Region, kept: &[Standing], parts: &[Vms], from: 
     ensures { OnClear result ((i j v w : ℕ) → i ≢ j → IsInPart parts.now i v → IsInPart parts.now j w → KeepsClear p.now.given (sets g.now) from v w) }
 {
     let mut table = [NOBODY; MAX_NODES];
-    if !tell_parts(p, g, kept, parts, &mut table) {
+    if !tell_parts(p, g, kept, parts, from, &mut table) {
         return Seen::Unknown;
     }
     parts_keep_off(p, g, kept, parts, from, &table)

@@ -1,5 +1,5 @@
 //! Where a machine may surely be, told for all instants up to the horizon at once.
-ghost use Rattle.std.specs.Prelude.{◌≡◌, ◌≢◌, ℕ, ◌<◌, ◌≤◌, ◌&&◌, nat_lt, [], Some, IfNone, IfSome, IsTrue};
+ghost use Rattle.std.specs.Prelude.{◌≡◌, ℕ, ◌<◌, ◌≤◌, ◌&&◌, nat_lt, Some, IfNone, IfSome, IsTrue};
 ghost use Rattle.rule_pair.specs.Prelude.{AreRight, choices, comes_by, HasPosts, hosted_in, IsAt, IsSized, machine_count, one, sets, StandsWithin, state_of};
 
 use crate::stays::leave_or_later;
@@ -14,8 +14,8 @@ pub struct Post {
     pub last: Instant,
 }
 
-/// The host of a machine, as long as it may surely be there, and the node that it surely comes to: up to the
-/// horizon it surely is nowhere else.
+/// The host of a machine, as long as it may surely be there, and the node that it surely comes to: from an instant up
+/// to the horizon it surely is nowhere else.
 #[derive(Clone, Copy)]
 pub struct Posts {
     pub host: Option<Post>,
@@ -37,11 +37,14 @@ pub fn last_before(p: &Problem, end: u64) -> Option<Instant>
     }
 }
 
-// the host, until a machine leaves it
-fn host_post(p: &Problem, v: VmId, leave: u64) -> Option<Post>
+// the host, until a machine leaves it, where it does so after an instant
+fn host_post(p: &Problem, v: VmId, leave: u64, from: Instant) -> Option<Post>
     requires { v.0 < machine_count p.now.given }
-    ensures { (n t : ℕ) → t ≤ p.now.given.horizon → IsTrue (hosted_in (state_of p.now.given v.0) (one n) && nat_lt t leave) → IsAt result n t }
+    ensures { (n t : ℕ) → from ≤ t → t ≤ p.now.given.horizon → IsTrue (hosted_in (state_of p.now.given v.0) (one n) && nat_lt t leave) → IsAt result n t }
 {
+    if leave <= u64::from(from) {
+        return None;
+    }
     match host(p, v) {
         None => None,
         Some(node) => match last_before(p, leave) {
@@ -96,17 +99,16 @@ fn stand_as_kept(p: &Problem, g: &Region, kept: &[Standing], v: VmId) -> Standin
     }
 }
 
-/// The posts of a machine that has a choice.
-pub fn posts_of(p: &Problem, g: &Region, kept: &[Standing], v: VmId) -> Posts
+/// The posts of a machine from an instant on.
+pub fn posts_of(p: &Problem, g: &Region, kept: &[Standing], v: VmId, from: Instant) -> Posts
     requires region { IsSized p.now.given g.now }
     requires kept { AreRight p.now.given (sets g.now) kept.now }
     requires machine { v.0 < machine_count p.now.given }
-    requires some { sets g.now (Element.Vm v) ≢ [] }
-    ensures { HasPosts p.now.given (sets g.now) v.0 result }
+    ensures { HasPosts p.now.given (sets g.now) from v.0 result }
 {
     let k = stand_as_kept(p, g, kept, v);
     Posts {
-        host: host_post(p, v, k.leave),
+        host: host_post(p, v, k.leave, from),
         come: come_post(p, k.come),
     }
 }

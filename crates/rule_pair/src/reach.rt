@@ -1,9 +1,9 @@
 //! When and between which nodes machines of other parts stay: rows elsewhere need not be read, nor late ones asked.
-ghost use Rattle.std.specs.Prelude.{◌≡◌, ℕ, ◌<◌, ◌≤◌, List, length, slice_index_or, IfNone, IsTrue};
-ghost use Rattle.rule_pair.specs.Prelude.{AreEnds, Climbs, IsLate, IsReach, Longest as AnyLongest, no_row, place_index, told_until};
+ghost use Rattle.std.specs.Prelude.{◌≡◌, ℕ, ◌<◌, ◌≤◌, length, slice_index_or, IfNone, IsTrue};
+ghost use Rattle.rule_pair.specs.Prelude.{AreEnds, AreOrdered, AreUntils, Climbs, IsLate, IsReach, no_row, place_index, told_until};
 
-use crate::clear::{Met, row_met};
-use crate::longest::{Table, of_others, stay_after};
+use crate::clear::Met;
+use crate::longest::{Stay, Table, of_others, stay_after};
 use cluster::limits::MAX_NODES;
 use rule_frame::{Instant, NodeId, Place, Row};
 
@@ -22,23 +22,20 @@ pub struct Ends {
     pub until: [u64; MAX_NODES],
 }
 
-// between which places there are stays of other parts than one that end after an instant
-fn reach_of(table: &Table, part: usize, from: Instant) -> Reach
-    ensures { IsReach table.now part from result }
+// between which places stays end after an instant
+fn reach_of(until: &[u64; MAX_NODES], from: Instant) -> Reach
+    ensures { IsReach until.now from result }
 {
     let mut reach = Reach {
         first: usize::MAX,
         last: 0,
     };
     for n in 0..MAX_NODES {
-        match stay_after(table, NodeId(n as u32), part, from) {
-            None => {}
-            Some(_) => {
-                reach = Reach {
-                    first: reach.first.min(n + 1),
-                    last: n + 1,
-                };
-            }
+        if until[n] > u64::from(from) {
+            reach = Reach {
+                first: reach.first.min(n + 1),
+                last: n + 1,
+            };
         }
     }
     reach
@@ -47,7 +44,7 @@ fn reach_of(table: &Table, part: usize, from: Instant) -> Reach
 // when at each node the last stay of other parts than one ends
 #[tactic(auto, using(crate::proofs::ReachLemmas::told_more))]
 fn untils_of(table: &Table, part: usize) -> [u64; MAX_NODES]
-    ensures { (n : ℕ) → told_until table.now part n ≤ slice_index_or result n 0 }
+    ensures { AreUntils table.now part result }
 {
     let mut until = [0; MAX_NODES];
     for n in 0..MAX_NODES {
@@ -56,14 +53,58 @@ fn untils_of(table: &Table, part: usize) -> [u64; MAX_NODES]
     until
 }
 
+// when at each node the last stay of all parts ends
+fn all_untils(table: &Table) -> [u64; MAX_NODES]
+    requires { AreOrdered table.now }
+    ensures { (part : ℕ) → AreUntils table.now part result }
+{
+    let mut until = [0; MAX_NODES];
+    for n in 0..MAX_NODES {
+        until[n] = table[n].first.until;
+    }
+    until
+}
+
 /// When the stays of other parts than one end, and where those are that do so after an instant.
 pub(crate) fn ends_of(table: &Table, part: usize, from: Instant) -> Ends
     ensures { AreEnds table.now part from result }
 {
+    let until = untils_of(table, part);
     Ends {
-        reach: reach_of(table, part, from),
-        until: untils_of(table, part),
+        reach: reach_of(&until, from),
+        until,
     }
+}
+
+/// When the stays of all parts end, and where those are that do so after an instant.
+pub(crate) fn all_ends(table: &Table, from: Instant) -> Ends
+    requires { AreOrdered table.now }
+    ensures { (part : ℕ) → AreEnds table.now part from result }
+{
+    let until = all_untils(table);
+    Ends {
+        reach: reach_of(&until, from),
+        until,
+    }
+}
+
+/// The longest stay at a node of machines of other parts, where it ends after an instant. It is not sought where it is
+/// known that all have ended.
+pub(crate) fn stay_still(
+    table: &Table,
+    ends: &Ends,
+    n: NodeId,
+    part: usize,
+    t: Instant,
+) -> Option<Stay>
+    requires { AreUntils table.now part ends.now.until }
+    ensures { IfNone result (told_until table.now part n.0 ≤ t) }
+{
+    let i = n.0 as usize;
+    if i < MAX_NODES && ends.until[i] <= u64::from(t) {
+        return None;
+    }
+    stay_after(table, n, part, t)
 }
 
 /// The number of a place in the order of places.
@@ -100,29 +141,17 @@ pub(crate) fn rows_before(rows: &[Row], number: usize) -> usize
     low
 }
 
-// whether all stays at its place have ended when a row starts, or by an instant
-#[tactic(auto, using(crate::proofs::ReachLemmas::late_there))]
-fn is_late(row: Row, from: Instant, ends: &Ends) -> bool
-    ensures { IsTrue result → (xs : List AnyLongest) (part : ℕ) → AreEnds xs part from ends.now → IsLate xs part from row.place row.lo }
-{
-    match row.place {
-        Place::Nowhere => true,
-        Place::At(node) => {
-            let n = node.0 as usize;
-            n < MAX_NODES && ends.until[n] <= u64::from(row.lo.max(from))
-        }
-    }
-}
-
 // a stay that has such an end, and may still last when a row starts
 fn row_met_before(row: Row, part: usize, from: Instant, ends: &Ends, table: &Table) -> Option<Met>
-    requires { AreEnds table.now part from ends.now }
+    requires { AreUntils table.now part ends.now.until }
     ensures { IfNone result (IsLate table.now part from row.place row.lo) }
 {
-    if is_late(row, from, ends) {
-        None
-    } else {
-        row_met(row, part, from, table)
+    match row.place {
+        Place::Nowhere => None,
+        Place::At(node) => {
+            let stay = stay_still(table, ends, node, part, row.lo.max(from))?;
+            Some(Met { node, stay })
+        }
     }
 }
 

@@ -30,22 +30,23 @@ pub(crate) fn class_of(members: &MachineSet, v: VmId) -> usize
     if members.has(v) { 1 } else { 0 }
 }
 
-/// Tells of each machine where it surely stays. False where that is not known.
+/// Tells of each machine where it surely stays from an instant on. False where that is not known.
 pub(crate) fn tell_all(
     p: &Problem,
     g: &Region,
     kept: &[Standing],
     members: &MachineSet,
+    from: Instant,
     table: &mut Table,
 ) -> bool
     requires region { IsSized p.now.given g.now }
     requires kept { AreRight p.now.given (sets g.now) kept.now }
     requires ordered { AreOrdered table.old }
-    ensures { IsTrue result → (v : ℕ) → v < machine_count p.now.given → IsTold p.now.given (sets g.now) table.new (the_class_of (has_machine members.now) v) v }
+    ensures { IsTrue result → (v : ℕ) → v < machine_count p.now.given → IsTold p.now.given (sets g.now) table.new from (the_class_of (has_machine members.now) v) v }
 {
     for i in 0..p.cluster().machines().len() {
         let v = VmId(i as u32);
-        if !tell_machine(p, g, kept, v, class_of(members, v), table) {
+        if !tell_machine(p, g, kept, v, class_of(members, v), from, table) {
             return false;
         }
     }
@@ -72,12 +73,12 @@ fn one_keeps_off(
     ensures { OnClear result (KeepsOff p.now.given (sets g.now) table.now part from w.0) }
 {
     if part == 0 {
-        return machine_keeps_off(p, g, kept, w, 0, from, Some(strangers_ends), table);
+        return machine_keeps_off(p, g, kept, w, 0, from, strangers_ends, table);
     }
     if part == 1 {
-        return machine_keeps_off(p, g, kept, w, 1, from, Some(members_ends), table);
+        return machine_keeps_off(p, g, kept, w, 1, from, members_ends, table);
     }
-    machine_keeps_off(p, g, kept, w, part, from, None, table)
+    Seen::Unknown
 }
 
 // whether each machine is nowhere while one of the other part stays there
@@ -130,7 +131,7 @@ fn set_alone(
     ensures { OnClear result ((v w : ℕ) → v < machine_count p.now.given → w < machine_count p.now.given → the_class_of (has_machine members.now) v ≢ the_class_of (has_machine members.now) w → KeepsClear p.now.given (sets g.now) from v w) }
 {
     let mut table = [NOBODY; MAX_NODES];
-    if !tell_all(p, g, kept, members, &mut table) {
+    if !tell_all(p, g, kept, members, from, &mut table) {
         return Seen::Unknown;
     }
     all_keep_off(p, g, kept, members, from, &table)

@@ -140,7 +140,7 @@ fn suggest_list(
     requires machines { list_all (λ x. nat_lt x.0 (machine_count p.now.given)) machines.now ≡ true }
 {
     let mut table = [NOBODY; MAX_NODES];
-    if !tell_machines(p, g, kept, machines, None, &mut table) {
+    if !tell_machines(p, g, kept, machines, None, asked.from, &mut table) {
         return Ok(());
     }
     suggest_each(p, g, asked, machines, None, &table, them)
@@ -160,7 +160,7 @@ fn suggest_parts(
     requires machines { list_all (list_all (λ x. nat_lt x.0 (machine_count p.now.given))) parts.now ≡ true }
 {
     let mut table = [NOBODY; MAX_NODES];
-    if !tell_parts(p, g, kept, parts, &mut table) {
+    if !tell_parts(p, g, kept, parts, asked.from, &mut table) {
         return Ok(());
     }
     for i in 0..parts.len() {
@@ -182,7 +182,7 @@ fn suggest_strangers(
     requires kept { AreRight p.now.given (sets g.now) kept.now }
 {
     let mut table = [NOBODY; MAX_NODES];
-    if !tell_all(p, g, kept, members, &mut table) {
+    if !tell_all(p, g, kept, members, asked.from, &mut table) {
         return Ok(());
     }
     for i in 0..p.cluster().machines().len() {

@@ -9,8 +9,8 @@ loop-i-preserved c =
     record {
       ordered = c.tell_machine.ensures.ordered;
       longer = longer_both _ _ _ c.loop-i.invariant.longer longer;
-      told = each_more (λ v. IsTold c.args.p.now.given (sets c.args.g.now) c.tell_machine.new.table (part_of c.args.part v) v) c.args.machines.now c.loop-i.i none c.loop-i-test.true
-          (λ k d h. told_longer _ _ _ _ _ _ longer (c.loop-i.invariant.told k d h))
+      told = each_more (λ v. IsTold c.args.p.now.given (sets c.args.g.now) c.tell_machine.new.table c.args.from (part_of c.args.part v) v) c.args.machines.now c.loop-i.i none c.loop-i-test.true
+          (λ k d h. told_longer _ _ _ _ _ _ _ longer (c.loop-i.invariant.told k d h))
           (rw c.part_of.ensures at (c.tell_machine.ensures.told c.if-not-tell_machine.false));
     }
 
@@ -18,5 +18,5 @@ pub returns : goal.returns
 returns c = record {
   ordered = c.loop-i.invariant.ordered;
   longer = c.loop-i.invariant.longer;
-  told = λ yes. each_member (λ v. IsTold c.args.p.now.given (sets c.args.g.now) c.loop-i.table (part_of c.args.part v) v) c.args.machines.now c.loop-i.i (omega arith) c.loop-i.invariant.told;
+  told = λ yes. each_member (λ v. IsTold c.args.p.now.given (sets c.args.g.now) c.loop-i.table c.args.from (part_of c.args.part v) v) c.args.machines.now c.loop-i.i (omega arith) c.loop-i.invariant.told;
 }

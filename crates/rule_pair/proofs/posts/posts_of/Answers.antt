@@ -4,5 +4,5 @@ use Rattle.rule_pair.proofs.posts.posts_of.Goals as goal
 
 pub returns : goal.returns
 returns c =
-    has_posts c.args.p.now.given (sets c.args.g.now) c.args.v.0 c.stand_as_kept-k.result _ (omega (arith, c.args.p.now.sound.horizon)) c.requires.some c.stand_as_kept-k.ensures c.host_post.ensures
+    has_posts c.args.p.now.given (sets c.args.g.now) c.args.from c.args.v.0 c.stand_as_kept-k.result _ (omega (arith, c.args.p.now.sound.horizon)) c.stand_as_kept-k.ensures c.host_post.ensures
     c.come_post.ensures

@@ -9,6 +9,6 @@ tell_all-requires-clause-ordered c = none_ordered max_nodes
 pub returns : goal.returns
 returns c =
     on_clear c.all_keep_off.result _ _
-    (λ off v w here there ne. keeps_clear c.args.p.now.given (sets c.args.g.now) c.tell_all.new.table c.args.from (class_of (has_machine c.args.members.now) v) (class_of (has_machine c.args.members.now) w) v w ne
+    (λ off v w here there ne. keeps_clear c.args.p.now.given (sets c.args.g.now) c.tell_all.new.table c.args.from (class_of (has_machine c.args.members.now) v) (class_of (has_machine c.args.members.now) w) v w ne (off v here).some
     (c.tell_all.ensures c.if-not-tell_all.false v here) (off w there))
     c.all_keep_off.ensures

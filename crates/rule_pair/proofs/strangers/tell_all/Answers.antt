@@ -9,7 +9,7 @@ loop-i-preserved c =
     record {
       ordered = c.tell_machine.ensures.ordered;
       longer = longer_both _ _ _ c.loop-i.invariant.longer longer;
-      told = below_more (λ v. IsTold c.args.p.now.given (sets c.args.g.now) c.tell_machine.new.table (class_of (has_machine c.args.members.now) v) v) c.loop-i.i
-          (λ v h. told_longer _ _ _ _ _ _ longer (c.loop-i.invariant.told v h))
+      told = below_more (λ v. IsTold c.args.p.now.given (sets c.args.g.now) c.tell_machine.new.table c.args.from (class_of (has_machine c.args.members.now) v) v) c.loop-i.i
+          (λ v h. told_longer _ _ _ _ _ _ _ longer (c.loop-i.invariant.told v h))
           (rw c.class_of.ensures at (c.tell_machine.ensures.told c.if-not-tell_machine.false));
     }
