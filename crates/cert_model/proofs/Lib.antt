@@ -9,8 +9,3 @@ pub mod WholeLemmas
 pub mod StandLemmas
 pub mod FollowLemmas
 pub mod CountedLemmas
-pub mod KnownLemmas
-pub mod HoldLemmas
-pub mod ElsewhereLemmas
-pub mod ScatteredLemmas
-pub mod WeighedLemmas

@@ -1,7 +1,7 @@
 -- Propagators, and numbers of machines, that follow the regions of a walk.
-use Rattle.std.specs.Prelude.{◌≡◌, ℕ, ◌<◌, Bool, true, List, [], ◌∷◌, length, reverse, slice_index_or}
-use Rattle.prop_core.specs.Prelude.{AllFollow, Covered, Instance, IsTrailOf, machine_count, Marked, Meaning, RegionView, Sets, sets}
-use Rattle.profiles.specs.Prelude.{AreStanding, IsStanding, no_standing, Tables, vm}
+use Rattle.std.specs.Prelude.{◌≡◌, Bool, true, List, [], ◌∷◌, reverse}
+use Rattle.prop_core.specs.Prelude.{AllFollow, Covered, Instance, IsTrailOf, Marked, Meaning, RegionView, sets}
+use Rattle.profiles.specs.Prelude.{AreStanding, Tables}
 use Rattle.profiles.specs.declared.standing.numbers.Standing.{Standing}
 
 -- they cover each kind of standard reasons, and follow the trail, whose regions are ones of the instance
@@ -27,7 +27,3 @@ pub record AreCounted (p : Instance) (t : Marked) (table : Tables) : Type 0 wher
 pub record FollowWhile {B : Type 0} (m : B → Meaning) (p : Instance) (t : Marked) (follow : Bool) (xs : List B) (counted : Bool) (table : Tables) : Type 0 where
   pub following : follow ≡ true → AreFollowing m p t xs
   pub counting : counted ≡ true → AreCounted p t table
-
--- the numbers that are there are those of machines with these choices
-pub record AreKnown (p : Instance) (s : Sets) (ks : List Standing) : Type 0 where
-  pub each : (v : ℕ) → v < length ks → v < machine_count p → IsStanding p v (s (vm v)) (slice_index_or ks v no_standing)

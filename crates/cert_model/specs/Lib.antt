@@ -8,6 +8,4 @@ pub mod Walks
 pub mod Laws
 -- what the code keeps beside it
 pub mod Frontiers
-pub mod Weighed
-pub mod Posts
 pub mod Prelude

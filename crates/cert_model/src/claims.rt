@@ -3,14 +3,14 @@ ghost use Rattle.std.specs.Prelude.{filter, ◌≡◌, ◌↔◌, [], false, IfO
 ghost use Rattle.cert_model.specs.Prelude.{AreKnown, AreLegal, HasElement, inside, IsElement, IsFault, IsPlanLeaf, IsSized, IsSplit, least_cost, on_side, PartHolds, PlanHolds, ReasonHolds, Refutes, seen, sets, StepHolds};
 
 use crate::ends::sum_seen;
-use crate::known::Known;
-use crate::quick::is_seen;
 use crate::why::Why;
 use base::Memory;
 use catalogue::Problem;
 use cluster::Element;
 use domains::{Change, Lens, Part, Region, Side, View};
 use judge::judge;
+use quick_checks::known::Known;
+use quick_checks::quick::is_seen;
 use reasons::Reason;
 use relax::plan::plan_of;
 use relax::refutes::refutes_seen;

@@ -3,12 +3,11 @@ ghost use Rattle.std.specs.Prelude.{◌≡◌, ◌∷◌, [], OnOk, OnErr, lengt
 ghost use Rattle.cert_model.specs.Prelude.{AreSame, AreSameSize, FollowFrontier, HasElement, inside, IsEntered, IsKept, later_sets, later_sums, open_sets, open_sums, outside, sets};
 
 use crate::followers::Followers;
-use crate::nearby::Nearby;
-use crate::seats::Seats;
 use base::Memory;
 use catalogue::Problem;
 use cluster::Element;
 use domains::{Change, Part, Region, Side};
+use hints::{Nearby, Seats};
 use prop_core::propagator::Propagator;
 use std::alloc::Global;
 use trail::Trail;

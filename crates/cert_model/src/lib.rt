@@ -3,18 +3,10 @@
 
 mod claims;
 mod counts;
-mod elsewhere;
 mod ends;
 mod followers;
 mod frontier;
-mod holding;
-mod known;
 pub mod laws;
 mod lean;
-mod nearby;
-mod quick;
-mod scattered;
-mod seats;
 pub mod walk;
-mod weighed;
 pub mod why;

@@ -12,16 +12,15 @@ use crate::counts::{cheaper, counted, goal_shown, is_same_goal, least_with, lowe
 use crate::ends::sum_seen;
 use crate::followers::Followers;
 use crate::frontier::{Due, Frontier, Outer};
-use crate::known::Known;
 use crate::lean::is_lean;
-use crate::nearby::Nearby;
-use crate::seats::Seats;
 use crate::why::Why;
 use base::Memory;
 use bound::lower_bound::sum_of;
 use catalogue::Problem;
 use domains::Side;
+use hints::{Nearby, Seats};
 use prop_core::propagator::Propagator;
+use quick_checks::known::Known;
 use relax::start::start_region;
 use slices::Plan;
 use slices::plan::cost;

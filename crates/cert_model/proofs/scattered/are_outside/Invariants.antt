@@ -1,6 +1,0 @@
-use Rattle.cert_model.proofs.Prelude.{ℕ, ◌<◌, get_or, has_node, NodeSet, seen, sure}
-use Rattle.reasons.specs.Prelude.{HasOutside}
-use Rattle.cert_model.proofs.scattered.are_outside.Given as goal
-
-abbrev pub invariant-loop-group : goal.invariant-loop-group
-invariant-loop-group l = (k : ℕ) (d : NodeSet) → k < l.group-index → HasOutside (sure l.p.given (seen l.view.region.now l.view.lens) l.t) l.machines (has_node (get_or l.groups k d))

@@ -1,0 +1,6 @@
+-- what a reader must believe
+pub mod Known
+-- what the code's contracts say beside it
+pub mod Posts
+pub mod Weighed
+pub mod Prelude

@@ -1,0 +1,10 @@
+//! Quick tests of what is sure in a region, by the numbers that are kept beside it.
+#![tactic(auto)]
+
+mod coming;
+mod elsewhere;
+mod holding;
+pub mod known;
+pub mod quick;
+mod scattered;
+mod weighed;
