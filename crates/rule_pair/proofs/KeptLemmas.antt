@@ -1,11 +1,16 @@
 -- Where machines stand, kept beside the rule, at the top and at each level below.
-use Rattle.rule_pair.proofs.Prelude.{◌≡◌, ◌≢◌, ℕ, ◌<◌, Bool, true, false, List, [], length, filter, refl, sym, ap, subst, ◌∙◌, arith, slice_index_or, eq-eqb, ne_eqb, false≢true, nat_lt, nat_tests, level_below, level_top, present_law, choices, Choice, DomainView, Instance, IsStanding, Standing, sets}
-use Rattle.rule_pair.specs.Prelude.{sure, AreKept, AreRight, AreStanding, cache_of, domain_at, IsIndexOf, in_part, keeping, kept_use, Lists, never, no_standing, one, Presence, Sets, StandsIn, Tables, Vm, vm, VmId}
+use Rattle.rule_pair.proofs.Prelude.{◌≡◌, ◌≢◌, ℕ, ◌<◌, Bool, true, false, List, [], length, filter, refl, sym, ap, subst, ◌∙◌, arith, slice_index_or, eq-eqb, ne_eqb, false≢true, nat_lt, nat_tests, level_below, level_top, present_law, same_is, Contains, choices, Choice, DomainView, Instance, IsStanding, Standing, sets}
+use Rattle.rule_pair.specs.Prelude.{sure, AreFewer, AreGone, AreKept, AreRight, AreStanding, cache_of, domain_at, domain_before, Element, IsIndexOf, in_part, keeping, kept_use, level_at, Lists, same_element, never, no_standing, one, Presence, Sets, StandsIn, Tables, Vm, vm, VmId}
 use Rattle.cluster.specs.declared.ids.Element.TheVariants.{Node as TheNode}
 use Rattle.cluster.specs.declared.ids.NodeId.{NodeId}
 use Rattle.domains.specs.declared.parts.Part.{Part}
 use Rattle.domains.specs.Prelude.{RegionView}
 use Rattle.rule_frame.specs.Caches.{IsCachePosted, IsCacheTold}
+use Rattle.std.specs.Prelude.{cond}
+use Rattle.domains.specs.SetsBefore.{sets_before}
+use Rattle.domains.specs.declared.undo.Before.{Before}
+use Rattle.profiles.specs.Levels.{Levels}
+use Rattle.rule_pair.proofs.GoneLemmas.{gone_fewer}
 
 -- ---- numbers that are right
 
@@ -15,28 +20,70 @@ none_right p s = record { each = λ v low. absurd (omega (arith, low)) }
 pub all_right : (p : Instance) (s : Sets) (ks : List Standing) → AreStanding p s ks → AreRight p s ks
 all_right p s ks are = record { each = λ v low. are.each v (omega (arith, low, are.count)) }
 
-pub kept_right : (p : Instance) (s : Sets) (lists : Lists) (m : Tables) (wanted : Bool) → AreKept p s lists m wanted (length m.older) → wanted ≡ true → AreRight p s m.top
-kept_right p s lists m wanted kept on = all_right p s m.top (subst (λ ks. AreStanding p s ks) (level_top m) (kept.standing on))
+pub kept_right : (p : Instance) (s : Sets) (lists : Lists) (m : Tables) (f : Levels ℕ) (wanted : Bool) → AreKept p s lists m f wanted (length m.older) → wanted ≡ true → AreRight p s m.top
+kept_right p s lists m f wanted kept on = all_right p s m.top (subst (λ ks. AreStanding p s ks) (level_top m) (kept.standing on))
+
+-- the top of what has as many levels
+same-top : (m : Tables) (f : Levels ℕ) → length f.older ≡ length m.older → level_at f (length m.older) ≡ f.top
+same-top m f same = ap (level_at f) (sym same) ∙ level_top f
+
+pub kept_gone : (p : Instance) (s : Sets) (lists : Lists) (m : Tables) (f : Levels ℕ) (wanted : Bool) → AreKept p s lists m f wanted (length m.older) → wanted ≡ true → AreGone s f.top
+kept_gone p s lists m f wanted kept on = subst (λ gs. AreGone s gs) (same-top m f kept.same) (kept.gone on)
 
 -- ---- levels
 
-pub kept_posted : (p : Instance) (s : Sets) (lists : Lists) (m : Tables) (wanted : Bool) → m.older ≡ [] → IsIndexOf p (length p.constraints) lists → (wanted ≡ true → AreStanding p s m.top) → IsCachePosted p s (cache_of lists m wanted)
-kept_posted p s lists m wanted none index standing = record {
+pub kept_posted : (p : Instance) (s : Sets) (lists : Lists) (m : Tables) (f : Levels ℕ) (wanted : Bool) → m.older ≡ [] → f.older ≡ [] → IsIndexOf p (length p.constraints) lists → (wanted ≡ true → AreStanding p s m.top) → (wanted ≡ true → AreGone s f.top) → IsCachePosted p s (cache_of lists m f wanted)
+kept_posted p s lists m f wanted none fresh index standing gone = record {
   level = ap length none;
-  top = record { index = index; standing = λ on. subst (λ ks. AreStanding p s ks) (sym (level_top m)) (standing on) };
+  top = record {
+    index = index;
+    standing = λ on. subst (λ ks. AreStanding p s ks) (sym (level_top m)) (standing on);
+    gone = λ on. subst (λ gs. AreGone s gs) (sym (same-top m f same)) (gone on);
+    same = same;
+  };
 }
+  where
+    same : length f.older ≡ length m.older
+    same = ap length fresh ∙ sym (ap length none)
 
-pub kept_told : (p : Instance) (s old : Sets) (lists : Lists) (m now : Tables) (wanted : Bool) → now.older ≡ m.older → AreKept p old lists m wanted (length m.older) → AreStanding p s now.top → IsCacheTold p s (cache_of lists m wanted) (cache_of lists now wanted)
-kept_told p s old lists m now wanted same was are = record {
-  below = record { kept = λ j q r low k. record { index = k.index; standing = λ on. subst (λ ks. AreStanding q r ks) (sym (level_below m now j same low)) (k.standing on) } };
-  top = record { index = was.index; standing = λ on. subst (λ ks. AreStanding p s ks) (sym (level_top now)) are };
+-- what a machine may do after a change that has taken choices from an element it might do before
+was-there : (p : Instance) (g : RegionView) (x : Element) (before : Before) (kept : DomainView) → AreFewer (sets g x) (choices (domain_before before kept (domain_at g x))) → (v : ℕ) (c : Choice) → Contains (sets g (vm v)) c → Contains (sets_before g x before kept (vm v)) c
+was-there p g x before kept fewer v c h = at (same_element (vm v) x) refl
+  where
+    at : (b : Bool) → same_element (vm v) x ≡ b → Contains (cond b (choices (domain_before before kept (domain_at g x))) (sets g (vm v))) c
+    at true same = fewer c (subst (λ e. Contains (sets g e) c) (same_is (vm v) x same) h)
+    at false other = h
+
+-- so it does not start at the nodes at which it did not before
+pub gone_still : (p : Instance) (g : RegionView) (x : Element) (before : Before) (kept : DomainView) (lists : Lists) (m : Tables) (f : Levels ℕ) (wanted : Bool) → AreFewer (sets g x) (choices (domain_before before kept (domain_at g x))) → AreKept p (sets_before g x before kept) lists m f wanted (length m.older) → wanted ≡ true → AreGone (sets g) f.top
+gone_still p g x before kept lists m f wanted fewer was on = gone_fewer (sets g) (sets_before g x before kept) f.top (kept_gone p (sets_before g x before kept) lists m f wanted was on) (λ v c h. was-there p g x before kept fewer v c h)
+
+pub kept_told : (p : Instance) (s old : Sets) (lists : Lists) (m now : Tables) (f h : Levels ℕ) (wanted : Bool) → now.older ≡ m.older → h.older ≡ f.older → AreKept p old lists m f wanted (length m.older) → AreStanding p s now.top → AreGone s h.top → IsCacheTold p s (cache_of lists m f wanted) (cache_of lists now h wanted)
+kept_told p s old lists m now f h wanted same like was are gone = record {
+  below = record {
+    kept = λ j q r low k. record {
+      index = k.index;
+      standing = λ on. subst (λ ks. AreStanding q r ks) (sym (level_below m now j same low)) (k.standing on);
+      gone = λ on. subst (λ gs. AreGone r gs) (sym (level_below f h j like (omega (arith, low, was.same)))) (k.gone on);
+      same = level;
+    };
+  };
+  top = record {
+    index = was.index;
+    standing = λ on. subst (λ ks. AreStanding p s ks) (sym (level_top now)) are;
+    gone = λ on. subst (λ gs. AreGone s gs) (sym (same-top now h level)) gone;
+    same = level;
+  };
 }
+  where
+    level : length h.older ≡ length now.older
+    level = rw (like, same) was.same
 
 -- nothing is kept that a change could touch
-pub unwanted_told : (p : Instance) (s old : Sets) (lists : Lists) (m : Tables) (wanted : Bool) → wanted ≡ false → AreKept p old lists m wanted (length m.older) → IsCacheTold p s (cache_of lists m wanted) (cache_of lists m wanted)
-unwanted_told p s old lists m wanted off was = record {
+pub unwanted_told : (p : Instance) (s old : Sets) (lists : Lists) (m : Tables) (f : Levels ℕ) (wanted : Bool) → wanted ≡ false → AreKept p old lists m f wanted (length m.older) → IsCacheTold p s (cache_of lists m f wanted) (cache_of lists m f wanted)
+unwanted_told p s old lists m f wanted off was = record {
   below = record { kept = λ j q r low k. k };
-  top = record { index = was.index; standing = λ on. absurd (false≢true (sym off ∙ on)) };
+  top = record { index = was.index; standing = λ on. absurd (false≢true (sym off ∙ on)); gone = λ on. absurd (false≢true (sym off ∙ on)); same = was.same };
 }
 
 -- ---- numbers of what is seen

@@ -1,6 +1,7 @@
 mod Prelude
 mod ApartLemmas
 mod BrokenLemmas
+mod GoneLemmas
 mod KeptLemmas
 mod LongestLemmas
 mod StayLemmas

@@ -1,11 +1,16 @@
 -- Rows at places between which there is no stay.
 use Rattle.rule_pair.proofs.Prelude.{arith, AreOrdered, Bool, true, false, cases_lt, if◌then◌else◌, inl, inr, IsLate, length, List, no_row, nobody, slice_index_or, suc, zero, [], ℕ, ◌+◌, ◌<◌, ◌==◌, ◌∷◌, ◌≡◌, ◌≤◌, ◌⊎◌}
-use Rattle.base.proofs.Public.{subst, sym}
+use Rattle.base.proofs.Public.{refl, subst, sym}
 use Rattle.std.specs.Prelude.{slice_set}
 use Rattle.std.proofs.lemmas.Grind.{get_or-set_at}
 use Rattle.std.proofs.lemmas.List.{get_or-set_other}
 use Rattle.cluster.specs.declared.choices.Place.{Place as AnyPlace}
-use Rattle.rule_pair.specs.Prelude.{AreEnds, At, Climbs, Ends, Longest, Nowhere, place_index, Row, told_until}
+use Rattle.std.proofs.Common.{◌/◌, ◌%◌}
+use Rattle.std.specs.List.{Contains}
+use Rattle.std.specs.Int.{bit_at}
+use Rattle.rule_pair.proofs.GoneLemmas.{bit_here, bit_kept, with_bit}
+use Rattle.rule_pair.proofs.Prelude.{choices, DomainView, end_is_choice, ends_of_rows}
+use Rattle.rule_pair.specs.Prelude.{Act, AreEnds, AreGone, At, Climbs, Ends, gone_at, Sets, vm, Longest, Nowhere, place_index, Row, told_until}
 
 climbs-from : (from : ℕ) (rows : List Row) (k : ℕ) → Climbs from rows → k < length rows → from ≤ place_index (slice_index_or rows k no_row).place
 climbs-from from [] k c l = absurd (omega arith)
@@ -59,4 +64,37 @@ pub told_more : (xs : List Longest) (part : ℕ) (us : List ℕ) (n u : ℕ) →
 told_more xs part us n u low here before k l = elim (cases_lt k n) [
   | inl early ↦ rw (get_or-set_other us n k u 0 (λ e. omega (arith, early, e))) (before k early)
   | inr later ↦ let e : k ≡ n = omega (arith, later, l) in rw (get_or-set_at us n k u 0 e low) (subst (λ i. told_until xs part i ≤ u) (sym e) here)
+]
+
+-- the bit of one node more, at which a stay ends after an instant
+pub bits_more : (us ws : List ℕ) (from n : ℕ) → n / 64 < length ws → ((k : ℕ) → k < n → from < slice_index_or us k 0 → bit_at (slice_index_or ws (k / 64) 0) (k % 64) ≡ 1) → (k : ℕ) → k < n + 1 → from < slice_index_or us k 0 → bit_at (slice_index_or (with_bit ws (n / 64) (n % 64)) (k / 64) 0) (k % 64) ≡ 1
+bits_more us ws from n low before k l ends = elim (cases_lt k n) [
+  | inl early ↦ bit_kept ws (n / 64) (n % 64) (k / 64) (k % 64) low (omega arith) (before k early ends)
+  | inr later ↦ let same : k ≡ n = omega (arith, later, l) in rw same (bit_here ws (n / 64) (n % 64) low (omega arith))
+]
+
+-- where a machine starts at none of the nodes at which stays end after the instant, all its rows start late
+pub rows_gone : (xs : List Longest) (part from w : ℕ) (x : Ends) (s : Sets) (gs : List ℕ) (d : DomainView) (rows : List Row) → AreEnds xs part from x → AreGone s gs → s (vm w) ≡ choices d → rows ≡ d.rows → Climbs 0 rows → ((n : ℕ) → bit_at (slice_index_or x.nodes (n / 64) 0) (n % 64) ≡ 1 → bit_at (slice_index_or gs (gone_at w n) 0) (n % 64) ≡ 1) → (i : ℕ) → i < length rows → IsLate xs part from (slice_index_or rows i no_row).place (slice_index_or rows i no_row).lo
+rows_gone xs part from w x s gs d rows ends gone is same climbs covered i low = by (slice_index_or rows i no_row).place refl
+  where
+    own : Climbs 0 d.rows
+    own = rw same at climbs
+
+    there : (q : AnyPlace) → (slice_index_or rows i no_row).place ≡ q → Contains (s (vm w)) (Act q (slice_index_or rows i no_row).lo)
+    there q place = rw is (end_is_choice (choices d) (Act q (slice_index_or rows i no_row).lo) ((ends_of_rows d own (Act q (slice_index_or rows i no_row).lo)).1 (i, (rw same at low), (rw same at place), inl (rw same refl))))
+
+    by : (q : AnyPlace) → (slice_index_or rows i no_row).place ≡ q → IsLate xs part from q (slice_index_or rows i no_row).lo
+    by Nowhere place = tt
+    by (At n) place =
+        let told = ends.until.each n.0 in
+        elim (cases_lt from (slice_index_or x.until n.0 0)) [
+          | inr none ↦ omega (arith, none, told)
+          | inl lasts ↦ absurd ((gone.each w n.0 (ends.nodes.low n.0 lasts) (covered n.0 (ends.nodes.each n.0 lasts))).none (slice_index_or rows i no_row).lo (there (At n) place))
+        ]
+
+-- a node more at which none does
+pub bits_still : (us ws : List ℕ) (from n : ℕ) → slice_index_or us n 0 ≤ from → ((k : ℕ) → k < n → from < slice_index_or us k 0 → bit_at (slice_index_or ws (k / 64) 0) (k % 64) ≡ 1) → (k : ℕ) → k < n + 1 → from < slice_index_or us k 0 → bit_at (slice_index_or ws (k / 64) 0) (k % 64) ≡ 1
+bits_still us ws from n none before k l ends = elim (cases_lt k n) [
+  | inl early ↦ before k early ends
+  | inr later ↦ let same : k ≡ n = omega (arith, later, l) in absurd (omega (arith, none, rw same at ends))
 ]

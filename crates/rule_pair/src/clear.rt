@@ -2,8 +2,9 @@
 ghost use Rattle.std.specs.Prelude.{◌≡◌, ◌≢◌, ℕ, ◌<◌, ◌≤◌, ◌||◌, ◌==◌, nat_lt, true, length, slice_index_or, IfNone, IsTrue};
 ghost use Rattle.std.specs.List.{list_all};
 ghost use Rattle.cluster.specs.declared.choices.Choice.{Choice as AnyChoice};
-ghost use Rattle.rule_pair.specs.Prelude.{are_below, AreClear, AreEnds, AreLonger, AreOrdered, AreRight, AreUntils, choices, Climbs, ComesLate, hosted_in, inventory_of, is_continuous, is_rule, IsClean, IsEnd, IsInPart, IsLate, IsMember, IsSized, IsTold, KeepsClear, KeepsOff, leave_of, machine_count, no_row, no_standing, OnClear, one, part_of as the_part_of, rule_watch, separated, separation_seen, sets, state_of, told_until};
+ghost use Rattle.rule_pair.specs.Prelude.{are_below, AreClear, AreEnds, AreGone, AreLonger, AreOrdered, AreRight, AreUntils, choices, Climbs, ComesLate, hosted_in, inventory_of, is_continuous, is_rule, IsClean, IsEnd, IsInPart, IsLate, IsMember, IsSized, IsTold, KeepsClear, KeepsOff, leave_of, machine_count, no_row, no_standing, OnClear, one, part_of as the_part_of, rule_watch, separated, separation_seen, sets, state_of, told_until};
 
+use crate::gone::starts_at_none;
 use crate::longest::{NOBODY, Stay, Table, stay_after, tell};
 use crate::pairs::separation_of;
 use crate::posts::{Post, last_before, posts_of};
@@ -237,6 +238,7 @@ pub(crate) fn machine_keeps_off(
     p: &Problem,
     g: &Region,
     kept: &[Standing],
+    gone: &[u64],
     w: VmId,
     part: usize,
     from: Instant,
@@ -245,6 +247,7 @@ pub(crate) fn machine_keeps_off(
 ) -> Seen
     requires region { IsSized p.now.given g.now }
     requires kept { AreRight p.now.given (sets g.now) kept.now }
+    requires gone { AreGone (sets g.now) gone.now }
     requires machine { w.0 < machine_count p.now.given }
     requires ends { AreEnds table.now part from ends.now }
     ensures { OnClear result (KeepsOff p.now.given (sets g.now) table.now part from w.0) }
@@ -260,6 +263,9 @@ pub(crate) fn machine_keeps_off(
         return Seen::Clear;
     }
     let rows = domain.rows();
+    if rows.len() > 0 && starts_at_none(gone, w, &ends.nodes) {
+        return Seen::Clear;
+    }
     match rows_met_before(rows, part, from, ends, table) {
         None => Seen::Clear,
         Some(met) => Seen::Doubtful(make_doubt(p, w, met)),
@@ -271,12 +277,14 @@ fn machines_keep_off(
     p: &Problem,
     g: &Region,
     kept: &[Standing],
+    gone: &[u64],
     machines: &[VmId],
     from: Instant,
     table: &Table,
 ) -> Seen
     requires region { IsSized p.now.given g.now }
     requires kept { AreRight p.now.given (sets g.now) kept.now }
+    requires gone { AreGone (sets g.now) gone.now }
     requires machines { list_all (λ x. nat_lt x.0 (machine_count p.now.given)) machines.now ≡ true }
     requires ordered { AreOrdered table.now }
     ensures { OnClear result ((w : ℕ) → IsMember machines.now w → KeepsOff p.now.given (sets g.now) table.now w from w) }
@@ -284,7 +292,7 @@ fn machines_keep_off(
     let ends = all_ends(table, from);
     for i in 0..machines.len() {
         let w = machines[i];
-        match machine_keeps_off(p, g, kept, w, w.0 as usize, from, &ends, table) {
+        match machine_keeps_off(p, g, kept, gone, w, w.0 as usize, from, &ends, table) {
             Seen::Clear => {}
             Seen::Doubtful(d) => return Seen::Doubtful(d),
             Seen::Unknown => return Seen::Unknown,
@@ -298,6 +306,7 @@ fn part_keeps_off(
     p: &Problem,
     g: &Region,
     kept: &[Standing],
+    gone: &[u64],
     machines: &[VmId],
     part: usize,
     from: Instant,
@@ -305,12 +314,13 @@ fn part_keeps_off(
 ) -> Seen
     requires region { IsSized p.now.given g.now }
     requires kept { AreRight p.now.given (sets g.now) kept.now }
+    requires gone { AreGone (sets g.now) gone.now }
     requires machines { list_all (λ x. nat_lt x.0 (machine_count p.now.given)) machines.now ≡ true }
     ensures { OnClear result ((w : ℕ) → IsMember machines.now w → KeepsOff p.now.given (sets g.now) table.now part from w) }
 {
     let ends = ends_of(table, part, from);
     for i in 0..machines.len() {
-        match machine_keeps_off(p, g, kept, machines[i], part, from, &ends, table) {
+        match machine_keeps_off(p, g, kept, gone, machines[i], part, from, &ends, table) {
             Seen::Clear => {}
             Seen::Doubtful(d) => return Seen::Doubtful(d),
             Seen::Unknown => return Seen::Unknown,
@@ -324,17 +334,19 @@ fn parts_keep_off(
     p: &Problem,
     g: &Region,
     kept: &[Standing],
+    gone: &[u64],
     parts: &[Vms],
     from: Instant,
     table: &Table,
 ) -> Seen
     requires region { IsSized p.now.given g.now }
     requires kept { AreRight p.now.given (sets g.now) kept.now }
+    requires gone { AreGone (sets g.now) gone.now }
     requires machines { list_all (list_all (λ x. nat_lt x.0 (machine_count p.now.given))) parts.now ≡ true }
     ensures { OnClear result ((j w : ℕ) → IsInPart parts.now j w → KeepsOff p.now.given (sets g.now) table.now j from w) }
 {
     for j in 0..parts.len() {
-        match part_keeps_off(p, g, kept, parts[j].items(), j, from, table) {
+        match part_keeps_off(p, g, kept, gone, parts[j].items(), j, from, table) {
             Seen::Clear => {}
             Seen::Doubtful(d) => return Seen::Doubtful(d),
             Seen::Unknown => return Seen::Unknown,
@@ -344,9 +356,17 @@ fn parts_keep_off(
 }
 
 // whether no two of these machines meet
-fn each_alone(p: &Problem, g: &Region, kept: &[Standing], machines: &[VmId], from: Instant) -> Seen
+fn each_alone(
+    p: &Problem,
+    g: &Region,
+    kept: &[Standing],
+    gone: &[u64],
+    machines: &[VmId],
+    from: Instant,
+) -> Seen
     requires region { IsSized p.now.given g.now }
     requires kept { AreRight p.now.given (sets g.now) kept.now }
+    requires gone { AreGone (sets g.now) gone.now }
     requires machines { list_all (λ x. nat_lt x.0 (machine_count p.now.given)) machines.now ≡ true }
     ensures { OnClear result ((v w : ℕ) → IsMember machines.now v → IsMember machines.now w → v ≢ w → KeepsClear p.now.given (sets g.now) from v w) }
 {
@@ -354,13 +374,21 @@ fn each_alone(p: &Problem, g: &Region, kept: &[Standing], machines: &[VmId], fro
     if !tell_machines(p, g, kept, machines, None, from, &mut table) {
         return Seen::Unknown;
     }
-    machines_keep_off(p, g, kept, machines, from, &table)
+    machines_keep_off(p, g, kept, gone, machines, from, &table)
 }
 
 // whether no two machines of different parts do
-fn parts_alone(p: &Problem, g: &Region, kept: &[Standing], parts: &[Vms], from: Instant) -> Seen
+fn parts_alone(
+    p: &Problem,
+    g: &Region,
+    kept: &[Standing],
+    gone: &[u64],
+    parts: &[Vms],
+    from: Instant,
+) -> Seen
     requires region { IsSized p.now.given g.now }
     requires kept { AreRight p.now.given (sets g.now) kept.now }
+    requires gone { AreGone (sets g.now) gone.now }
     requires machines { list_all (list_all (λ x. nat_lt x.0 (machine_count p.now.given))) parts.now ≡ true }
     ensures { OnClear result ((i j v w : ℕ) → i ≢ j → IsInPart parts.now i v → IsInPart parts.now j w → KeepsClear p.now.given (sets g.now) from v w) }
 {
@@ -368,7 +396,7 @@ fn parts_alone(p: &Problem, g: &Region, kept: &[Standing], parts: &[Vms], from: 
     if !tell_parts(p, g, kept, parts, from, &mut table) {
         return Seen::Unknown;
     }
-    parts_keep_off(p, g, kept, parts, from, &table)
+    parts_keep_off(p, g, kept, gone, parts, from, &table)
 }
 
 // whether no two machines meet that are kept apart
@@ -376,31 +404,47 @@ fn all_alone(
     p: &Problem,
     g: &Region,
     kept: &[Standing],
+    gone: &[u64],
     separation: &Separation,
     from: Instant,
 ) -> Seen
     requires region { IsSized p.now.given g.now }
     requires kept { AreRight p.now.given (sets g.now) kept.now }
+    requires gone { AreGone (sets g.now) gone.now }
     requires machines { are_below (machine_count p.now.given) (separated (separation_seen separation.now)) ≡ true }
     ensures { OnClear result (AreClear p.now.given (sets g.now) from (separation_seen separation.now)) }
 {
     match separation {
-        Separation::Each(machines) => each_alone(p, g, kept, machines.items(), from),
-        Separation::Between(parts) => parts_alone(p, g, kept, parts.items(), from),
-        Separation::FromOthers(machines) => strangers_alone(p, g, kept, machines.items(), from),
+        Separation::Each(machines) => each_alone(p, g, kept, gone, machines.items(), from),
+        Separation::Between(parts) => parts_alone(p, g, kept, gone, parts.items(), from),
+        Separation::FromOthers(machines) => strangers_alone(
+            p,
+            g,
+            kept,
+            gone,
+            machines.items(),
+            from,
+        ),
     }
 }
 
 /// Whether a constraint is seen to be kept at all instants at which it is to hold. Of machines that are to keep apart it
 /// is told where each surely stays, and then asked of each whether it may be anywhere that one of another part stays.
-pub fn look_over(p: &Problem, g: &Region, kept: &[Standing], constraint: &Constraint) -> Seen
+pub fn look_over(
+    p: &Problem,
+    g: &Region,
+    kept: &[Standing],
+    gone: &[u64],
+    constraint: &Constraint,
+) -> Seen
     requires region { IsSized p.now.given g.now }
     requires kept { AreRight p.now.given (sets g.now) kept.now }
+    requires gone { AreGone (sets g.now) gone.now }
     requires rule { is_rule (inventory_of p.now.given) constraint.now ≡ true }
     ensures { OnClear result (IsClean (rule_watch p.now.given constraint.now) p.now.given (sets g.now)) }
 {
     match separation_of(constraint) {
         None => Seen::Unknown,
-        Some(separation) => all_alone(p, g, kept, &separation, first_instant(p, constraint)),
+        Some(separation) => all_alone(p, g, kept, gone, &separation, first_instant(p, constraint)),
     }
 }

@@ -1,8 +1,9 @@
-//! Where machines surely stand, kept beside the index of constraints.
+//! Where machines surely stand and do not start, kept beside the index of constraints.
 ghost use Rattle.std.specs.Prelude.{◌≡◌};
 ghost use Rattle.rule_frame.specs.Caches.{IsCacheFor};
-ghost use Rattle.rule_pair.specs.Prelude.{AreRight, cache_of, sets};
+ghost use Rattle.rule_pair.specs.Prelude.{AreGone, AreRight, cache_of, sets};
 
+use crate::gone::Gone;
 use profiles::standing::numbers::Standing;
 use profiles::standing::table::Table;
 use rule_constraint::ConstraintIndex;
@@ -26,12 +27,14 @@ fn has_pairs(p: &Problem) -> bool {
     false
 }
 
-/// Keeps which constraints look at each element, and for each machine until when it surely stands on its host and where
-/// it surely comes to. Where no constraint keeps machines apart, nobody asks where they stand, and it is not kept.
+/// Keeps which constraints look at each element, and for each machine until when it surely stands on its host, where it
+/// surely comes to, and nodes at which it does not start. Where no constraint keeps machines apart, nobody asks that, and it
+/// is not kept.
 #[derive(Drop)]
 pub struct PairKeeper {
     index: ConstraintIndex,
     table: Table,
+    gone: Gone,
     is_wanted: bool,
     alloc: Global,
 }
@@ -42,6 +45,7 @@ impl PairKeeper {
         PairKeeper {
             index: ConstraintIndex::new(alloc),
             table: Table::new(alloc),
+            gone: Gone::new(alloc),
             is_wanted: false,
             alloc,
         }
@@ -57,11 +61,24 @@ impl PairKeeper {
     /// Where the machines surely stand in the region of which this was told last; no machine, where that is not kept.
     #[tactic(auto, using(crate::proofs::KeptLemmas::kept_right, crate::proofs::KeptLemmas::none_right))]
     pub fn standings(&self, _p: &Problem, _g: &Region) -> &[Standing]
-        requires { IsCacheFor (cache_of self.now.index.lists self.now.table self.now.is_wanted) _p.now.given (sets _g.now) }
+        requires { IsCacheFor (cache_of self.now.index.lists self.now.table self.now.gone self.now.is_wanted) _p.now.given (sets _g.now) }
         ensures { AreRight _p.now.given (sets _g.now) result.now }
     {
         if self.is_wanted {
             self.table.standings()
+        } else {
+            &[]
+        }
+    }
+
+    /// At which nodes it is known that machines do not start in the region of which this was told last.
+    #[tactic(auto, using(crate::proofs::KeptLemmas::kept_gone, crate::proofs::GoneLemmas::none_gone))]
+    pub fn gone(&self, _p: &Problem, _g: &Region) -> &[u64]
+        requires { IsCacheFor (cache_of self.now.index.lists self.now.table self.now.gone self.now.is_wanted) _p.now.given (sets _g.now) }
+        ensures { AreGone (sets _g.now) result.now }
+    {
+        if self.is_wanted {
+            self.gone.words()
         } else {
             &[]
         }
@@ -77,15 +94,17 @@ impl MadeWith<Global> for PairKeeper {
 impl Keeper for PairKeeper {
     ghost use Rattle.rule_pair.specs.Kept.{cache_of};
 
-    ghost cache = { λ k. cache_of k.index.lists k.table k.is_wanted };
+    ghost cache = { λ k. cache_of k.index.lists k.table k.gone k.is_wanted };
 
     fn post(&mut self, p: &Problem, g: &Region) -> Result<(), Memory> {
         self.index.post(p, g)?;
         self.is_wanted = has_pairs(p);
         if self.is_wanted {
             self.table.post(p, g)?;
+            self.gone.post(p, g)?;
         } else {
             self.table = Table::new(self.alloc);
+            self.gone = Gone::new(self.alloc);
         }
         Ok(())
     }
@@ -100,17 +119,28 @@ impl Keeper for PairKeeper {
     ) -> Result<(), Memory> {
         if self.is_wanted {
             self.table.told(p, g, change, before, kept)?;
+            self.gone.told(p, g, change)?;
         }
         Ok(())
     }
 
     fn mark(&mut self) -> Result<(), Memory> {
-        self.table.mark()
+        self.table.mark()?;
+        match self.gone.mark() {
+            Ok(()) => Ok(()),
+            Err(e) => {
+                self.table.back();
+                Err(e)
+            }
+        }
     }
 
     fn back(&mut self) {
         if self.table.level() > 0 {
             self.table.back();
+        }
+        if self.gone.level() > 0 {
+            self.gone.back();
         }
     }
 }

@@ -3,6 +3,7 @@
 
 mod clear;
 mod dirty;
+mod gone;
 mod hall;
 pub mod keeper;
 mod longest;

@@ -1,6 +1,6 @@
 //! A look at a constraint that tells quickly whether it is kept, and where two machines are not kept apart.
 ghost use Rattle.std.specs.Prelude.{◌<◌, ◌≤◌, IfSome, IsTrue, length};
-ghost use Rattle.rule_pair.specs.Prelude.{AreRight, broken_at, choices, constraint_watch, IsEnd, IsLook, IsMetWith, IsSized, machine_count, node_count, pair_kinds, sets, setting, sure, vm, watch_at};
+ghost use Rattle.rule_pair.specs.Prelude.{AreGone, AreRight, broken_at, choices, constraint_watch, IsEnd, IsLook, IsMetWith, IsSized, machine_count, node_count, pair_kinds, sets, setting, sure, vm, watch_at};
 
 use crate::clear::{Doubt, Seen, look_over};
 use crate::rule::Pairs;
@@ -125,13 +125,14 @@ fn broken_end(p: &Problem, g: &Region, c: u32, d: Doubt) -> Option<Choice>
 }
 
 /// A look at the constraint of a number.
-pub fn look_quickly(p: &Problem, g: &Region, kept: &[Standing], c: u32) -> Look
+pub fn look_quickly(p: &Problem, g: &Region, kept: &[Standing], gone: &[u64], c: u32) -> Look
     requires region { IsSized p.now.given g.now }
     requires kept { AreRight p.now.given (sets g.now) kept.now }
+    requires gone { AreGone (sets g.now) gone.now }
     requires constraint { c < length p.now.given.constraints }
     ensures { IsLook (constraint_watch p.now.given c) p.now.given (sets g.now) result }
 {
-    match look_over(p, g, kept, &p.constraints()[c as usize]) {
+    match look_over(p, g, kept, gone, &p.constraints()[c as usize]) {
         Seen::Clear => return Look::Clean,
         Seen::Doubtful(d) => {
             if let Some(end) = broken_end(p, g, c, d) {
@@ -144,9 +145,10 @@ pub fn look_quickly(p: &Problem, g: &Region, kept: &[Standing], c: u32) -> Look
 }
 
 /// A look at the constraint of a number, where it keeps machines apart.
-pub fn look_at_pairs(p: &Problem, g: &Region, kept: &[Standing], c: usize) -> Look
+pub fn look_at_pairs(p: &Problem, g: &Region, kept: &[Standing], gone: &[u64], c: usize) -> Look
     requires region { IsSized p.now.given g.now }
     requires kept { AreRight p.now.given (sets g.now) kept.now }
+    requires gone { AreGone (sets g.now) gone.now }
     requires constraint { c < length p.now.given.constraints }
     ensures { IsLook (watch_at pair_kinds p.now.given c) p.now.given (sets g.now) result }
 {
@@ -154,7 +156,7 @@ pub fn look_at_pairs(p: &Problem, g: &Region, kept: &[Standing], c: usize) -> Lo
         None => Look::Clean,
         Some(kind) => {
             if Pairs.covers(kind) {
-                look_quickly(p, g, kept, c as u32)
+                look_quickly(p, g, kept, gone, c as u32)
             } else {
                 Look::Clean
             }

@@ -1,8 +1,9 @@
 //! When and between which nodes machines of other parts stay: rows elsewhere need not be read, nor late ones asked.
 ghost use Rattle.std.specs.Prelude.{◌≡◌, ℕ, ◌<◌, ◌≤◌, length, slice_index_or, IfNone, IsTrue};
-ghost use Rattle.rule_pair.specs.Prelude.{AreEnds, AreOrdered, AreUntils, Climbs, IsLate, IsReach, no_row, place_index, told_until};
+ghost use Rattle.rule_pair.specs.Prelude.{AreEnds, AreOrdered, AreUntils, Climbs, HaveBits, IsLate, IsReach, no_row, place_index, told_until};
 
 use crate::clear::Met;
+use crate::gone::WORDS;
 use crate::longest::{Stay, Table, of_others, stay_after};
 use cluster::limits::MAX_NODES;
 use rule_frame::{Instant, NodeId, Place, Row};
@@ -20,6 +21,7 @@ pub struct Reach {
 pub struct Ends {
     pub reach: Reach,
     pub until: [u64; MAX_NODES],
+    pub nodes: [u64; WORDS],
 }
 
 // between which places stays end after an instant
@@ -39,6 +41,19 @@ fn reach_of(until: &[u64; MAX_NODES], from: Instant) -> Reach
         }
     }
     reach
+}
+
+// the bits of the nodes at which stays end after an instant
+fn nodes_of(until: &[u64; MAX_NODES], from: Instant) -> [u64; WORDS]
+    ensures { HaveBits until.now from result }
+{
+    let mut nodes = [0; WORDS];
+    for n in 0..MAX_NODES {
+        if until[n] > u64::from(from) {
+            nodes[n / 64] |= 1 << (n % 64);
+        }
+    }
+    nodes
 }
 
 // when at each node the last stay of other parts than one ends
@@ -72,6 +87,7 @@ pub(crate) fn ends_of(table: &Table, part: usize, from: Instant) -> Ends
     let until = untils_of(table, part);
     Ends {
         reach: reach_of(&until, from),
+        nodes: nodes_of(&until, from),
         until,
     }
 }
@@ -84,6 +100,7 @@ pub(crate) fn all_ends(table: &Table, from: Instant) -> Ends
     let until = all_untils(table);
     Ends {
         reach: reach_of(&until, from),
+        nodes: nodes_of(&until, from),
         until,
     }
 }

@@ -1,7 +1,7 @@
 //! Members that are to be alone: they keep off all other machines, and these off them.
 ghost use Rattle.std.specs.Prelude.{◌≡◌, ◌≢◌, ℕ, ◌<◌, nat_lt, true, IsTrue};
 ghost use Rattle.std.specs.List.{list_all};
-ghost use Rattle.rule_pair.specs.Prelude.{AreEnds, AreOrdered, AreRight, class_of as the_class_of, has_machine, is_member, IsSized, IsTold, KeepsClear, KeepsOff, machine_count, OnClear, sets};
+ghost use Rattle.rule_pair.specs.Prelude.{AreEnds, AreGone, AreOrdered, AreRight, class_of as the_class_of, has_machine, is_member, IsSized, IsTold, KeepsClear, KeepsOff, machine_count, OnClear, sets};
 
 use crate::clear::{Seen, machine_keeps_off, tell_machine};
 use crate::longest::{NOBODY, Table};
@@ -58,6 +58,7 @@ fn one_keeps_off(
     p: &Problem,
     g: &Region,
     kept: &[Standing],
+    gone: &[u64],
     w: VmId,
     part: usize,
     from: Instant,
@@ -67,16 +68,17 @@ fn one_keeps_off(
 ) -> Seen
     requires region { IsSized p.now.given g.now }
     requires kept { AreRight p.now.given (sets g.now) kept.now }
+    requires gone { AreGone (sets g.now) gone.now }
     requires machine { w.0 < machine_count p.now.given }
     requires strangers { AreEnds table.now 0 from strangers_ends.now }
     requires members { AreEnds table.now 1 from members_ends.now }
     ensures { OnClear result (KeepsOff p.now.given (sets g.now) table.now part from w.0) }
 {
     if part == 0 {
-        return machine_keeps_off(p, g, kept, w, 0, from, strangers_ends, table);
+        return machine_keeps_off(p, g, kept, gone, w, 0, from, strangers_ends, table);
     }
     if part == 1 {
-        return machine_keeps_off(p, g, kept, w, 1, from, members_ends, table);
+        return machine_keeps_off(p, g, kept, gone, w, 1, from, members_ends, table);
     }
     Seen::Unknown
 }
@@ -86,12 +88,14 @@ fn all_keep_off(
     p: &Problem,
     g: &Region,
     kept: &[Standing],
+    gone: &[u64],
     members: &MachineSet,
     from: Instant,
     table: &Table,
 ) -> Seen
     requires region { IsSized p.now.given g.now }
     requires kept { AreRight p.now.given (sets g.now) kept.now }
+    requires gone { AreGone (sets g.now) gone.now }
     ensures { OnClear result ((w : ℕ) → w < machine_count p.now.given → KeepsOff p.now.given (sets g.now) table.now (the_class_of (has_machine members.now) w) from w) }
 {
     let strangers_ends = ends_of(table, 0, from);
@@ -103,6 +107,7 @@ fn all_keep_off(
             p,
             g,
             kept,
+            gone,
             w,
             part,
             from,
@@ -123,18 +128,20 @@ fn set_alone(
     p: &Problem,
     g: &Region,
     kept: &[Standing],
+    gone: &[u64],
     members: &MachineSet,
     from: Instant,
 ) -> Seen
     requires region { IsSized p.now.given g.now }
     requires kept { AreRight p.now.given (sets g.now) kept.now }
+    requires gone { AreGone (sets g.now) gone.now }
     ensures { OnClear result ((v w : ℕ) → v < machine_count p.now.given → w < machine_count p.now.given → the_class_of (has_machine members.now) v ≢ the_class_of (has_machine members.now) w → KeepsClear p.now.given (sets g.now) from v w) }
 {
     let mut table = [NOBODY; MAX_NODES];
     if !tell_all(p, g, kept, members, from, &mut table) {
         return Seen::Unknown;
     }
-    all_keep_off(p, g, kept, members, from, &table)
+    all_keep_off(p, g, kept, gone, members, from, &table)
 }
 
 /// Whether no member of a list meets a machine that is none.
@@ -142,13 +149,15 @@ pub(crate) fn strangers_alone(
     p: &Problem,
     g: &Region,
     kept: &[Standing],
+    gone: &[u64],
     machines: &[VmId],
     from: Instant,
 ) -> Seen
     requires region { IsSized p.now.given g.now }
     requires kept { AreRight p.now.given (sets g.now) kept.now }
+    requires gone { AreGone (sets g.now) gone.now }
     requires machines { list_all (λ x. nat_lt x.0 (machine_count p.now.given)) machines.now ≡ true }
     ensures { OnClear result ((v w : ℕ) → v < machine_count p.now.given → w < machine_count p.now.given → the_class_of (is_member machines.now) v ≢ the_class_of (is_member machines.now) w → KeepsClear p.now.given (sets g.now) from v w) }
 {
-    set_alone(p, g, kept, &members(p, machines), from)
+    set_alone(p, g, kept, gone, &members(p, machines), from)
 }

@@ -57,7 +57,7 @@ impl Watcher<PairKeeper> for PairWatcher {
     }
 
     fn look(&self, k: &PairKeeper, p: &Problem, g: &Region, i: usize) -> Look {
-        look_at_pairs(p, g, k.standings(p, g), i)
+        look_at_pairs(p, g, k.standings(p, g), k.gone(p, g), i)
     }
 
     fn reason(&self, k: &PairKeeper, p: &Problem, view: &View, i: usize, t: Instant) -> Reason {
