@@ -173,10 +173,8 @@ impl<'a> Breaks<'a> {
 
     // members of which no two may stay on one node: the staying of one makes all others there act
     fn enter_crowded(&self, members: &[usize], crowds: &mut Crowds, race: &mut Race) {
-        for v in members {
-            if let Some(host) = self.torn_host(*v) {
-                crowds.count(host);
-            }
+        if !self.are_crowded(members, crowds) {
+            return;
         }
         for v in members {
             if let Some(host) = self.torn_host(*v) {
@@ -193,11 +191,19 @@ impl<'a> Breaks<'a> {
                 }
             }
         }
+    }
+
+    // whether several of these may stay on one node; they are counted by node
+    fn are_crowded(&self, members: &[usize], crowds: &mut Crowds) -> bool {
+        crowds.begin();
+        let mut are_crowded = false;
         for v in members {
             if let Some(host) = self.torn_host(*v) {
-                crowds.clear(host);
+                crowds.count(host);
+                are_crowded = are_crowded || crowds.is_crowded(host);
             }
         }
+        are_crowded
     }
 
     // members of a group that cannot all stay: the staying of one makes all others act that are outside of its spots
@@ -316,11 +322,15 @@ fn two_least(stayers: &[Stayer]) -> (u64, u64) {
     (first, second)
 }
 
-/// How many machines of one constraint are on each node, and the sum of their least ends.
+/// How many machines of one constraint are on each node, and the sum of their least ends. What stands of an earlier
+/// constraint at a node does not count.
 #[derive(Drop)]
 struct Crowds {
     counts: Vec<u64>,
     costs: Vec<u64>,
+    /// By node, the number of the constraint that was counted there last.
+    rounds: Vec<u64>,
+    round: u64,
 }
 
 impl Crowds {
@@ -328,12 +338,29 @@ impl Crowds {
     fn of(alloc: Global, nodes: usize) -> Result<Crowds, Memory> {
         let mut counts = Vec::new(alloc);
         let mut costs = Vec::new(alloc);
+        let mut rounds = Vec::new(alloc);
         counts.resize(nodes, 0)?;
         costs.resize(nodes, 0)?;
-        Ok(Crowds { counts, costs })
+        rounds.resize(nodes, 0)?;
+        Ok(Crowds {
+            counts,
+            costs,
+            rounds,
+            round: 0,
+        })
+    }
+
+    // the next constraint begins
+    fn begin(&mut self) {
+        self.round = self.round.saturating_add(1);
     }
 
     fn count(&mut self, host: usize) {
+        if at(&self.rounds, host) != self.round {
+            put(&mut self.rounds, host, self.round);
+            put(&mut self.counts, host, 0);
+            put(&mut self.costs, host, 0);
+        }
         add(&mut self.counts, host, 1);
     }
 
@@ -348,11 +375,6 @@ impl Crowds {
     // what all others on the node of one cost
     fn others(&self, host: usize, own: u64) -> u64 {
         at(&self.costs, host).saturating_sub(own)
-    }
-
-    fn clear(&mut self, host: usize) {
-        put(&mut self.counts, host, 0);
-        put(&mut self.costs, host, 0);
     }
 }
 

@@ -175,6 +175,25 @@ impl Guided {
         }
     }
 
+    // what is split instead of a node on the way to a target that no plan undercuts: a machine, as long as one is not
+    // fixed. A node that keeps a machine is not split at all then, and what its going off asks of all machines is not
+    // worked out on the other side
+    fn sooner(&self, g: &Region, wish: Wish) -> Wish {
+        let is_followed = match &self.thought {
+            Some(thought) => thought.is_least && self.best.is_none(),
+            None => false,
+        };
+        if !is_followed {
+            return wish;
+        }
+        match (wish.element, g.first_unfixed()) {
+            (Element::Node(_), Some(Element::Vm(v))) => {
+                self.toward(g, Element::Vm(v)).unwrap_or(wish)
+            }
+            _ => wish,
+        }
+    }
+
     // the split toward the target, where it is one, and else the one that is wished for, where it is one
     fn granted(&self, p: &Problem, g: &Region, wish: Wish) -> Option<(Element, Part)>
         requires { IsSized p.now.given g.now }
@@ -205,7 +224,8 @@ impl Guided {
             }
         }
         let (element, part) = self.stay.choose(p, g);
-        match self.granted(p, g, Wish { element, part }) {
+        let wish = self.sooner(g, Wish { element, part });
+        match self.granted(p, g, wish) {
             Some(split) => split,
             None => (element, part),
         }
