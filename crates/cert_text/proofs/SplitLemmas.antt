@@ -1,6 +1,8 @@
 -- Lines are cut at their blanks into their words, and have no newline.
-use Rattle.std.proofs.Common.{codes, length-append}
-use Rattle.base.proofs.Public.{◌≡◌, ◌≢◌, ◌∙◌, ℕ, ◌==◌, Bool, true, false, List, [], ◌∷◌, ◌++◌, nat_le, nat_lt, Option, Some, None, refl, ap, arith, ◌*◌, lit<, length, ◌&&◌, ◌≤◌, and_from, and_parts, nat_tests, digits_decimal, length-decimal-le, common_steps, list_all-append, slice_split_at, slice_split_none, AllPass-from_list_all, lt_trans, is_ascii_digit, decimal, All, Contains, list_all}
+use Rattle.std.proofs.Common.{codes, length-append, map, subst, sym}
+use Rattle.std.proofs.lemmas.Iterator.{YieldsList, items_from_drains}
+use Rattle.std.specs.Iterator.{Drains}
+use Rattle.base.proofs.Public.{◌≡◌, ◌≢◌, ◌∙◌, ℕ, ◌==◌, Bool, true, false, List, [], ◌∷◌, ◌++◌, nat_le, nat_lt, Option, Some, None, refl, ap, arith, ◌*◌, lit<, length, ◌&&◌, ◌≤◌, and_from, and_parts, nat_tests, length-decimal-le, common_steps, list_all-append, slice_split_at, slice_split_none, AllPass-from_list_all, lt_trans, is_ascii_digit, decimal, All, Contains, list_all}
 use Rattle.cert_text.specs.Prelude.{All as AllNodes, AreNodes, Bound, Cut as TheCut, Decide as TheDecide, Empty, End, Fail as TheFail, From as TheFrom, Goal, goal_word, goal_words, GoalKind, goes_on_name, Group, Hall, Idle as TheIdle, Infeasible as TheInfeasible, is_name, IsGoal, IsLine, IsName, IsNumber, IsPart, IsPlace, IsReason, joined, Left as TheLeft, line_word, line_words, LineKind, LineText, Listed, Load, nodes_words, NodesText, Optimal as TheOptimal, Pair, part_word, part_words, PartKind, PartText, Place, place_word, Plan as ThePlan, Power, reason_word, reason_words, ReasonKind, ReasonText, SetLoad, Step, Undecided as TheUndecided, Upto as TheUpto, Usable, Word, words_of}
 use Rattle.reasons.specs.declared.reason.ReasonKind.TheVariants.{Empty as TheEmpty, Bound as TheBound, Load as TheLoad, Pair as ThePair, Place as ThePlace, Group as TheGroup, SetLoad as TheSetLoad, Power as ThePower, Usable as TheUsable, Hall as TheHall}
 use Rattle.trees.specs.declared.steps.Goal.TheVariants.{Optimal, Infeasible, Undecided}
@@ -217,3 +219,9 @@ joined_short (w ∷ v ∷ words) is =
 -- no more than 65 bytes for each word
 pub line_short : (line : LineText) → IsLine line → length (joined (line_words line)) ≤ 65 * length (line_words line)
 line_short line is = joined_short (line_words line) (line_plain line is)
+
+-- ---- a list that was empty and is extended by what an iterator yields has what that yields
+
+pub map_from_extend : {S A B : Type 0} {steps : S → Option A → S → Type 0} {v : A → B} {s t : S} {all : List B} (old new xs : List A) → old ≡ [] → new ≡ old ++ xs → t ≡ s → Drains steps t xs → YieldsList steps v s all → map v new ≡ all
+map_from_extend {S} {A} {B} {steps} {v} {s} {t} {all} old new xs empty more same ends road =
+    ap (map v) (more ∙ ap (λ l. l ++ xs) empty) ∙ items_from_drains xs (ends.1.0, ends.1.1, λ _. (ends.0, ends.1.2)) (subst (λ u. YieldsList steps v u all) (sym same) road)

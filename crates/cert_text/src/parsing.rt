@@ -254,11 +254,16 @@ fn line(alloc: Global, words: &mut Words) -> Result<LineText, TextFault>
     line_of(alloc, kind, words)
 }
 
+// as many words as most lines have, so that their list need not grow
+const MOST_WORDS: usize = 12;
+
 /// The words between blanks.
 fn words_of(alloc: Global, bytes: &[u8]) -> Result<Vec<&[u8]>, AllocError>
     ensures { IfOk result (λ words. map (λ w. w.now) words.items ≡ words_of bytes.now) }
 {
-    bytes.split(|b| *b == b' ').collect(alloc)
+    let mut words = Vec::with_capacity(alloc, MOST_WORDS)?;
+    words.extend(bytes.split(|b| *b == b' '))?;
+    Ok(words)
 }
 
 /// The line after the header that these bytes are, which have no newline at their end.
