@@ -7,7 +7,7 @@ use Rattle.catalogue.specs.Prelude.{Instance}
 use Rattle.instance_make.specs.Prelude.{instance_of, instance_text, max_text_bytes}
 use Rattle.partition.specs.Prelude.{part_of, Split}
 use Rattle.command_frame.specs.{Answer.AnswersBy, Answer.LeavesBy, Answer.Outside, Inputs.input_line, Outputs.HasText, Outputs.IsTextCut, declared.status.Status.Status}
-use Rattle.command_parts.specs.Splitting.{split_in}
+use Rattle.command_groups.specs.Splitting.{split_in}
 
 -- The line that says which part was written, of how many.
 unfoldable pub cut_line : (i count : ℕ) → List ℕ

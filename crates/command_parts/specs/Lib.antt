@@ -1,7 +1,4 @@
--- what a reader must believe: what the bytes of groups mean, and what each command answers and leaves
-pub mod Groups
-pub mod Splitting
+-- what a reader must believe: what each command answers and leaves
 pub mod Cutting
 pub mod PlanningParts
-pub mod CheckingParts
 pub mod Prelude

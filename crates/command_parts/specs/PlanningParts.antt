@@ -9,7 +9,7 @@ use Rattle.partition.specs.Prelude.{Split}
 use Rattle.solver.specs.Prelude.{plan_cost}
 use Rattle.part_solver.specs.{declared.answer.WholeAnswer.WholeAnswer, Prelude.IsAnswered, Prelude.IsTrueOfWhole, Prelude.plan_answered}
 use Rattle.command_frame.specs.{Answer.AnswersBy, Answer.LeavesBy, Answer.Outside, Outputs.AreTextsCut, Outputs.HasTexts, declared.status.Status.Status}
-use Rattle.command_parts.specs.Splitting.{split_in}
+use Rattle.command_groups.specs.Splitting.{split_in}
 
 -- ---- what is said
 

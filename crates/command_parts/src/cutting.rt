@@ -3,12 +3,12 @@
 ghost use Rattle.std.specs.Prelude.{◌≡◌, ◌≢◌, ◌<◌, ℕ, length, List, Err, Ok, IsTrue, IfErr, IfOk, string_bytes};
 ghost use Rattle.command_parts.specs.Prelude.{AnswersFrom, cut_line, CutsPart, Ends, Instance, instance_in, instance_text, IsCutOut, IsOfReading, IsOfWriting, IsSplitBy, IsTextCut, LeavesBy, LeavesCutOut, LeavesPart, NodeSet, outside, PartCauses, part_number, part_of, Reads, Split, WriteCauses, WritesPart};
 
-use crate::split_input::{SplitGroups, split_at};
 use base::Memory;
 use catalogue::Problem;
 use command_frame::fault::{Ending, Fault, Outcome};
 use command_frame::inputs::instance::problem_at;
 use command_frame::inputs::refusal;
+use command_groups::split_input::{SplitGroups, split_at};
 use command_make::outputs::write_problem;
 use plan_io::Desk;
 use std::alloc::Global;

@@ -4,12 +4,12 @@ ghost use Rattle.std.specs.Prelude.{◌≡◌, ◌≢◌, ℕ, length, List, Err
 ghost use Rattle.std.specs.Option.{option_copied};
 ghost use Rattle.command_parts.specs.Prelude.{AnswersFrom, AreTextsCut, CountsWrites, Ends, HasTexts, Instance, instance_in, IsAnswered, IsOfWriting, IsPlannedByParts, IsPlanOf, IsSplitBy, IsTrueOfWhole, LeavesBy, LeavesPlans, LeavesPlannedByParts, NodeSet, outcome_status, outside, PartCauses, plan_of, plan_text, PlansParts, Split, WholeAnswer as AnyAnswer, whole_line, plan_answered, whole_status, WriteCauses};
 
-use crate::split_input::{SplitGroups, split_at};
 use base::Memory;
 use catalogue::Problem;
 use command_frame::fault::{Ending, Fault, Outcome};
 use command_frame::inputs::instance::problem_at;
 use command_frame::outputs::write_two;
+use command_groups::split_input::{SplitGroups, split_at};
 use part_solver::{PartsAnswer, WholeAnswer, solve_parts};
 use plan_io::{Desk, OutFault};
 use plan_json::print_plan;

@@ -1,8 +1,8 @@
 //! A command with each of its calls failing in turn.
 
-use crate::files::Files;
 use crate::rows::{Called, Ended, Failing, Row};
 use commands::status::Status;
+use row_files::files::Files;
 use std::io;
 
 /// The longest text of a file that is printed, in bytes.

@@ -12,12 +12,11 @@
 #![tactic(auto)]
 
 mod failing;
-mod files;
 mod rows;
 
 use crate::failing::{fail_one, run_alone, run_and_keep, try_calls};
-use crate::files::Files;
 use crate::rows::Row;
+use row_files::files::Files;
 use std::{fs, io};
 
 /// The texts with the rows, one a topic, in the order in which they are read. The first has what many rows name.

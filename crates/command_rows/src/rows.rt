@@ -1,9 +1,9 @@
 //! A row: the words of a command, its files, and what its source has.
 
-use crate::files::{Files, no_memory};
 use commands::run::run;
 use commands::status::Status;
 use plan_io::{DeskMem, SinkMem, Source, SourceMem};
+use row_files::files::{Files, no_memory};
 use rule_solver::RuleSolver;
 use std::alloc::Global;
 use std::io;

@@ -9,7 +9,8 @@ use Rattle.command_make.specs.Scripting.{IsScripted, LeavesScripted}
 use Rattle.command_carry.specs.{Executing.IsExecuted, Executing.Starts, Executing.Taking, Executing.TakesRead, Repairing.IsRepaired, Repairing.LeavesRepaired, Repairing.TakesEvents}
 use Rattle.command_make.specs.Generating.{IsGenerated, LeavesGenerated}
 use Rattle.command_explain.specs.Explaining.{IsExplained, LeavesExplained}
-use Rattle.command_parts.specs.{Cutting.IsCutOut, Cutting.LeavesCutOut, PlanningParts.IsPlannedByParts, PlanningParts.LeavesPlannedByParts, CheckingParts.IsCheckedByParts}
+use Rattle.command_parts.specs.{Cutting.IsCutOut, Cutting.LeavesCutOut, PlanningParts.IsPlannedByParts, PlanningParts.LeavesPlannedByParts}
+use Rattle.command_checkparts.specs.CheckingParts.{IsCheckedByParts}
 use Rattle.command_frame.specs.declared.status.Status.{Status}
 use Rattle.command_demo.specs.Demonstrating.{IsDemonstrated, LeavesDemo, LeavesDemoUnread, demo_certificate, demo_instance, demo_plan}
 

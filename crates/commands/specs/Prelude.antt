@@ -17,7 +17,8 @@ pub use Rattle.command_decide.specs.Prelude.{AreAccepted, IsChecked, IsPlanned, 
 unfoldable pub use Rattle.command_decide.specs.Prelude.{verdict_line}
 pub use Rattle.command_demo.specs.Prelude.{IsDemonstrated}
 pub use Rattle.command_explain.specs.Prelude.{WritesKept}
-pub use Rattle.command_parts.specs.Prelude.{IsCheckedByParts, IsCutOut, IsPlannedByParts}
+pub use Rattle.command_parts.specs.Prelude.{IsCutOut, IsPlannedByParts}
+pub use Rattle.command_checkparts.specs.Prelude.{IsCheckedByParts}
 unfoldable pub use Rattle.command_explain.specs.Prelude.{IsExplained}
 unfoldable pub use Rattle.commands.specs.{Commands.IsAnswer, Printed.PrintsPrefix}
 pub use Rattle.commands.specs.Commands.{KeepsDeskReads, KeepsDeskWrites, KeepsSource, Leaves, LeavesAtFailedRead, MayRun, ReadsInput, Takes}

@@ -5,6 +5,7 @@ ghost use Rattle.commands.specs.Prelude.{asked, Causes, Command as Asked, Comman
 
 use command_carry::executing::execute;
 use command_carry::repairing::repair;
+use command_checkparts::checking_parts::checkparts;
 use command_decide::checking::check;
 use command_decide::planning::plan;
 use command_demo::demonstrating::demo;
@@ -13,7 +14,6 @@ use command_frame::fault::{Ending, Fault};
 use command_frame::status::Status;
 use command_make::generating::generate;
 use command_make::scripting::script;
-use command_parts::checking_parts::checkparts;
 use command_parts::cutting::cut;
 use command_parts::planning_parts::parts;
 use command_report::picturing::picture;

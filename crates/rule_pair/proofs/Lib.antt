@@ -1,7 +1,6 @@
 mod Prelude
 mod ApartLemmas
 mod BrokenLemmas
-mod GoneLemmas
 mod KeptLemmas
 mod LongestLemmas
 mod StayLemmas

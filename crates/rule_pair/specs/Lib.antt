@@ -2,7 +2,6 @@
 pub mod Covers
 -- what the code says beside it
 pub mod Apart
-pub mod Gone
 pub mod Kept
 pub mod Longest
 pub mod Reach

@@ -4,7 +4,6 @@ ghost use Rattle.std.specs.List.{list_all};
 ghost use Rattle.cluster.specs.declared.choices.Choice.{Choice as AnyChoice};
 ghost use Rattle.rule_pair.specs.Prelude.{are_below, AreClear, AreEnds, AreGone, AreLonger, AreOrdered, AreRight, AreUntils, choices, Climbs, ComesLate, hosted_in, inventory_of, is_continuous, is_rule, IsClean, IsEnd, IsInPart, IsLate, IsMember, IsSized, IsTold, KeepsClear, KeepsOff, leave_of, machine_count, no_row, no_standing, OnClear, one, part_of as the_part_of, rule_watch, separated, separation_seen, sets, state_of, told_until};
 
-use crate::gone::starts_at_none;
 use crate::longest::{NOBODY, Stay, Table, stay_after, tell};
 use crate::pairs::separation_of;
 use crate::posts::{Post, last_before, posts_of};
@@ -12,6 +11,7 @@ use crate::reach::{Ends, all_ends, ends_of, rows_met_before, stay_still};
 use crate::stays::leaves_by;
 use crate::strangers::strangers_alone;
 use cluster::limits::MAX_NODES;
+use gone_starts::gone::starts_at_none;
 use profiles::standing::numbers::Standing;
 use rule_constraint::host;
 use rule_frame::{

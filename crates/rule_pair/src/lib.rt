@@ -3,7 +3,6 @@
 
 mod clear;
 mod dirty;
-mod gone;
 mod hall;
 pub mod keeper;
 mod longest;

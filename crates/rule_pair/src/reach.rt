@@ -3,9 +3,9 @@ ghost use Rattle.std.specs.Prelude.{◌≡◌, ℕ, ◌<◌, ◌≤◌, length, 
 ghost use Rattle.rule_pair.specs.Prelude.{AreEnds, AreOrdered, AreUntils, Climbs, HaveBits, IsLate, IsReach, no_row, place_index, told_until};
 
 use crate::clear::Met;
-use crate::gone::WORDS;
 use crate::longest::{Stay, Table, of_others, stay_after};
 use cluster::limits::MAX_NODES;
+use gone_starts::gone::WORDS;
 use rule_frame::{Instant, NodeId, Place, Row};
 
 /// The first place and the last one at which a stay is told, by their numbers in the order of places.

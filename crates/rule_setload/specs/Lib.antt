@@ -3,5 +3,4 @@ pub mod Covers
 -- what the code says beside it
 pub mod Amounts
 pub mod Periods
-pub mod Powers
 pub mod Prelude

@@ -8,7 +8,8 @@ use Rattle.slices.specs.declared.slice.Weight.{Weight}
 use Rattle.domains.specs.declared.parts.Row.{Row}
 use Rattle.rule_setload.specs.Amounts.{IsExtra, stay_of}
 use Rattle.rule_setload.specs.declared.concerned.Members.{Members}
-use Rattle.rule_setload.specs.declared.period.Period.{Period}
+use Rattle.power_bounds.specs.Prelude.{IsDuring}
+use Rattle.power_bounds.specs.declared.period.Period.{Period}
 use Rattle.rule_setload.specs.declared.span.Span.{Span}
 
 -- more than can be spare anywhere
@@ -19,10 +20,6 @@ max_spare = 1_000_000_000_000_000_000
 abbrev pub has_started : ℕ → Choice → Bool
 has_started t Idle = false
 has_started t (Act place start) = nat_le start t
-
--- the instant is one of the period
-abbrev pub IsDuring : Period → ℕ → Type 0
-IsDuring x t = (x.from ≤ t) × (t ≤ x.to)
 
 -- ---- one machine
 

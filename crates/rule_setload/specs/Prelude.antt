@@ -34,14 +34,13 @@ pub use Rattle.reasons.specs.declared.reason.ReasonKind.{ReasonKind}
 pub use Rattle.reasons.specs.declared.reason.ReasonKind.TheVariants.{Power, SetLoad}
 pub use Rattle.rule_constraint.specs.Broken.{of_kind}
 pub use Rattle.rule_setload.specs.Amounts.{AreAllHolders, AreAllStayers, AreAmountsKept, AreExtra, AreHolders, AreKept, AreStayersOf, AreStayersTo, bound_in, bound_of, cache_of, IsExtra, IsKept, no_holder, no_stayers, stay_of}
-pub use Rattle.rule_setload.specs.Periods.{AreConcerned, AreWithin, has_started, HoldsLeast, HoldsMost, IsAside, IsDuring, IsFit, IsLate, IsShare, IsSpan, max_spare, StaysAt, StaysBefore, StaysDuring, StaysIn, StaysPast, StaysWhenDue}
-pub use Rattle.rule_setload.specs.Powers.{AreNotPowered, IsPoweredFit, power_most, power_of, powered_most, PowerStaysAt, PowerStaysDuring, PowerStaysPast, PowerStaysWhenDue}
-pub use Rattle.rule_setload.specs.declared.power.PowerBound.{PowerBound}
+pub use Rattle.rule_setload.specs.Periods.{AreConcerned, AreWithin, has_started, HoldsLeast, HoldsMost, IsAside, IsFit, IsLate, IsShare, IsSpan, max_spare, StaysAt, StaysBefore, StaysDuring, StaysIn, StaysPast, StaysWhenDue}
+pub use Rattle.power_bounds.specs.Prelude.{IsDuring, power_of, PowerStaysAt, PowerStaysWhenDue}
+pub use Rattle.power_bounds.specs.declared.{period.Period.Period, power.PowerBound.PowerBound}
 pub use Rattle.rule_setload.specs.Covers.{set_kinds}
 pub use Rattle.rule_setload.specs.declared.bounds.Bound.{Bound}
 pub use Rattle.rule_setload.specs.declared.concerned.Members.{Members}
 pub use Rattle.rule_setload.specs.declared.holders.Holder.{Holder}
-pub use Rattle.rule_setload.specs.declared.period.Period.{Period}
 pub use Rattle.rule_setload.specs.declared.span.RowRange.{RowRange}
 pub use Rattle.rule_setload.specs.declared.span.Span.{Span}
 pub use Rattle.profiles.specs.declared.standing.numbers.Standing.{Standing}

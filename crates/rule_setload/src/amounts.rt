@@ -7,12 +7,12 @@ ghost use Rattle.rule_setload.specs.Prelude.{AreStanding, bound_in, has_node, in
 use crate::bounds::{Bound, bound_of};
 use crate::holders::Holders;
 use crate::movers_hold::stays_within;
-use crate::power::{power_of, power_when_due};
 use crate::propose::propose_amount;
 use crate::refuting::exceeds;
 use crate::rule::Sets;
 use crate::stayers::{Stayers, all_stayers};
 use crate::walk::stays_when_due;
+use power_bounds::power::{power_of, power_when_due};
 use profiles::movers::Movers;
 use profiles::standing::numbers::Standing;
 use profiles::standing::table::Table;

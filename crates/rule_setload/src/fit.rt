@@ -5,12 +5,12 @@ ghost use Rattle.rule_setload.specs.Prelude.{AreConcerned, AreStanding, Choice a
 use crate::bounds::Bound;
 use crate::concerned::Members;
 use crate::holders::kept_amount;
-use crate::holding::{act, brought, kept, surely_held};
+use crate::holding::{brought, kept, surely_held};
 use crate::most::most_total;
 use crate::movers_hold::is_outside;
-use crate::period::Period;
 use crate::span::{RowRange, Span, rows_within};
 use crate::stayers::{stay, unit};
+use power_bounds::period::{Period, act};
 use profiles::standing::numbers::Standing;
 use rule_frame::{Choice, Element, Instant, NodeSet, Problem, Region, Row, VmId};
 

@@ -4,9 +4,9 @@ ghost use Rattle.rule_setload.specs.Prelude.{Choice as AnyChoice, goes_in as the
 
 use crate::bounds::Bound;
 use crate::holders::is_among;
-use crate::period::Period;
 use crate::stayers::unit;
 use domains::measure::Measure;
+use power_bounds::period::Period;
 use profiles::standing::leaves::leaves_of;
 use profiles::standing::numbers::{Leaving, Standing};
 use profiles::standing::uses::gain;
@@ -32,16 +32,6 @@ fn has_started(c: Choice, t: Instant) -> bool
     match c {
         Choice::Idle => false,
         Choice::Act { place: _, start } => start <= t,
-    }
-}
-
-/// The choice at the place of a row with a start.
-pub(crate) fn act(row: Row, start: Instant) -> Choice
-    ensures { result ≡ AnyChoice.Act row.place start }
-{
-    Choice::Act {
-        place: row.place,
-        start,
     }
 }
 

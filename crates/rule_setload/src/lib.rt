@@ -9,8 +9,6 @@ mod holders;
 mod holding;
 mod most;
 mod movers_hold;
-mod period;
-mod power;
 mod propose;
 mod refuting;
 pub mod rule;

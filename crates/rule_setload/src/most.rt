@@ -4,9 +4,9 @@ ghost use Rattle.rule_setload.specs.Prelude.{AreConcerned, AreWithin, domain_at,
 
 use crate::bounds::Bound;
 use crate::concerned::Members;
-use crate::holding::{act, share};
-use crate::period::Period;
+use crate::holding::share;
 use crate::stayers::{stay, unit};
+use power_bounds::period::{Period, act};
 use profiles::standing::numbers::Standing;
 use rule_frame::{Domain, Element, Problem, Region, Row, VmId};
 

@@ -4,11 +4,11 @@ ghost use Rattle.rule_setload.specs.Prelude.{AreConcerned, AreStayersTo, has_nod
 
 use crate::bounds::Bound;
 use crate::concerned::{Members, concerned};
-use crate::holding::{act, goes_in, left_at};
+use crate::holding::{goes_in, left_at};
 use crate::most::{most_held, most_total};
-use crate::period::Period;
 use crate::stayers::{Stayers, stay, unit};
 use crate::walk::next_change;
+use power_bounds::period::{Period, act};
 use profiles::standing::numbers::Standing;
 use rule_frame::{Element, Instant, Memory, Part, Problem, Reason, Region, Row, Suggestion, VmId};
 use std::alloc::Global;

@@ -5,7 +5,7 @@ ghost use Rattle.rule_setload.specs.Prelude.{Applies, AreAllHolders, AreKept, Ar
 use crate::bounds::{Bound, bound_of};
 use crate::holders::{Holder, Holders};
 use crate::holding::{still_kept, surely_held};
-use crate::period::Period;
+use power_bounds::period::Period;
 use profiles::seen::{is_narrowed, narrowed};
 use profiles::standing::numbers::Standing;
 use relax::sure::least_held;

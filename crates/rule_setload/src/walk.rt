@@ -6,20 +6,11 @@ use crate::bounds::Bound;
 use crate::concerned::{Members, weighing};
 use crate::fit::stays_during;
 use crate::movers_hold::is_outside;
-use crate::period::Period;
 use crate::stayers::Stayers;
+use power_bounds::period::{Period, sooner};
 use profiles::standing::numbers::Standing;
 use rule_constraint::host;
 use rule_frame::{Element, NodeSet, Problem, Region, Row, VmId};
-
-/// The sooner of what is found and an instant, if that is later than `after`.
-pub(crate) fn sooner(after: u64, best: u64, at: u64) -> u64
-    requires { after < best }
-    ensures later { after < result }
-    ensures less { result ≤ best }
-{
-    if at > after && at < best { at } else { best }
-}
 
 // the first instant of these at which a row at the nodes starts or ends
 fn next_of_rows(rows: &[Row], nodes: &NodeSet, after: u64, best: u64) -> u64

@@ -1,0 +1,2 @@
+pub mod GroupReadings
+pub mod SplitReadings

@@ -1,0 +1,3 @@
+-- what the code says
+pub mod Gone
+pub mod Prelude

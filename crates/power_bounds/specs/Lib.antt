@@ -1,0 +1,3 @@
+-- what the code says
+pub mod Powers
+pub mod Prelude

@@ -1,5 +1,0 @@
-use Rattle.rule_setload.proofs.Prelude.{◌+◌, ◌<◌, ◌≤◌}
-use Rattle.rule_setload.proofs.power.next_change.Given as goal
-
-abbrev pub invariant-loop-i : goal.invariant-loop-i
-invariant-loop-i l = record { later : l.after < l.next; most : l.next ≤ l.p.given.horizon + 1 }

@@ -1,5 +1,0 @@
-use Rattle.rule_setload.proofs.Prelude.{◌<◌, ◌≤◌}
-use Rattle.rule_setload.proofs.power.next_of_rows.Given as goal
-
-abbrev pub invariant-loop-row : goal.invariant-loop-row
-invariant-loop-row l = record { later : l.after < l.next; less : l.next ≤ l.best }

@@ -1,5 +1,0 @@
-use Rattle.rule_setload.proofs.Prelude.{arith}
-use Rattle.rule_setload.proofs.power.power_last.Goals as goal
-
-pub returns : goal.returns
-returns c = λ on. (c.power_during.ensures on) c.args.p.now.given.horizon (omega arith, omega arith)
