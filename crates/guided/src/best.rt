@@ -1,6 +1,7 @@
 //! The cheapest choice of one machine beside all that have one.
 
 use crate::draft::{Draft, node_at};
+use crate::elements::Mover;
 use crate::numbers::{NEVER, at, cell, insert, is_up, list_at, node};
 use crate::rows::{first_end, machine_rows};
 use crate::rules::{Group, Spots};
@@ -8,6 +9,9 @@ use base::Memory;
 use cluster::limits::MAX_NODES;
 use cluster::{Choice, NodeSet, Place};
 use domains::Row;
+
+// at so many places of equal ends the fullest is taken, where there are more than twice as many places
+const ENOUGH: usize = 12;
 
 /// A choice that fits, and what it costs.
 #[derive(Clone, Copy)]
@@ -48,7 +52,8 @@ impl<'a> Draft<'a> {
         self.best_row(v, mask, noise)
     }
 
-    // the cheapest place of a machine
+    // the cheapest place of a machine. With noise only some of many are looked at, from any one on, until it would be
+    // done as soon as it can be at enough of them
     fn best_row(
         &mut self,
         v: usize,
@@ -58,21 +63,28 @@ impl<'a> Draft<'a> {
         let rows = machine_rows(self.region, v);
         let mover = self.mover(v);
         let leaving = self.leaving_of(v)?;
+        let are_many = noise && rows.len() / 2 > ENOUGH;
+        let from = if are_many { self.pick(rows.len()) } else { 0 };
         let mut best: Option<Offer> = None;
-        for row in rows {
-            if !may_go(mask, row.place) && mover.lands {
+        let mut soon: usize = 0;
+        for k in 0..rows.len() {
+            let Some(row) = row_from(rows, from, k) else {
+                break;
+            };
+            if !may_go(mask, row.place) && mover.lands || is_later(mover, row, &best) {
                 continue;
             }
-            if let Some(known) = best {
-                if first_end(mover, *row) > known.cost {
-                    continue;
-                }
-            }
             self.work(1);
-            if let Some(offer) = self.offer(v, *row, &leaving, noise)? {
+            if let Some(offer) = self.offer(v, row, &leaving, noise)? {
                 if is_better(&best, offer) {
                     best = Some(offer);
                 }
+                if are_many && offer.cost <= at(&self.least, v) {
+                    soon = soon.saturating_add(1);
+                }
+            }
+            if soon >= ENOUGH {
+                break;
             }
         }
         Ok(best)
@@ -300,6 +312,25 @@ fn may_go(mask: Option<NodeSet>, place: Place) -> bool {
     match node_at(place) {
         Some(n) => has(mask, n),
         None => true,
+    }
+}
+
+// the row that stands so far behind one of a list, which begins anew at its end
+fn row_from(rows: &[Row], from: usize, k: usize) -> Option<Row> {
+    let i = from.saturating_add(k);
+    let i = if i < rows.len() {
+        i
+    } else {
+        i.saturating_sub(rows.len())
+    };
+    rows.get(i).copied()
+}
+
+// whether a machine ends later at a place than what is known costs
+fn is_later(mover: Mover, row: Row, best: &Option<Offer>) -> bool {
+    match best {
+        None => false,
+        Some(known) => first_end(mover, row) > known.cost,
     }
 }
 

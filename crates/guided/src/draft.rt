@@ -184,8 +184,8 @@ impl<'a> Draft<'a> {
         }
     }
 
-    // the end of a machine's choice, 0 where it has none
-    fn end(&self, v: usize, choice: Option<Choice>) -> u64 {
+    /// The end of a machine's choice, 0 where it has none.
+    pub fn end(&self, v: usize, choice: Option<Choice>) -> u64 {
         match choice {
             Some(Choice::Act { place, start }) => {
                 u64::from(start).saturating_add(self.lasts(v, place))
@@ -266,7 +266,8 @@ impl<'a> Draft<'a> {
         }
     }
 
-    fn change_end(&self, n: usize) -> u64 {
+    /// The end of a node's change.
+    pub fn change_end(&self, n: usize) -> u64 {
         self.change_start(n).saturating_add(self.server(n).lasts)
     }
 

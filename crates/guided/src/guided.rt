@@ -26,7 +26,7 @@ use std::alloc::Global;
 ///
 /// - no whole plan is found, or there is no memory: it goes on as `StayFirst`;
 /// - the target costs the sum of the least ends of the root, so that no plan is cheaper: it splits as `StayFirst`, but
-///   each time so that the inside holds what the target has, until a plan is met;
+///   until a plan is met machines before nodes, and each time so that the inside holds what the target has;
 /// - the target is dearer: it branches only on what breaks if all stays that may stay, and until a plan is met each
 ///   time so that the inside holds what the target has. Where actions wait for others it splits as `StayFirst`,
 ///   toward the target until a plan is met.

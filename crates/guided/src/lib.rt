@@ -23,4 +23,5 @@ mod rules;
 mod tables;
 mod target;
 mod thought;
+mod turning;
 mod wish;

@@ -1,17 +1,18 @@
 //! A plan made better: a few machines are taken out and put in again, time and again.
 
 use crate::draft::{Draft, node_at};
-use crate::numbers::{at, is_up, list_at};
+use crate::numbers::{MIDDLE, at, is_up, list_at};
 use crate::root::in_order;
 use crate::rows::{machine_idle, machine_rows};
+use crate::turning::FEW_LOOKS;
 use base::Memory;
 use cluster::Choice;
 
-// keys of machines that must act are below this, and those of others above
-const MIDDLE: u64 = 4_611_686_018_427_387_904;
-
 // what a round costs, whatever it looks at
 const ROUND: usize = 10;
+
+// a better plan is waited for so many times as long as it took to find the last one
+const LONGER: u64 = 3;
 
 // a group with more members is taken out only now and then
 const FEW_MEMBERS: usize = 12;
@@ -85,10 +86,10 @@ impl<'a> Draft<'a> {
     // whether the work is done, or nothing better was found for long
     fn is_over(&self, search: &Search, effort: u64) -> bool {
         let times: u64 = if search.best.has_open { 4 } else { 1 };
-        let took = search.best.found.saturating_sub(search.begin);
-        let patience = search.patience.saturating_mul(times).saturating_add(took);
+        let patience = search.patience.saturating_mul(times);
         self.steps.saturating_sub(search.begin) >= effort
-            || self.steps.saturating_sub(search.best.found) > patience
+            || self.steps.saturating_sub(search.best.found)
+                > patience.saturating_add(longer(search))
     }
 
     // takes some machines out, puts them in again, and keeps what is not worse
@@ -131,8 +132,7 @@ impl<'a> Draft<'a> {
         if self.pick(10) != 0 {
             return 0;
         }
-        let took = search.best.found.saturating_sub(search.begin);
-        let whole = search.patience.saturating_add(took).max(1);
+        let whole = search.patience.saturating_add(longer(search)).max(1);
         let since = self.steps.saturating_sub(search.best.found);
         let left = whole.saturating_sub(since);
         search.mean.saturating_mul(left).saturating_mul(7) / whole.saturating_mul(10).max(1)
@@ -143,10 +143,10 @@ impl<'a> Draft<'a> {
         if search.turnable.is_empty() || self.pick(3) != 0 {
             return Ok(true);
         }
-        let first = self.one_of(&search.turnable);
+        let first = self.to_turn(&search.turnable, FEW_LOOKS);
         self.turn_node(search, first)?;
         if !self.powers_hold() || self.pick(2) == 0 {
-            if let Some(other) = self.counterpart(search, first)? {
+            if let Some(other) = self.counterpart(&search.turnable, first)? {
                 self.turn_node(search, other)?;
             }
         }
@@ -173,28 +173,11 @@ impl<'a> Draft<'a> {
         }
     }
 
-    // a node that can make up for one that was turned
-    fn counterpart(&mut self, search: &Search, n: usize) -> Result<Option<usize>, Memory> {
-        let went_off = !self.is_on_at_end(n);
-        let mut others = Vec::new(self.alloc);
-        for k in &search.turnable {
-            if *k != n && self.is_on_at_end(*k) != went_off {
-                others.push(*k)?;
-            }
-        }
-        if others.is_empty() {
-            return Ok(None);
-        }
-        Ok(Some(self.one_of(&others)))
-    }
-
-    fn one_of(&mut self, list: &[usize]) -> usize {
-        let i = self.pick(list.len());
-        list.get(i).copied().unwrap_or(0)
-    }
-
-    // takes out a machine that is badly placed, and picks nodes around it
+    // takes out a machine that is badly placed, and picks nodes around it; half as often where a node was turned
     fn free_bad(&mut self, search: &mut Search) -> Result<(), Memory> {
+        if !search.turned.is_empty() && self.pick(2) == 0 {
+            return Ok(());
+        }
         let bad = self.bad_ones()?;
         if bad.is_empty() || self.pick(8) == 0 {
             return Ok(());
@@ -371,7 +354,7 @@ impl<'a> Draft<'a> {
     }
 
     // the machines without a choice in an order of size with noise; in one of three rounds those that may stay come
-    // last, the dearest for its size first
+    // last, above the middle of all keys, the dearest for its size first
     fn noisy_order(&mut self, search: &Search) -> Result<Vec<usize>, Memory> {
         let tables = self.tables;
         let by_cost = self.pick(3) == 0;
@@ -452,4 +435,10 @@ impl<'a> Draft<'a> {
         self.keep();
         Ok(())
     }
+}
+
+// for how much more work a better plan is waited for, since the last one took some
+fn longer(search: &Search) -> u64 {
+    let took = search.best.found.saturating_sub(search.begin);
+    took.saturating_mul(LONGER)
 }

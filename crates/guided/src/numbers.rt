@@ -6,6 +6,9 @@ use cluster::{NodeId, NodeSet};
 /// An instant that never comes.
 pub const NEVER: u64 = u64::MAX;
 
+/// The middle of all keys: those of two kinds stand below it and above.
+pub const MIDDLE: u64 = 4_611_686_018_427_387_904;
+
 /// The number at a place, 0 past the end.
 pub fn at(list: &[u64], i: usize) -> u64 {
     list.get(i).copied().unwrap_or(0)
