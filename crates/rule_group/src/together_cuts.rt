@@ -10,7 +10,7 @@ use crate::places::{is_served, is_served_by, nodes_of};
 use crate::spots::{spots_of_idle, spots_of_row};
 use crate::together::common_groups;
 use profiles::standing::leaves::{Leaves, leaves_of};
-use rule_frame::{Element, Memory, NodeSet, Part, Problem, Region, Row, Suggestion, VmId};
+use rule_frame::{Element, Memory, NodeSet, Part, Place, Problem, Region, Row, Suggestion, VmId};
 use slices::form::Groups;
 
 // a constraint by its number, and the groups that each member may be in, with their nodes: always, or at the horizon
@@ -23,11 +23,22 @@ struct Aim<'a> {
     nodes: NodeSet,
 }
 
+// whether a place is outside the sets that are left
+fn is_off(aim: &Aim, place: Place) -> bool {
+    match (aim.groups, place) {
+        (Groups::AnyOf(_), Place::At(n)) => !aim.nodes.has(n),
+        (Groups::AnyOf(_) | Groups::AnyNode, _) => false,
+    }
+}
+
 // whether none of these groups has all nodes on which a machine may be under a row
 fn is_lost(p: &Problem, aim: &Aim, v: VmId, leaves: Option<Leaves>, row: Row) -> bool
     requires machine { v.0 < machine_count p.now.given }
     requires leaves { IfSome leaves (AreLeaves p.now.given v.0) }
 {
+    if is_off(aim, row.place) {
+        return true;
+    }
     let spots = spots_of_row(p, aim.always, v, leaves, row);
     !is_served_by(p, &aim.groups, spots, &aim.common, &aim.nodes)
 }
