@@ -47,8 +47,27 @@ struct Search {
 }
 
 impl<'a> Draft<'a> {
-    /// Seeks a plan with a lower score, with no more than so much work; none is sought below the least.
+    /// Seeks a plan with a lower score, with no more than so much work; none is sought below the least. Where there are
+    /// many pairs of a machine and a node it is sought once more from the plan at hand, since a search may end where
+    /// it finds nothing better though there is.
     pub fn improve(&mut self, least: u64, effort: u64) -> Result<(), Memory> {
+        let first = self.aside()?;
+        self.improve_once(least, effort)?;
+        let worked = self.steps.saturating_sub(first.found);
+        let is_small = self.patience(effort) <= effort / 30;
+        if is_small || self.score() <= least || worked >= effort {
+            return Ok(());
+        }
+        let best = self.aside()?;
+        self.take(&first)?;
+        self.improve_once(least, effort.saturating_sub(worked))?;
+        if self.score() > best.score {
+            self.take(&best)?;
+        }
+        Ok(())
+    }
+
+    fn improve_once(&mut self, least: u64, effort: u64) -> Result<(), Memory> {
         let mut search = self.search(effort)?;
         if search.movable.is_empty() {
             return Ok(());
