@@ -48,14 +48,15 @@ struct Search {
 
 impl<'a> Draft<'a> {
     /// Seeks a plan with a lower score, with no more than so much work; none is sought below the least. Where there are
-    /// many pairs of a machine and a node it is sought once more from the plan at hand, since a search may end where
-    /// it finds nothing better though there is.
+    /// many pairs of a machine and a node, and a whole plan was found, it is sought once more from the plan at hand,
+    /// since a search may end where it finds nothing better though there is.
     pub fn improve(&mut self, least: u64, effort: u64) -> Result<(), Memory> {
         let first = self.aside()?;
         self.improve_once(least, effort)?;
         let worked = self.steps.saturating_sub(first.found);
         let is_small = self.patience(effort) <= effort / 30;
-        if is_small || self.score() <= least || worked >= effort {
+        let is_done = self.open > 0 || self.score() <= least || worked >= effort;
+        if is_small || is_done {
             return Ok(());
         }
         let best = self.aside()?;
