@@ -11,6 +11,10 @@ use cluster::Choice;
 // what a round costs, whatever it looks at
 const ROUND: usize = 10;
 
+// so many times as long a plan with fewer machines without a place is waited for as a better one of a small problem,
+// whatever the size: where the root already leaves none, all of it is in vain
+const OPEN_TIMES: u64 = 4;
+
 // a better plan is waited for so many times as long as it took to find the last one
 const LONGER: u64 = 3;
 
@@ -54,7 +58,7 @@ impl<'a> Draft<'a> {
         let first = self.aside()?;
         self.improve_once(least, effort)?;
         let worked = self.steps.saturating_sub(first.found);
-        let is_small = self.patience(effort) <= effort / 30;
+        let is_small = self.patience(effort) <= least_patience(effort);
         let is_done = self.open > 0 || self.score() <= least || worked >= effort;
         if is_small || is_done {
             return Ok(());
@@ -100,13 +104,17 @@ impl<'a> Draft<'a> {
     // the work after which nothing better is hoped for: more where there are more pairs of a machine and a node
     fn patience(&self, effort: u64) -> u64 {
         let pairs = (self.choices.len() as u64).saturating_mul(self.acts.len() as u64);
-        pairs.saturating_mul(10).max(effort / 30).min(effort / 6)
+        let scaled = pairs.saturating_mul(10);
+        scaled.max(least_patience(effort)).min(effort / 6)
     }
 
     // whether the work is done, or nothing better was found for long
     fn is_over(&self, search: &Search, effort: u64) -> bool {
-        let times: u64 = if search.best.has_open { 4 } else { 1 };
-        let patience = search.patience.saturating_mul(times);
+        let patience = if search.best.has_open {
+            least_patience(effort).saturating_mul(OPEN_TIMES)
+        } else {
+            search.patience
+        };
         self.steps.saturating_sub(search.begin) >= effort
             || self.steps.saturating_sub(search.best.found)
                 > patience.saturating_add(longer(search))
@@ -455,6 +463,11 @@ impl<'a> Draft<'a> {
         self.keep();
         Ok(())
     }
+}
+
+// the work after which nothing better is hoped for where a problem is small
+fn least_patience(effort: u64) -> u64 {
+    effort / 30
 }
 
 // for how much more work a better plan is waited for, since the last one took some
