@@ -1,11 +1,13 @@
 //! Clusters: what was added to them, each refusal, and how names find elements.
 ghost use Rattle.std.proofs.Props.{props};
-ghost use Rattle.std.specs.Prelude.{◌≡◌, ◌++◌, ◌∷◌, [], ◌<◌, ◌≤◌, length, IfOk, IfErr, OnOk, OnErr, unwrap_or, map, IsTrue, IsNone, IsOk, IfSome, true};
+ghost use Rattle.std.specs.Prelude.{◌≡◌, ◌++◌, ◌∷◌, [], ◌<◌, ◌≤◌, ℕ, List, length, IfOk, IfErr, OnOk, OnErr, unwrap_or, IsTrue, IsNone, IsOk, IfSome, Some, true, if◌then◌else◌};
+ghost use Rattle.std.specs.HashMap.{IsUnchanged};
 ghost use Rattle.std.specs.List.{position, list_any, All};
 ghost use Rattle.std.specs.Str.{bytes_eq};
 ghost use Rattle.cluster.specs.Names.{is_name};
 ghost use Rattle.cluster.specs.Inventory.{IsInventory, IsListed, element_named, name_of, resource_named, are_distinct, base_fault, node_fault, machine_fault, host_is_online, has_places};
 ghost use Rattle.cluster.specs.Elements.{element_at, element_count, element_number};
+ghost use Rattle.cluster.specs.ByName.{at_name};
 
 use crate::durations::Duration;
 use crate::fits::{are_durations, is_fitting_machine, is_fitting_node};
@@ -17,8 +19,8 @@ use crate::names::Name;
 use crate::nodes::Node;
 use crate::states::State;
 use base::Memory;
-use indexmap::IndexSet;
 use std::alloc::{AllocError, Global};
+use std::collections::HashMap;
 use std::marker::Model;
 use thiserror::Error;
 
@@ -74,8 +76,7 @@ pub struct Cluster {
     durations: [Duration; KIND_COUNT],
     nodes: Vec<Node>,
     machines: Vec<Machine>,
-    node_names: IndexSet<Vec<u8>>,
-    machine_names: IndexSet<Vec<u8>>,
+    by_name: HashMap<Vec<u8>, Element>,
     ghost sound: { IsInventory (record { resources = resources.items; durations = durations; nodes = nodes.items; machines = machines.items }) } by { Prim.hlevel props },
 }
 
@@ -112,8 +113,7 @@ impl Cluster {
             durations,
             nodes: Vec::new(alloc),
             machines: Vec::new(alloc),
-            node_names: IndexSet::new(alloc),
-            machine_names: IndexSet::new(alloc),
+            by_name: HashMap::new(alloc),
         })
     }
 
@@ -161,13 +161,7 @@ impl Cluster {
         ensures element { result ≡ element_named self.now.given name.now }
         ensures listed { IfSome result (IsListed self.now.given) }
     {
-        match self.machine_names.get_index_of(name) {
-            Some(i) => Some(Element::Vm(VmId(i as u32))),
-            None => match self.node_names.get_index_of(name) {
-                Some(i) => Some(Element::Node(NodeId(i as u32))),
-                None => None,
-            },
-        }
+        self.by_name.get(name).copied()
     }
 
     /// How many elements there are: machines and nodes.
@@ -269,7 +263,7 @@ impl Cluster {
         }
         let id = NodeId(self.nodes.len() as u32);
         self.nodes.reserve(1)?;
-        add_name(&mut self.node_names, &node.name)?;
+        add_name(&mut self.by_name, &node.name, Element::Node(id))?;
         self.nodes.push(node).unwrap();
         Ok(id)
     }
@@ -287,7 +281,7 @@ impl Cluster {
         }
         let id = VmId(self.machines.len() as u32);
         self.machines.reserve(1)?;
-        add_name(&mut self.machine_names, &machine.name)?;
+        add_name(&mut self.by_name, &machine.name, Element::Vm(id))?;
         self.machines.push(machine).unwrap();
         Ok(id)
     }
@@ -350,13 +344,16 @@ fn is_host_online(nodes: &[Node], state: State) -> bool
     }
 }
 
-// adds a name that is not there
-fn add_name(names: &mut IndexSet<Vec<u8>>, name: &Name) -> Result<(), Memory>
-    requires { position (bytes_eq name.now) (map (λ k. k.items) names.old.keys) ≡ None }
-    ensures added { OnOk result (map (λ k. k.items) names.new.keys ≡ map (λ k. k.items) names.old.keys ++ name.now ∷ []) }
-    ensures kept { OnErr result (names.new.keys ≡ names.old.keys) }
+// puts an element under its name
+fn add_name(
+    by_name: &mut HashMap<Vec<u8>, Element>,
+    name: &Name,
+    element: Element,
+) -> Result<(), Memory>
+    ensures added { OnOk result ((other : List ℕ) → at_name by_name.new other ≡ (if bytes_eq name.now other then Some element else at_name by_name.old other)) }
+    ensures kept { OnErr result (IsUnchanged by_name.old by_name.new) }
 {
     let key = name.to_bytes()?;
-    let _ = names.insert(key)?;
+    let _ = by_name.insert(key, element)?;
     Ok(())
 }
