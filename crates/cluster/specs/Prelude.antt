@@ -14,7 +14,7 @@ unfoldable pub use Rattle.cluster.specs.Sets.{has_machine, has_node, no_nodes, w
 pub use Rattle.cluster.specs.States.{host_of, state_number}
 unfoldable pub use Rattle.cluster.specs.States.{state_word, state_words}
 pub use Rattle.cluster.specs.ByName.{at_name}
-pub use Rattle.cluster.specs.Tables.{inventory_of, IsNumbered}
+pub use Rattle.cluster.specs.Tables.{inventory_of, IsIndexed}
 pub use Rattle.cluster.specs.declared.choices.Choice.{Choice}
 pub use Rattle.cluster.specs.declared.choices.Choice.TheVariants.{Act, Idle}
 pub use Rattle.cluster.specs.declared.choices.Place.{Place}

@@ -85,11 +85,11 @@ impl Model for Cluster {
 
     ghost Value = { SoundInventory };
 
-    ghost use Rattle.cluster.specs.Tables.{inventory_of, IsNumbered};
+    ghost use Rattle.cluster.specs.Tables.{inventory_of, IsIndexed};
 
     ghost view = { λ a. record { given = inventory_of a; sound = a.sound } };
 
-    ghost invariant = { IsNumbered };
+    ghost invariant = { IsIndexed };
 }
 
 impl Cluster {

@@ -5,7 +5,6 @@ use solver::Solver;
 use std::alloc::Global;
 use std::test::Fail;
 
-mod instances;
 mod planning;
 mod reading;
 mod solvers;

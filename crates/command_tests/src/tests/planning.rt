@@ -1,13 +1,13 @@
 //! Plans by the brancher that takes the least start, and by a solver without memory. Those of the program are rows.
 
-use crate::tests::instances::{
+use crate::tests::runs_on;
+use crate::tests::solvers::{ByLeastStart, NoMemory};
+use commands::status::Status;
+use fixtures::instances::{
     ALONE, APART, APART_ALWAYS, APART_AT_THE_END, BANNED, CROSSED, CROWDED, HALVED, LIT, NO_TIME,
     OFFLINE, OVERBOOKED, OVERLOADED, RAISED, SHARED_ALWAYS, SHARED_AT_THE_END, SWAP, TURNS,
     UNFENCED,
 };
-use crate::tests::runs_on;
-use crate::tests::solvers::{ByLeastStart, NoMemory};
-use commands::status::Status;
 use plan_io::{DeskMem, SinkMem};
 use std::alloc::Global;
 use std::process::Abort;

@@ -1,10 +1,10 @@
 //! The command `check` on a desk that gives one byte at each read.
 
-use crate::tests::instances::SWAP;
 use crate::tests::solvers::NoMemory;
 use crate::tests::words;
 use commands::run::run;
 use commands::status::Status;
+use fixtures::instances::SWAP;
 use plan_io::{Desk, DeskSure, Failed, OutFault, SinkMem, SourceMem};
 use std::alloc::Global;
 use std::process::Abort;

@@ -1,5 +1,5 @@
 use Rattle.base.proofs.Public.{ℕ, List, Bor, bytes_eq, ◌∙◌, sym}
-use Rattle.cluster.proofs.Numbering.{position-map}
+use Rattle.cluster.proofs.NameTable.{position-map}
 use Rattle.cluster.proofs.words.place_of_word.Goals as goal
 
 pub returns : goal.returns
