@@ -1,7 +1,7 @@
 //! Quick tests of what is sure in a region, by the numbers that are kept beside it.
 #![tactic(auto)]
 
-mod coming;
+pub mod coming;
 mod elsewhere;
 mod holding;
 pub mod known;

@@ -14,13 +14,13 @@ unseen-kept kinds p x (Some k) h = at (passes kinds (reason_kind k))
     at true = h
     at false = by x
 
-pub kept_disturbed : (kinds : ReasonKind → Bool) (p : Instance) (x : Element) (old now : List Choice) (m n : Levels) → AreFewer now old → AreLooking (IsSpared kinds p x now) p x m n → IsDisturbed (watch_at kinds p) p x old now m n
-kept_disturbed kinds p x old now m n fewer looking = record {
+pub kept_disturbed : (kinds : ReasonKind → Bool) (p : Instance) (s : Sets) (x : Element) (old : List Choice) (m n : Levels) → AreFewer (s x) old → AreLooking (IsSpared kinds p s x) p x m n → IsDisturbed (watch_at kinds p) p s x old m n
+kept_disturbed kinds p s x old m n fewer looking = record {
   older = looking.older;
   count = looking.count;
   kept = looking.kept;
   still = λ c h e. elim (looking.unseen c h e) [
-    | inl unseen ↦ inl (unseen_still p (watch_at kinds p c).scope x old now (unseen-kept kinds p x (slice_get p.constraints c) unseen))
+    | inl unseen ↦ inl (unseen_still p (watch_at kinds p c).scope x old (s x) (unseen-kept kinds p x (slice_get p.constraints c) unseen))
     | inr spared ↦ spared old fewer
   ];
 }
@@ -31,15 +31,15 @@ kept_disturbed kinds p x old now m n fewer looking = record {
 none-clean : (p : Instance) (s : Sets) → IsClean no_watch p s
 none-clean p s t l = record { base = λ broken. broken; ends = λ e c element end broken. broken }
 
-spared-none : (kinds : ReasonKind → Bool) (p : Instance) (x : Element) (now : List Choice) (c : ℕ) (k : Constraint) → slice_get p.constraints c ≡ Some k → passes kinds (reason_kind k) ≡ false → IsSpared kinds p x now c
-spared-none kinds p x now c k is none old fewer = inr (λ s same clean. rw (is, none) (none-clean p s))
+spared-none : (kinds : ReasonKind → Bool) (p : Instance) (s : Sets) (x : Element) (c : ℕ) (k : Constraint) → slice_get p.constraints c ≡ Some k → passes kinds (reason_kind k) ≡ false → IsSpared kinds p s x c
+spared-none kinds p s x c k is none old fewer = inr (λ clean. rw (is, none) (none-clean p s))
 
-pub spared_settled : (kinds : ReasonKind → Bool) (p : Instance) (x : Element) (now : List Choice) (c : ℕ) (k : Constraint) → slice_get p.constraints c ≡ Some k → reason_kind k ≡ None → IsSpared kinds p x now c
-spared_settled kinds p x now c k is settled = spared-none kinds p x now c k is (rw settled refl)
+pub spared_settled : (kinds : ReasonKind → Bool) (p : Instance) (s : Sets) (x : Element) (c : ℕ) (k : Constraint) → slice_get p.constraints c ≡ Some k → reason_kind k ≡ None → IsSpared kinds p s x c
+spared_settled kinds p s x c k is settled = spared-none kinds p s x c k is (rw settled refl)
 
-pub spared_covered : (kinds : ReasonKind → Bool) (p : Instance) (x : Element) (now : List Choice) (c : ℕ) (k : Constraint) (kind : ReasonKind) → slice_get p.constraints c ≡ Some k → reason_kind k ≡ Some kind → kinds kind ≡ true →
-    IsHarmless (constraint_watch p c) p x now → IsSpared kinds p x now c
-spared_covered kinds p x now c k kind is of covered harmless old fewer = rw (is, of, covered) (rw is at (harmless old fewer))
+pub spared_covered : (kinds : ReasonKind → Bool) (p : Instance) (s : Sets) (x : Element) (c : ℕ) (k : Constraint) (kind : ReasonKind) → slice_get p.constraints c ≡ Some k → reason_kind k ≡ Some kind → kinds kind ≡ true →
+    IsHarmless (constraint_watch p c) p s x → IsSpared kinds p s x c
+spared_covered kinds p s x c k kind is of covered harmless old fewer = rw (is, of, covered) (rw is at (harmless old fewer))
 
-pub spared_of_others : (kinds : ReasonKind → Bool) (p : Instance) (x : Element) (now : List Choice) (c : ℕ) (k : Constraint) (kind : ReasonKind) → slice_get p.constraints c ≡ Some k → reason_kind k ≡ Some kind → kinds kind ≡ false → IsSpared kinds p x now c
-spared_of_others kinds p x now c k kind is of other = spared-none kinds p x now c k is (rw of other)
+pub spared_of_others : (kinds : ReasonKind → Bool) (p : Instance) (s : Sets) (x : Element) (c : ℕ) (k : Constraint) (kind : ReasonKind) → slice_get p.constraints c ≡ Some k → reason_kind k ≡ Some kind → kinds kind ≡ false → IsSpared kinds p s x c
+spared_of_others kinds p s x c k kind is of other = spared-none kinds p s x c k is (rw of other)

@@ -1,6 +1,6 @@
 -- The watches of rules over constraints.
 use Rattle.std.specs.Prelude.{◌⊎◌, ℕ, Bool, true, false, List, length, slice_get, Option, Some, None}
-use Rattle.rule_constraint.specs.Words.{AreFewer, Choice, Element, Instance, IsStill, nothing, rule_watch, StaysClean, Watch, Constraint, ReasonKind}
+use Rattle.rule_constraint.specs.Words.{AreFewer, Choice, Element, Instance, IsStill, nothing, rule_watch, Sets, StaysClean, Watch, Constraint, ReasonKind}
 use Rattle.rule_constraint.specs.Given.{reason_kind}
 
 -- nothing breaks it
@@ -25,13 +25,13 @@ kept_watch kinds p (Some k) = choose (passes kinds (reason_kind k)) (rule_watch 
 abbrev pub watch_at : (ReasonKind → Bool) → Instance → ℕ → Watch
 watch_at kinds p i = kept_watch kinds p (slice_get p.constraints i)
 
--- whatever choices of x it had besides, those that it has now weigh no more on the watch, or leave it clean where it was
-abbrev pub IsHarmless : Watch → Instance → Element → List Choice → Type 0
-IsHarmless w p x now = (old : List Choice) → AreFewer now old → IsStill p w.scope x old now ⊎ StaysClean w p x old now
+-- whatever choices x had besides, those that it has now weigh no more on the watch, or leave it clean where it was
+abbrev pub IsHarmless : Watch → Instance → Sets → Element → Type 0
+IsHarmless w p s x = (old : List Choice) → AreFewer (s x) old → IsStill p w.scope x old (s x) ⊎ StaysClean w p s x old
 
 -- so it is of the constraint of a number
-abbrev pub IsSpared : (ReasonKind → Bool) → Instance → Element → List Choice → ℕ → Type 0
-IsSpared kinds p x now c = IsHarmless (watch_at kinds p c) p x now
+abbrev pub IsSpared : (ReasonKind → Bool) → Instance → Sets → Element → ℕ → Type 0
+IsSpared kinds p s x c = IsHarmless (watch_at kinds p c) p s x
 
 abbrev pub watch_count : Instance → ℕ
 watch_count p = length p.constraints

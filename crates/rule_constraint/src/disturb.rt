@@ -14,7 +14,7 @@ fn is_spared<S: Kinds>(kinds: &S, p: &Problem, g: &Region, v: VmId, c: u32) -> b
     requires region { IsSized p.now.given g.now }
     requires machine { v.0 < machine_count p.now.given }
     requires constraint { c < length p.now.given.constraints }
-    ensures { IsTrue result → IsSpared (S.kinds kinds.now) p.now.given (Vm v) (sets g.now (Vm v)) c }
+    ensures { IsTrue result → IsSpared (S.kinds kinds.now) p.now.given (sets g.now) (Vm v) c }
 {
     match reason_kind(&p.constraints()[c as usize]) {
         None => true,
@@ -35,7 +35,7 @@ fn needs_nothing<S: Kinds>(
     requires machine { v.0 < machine_count p.now.given }
     requires constraint { c < length p.now.given.constraints }
     requires count { length p.now.given.constraints ≤ length dirty.now.top }
-    ensures { IsTrue result → slice_index_or dirty.now.top c false ≡ false → IsSpared (S.kinds kinds.now) p.now.given (Vm v) (sets g.now (Vm v)) c }
+    ensures { IsTrue result → slice_index_or dirty.now.top c false ≡ false → IsSpared (S.kinds kinds.now) p.now.given (sets g.now) (Vm v) c }
 {
     dirty.is_dirty(c as usize) || is_spared(kinds, p, g, v, c)
 }
@@ -53,7 +53,7 @@ fn set_unspared_dirty<S: Kinds>(
     requires machine { v.0 < machine_count p.now.given }
     requires numbers { (i : ℕ) → Contains numbers.now i → i < length p.now.given.constraints }
     requires count { length p.now.given.constraints ≤ length dirty.old.top }
-    ensures { AreDirty (IsSpared (S.kinds kinds.now) p.now.given (Vm v) (sets g.now (Vm v))) (length numbers.now) numbers.now dirty.old dirty.new }
+    ensures { AreDirty (IsSpared (S.kinds kinds.now) p.now.given (sets g.now) (Vm v)) (length numbers.now) numbers.now dirty.old dirty.new }
 {
     for k in 0..numbers.len() {
         if !needs_nothing(kinds, p, g, v, numbers[k], dirty) {
@@ -86,7 +86,7 @@ pub fn set_looking_dirty<S: Kinds>(
     requires right { IsIndexOf p.now.given (length p.now.given.constraints) index.now.lists }
     requires element { IsElement p.now.given e }
     requires count { length p.now.given.constraints ≤ length dirty.old.top }
-    ensures { (old : List AnyChoice) → AreFewer (sets g.now e) old → IsDisturbed (watch_at (S.kinds kinds.now) p.now.given) p.now.given e old (sets g.now e) dirty.old dirty.new }
+    ensures { (old : List AnyChoice) → AreFewer (sets g.now e) old → IsDisturbed (watch_at (S.kinds kinds.now) p.now.given) p.now.given (sets g.now) e old dirty.old dirty.new }
 {
     match e {
         Element::Vm(v) => {

@@ -70,7 +70,7 @@ pub trait Kinds: Drop {
         requires region { IsSized p.now.given g.now }
         requires constraint { c < length p.now.given.constraints }
         requires machine { v.0 < machine_count p.now.given }
-        ensures { IsTrue result → IsHarmless (constraint_watch p.now.given c) p.now.given (Vm v) (sets g.now (Vm v)) }
+        ensures { IsTrue result → IsHarmless (constraint_watch p.now.given c) p.now.given (sets g.now) (Vm v) }
     {
         false
     }

@@ -28,9 +28,9 @@ pub record IsStill (p : Instance) (k : Scope) (x : Element) (old now : List Choi
   pub ends : (c : Choice) → IsEnd now c → (t : ℕ) → t ≤ p.horizon →
       IsLess p k x t (c ∷ []) old ⊎ ((d : Choice) × IsEnd old d × IsLess p k x t (c ∷ []) (d ∷ []))
 
--- the watch is clean with the choices of x now, wherever it was clean with the old ones
-abbrev pub StaysClean : Watch → Instance → Element → List Choice → List Choice → Type 0
-StaysClean w p x old now = (s : Sets) → s x ≡ now → IsClean w p (putting x old s) → IsClean w p s
+-- the watch is clean in the sets as they are, if it was clean with the old choices of x
+abbrev pub StaysClean : Watch → Instance → Sets → Element → List Choice → Type 0
+StaysClean w p s x old = IsClean w p (putting x old s) → IsClean w p s
 
 -- ---- dirty watches
 
@@ -39,11 +39,11 @@ pub record AreClean (watch : ℕ → Watch) (p : Instance) (s : Sets) (flags : L
   pub clean : (i : ℕ) → i < length flags → slice_index_or flags i false ≡ false → IsClean (watch i) p s
 
 -- each watch on which a change of x weighs, and which it may leave not clean, is dirty, and what was dirty still is
-pub record IsDisturbed (watch : ℕ → Watch) (p : Instance) (x : Element) (old now : List Choice) (m n : Levels) : Type 0 where
+pub record IsDisturbed (watch : ℕ → Watch) (p : Instance) (s : Sets) (x : Element) (old : List Choice) (m n : Levels) : Type 0 where
   pub older : n.older ≡ m.older
   pub count : length n.top ≡ length m.top
   pub kept : (i : ℕ) → i < length n.top → slice_index_or n.top i false ≡ false → slice_index_or m.top i false ≡ false
-  pub still : (i : ℕ) → i < length n.top → slice_index_or n.top i false ≡ false → IsStill p (watch i).scope x old now ⊎ StaysClean (watch i) p x old now
+  pub still : (i : ℕ) → i < length n.top → slice_index_or n.top i false ≡ false → IsStill p (watch i).scope x old (s x) ⊎ StaysClean (watch i) p s x old
 
 -- each watch that is not dirty is clean, and the levels below are as they were
 pub record IsKept (watch : ℕ → Watch) (p : Instance) (s : Sets) (m n : Levels) : Type 0 where

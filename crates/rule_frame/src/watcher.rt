@@ -64,7 +64,7 @@ pub trait Watcher<K: Keeper> {
         requires right { IsCacheFor (K.cache k.now) p.now.given (sets g.now) }
         requires narrowed { IsNarrowed p.now.given g.now change before kept.now }
         requires count { length dirty.old.top ≡ count_of self.now p.now.given }
-        ensures { IsDisturbed (watch self.now p.now.given) p.now.given change.element (choices (domain_before before kept.now (domain_at g.now change.element))) (sets g.now change.element) dirty.old dirty.new };
+        ensures { IsDisturbed (watch self.now p.now.given) p.now.given (sets g.now) change.element (choices (domain_before before kept.now (domain_at g.now change.element))) dirty.old dirty.new };
 
     /// A reason that refutes the region, where one is seen before a look at a watch: one that takes many
     /// elements together, say, of which each alone may still be where it is. None need be seen.

@@ -49,16 +49,16 @@ pub node_spared : (p : Instance) (x : NodeId) (old now : List Choice) (m n : Lev
 node_spared p x old now m n s = weaker (λ i. i ≢ x.0) (λ i. IsStill p (load_scope (one i)) (TheNode x) old now) m n (λ i ne. node_still p x.0 i old now ne) s
 
 -- with all nodes together dirty, where the loads of single nodes that are not dirty are spared
-pub disturbed : (p : Instance) (x : Element) (old now : List Choice) (m n o : Levels) → length m.top ≡ node_count p + 1 →
-    AreSpared (λ k. k ≢ node_count p) m n → AreSpared (λ k. IsStill p (load_scope (one k)) x old now) n o → IsDisturbed (watch_at p) p x old now m o
-disturbed p x old now m n o count total single =
-    let s = both (λ k. k ≢ node_count p) (λ k. IsStill p (load_scope (one k)) x old now) m n o total single in
+pub disturbed : (p : Instance) (s : Sets) (x : Element) (old : List Choice) (m n o : Levels) → length m.top ≡ node_count p + 1 →
+    AreSpared (λ k. k ≢ node_count p) m n → AreSpared (λ k. IsStill p (load_scope (one k)) x old (s x)) n o → IsDisturbed (watch_at p) p s x old m o
+disturbed p s x old m n o count total single =
+    let spared = both (λ k. k ≢ node_count p) (λ k. IsStill p (load_scope (one k)) x old (s x)) m n o total single in
     record {
-      older = s.older;
-      count = s.count;
-      kept = λ k h e. (s.kept k h e).0;
+      older = spared.older;
+      count = spared.count;
+      kept = λ k h e. (spared.kept k h e).0;
       still = λ k h e.
-          let at = (s.kept k h e).1 in
-          let low : k < node_count p = omega (arith, at.0, h, s.count, count) in
-          inl (subst (λ set. IsStill p (load_scope set) x old now) (sym (one_at p k low)) at.1);
+          let at = (spared.kept k h e).1 in
+          let low : k < node_count p = omega (arith, at.0, h, spared.count, count) in
+          inl (subst (λ set. IsStill p (load_scope set) x old (s x)) (sym (one_at p k low)) at.1);
     }

@@ -220,7 +220,7 @@ pub(crate) fn set_disturbed_dirty(
     requires element { IsElement p.now.given x }
     requires count { length dirty.old.top ≡ node_count p.now.given + 1 }
     requires fewer { AreFewer (sets g.now x) (choices (domain_before before kept.now (domain_at g.now x))) }
-    ensures { IsDisturbed (watch_at p.now.given) p.now.given x (choices (domain_before before kept.now (domain_at g.now x))) (sets g.now x) dirty.old dirty.new }
+    ensures { IsDisturbed (watch_at p.now.given) p.now.given (sets g.now) x (choices (domain_before before kept.now (domain_at g.now x))) dirty.old dirty.new }
 {
     set_one_dirty(dirty, node_total(p));
     match x {

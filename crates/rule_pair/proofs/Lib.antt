@@ -6,4 +6,5 @@ mod LongestLemmas
 mod StayLemmas
 mod StrangerLemmas
 mod UnmovedLemmas
+mod TwinLemmas
 mod ReachLemmas

@@ -97,47 +97,51 @@ sooner-come n t u s (At m) l e = by (one n m.0) e
     by false e = e
     by true e = grind (arith, nat_tests, e, l)
 
-module _ (p : Instance) (v : ℕ) (old now : List Choice) (short : p.horizon < never) (fewer : AreFewer now old) where
-  one-law : (n t : ℕ) (c : Choice) → t ≤ p.horizon → present_at p v (one n) t c ≡ nat_lt 0 (kept_use p v Presence n t (numbers p v c))
-  one-law n t c l = sym (and-true (present_at p v (one n) t c)) ∙ present_law p v n t (c ∷ []) (numbers p v c) (omega (arith, l, short)) (λ e. cc) (of_one p v c)
+-- where a machine is under one choice, by its numbers
+pub one_law : (p : Instance) (v n t : ℕ) (c : Choice) → p.horizon < never → t ≤ p.horizon → present_at p v (one n) t c ≡ nat_lt 0 (kept_use p v Presence n t (numbers p v c))
+one_law p v n t c short l = sym (and-true (present_at p v (one n) t c)) ∙ present_law p v n t (c ∷ []) (numbers p v c) (omega (arith, l, short)) (λ e. cc) (of_one p v c)
 
+module _ (p : Instance) (v : ℕ) (old now : List Choice) (short : p.horizon < never) (fewer : AreFewer now old) where
   end_before : (n t : ℕ) (c : Choice) → t ≤ p.horizon → IsEnd now c → present_at p v (one n) t c ≡ true → (d : Choice) × IsEnd old d × (present_at p v (one n) t d ≡ true)
   end_before n t Idle l end on = (Idle, fewer Idle end, on)
   end_before n t (Act q u) l end on =
       let there : Contains old (Act q u) = fewer (Act q u) end.0 in
-      elim (summand (hosted_in (state_of p v) (one n) && nat_lt t (leave_of p v (Act q u))) (comes_by n t (arrival (Act q u))) (base p v Presence) (gain p v Presence n) (sym (one-law n t (Act q u) l) ∙ on)) [
+      elim (summand (hosted_in (state_of p v) (one n) && nat_lt t (leave_of p v (Act q u))) (comes_by n t (arrival (Act q u))) (base p v Presence) (gain p v Presence n) (sym (one_law p v n t (Act q u) short l) ∙ on)) [
         | inl x ↦
             let last = last_of old q u there in
             let longer = leave_climbs p v q u last.0 (last.2 u there) in (
               Act q last.0,
               (last.1, inr last.2),
-              one-law n t (Act q last.0) l
+              one_law p v n t (Act q last.0) short l
                   ∙ by-first (hosted_in (state_of p v) (one n) && nat_lt t (leave_of p v (Act q last.0))) (comes_by n t (arrival (Act q last.0))) (base p v Presence) (gain p v Presence n) (hosted-longer (hosted_in (state_of p v) (one n)) t _ _ longer x.0) x.1,
             )
         | inr x ↦
             let first = first_of old q u there in (
               Act q first.0,
               (first.1, inl first.2),
-              one-law n t (Act q first.0) l
+              one_law p v n t (Act q first.0) short l
                   ∙ by-second (hosted_in (state_of p v) (one n) && nat_lt t (leave_of p v (Act q first.0))) (comes_by n t (arrival (Act q first.0))) (base p v Presence) (gain p v Presence n) (sooner-come n t first.0 u q (first.2 u there) x.0) x.1,
             )
       ]
+
+-- ---- what was before
+
+module _ (v : ℕ) (old : List Choice) (s : Sets) where
+  own_before : putting (vm v) old s (vm v) ≡ old
+  own_before = rw (eq-eqb v v refl) refl
+
+  pub other_before : (e : Element) → vm v ≢ e → putting (vm v) old s e ≡ s e
+  other_before e ne = at (same_element e (vm v)) refl
+    where
+      at : (b : Bool) → same_element e (vm v) ≡ b → (if b then old else s e) ≡ s e
+      at true x = absurd (ne (sym (same_is e (vm v) x)))
+      at false x = refl
 
 -- ---- a constraint
 
 module _ (p : Instance) (k : Constraint) (v : ℕ) (old : List Choice) (s : Sets) (short : p.horizon < never) (is : reason_kind k ≡ Some Pair) (fewer : AreFewer (s (vm v)) old) (un : IsUnmoved p v old (s (vm v))) (clean : IsClean (rule_watch p k) p (putting (vm v) old s)) where
   abbrev before : Sets
   before = putting (vm v) old s
-
-  own-before : before (vm v) ≡ old
-  own-before = rw (eq-eqb v v refl) refl
-
-  other-before : (e : Element) → vm v ≢ e → before e ≡ s e
-  other-before e ne = at (same_element e (vm v)) refl
-    where
-      at : (b : Bool) → same_element e (vm v) ≡ b → (if b then old else s e) ≡ s e
-      at true x = absurd (ne (sym (same_is e (vm v) x)))
-      at false x = refl
 
   sure-before : (w n t : ℕ) → t ≤ p.horizon → IsTrue ((sure p s t).present w (one n)) → IsTrue ((sure p before t).present w (one n))
   unfolding sure
@@ -167,7 +171,7 @@ module _ (p : Instance) (k : Constraint) (v : ℕ) (old : List Choice) (s : Sets
     own-end : (c : Choice) → IsElement p (vm v) → IsEnd (s (vm v)) c → (x : HasPair p (sure p (setting (vm v) c s) t) k) → present_at p v (one x.2) t c ≡ true → ⊥
     own-end c element end x on =
         let d = end_before p v old (s (vm v)) short fewer x.2 t c l end on in
-        (clean t l).ends (vm v) d.0 element (rw own-before d.1)
+        (clean t l).ends (vm v) d.0 element (rw (own_before v old s) d.1)
         (due, inl (x.0, x.1, x.2, x.3, x.4, x.5, record { forbidden = x.6.forbidden; differ = x.6.differ; first = itself c d.0 x.0 x.2 d.2 x.6.first; second = itself c d.0 x.1 x.2 d.2 x.6.second }))
 
     own : (c : Choice) → IsElement p (vm v) → IsEnd (s (vm v)) c → HasPair p (sure p (setting (vm v) c s) t) k → ⊥
@@ -197,7 +201,7 @@ module _ (p : Instance) (k : Constraint) (v : ℕ) (old : List Choice) (s : Sets
     with-end e c element end x = elim (vm_or e v) [
       | inl same ↦ own c (rw same at element) (rw same at end) (rw same at x)
       | inr ne ↦
-          (clean t l).ends e c element (rw (other-before e ne) end)
+          (clean t l).ends e c element (rw (other_before v old s e ne) end)
           (due, inl (x.0, x.1, x.2, x.3, x.4, x.5, record { forbidden = x.6.forbidden; differ = x.6.differ; first = elsewhere e c x.0 x.2 ne x.6.first; second = elsewhere e c x.1 x.2 ne x.6.second }))
     ]
 
@@ -233,10 +237,10 @@ watch-stays p (Some k) v old s short fewer un clean = at (passes pair_kinds (rea
     at true e clean = stays p k v old s short (of-pairs (reason_kind k) e) fewer un clean
     at false e clean = none-clean p s
 
-pub unmoved_disturbs_none : (p : Instance) (v : VmId) (old now : List Choice) (m : Levels) → p.horizon < never → AreFewer now old → IsUnmoved p v.0 old now → IsDisturbed (watch_at pair_kinds p) p (Vm v) old now m m
-unmoved_disturbs_none p v old now m short fewer un = record {
+pub unmoved_disturbs_none : (p : Instance) (s : Sets) (v : VmId) (old : List Choice) (m : Levels) → p.horizon < never → AreFewer (s (Vm v)) old → IsUnmoved p v.0 old (s (Vm v)) → IsDisturbed (watch_at pair_kinds p) p s (Vm v) old m m
+unmoved_disturbs_none p s v old m short fewer un = record {
   older = refl;
   count = refl;
   kept = λ i h e. e;
-  still = λ i h e. inr (λ s same clean. watch-stays p (slice_get p.constraints i) v.0 old s short (subst (λ cs. AreFewer cs old) (sym same) fewer) (subst (λ cs. IsUnmoved p v.0 old cs) (sym same) un) clean);
+  still = λ i h e. inr (λ clean. watch-stays p (slice_get p.constraints i) v.0 old s short fewer un clean);
 }

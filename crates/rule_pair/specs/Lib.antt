@@ -6,5 +6,6 @@ pub mod Kept
 pub mod Longest
 pub mod Reach
 pub mod Stays
+pub mod Twins
 pub mod Unmoved
 pub mod Prelude

@@ -27,6 +27,7 @@ pub use Rattle.rule_pair.specs.Kept.{AreKept, AreRight, cache_of, StandsIn}
 pub use Rattle.rule_pair.specs.Longest.{AreLonger, AreOrdered, IsOrdered, of_others, told_until}
 pub use Rattle.rule_pair.specs.Reach.{AreEnds, AreUntils, HaveBits, IsReach}
 pub use Rattle.rule_pair.specs.Stays.{StandsWithin}
+pub use Rattle.rule_pair.specs.Twins.{HasTwin, IsTwin, StandsFor}
 pub use Rattle.rule_pair.specs.Unmoved.{IsUnmoved}
 pub use Rattle.rule_pair.specs.declared.clear.Seen.{Seen}
 pub use Rattle.rule_pair.specs.declared.clear.Seen.TheVariants.{Clear, Doubtful, Unknown}

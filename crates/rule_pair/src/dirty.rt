@@ -26,7 +26,7 @@ fn set_machine_dirty(
     requires machine { v.0 < machine_count p.now.given }
     requires count { length p.now.given.constraints ≤ length dirty.old.top }
     requires fewer { AreFewer (sets g.now (Vm v)) (choices (domain_before before kept.now (domain_at g.now (Vm v)))) }
-    ensures { IsDisturbed (watch_at pair_kinds p.now.given) p.now.given (Vm v) (choices (domain_before before kept.now (domain_at g.now (Vm v)))) (sets g.now (Vm v)) dirty.old dirty.new }
+    ensures { IsDisturbed (watch_at pair_kinds p.now.given) p.now.given (sets g.now) (Vm v) (choices (domain_before before kept.now (domain_at g.now (Vm v)))) dirty.old dirty.new }
 {
     if k.has_clean(p, ReasonKind::Pair, v, dirty) && is_unmoved_in(p, g, v, before, kept) {
         return;
@@ -50,7 +50,7 @@ pub(crate) fn set_moved_dirty(
     requires element { IsElement p.now.given x }
     requires count { length p.now.given.constraints ≤ length dirty.old.top }
     requires fewer { AreFewer (sets g.now x) (choices (domain_before before kept.now (domain_at g.now x))) }
-    ensures { IsDisturbed (watch_at pair_kinds p.now.given) p.now.given x (choices (domain_before before kept.now (domain_at g.now x))) (sets g.now x) dirty.old dirty.new }
+    ensures { IsDisturbed (watch_at pair_kinds p.now.given) p.now.given (sets g.now) x (choices (domain_before before kept.now (domain_at g.now x))) dirty.old dirty.new }
 {
     match x {
         Element::Vm(v) => set_machine_dirty(k, p, g, v, before, kept, dirty),

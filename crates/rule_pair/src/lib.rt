@@ -16,5 +16,6 @@ pub mod rule;
 mod stays;
 mod strangers;
 mod suggest;
+mod twins;
 mod unmoved;
 pub mod watcher;

@@ -6,6 +6,7 @@ use crate::members::keeps_apart;
 use profiles::standing::numbers::{Standing, standing_of};
 use profiles::standing::stays::surely_at;
 use profiles::standing::uses::kept_use;
+use quick_checks::coming::comes_on;
 use relax::named::is_named;
 use relax::refutes::refutes_inside;
 use rule_frame::{Element, Instant, Lens, NodeId, Part, Problem, Reason, Region, View, VmId};
@@ -77,7 +78,8 @@ fn is_there(p: &Problem, v: VmId, n: NodeId, t: Instant, k: Standing) -> bool
     kept_use(p, v, Weight::Presence, n, t, k) > 0
 }
 
-// whether a machine is on a node under each of its choices, where an element keeps those in a part
+// whether a machine is on a node under each of its choices, where an element keeps those in a part: what all start there by the
+// instant is told by the part, without a look at the choices
 #[tactic(auto, using(crate::proofs::KeptLemmas::present_kept))]
 fn is_at(
     p: &Problem,
@@ -94,15 +96,16 @@ fn is_at(
     requires machine { v.0 < machine_count p.now.given }
     ensures { IsTrue result → (sure p.now.given (keeping e (in_part part) (sets g.now)) t).present v.0 (one n.0) ≡ true }
 {
+    let view = View {
+        region: g,
+        lens: Lens::Inside(e, part),
+    };
+    if comes_on(p, &view, v, n, t) {
+        return true;
+    }
     match standing_seen(p, g, kept, e, part, v) {
         Some(k) => is_there(p, v, n, t, k),
-        None => {
-            let view = View {
-                region: g,
-                lens: Lens::Inside(e, part),
-            };
-            surely_at(p, &view, v, n, t)
-        }
+        None => surely_at(p, &view, v, n, t),
     }
 }
 

@@ -4,9 +4,10 @@ ghost use Rattle.rule_pair.specs.Covers.{pair_kinds};
 
 use crate::keeper::PairKeeper;
 use crate::pairs::pair_reason;
+use crate::twins;
 use crate::watcher::PairWatcher;
 use rule_constraint::Kinds;
-use rule_frame::{Instant, Problem, Reason, ReasonKind, Rule, View};
+use rule_frame::{Instant, Problem, Reason, ReasonKind, Region, Rule, View, VmId};
 
 /// Two machines on one node: `spread`, `split`, `lonely`.
 #[derive(Clone, Copy, Default)]
@@ -22,6 +23,10 @@ impl Kinds for Pairs {
     #[tactic(auto, using(crate::proofs::BrokenLemmas::pair_broken))]
     fn reason(&self, p: &Problem, view: &View, c: u32, t: Instant) -> Reason {
         pair_reason(p, view, c, t)
+    }
+
+    fn spares(&self, p: &Problem, g: &Region, c: u32, v: VmId) -> bool {
+        twins::is_spared(p, g, c, v)
     }
 
     ghost no_loads = { λ k. refl };

@@ -53,6 +53,5 @@ module _ (p : Instance) (sound : IsInstance p) (k : Constraint) (v : ℕ) (old :
     ends = λ e c element end x. let h = of_kind p (sure p (setting e c s) t) PlaceKind k is x.1 in with-end h.0 h.1 t l x.0 h.2 h.3 h.4.forbidden e c element end h.4.present;
   }
 
-pub place_spared : (p : Instance) (sound : IsInstance p) (c : ℕ) (k : Constraint) (vs : List VmId) (places : Places) (v : VmId) (r : Sets) → v.0 < machine_count p → slice_get p.constraints c ≡ Some k → form_of k ≡ Allowed vs places → r (Vm v) ≢ [] → IsHarmless (constraint_watch p c) p (Vm v) (r (Vm v))
-place_spared p sound c k vs places v r machine at is some old fewer =
-    inr (λ s same clean. rw at (stays p sound k v.0 old s (rw is refl) machine (subst (λ cs. AreFewer cs old) (sym same) fewer) (subst (λ cs. cs ≢ []) (sym same) some) (rw at at clean)))
+pub place_spared : (p : Instance) (sound : IsInstance p) (c : ℕ) (k : Constraint) (vs : List VmId) (places : Places) (v : VmId) (s : Sets) → v.0 < machine_count p → slice_get p.constraints c ≡ Some k → form_of k ≡ Allowed vs places → s (Vm v) ≢ [] → IsHarmless (constraint_watch p c) p s (Vm v)
+place_spared p sound c k vs places v s machine at is some old fewer = inr (λ clean. rw at (stays p sound k v.0 old s (rw is refl) machine fewer some (rw at at clean)))

@@ -121,7 +121,7 @@ pub fn is_spared(p: &Problem, g: &Region, c: u32, v: VmId) -> bool
     requires region { IsSized p.now.given g.now }
     requires constraint { c < length p.now.given.constraints }
     requires machine { v.0 < machine_count p.now.given }
-    ensures { IsTrue result → IsHarmless (constraint_watch p.now.given c) p.now.given (Vm v) (sets g.now (Vm v)) }
+    ensures { IsTrue result → IsHarmless (constraint_watch p.now.given c) p.now.given (sets g.now) (Vm v) }
 {
     match limits_of(&p.constraints()[c as usize]) {
         None => false,

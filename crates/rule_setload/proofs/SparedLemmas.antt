@@ -74,5 +74,5 @@ module _ (p : Instance) (sound : IsInstance p) (w : Weight) (set : Nodes) (v : �
       ends = λ c end t l. ends c end t l;
     }
 
-pub away_harmless : (p : Instance) (s : Sets) (c : ℕ) (k : Constraint) (b : Bound) (v : VmId) → IsInstance p → slice_get p.constraints c ≡ Some k → bound_of (form_of k) ≡ Some b → stay_of p b.weight (has_node b.nodes) v.0 ≡ 0 → IsExtra p s b.weight (has_node b.nodes) v.0 0 → IsHarmless (constraint_watch p c) p (Vm v) (s (Vm v))
+pub away_harmless : (p : Instance) (s : Sets) (c : ℕ) (k : Constraint) (b : Bound) (v : VmId) → IsInstance p → slice_get p.constraints c ≡ Some k → bound_of (form_of k) ≡ Some b → stay_of p b.weight (has_node b.nodes) v.0 ≡ 0 → IsExtra p s b.weight (has_node b.nodes) v.0 0 → IsHarmless (constraint_watch p c) p s (Vm v)
 away_harmless p s c k b v sound there is none extra old fewer = rw (there, bounded (form_of k) b is) (inl (away_still p sound b.weight (has_node b.nodes) v.0 none s old extra fewer))

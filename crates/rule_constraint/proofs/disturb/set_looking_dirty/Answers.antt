@@ -15,15 +15,15 @@ set_each_dirty-requires g c = λ i h. omega (arith, c.requires.count, c.requires
 pub returns-in-Vm : goal.returns-in-Vm
 returns-in-Vm g c =
     λ old fewer. rw c.in-Vm.is
-    (kept_disturbed (g.S.Kinds.kinds c.args.kinds.now) c.args.p.now.given (Vm c.in-Vm.v) old (sets c.args.g.now (Vm c.in-Vm.v)) _ _ (rw c.in-Vm.is at fewer)
+    (kept_disturbed (g.S.Kinds.kinds c.args.kinds.now) c.args.p.now.given (sets c.args.g.now) (Vm c.in-Vm.v) old _ _ (rw c.in-Vm.is at fewer)
     (looking_machine c.args.p.now.given c.args.index.now.lists c.requires.right c.args.dirty.now
-    (IsSpared (g.S.Kinds.kinds c.args.kinds.now) c.args.p.now.given (Vm c.in-Vm.v) (sets c.args.g.now (Vm c.in-Vm.v))) c.in-Vm.v c.of_machine.result.now c.set_unspared_dirty.new.dirty c.set_unspared_dirty-in-Vm.new.dirty
+    (IsSpared (g.S.Kinds.kinds c.args.kinds.now) c.args.p.now.given (sets c.args.g.now) (Vm c.in-Vm.v)) c.in-Vm.v c.of_machine.result.now c.set_unspared_dirty.new.dirty c.set_unspared_dirty-in-Vm.new.dirty
     (rw c.in-Vm.is at c.requires.element) c.of_machine.ensures c.set_unspared_dirty.ensures (rw c.everywhere.ensures at c.set_unspared_dirty-in-Vm.ensures)))
 
 pub returns-in-Node : goal.returns-in-Node
 returns-in-Node g c =
     λ old fewer. rw c.in-Node.is
-    (kept_disturbed (g.S.Kinds.kinds c.args.kinds.now) c.args.p.now.given (TheNode c.in-Node.n) old (sets c.args.g.now (TheNode c.in-Node.n)) _ _ (rw c.in-Node.is at fewer)
+    (kept_disturbed (g.S.Kinds.kinds c.args.kinds.now) c.args.p.now.given (sets c.args.g.now) (TheNode c.in-Node.n) old _ _ (rw c.in-Node.is at fewer)
     (looking_node c.args.p.now.given c.args.index.now.lists c.requires.right c.args.dirty.now
-    (IsSpared (g.S.Kinds.kinds c.args.kinds.now) c.args.p.now.given (TheNode c.in-Node.n) (sets c.args.g.now (TheNode c.in-Node.n))) c.in-Node.n c.of_node.result.now c.set_each_dirty.new.dirty
+    (IsSpared (g.S.Kinds.kinds c.args.kinds.now) c.args.p.now.given (sets c.args.g.now) (TheNode c.in-Node.n)) c.in-Node.n c.of_node.result.now c.set_each_dirty.new.dirty
     (rw c.in-Node.is at c.requires.element) c.of_node.ensures c.set_each_dirty.ensures))

@@ -11,11 +11,11 @@ loop-k-preserved g c =
     elim c.if-not-needs_nothing.branch [
       | then-not-needs_nothing w ↦
           rw (w.dirty-is, w.set_dirty.ensures)
-          (dirty_more (IsSpared (g.S.Kinds.kinds c.args.kinds.now) c.args.p.now.given (Vm c.args.v) (sets c.args.g.now (Vm c.args.v))) c.args.numbers.now c.loop-k.k c.args.dirty.now c.loop-k.dirty c.loop-k-test.true
+          (dirty_more (IsSpared (g.S.Kinds.kinds c.args.kinds.now) c.args.p.now.given (sets c.args.g.now) (Vm c.args.v)) c.args.numbers.now c.loop-k.k c.args.dirty.now c.loop-k.dirty c.loop-k-test.true
           (omega (arith, c.requires.numbers (get_or c.args.numbers.now c.loop-k.k 0) (number_at c.args.numbers.now c.loop-k.k c.loop-k-test.true), c.requires.count, c.loop-k.invariant.count)) c.loop-k.invariant)
       | else-not-needs_nothing w ↦
           rw w.dirty-is
-          (spared_more (IsSpared (g.S.Kinds.kinds c.args.kinds.now) c.args.p.now.given (Vm c.args.v) (sets c.args.g.now (Vm c.args.v))) c.args.numbers.now c.loop-k.k c.args.dirty.now c.loop-k.dirty c.loop-k-test.true
+          (spared_more (IsSpared (g.S.Kinds.kinds c.args.kinds.now) c.args.p.now.given (sets c.args.g.now) (Vm c.args.v)) c.args.numbers.now c.loop-k.k c.args.dirty.now c.loop-k.dirty c.loop-k-test.true
           (c.needs_nothing.ensures w.if-not-needs_nothing.false) c.loop-k.invariant)
     ]
 
