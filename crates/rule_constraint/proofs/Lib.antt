@@ -6,4 +6,3 @@ mod IndexLemmas
 mod KeptLemmas
 mod DirtyLemmas
 mod SettingLemmas
-mod LeavingLemmas

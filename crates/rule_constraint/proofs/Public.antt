@@ -4,4 +4,5 @@ pub use Rattle.rule_constraint.proofs.ChoiceLemmas.{and-true, arrival, arrived, 
 pub use Rattle.rule_constraint.proofs.KeptLemmas.{kept_applies}
 pub use Rattle.rule_constraint.proofs.DirtyLemmas.{kept_disturbed}
 pub use Rattle.slices.proofs.Public.{each_member, each_more}
-pub use Rattle.rule_constraint.proofs.SettingLemmas.{other-vm, own_present, row_end, same_present, vm_or}
+pub use Rattle.rule_constraint.proofs.SettingLemmas.{other-vm, own_present, same_present, vm_or}
+pub use Rattle.machine_bounds.proofs.Public.{row_end}

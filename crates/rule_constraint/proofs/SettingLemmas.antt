@@ -1,4 +1,4 @@
--- What a setting of one element leaves of presences, and the first start of a row.
+-- What a setting of one element leaves of presences.
 use Rattle.rule_constraint.proofs.Prelude.{slice_index_or, ◌≡◌, ◌≢◌, ◌⊎◌, inl, inr, ℕ, ◌<◌, List, length, refl, sym, ap, cases_eq, Act, Choice, choices, Climbs, DomainView, Element, Instance, IsEnd, no_row, TheNode, one, present_at, Row, row_at, Sets, setting, sure, Vm, vm, VmId, ends_of_rows, setting_sets}
 
 pub other-vm : (v w : ℕ) → v ≢ w → vm v ≢ vm w
@@ -14,8 +14,3 @@ module _ (p : Instance) (s : Sets) where
 
   pub own_present : (v n t : ℕ) (c : Choice) → (sure p (setting (vm v) c s) t).present v (one n) ≡ present_at p v (one n) t c
   own_present v n t c = ((setting_sets p s (vm v) c t).set_machine v refl).present (one n)
-
--- the first start of a row is an end of the choices
-pub row_end : (d : DomainView) (rows : List Row) (i : ℕ) → rows ≡ d.rows → Climbs 0 rows → i < length rows → IsEnd (choices d) (Act (slice_index_or rows i no_row).place (slice_index_or rows i no_row).lo)
-row_end d rows i same climbs low =
-    rw same ((ends_of_rows d (rw same at climbs) (Act (row_at d i).place (row_at d i).lo)).1 (i, rw same at low, refl, inl refl))

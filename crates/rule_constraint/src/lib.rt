@@ -5,7 +5,6 @@
 pub mod disturb;
 pub mod index;
 pub mod kinds;
-pub mod leaving;
 pub mod machines;
 pub mod watcher;
 

@@ -1,5 +1,6 @@
 -- Machines that are told to keep apart at all instants.
 use Rattle.rule_pair.proofs.Prelude.{if◌then◌else◌, IsTrue, slice_index_or, ◌≡◌, ◌≢◌, ◌⊎◌, inl, inr, ℕ, zero, suc, ◌+◌, ◌<◌, ◌≤◌, Bool, true, false, ◌&&◌, ◌||◌, ◌==◌, max, nat_lt, List, [], ◌∷◌, length, get_or, Some, ap, Contains, eq-eqb, nat_le, refl, sym, ◌∙◌, arith, and_parts, cases_eq, eqb-true, false≢true, nat_tests, get_or_default, part_listed, sound_form, surely_each, end_is_choice, ends_of_rows, some_end, present_law, and-true, arrival, arrived, numbers, of_one, other-vm, own_present, same_present, vm_or}
+use Rattle.machine_bounds.proofs.Public.{row_order}
 use Rattle.rule_pair.specs.Prelude.{Act, Apart, are_below, AreClear, AreLonger, AreOrdered, Arrival, At, base, Between, Choice, choices, class_of, Clear, Climbs, comes_by, ComesLate, Constraint, DomainView, Doubtful, Each, Element, form_of, FromOthers, gain, has_come, have_come, HasPosts, hosted_in, Idle, Instance, inventory_of, is_continuous, is_member, is_rule, IsAt, IsClean, IsEnd, IsInPart, IsLate, IsMember, IsStanding, IsTold, KeepsClear, KeepsOff, kept_use, least, leave_of, Longest, machine_count, never, no_row, Nowhere, of_kind, OnClear, one, Pair, place_index, Posts, Presence, present_at, reason_kind, Row, row_at, rule_watch, Seen, separated, Separation, Sets, setting, Standing, StandsWithin, state_of, sure, told_until, Unknown, vm, VmId}
 use Rattle.cluster.specs.declared.choices.Place.{Place}
 use Rattle.profiles.specs.Prelude.{leave_climbs}
@@ -83,30 +84,6 @@ late-come xs part from n t (At m) low u late l f before = by (has_come n t (Act 
         let there : told_until xs part n ≤ max low from = rw same at late in
         absurd (omega (arith, there, early, l, f, before))
 
-row-order : (from : ℕ) (rows : List Row) (i : ℕ) → Climbs from rows → i < length rows → (slice_index_or rows i no_row).lo ≤ (slice_index_or rows i no_row).hi
-row-order from [] i c h = absurd (omega (arith, h))
-row-order from (r ∷ rs) zero c h = c.1
-row-order from (r ∷ rs) (suc i) c h = row-order (place_index r.place + 1) rs i c.2 (omega (arith, h))
-
--- where no row keeps the host longer, and it may not stay, no end does
-pub ends_left : (p : Instance) (v t : ℕ) (d : DomainView) (rows : List Row) → rows ≡ d.rows → Climbs 0 rows → d.idle ≡ false → ((i : ℕ) → i < length rows → leave_of p v (Act (slice_index_or rows i no_row).place (slice_index_or rows i no_row).hi) ≤ t) → (c : Choice) → IsEnd (choices d) c → leave_of p v c ≤ t
-ends_left p v t d rows same climbs none last c end = by c end
-  where
-    own : Climbs 0 d.rows
-    own = rw same at climbs
-
-    row : (i u : ℕ) (q : Place) → i < length d.rows → (row_at d i).place ≡ q → u ≤ (row_at d i).hi → leave_of p v (Act q u) ≤ t
-    row i u q low place l =
-        let most : leave_of p v (Act (row_at d i).place (row_at d i).hi) ≤ t = (rw same at last) i low in
-        let here : leave_of p v (Act q (row_at d i).hi) ≤ t = rw place at most in
-        omega (arith, here, leave_climbs p v q u (row_at d i).hi l)
-
-    by : (c : Choice) → IsEnd (choices d) c → leave_of p v c ≤ t
-    by Idle end = absurd (false≢true (sym none ∙ (ends_of_rows d own Idle).0 end))
-    by (Act q u) end =
-        let r = (ends_of_rows d own (Act q u)).0 end in
-        row r.0 u q r.1 r.2 (elim r.3 [ inl first ↦ omega (arith, first, row-order 0 d.rows r.0 own r.1) | inr last ↦ omega (arith, last) ])
-
 -- where stays at the host end by an instant, or the machine has left by then, it has left while another one stays
 pub host_late : (p : Instance) (xs : List Longest) (part from w : ℕ) (cs : List Choice) → ((n : ℕ) → IsTrue (hosted_in (state_of p w) (one n)) → told_until xs part n ≤ from) → (n t : ℕ) (c : Choice) → from ≤ t → t < told_until xs part n → IsTrue (hosted_in (state_of p w) (one n)) → IsEnd cs c → leave_of p w c ≤ t
 host_late p xs part from w cs late n t c f before there end = absurd (omega (arith, late n there, f, before))
@@ -145,7 +122,7 @@ module _ (p : Instance) (s : Sets) (xs : List Longest) (part from w : ℕ) (shor
 
       by : (n t i u : ℕ) (q : Place) → from ≤ t → t < told_until xs part n → i < length d.rows → (row_at d i).place ≡ q → ((row_at d i).lo ≡ u) ⊎ ((row_at d i).hi ≡ u) → has_come n t (Act q u) ≡ false
       by n t i u q f before low place ends =
-          late-come xs part from n t q (row_at d i).lo u (rw place at ((rw same at late) i low)) (elim ends [ inl first ↦ omega (arith, first) | inr last ↦ omega (arith, last, row-order 0 d.rows i own low) ]) f before
+          late-come xs part from n t q (row_at d i).lo u (rw place at ((rw same at late) i low)) (elim ends [ inl first ↦ omega (arith, first) | inr last ↦ omega (arith, last, row_order 0 d.rows i own low) ]) f before
 
       come : (n t : ℕ) (c : Choice) → from ≤ t → t < told_until xs part n → IsEnd (choices d) c → has_come n t c ≡ false
       come n t Idle f before end = refl

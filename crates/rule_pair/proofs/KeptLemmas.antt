@@ -10,7 +10,7 @@ use Rattle.std.specs.Prelude.{cond}
 use Rattle.domains.specs.SetsBefore.{sets_before}
 use Rattle.domains.specs.declared.undo.Before.{Before}
 use Rattle.profiles.specs.Levels.{Levels}
-use Rattle.gone_starts.proofs.Public.{gone_fewer}
+use Rattle.machine_bounds.proofs.Public.{gone_fewer}
 
 -- ---- numbers that are right
 

@@ -8,7 +8,7 @@ use Rattle.cluster.specs.declared.choices.Place.{Place as AnyPlace}
 use Rattle.std.proofs.Common.{◌/◌, ◌%◌}
 use Rattle.std.specs.List.{Contains}
 use Rattle.std.specs.Int.{bit_at}
-use Rattle.gone_starts.proofs.Public.{bit_here, bit_kept, with_bit}
+use Rattle.machine_bounds.proofs.Public.{bit_here, bit_kept, with_bit}
 use Rattle.rule_pair.proofs.Prelude.{choices, DomainView, end_is_choice, ends_of_rows}
 use Rattle.rule_pair.specs.Prelude.{Act, AreEnds, AreGone, At, Climbs, Ends, gone_at, Sets, vm, Longest, Nowhere, place_index, Row, told_until}
 

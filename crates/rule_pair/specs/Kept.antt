@@ -5,7 +5,7 @@ use Rattle.profiles.specs.Levels.{Levels}
 use Rattle.profiles.specs.Prelude.{AreStanding, level_at, no_standing, Tables}
 use Rattle.rule_constraint.specs.Prelude.{Instance, IsIndexOf, IsStanding, Lists, Sets, Standing, vm}
 use Rattle.rule_frame.specs.Caches.{Cache}
-use Rattle.gone_starts.specs.Gone.{AreGone}
+use Rattle.machine_bounds.specs.Gone.{AreGone}
 
 -- these numbers, as far as there are any, are those of the first machines
 pub record AreRight (p : Instance) (s : Sets) (ks : List Standing) : Type 0 where

@@ -22,7 +22,7 @@ pub use Rattle.profiles.specs.declared.standing.numbers.Standing.{Standing}
 pub use Rattle.rule_constraint.specs.Broken.{of_kind}
 pub use Rattle.rule_pair.specs.Apart.{AreClear, class_of, ComesLate, HasPosts, IsAt, IsLate, IsTold, KeepsClear, KeepsOff, OnClear, part_of}
 pub use Rattle.rule_pair.specs.Covers.{pair_kinds}
-pub use Rattle.gone_starts.specs.Gone.{AreGone, gone_at, StartsNowhereAt}
+pub use Rattle.machine_bounds.specs.Gone.{AreGone, gone_at, StartsNowhereAt}
 pub use Rattle.rule_pair.specs.Kept.{AreKept, AreRight, cache_of, StandsIn}
 pub use Rattle.rule_pair.specs.Longest.{AreLonger, AreOrdered, IsOrdered, of_others, told_until}
 pub use Rattle.rule_pair.specs.Reach.{AreEnds, AreUntils, HaveBits, IsReach}

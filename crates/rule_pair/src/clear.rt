@@ -8,10 +8,10 @@ use crate::longest::{NOBODY, Stay, Table, stay_after, tell};
 use crate::pairs::separation_of;
 use crate::posts::{Post, last_before, posts_of};
 use crate::reach::{Ends, all_ends, ends_of, rows_met_before, stay_still};
-use crate::stays::leaves_by;
 use crate::strangers::strangers_alone;
 use cluster::limits::MAX_NODES;
-use gone_starts::gone::starts_at_none;
+use machine_bounds::gone::starts_at_none;
+use machine_bounds::leaving::leaves_by;
 use profiles::standing::numbers::Standing;
 use rule_constraint::host;
 use rule_frame::{

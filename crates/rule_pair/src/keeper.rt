@@ -3,7 +3,7 @@ ghost use Rattle.std.specs.Prelude.{◌≡◌};
 ghost use Rattle.rule_frame.specs.Caches.{IsCacheFor};
 ghost use Rattle.rule_pair.specs.Prelude.{AreGone, AreRight, cache_of, sets};
 
-use gone_starts::gone::Gone;
+use machine_bounds::gone::Gone;
 use profiles::standing::numbers::Standing;
 use profiles::standing::table::Table;
 use rule_constraint::ConstraintIndex;
@@ -72,7 +72,7 @@ impl PairKeeper {
     }
 
     /// At which nodes it is known that machines do not start in the region of which this was told last.
-    #[tactic(auto, using(crate::proofs::KeptLemmas::kept_gone, gone_starts::proofs::Public::none_gone))]
+    #[tactic(auto, using(crate::proofs::KeptLemmas::kept_gone, machine_bounds::proofs::Public::none_gone))]
     pub fn gone(&self, _p: &Problem, _g: &Region) -> &[u64]
         requires { IsCacheFor (cache_of self.now.index.lists self.now.table self.now.gone self.now.is_wanted) _p.now.given (sets _g.now) }
         ensures { AreGone (sets _g.now) result.now }

@@ -13,7 +13,6 @@ mod posts;
 mod reach;
 mod refuting;
 pub mod rule;
-mod stays;
 mod strangers;
 mod suggest;
 mod twins;

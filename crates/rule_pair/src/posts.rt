@@ -2,7 +2,7 @@
 ghost use Rattle.std.specs.Prelude.{◌≡◌, ℕ, ◌<◌, ◌≤◌, ◌&&◌, nat_lt, Some, IfNone, IfSome, IsTrue};
 ghost use Rattle.rule_pair.specs.Prelude.{AreRight, choices, comes_by, HasPosts, hosted_in, IsAt, IsSized, machine_count, one, sets, StandsWithin, state_of};
 
-use crate::stays::leave_or_later;
+use machine_bounds::leaving::leave_or_later;
 use profiles::standing::numbers::{Arrival, Standing, standing_of};
 use rule_constraint::host;
 use rule_frame::{Domain, Element, Instant, NodeId, Problem, Region, VmId};

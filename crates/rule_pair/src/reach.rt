@@ -5,7 +5,7 @@ ghost use Rattle.rule_pair.specs.Prelude.{AreEnds, AreOrdered, AreUntils, Climbs
 use crate::clear::Met;
 use crate::longest::{Stay, Table, of_others, stay_after};
 use cluster::limits::MAX_NODES;
-use gone_starts::gone::WORDS;
+use machine_bounds::gone::WORDS;
 use rule_frame::{Instant, NodeId, Place, Row};
 
 /// The first place and the last one at which a stay is told, by their numbers in the order of places.

@@ -2,7 +2,7 @@
 ghost use Rattle.std.specs.Prelude.{◌≡◌, ℕ, ◌<◌, false, IsTrue};
 ghost use Rattle.rule_pair.specs.Prelude.{AreFewer, choices, domain_at, domain_before, have_come, IsSized, IsUnmoved, machine_count, sets};
 
-use rule_constraint::leaving::leaves_as_soon;
+use machine_bounds::leaving::leaves_as_soon;
 use rule_frame::{Before, Domain, Element, Problem, Region, VmId};
 
 // whether not all choices of a domain go to one node

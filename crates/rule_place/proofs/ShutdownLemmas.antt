@@ -100,18 +100,6 @@ host_goes p s v n x short away early ends =
     (λ t h. (early.0, early.1, too-late (hosted_in (state_of p v) (one n)) t (leave_of p v early.0) x.first early.2 h))
     (λ c t end h. too-late (hosted_in (state_of p v) (one n)) t (leave_of p v c) x.last (ends c end) h)
 
--- what is so of both ends of each row is so of each end, where Idle is none
-pub ends_by_rows : (P : Choice → Type 0) (d : DomainView) (rows : List Row) → d.idle ≡ false → rows ≡ d.rows → Climbs 0 rows → ((i : ℕ) → i < length rows → P (Act (slice_index_or rows i no_row).place (slice_index_or rows i no_row).lo) × P (Act (slice_index_or rows i no_row).place (slice_index_or rows i no_row).hi)) → (c : Choice) → IsEnd (choices d) c → P c
-ends_by_rows P d rows idle same climbs each = at
-  where
-    by : (q : Place) (u i : ℕ) → i < length d.rows → (row_at d i).place ≡ q → ((row_at d i).lo ≡ u) ⊎ ((row_at d i).hi ≡ u) → P (Act q u)
-    by q u i low place (inl first) = rw (← place, ← first) ((rw same at each) i low).0
-    by q u i low place (inr last) = rw (← place, ← last) ((rw same at each) i low).1
-
-    at : (c : Choice) → IsEnd (choices d) c → P c
-    at Idle end = absurd (false≢true (sym idle ∙ (ends_of_rows d (rw same at climbs) Idle).0 end))
-    at (Act q u) end = let r = (ends_of_rows d (rw same at climbs) (Act q u)).0 end in by q u r.0 r.1 r.2 r.3
-
 -- ---- the watch
 
 not-standing : (b : Bool) → b ≡ false → IsTrue b → ⊥

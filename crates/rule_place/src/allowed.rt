@@ -3,8 +3,8 @@ ghost use Rattle.std.specs.Prelude.{◌≡◌, ◌≢◌, ℕ, [], ◌<◌, ◌&
 ghost use Rattle.std.specs.List.{list_all};
 ghost use Rattle.rule_place.specs.Prelude.{Allowed, choices, constraint_watch, ForbidsPlace, form_of as the_form_of, inventory_of, is_rule, IsAllowed, IsClean, IsHarmless, IsMember, IsOffHost, IsSized, machine_count, MayGo, no_row, places_seen, rule_watch, sets, Vm};
 
-use crate::leaving::leaves_by;
 use crate::places::limits_of;
+use machine_bounds::leaving::leaves_by;
 use rule_constraint::host;
 use rule_frame::{Constraint, Domain, Element, NodeId, Place, Problem, Region, Row, VmId, Vms};
 use slices::form::{Places, is_off_limits};

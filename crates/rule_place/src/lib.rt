@@ -3,7 +3,6 @@
 
 mod allowed;
 mod forbidden;
-mod leaving;
 mod nodes;
 mod optional;
 mod places;

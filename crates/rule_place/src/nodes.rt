@@ -4,8 +4,8 @@ ghost use Rattle.std.specs.List.{Contains};
 ghost use Rattle.rule_place.specs.Prelude.{AreDirtyUpTo, AreFewer, AreNodesDirty, AreSpared, Choice as AnyChoice, choices, domain_at, domain_before, GivesUp, goes_in, hosted_in, IsElement, IsRegionOf, IsSized, machine_count, node_count, one, sets, state_of};
 
 use crate::shutdowns::goes_elsewhere;
+use machine_bounds::leaving::leaves_as_soon;
 use rule_constraint::host;
-use rule_constraint::leaving::leaves_as_soon;
 use rule_frame::{Before, Choice, DirtySet, Domain, Element, NodeId, Place, Problem, Region, VmId};
 
 // sets dirty each watch

@@ -3,12 +3,11 @@ ghost use Rattle.std.specs.Prelude.{◌≡◌, ℕ, ◌<◌, ◌≤◌, false, I
 ghost use Rattle.std.specs.List.{Contains};
 ghost use Rattle.rule_place.specs.Prelude.{Choice as AnyChoice, has_come, IsClean, IsShutdown, IsSized, leave_of, LetsGo, machine_count, node_count, sets, usable_watch};
 
-use crate::leaving::leaves_by;
 use domains::measure::Measure;
+use machine_bounds::leaving::{leaves_by, may_leave_by};
 use profiles::host::is_host;
 use profiles::standing::leaves::leaves_of;
 use profiles::standing::numbers::Leaving;
-use rule_constraint::leaving::may_leave_by;
 use rule_frame::{
     Change, Choice, Element, Instant, NodeId, Part, Place, Problem, Region, Row, Side, VmId,
 };

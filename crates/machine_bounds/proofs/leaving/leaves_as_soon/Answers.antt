@@ -1,6 +1,7 @@
-use Rattle.rule_constraint.proofs.Prelude.{sym, ◌∙◌, leave_of}
-use Rattle.rule_constraint.proofs.LeavingLemmas.{as_soon, none_lost}
-use Rattle.rule_constraint.proofs.leaving.leaves_as_soon.Goals as goal
+use Rattle.base.proofs.Public.{sym, ◌∙◌}
+use Rattle.machine_bounds.specs.Prelude.{leave_of}
+use Rattle.machine_bounds.proofs.LeavingLemmas.{as_soon, none_lost}
+use Rattle.machine_bounds.proofs.leaving.leaves_as_soon.Goals as goal
 
 pub returns-in-None : goal.returns-in-None
 returns-in-None c = λ _. rw c.in-Lost.is (none_lost (leave_of c.args.p.now.given c.args.v.0) c.in-Lost.lost c.args.domain.now (rw c.in-Lost.is at c.requires.fewer) (sym c.lowest_lost.ensures ∙ c.in-None.is))

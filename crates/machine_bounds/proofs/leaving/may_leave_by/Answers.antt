@@ -1,9 +1,9 @@
 use Rattle.reasons.proofs.Public.{end_is_choice}
 use Rattle.std.proofs.Common.{◌-◌}
-use Rattle.rule_constraint.proofs.Prelude.{ℕ, ◌<◌, ◌≤◌, length, slice_index_or, arith, nat_tests, choices, no_row}
-use Rattle.rule_constraint.proofs.SettingLemmas.{row_end}
-use Rattle.rule_constraint.specs.Prelude.{Act, Choice}
-use Rattle.rule_constraint.proofs.leaving.may_leave_by.Goals as goal
+use Rattle.base.proofs.Public.{ℕ, ◌<◌, ◌≤◌, length, slice_index_or, arith, nat_tests}
+use Rattle.machine_bounds.specs.Prelude.{Act, Choice, choices, no_row}
+use Rattle.machine_bounds.proofs.LeavingLemmas.{row_end}
+use Rattle.machine_bounds.proofs.leaving.may_leave_by.Goals as goal
 
 pub returns-then-value-by : goal.returns-then-value-by
 returns-then-value-by c = λ _.

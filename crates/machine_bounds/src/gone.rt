@@ -2,7 +2,7 @@
 ghost use Rattle.std.specs.Prelude.{◌≡◌, ℕ, ◌<◌, ◌/◌, ◌%◌, [], length, slice_index_or, IsTrue, OnErr, OnOk};
 ghost use Rattle.std.specs.Int.{bit_at};
 ghost use Rattle.profiles.specs.{Levels.IsBack, Levels.marked};
-ghost use Rattle.gone_starts.specs.Prelude.{AreGone, choices, gone_at, IsElement, IsSized, max_nodes, sets, StartsNowhereAt};
+ghost use Rattle.machine_bounds.specs.Prelude.{AreGone, choices, gone_at, IsElement, IsSized, max_nodes, sets, StartsNowhereAt};
 
 use base::Memory;
 use catalogue::Problem;

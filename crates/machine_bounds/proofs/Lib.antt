@@ -1,2 +1,3 @@
 pub mod Public
 mod GoneLemmas
+mod LeavingLemmas

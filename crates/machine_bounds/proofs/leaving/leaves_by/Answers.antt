@@ -1,6 +1,6 @@
-use Rattle.rule_pair.proofs.Prelude.{◌∙◌, sym, arith}
-use Rattle.rule_pair.proofs.ApartLemmas.{ends_left}
-use Rattle.rule_pair.proofs.stays.leaves_by.Goals as goal
+use Rattle.base.proofs.Public.{◌∙◌, sym, arith}
+use Rattle.machine_bounds.proofs.LeavingLemmas.{ends_left}
+use Rattle.machine_bounds.proofs.leaving.leaves_by.Goals as goal
 
 pub returns : goal.returns
 returns c =

@@ -9,7 +9,7 @@ use Rattle.std.proofs.lemmas.List.{get_or-set_other}
 use Rattle.std.proofs.lemmas.Nat.Bits.{bit_at-lt, bit_at-zero, bit_at_and, bit_at_set_other, bit_at_set_same}
 use Rattle.domains.proofs.Public.{contains_filter}
 use Rattle.domains.specs.declared.parts.Part.TheVariants.{From}
-use Rattle.gone_starts.specs.Prelude.{Act, AreGone, At, Choice, gone_at, in_part, max_nodes, Sets, StartsNowhereAt, vm}
+use Rattle.machine_bounds.specs.Prelude.{Act, AreGone, At, Choice, gone_at, in_part, max_nodes, Sets, StartsNowhereAt, vm}
 
 -- ---- bits of words
 
