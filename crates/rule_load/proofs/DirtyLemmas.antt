@@ -1,5 +1,5 @@
 -- Which loads are dirty.
-use Rattle.rule_load.proofs.Prelude.{◌≡◌, ◌≢◌, ◌⊎◌, inl, inr, ℕ, ◌+◌, ◌<◌, Bool, true, false, List, length, refl, sym, subst, ◌∙◌, arith, false≢true, ne_eqb, Contains, AreFewer, AreSpared, CameBefore, Choice, comes_by, Element, has_come, hosted_in, Instance, IsDisturbed, IsStanding, IsStill, KeepsHost, Levels, load_scope, never, TheNode, node_count, NodeId, one, one_at, Standing, state_of, Vm, VmId, watch_at}
+use Rattle.rule_load.proofs.Prelude.{◌≡◌, ◌≢◌, ◌⊎◌, inl, inr, ℕ, ◌+◌, ◌<◌, Bool, true, false, List, length, refl, sym, subst, ◌∙◌, arith, false≢true, ne_eqb, Contains, AreFewer, AreSpared, CameBefore, Choice, comes_by, Element, has_come, hosted_in, Instance, IsDisturbed, IsStanding, IsStill, KeepsHost, Levels, load_scope, never, TheNode, node_count, NodeId, one, one_at, Sets, Standing, state_of, Vm, VmId, watch_at}
 use Rattle.rule_load.proofs.StayLemmas.{host_still}
 use Rattle.rule_load.proofs.StillLemmas.{machine_still, node_still}
 

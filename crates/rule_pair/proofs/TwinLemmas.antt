@@ -14,13 +14,13 @@ in_one_part parts i v u alone there also = record {
       ((i, x.1, (λ e. x.2 (at ∙ e)), there, x.4), (λ e. x.2 (at ∙ sym (also x.1 (rw e x.4)))));
   second = λ w x.
       let at = alone x.1 x.4 in
-      ((x.0, i, (λ e. x.2 (e ∙ sym at)), x.3, there), (λ e. x.2 (also x.0 (rw sym e x.3) ∙ sym at)));
+      ((x.0, i, (λ e. x.2 (e ∙ sym at)), x.3, there), (λ e. x.2 (also x.0 (rw (sym e) x.3) ∙ sym at)));
 }
 
 -- and so do two members, and two machines that are none
 pub alike : (vs : List VmId) (v u : ℕ) → is_member vs u ≡ is_member vs v → StandsFor (FromOthers vs) v u
 alike vs v u same = record {
-  first = λ w x. ((same ∙ x.0, x.1), (λ e. x.1 (rw sym e (same ∙ x.0))));
+  first = λ w x. ((same ∙ x.0, x.1), (λ e. x.1 (rw (sym e) (same ∙ x.0))));
   second = λ w x. ((x.0, (λ h. x.1 (sym same ∙ h))), (λ e. x.1 (sym same ∙ (rw e at x.0))));
 }
 
