@@ -1,5 +1,5 @@
 -- What a setting of one element leaves of presences.
-use Rattle.rule_constraint.proofs.Prelude.{slice_index_or, ◌≡◌, ◌≢◌, ◌⊎◌, inl, inr, ℕ, ◌<◌, List, length, refl, sym, ap, cases_eq, Act, Choice, choices, Climbs, DomainView, Element, Instance, IsEnd, no_row, TheNode, one, present_at, Row, row_at, Sets, setting, sure, Vm, vm, VmId, ends_of_rows, setting_sets}
+use Rattle.rule_constraint.proofs.Prelude.{◌≡◌, ◌≢◌, ◌⊎◌, inl, inr, ℕ, refl, sym, ap, cases_eq, Choice, Element, Instance, TheNode, one, present_at, Sets, setting, sure, Vm, vm, VmId, setting_sets}
 
 pub other-vm : (v w : ℕ) → v ≢ w → vm v ≢ vm w
 other-vm v w ne e = ne (let same : record { 0 = v } ≡ (let x : VmId = record { 0 = w } in x) = cc in ap (λ (x : VmId). x.0) same)

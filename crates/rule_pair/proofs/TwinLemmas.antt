@@ -1,6 +1,6 @@
 -- A constraint that keeps machines apart stays clean where a machine can only stay, beside another one that stands for it.
-use Rattle.rule_pair.proofs.Prelude.{◌≡◌, ◌≢◌, inl, inr, ℕ, ◌+◌, ◌<◌, ◌≤◌, ◌==◌, zero, suc, IsTrue, List, [], ◌∷◌, length, slice_get, Some, refl, sym, ◌∙◌, arith, cases_eq, Contains, ne_eqb, other-vm, end_is_choice, and-true, own_present, same_present, vm_or}
-use Rattle.rule_pair.specs.Prelude.{Apart, Between, Choice, Constraint, constraint_watch, Element, ForbidsPair, form_of, FromOthers, HasPair, Idle, Instance, IsClean, IsElement, IsEnd, IsInPart, is_member, IsTwin, never, of_kind, one, Pair, present_at, putting, reason_kind, rule_watch, Separation, Sets, setting, Snapshot, StandsFor, sure, vm, Vm, VmId}
+use Rattle.rule_pair.proofs.Prelude.{◌≡◌, ◌≢◌, inl, inr, ℕ, ◌<◌, ◌≤◌, zero, suc, IsTrue, List, [], ◌∷◌, slice_get, Some, refl, sym, ◌∙◌, arith, cases_eq, Contains, ne_eqb, other-vm, end_is_choice, and-true, own_present, same_present, vm_or}
+use Rattle.rule_pair.specs.Prelude.{Apart, Between, Choice, Constraint, constraint_watch, Element, ForbidsPair, form_of, FromOthers, HasPair, Idle, Instance, IsClean, IsEnd, IsInPart, is_member, IsTwin, never, of_kind, one, Pair, present_at, putting, rule_watch, Separation, Sets, setting, Snapshot, StandsFor, sure, vm, Vm, VmId}
 use Rattle.rule_constraint.specs.Watches.{IsHarmless}
 use Rattle.rule_pair.proofs.UnmovedLemmas.{one_law, other_before}
 

@@ -1,5 +1,5 @@
 -- A constraint that keeps machines apart stays clean where the machine that changes surely is nowhere where it was not.
-use Rattle.rule_pair.proofs.Prelude.{◌≡◌, ◌≢◌, ◌⊎◌, inl, inr, ℕ, ◌+◌, ◌<◌, ◌≤◌, Bool, true, false, ◌&&◌, ◌||◌, ◌==◌, nat_lt, IsTrue, if◌then◌else◌, List, [], ◌∷◌, length, slice_index_or, slice_get, Option, Some, None, refl, sym, subst, ◌∙◌, arith, and_parts, cases_eq, Contains, ne_eqb, zero, suc, nat_le, other-vm, eq-eqb, eqb-true, false≢true, nat_tests, pair_kinds, present_law, surely_each, end_is_choice, arrival, and-true, numbers, of_one, own_present, same_present, vm_or, row_end, first_of, last_of, contains_here, later_in, least_of_each, same_is}
+use Rattle.rule_pair.proofs.Prelude.{◌≡◌, ◌≢◌, ◌⊎◌, inl, inr, ℕ, ◌+◌, ◌<◌, ◌≤◌, Bool, true, false, ◌&&◌, ◌||◌, ◌==◌, nat_lt, IsTrue, if◌then◌else◌, List, [], ◌∷◌, length, slice_index_or, slice_get, Option, Some, None, refl, sym, ◌∙◌, arith, and_parts, cases_eq, Contains, ne_eqb, zero, suc, nat_le, other-vm, eq-eqb, eqb-true, false≢true, nat_tests, pair_kinds, present_law, surely_each, end_is_choice, arrival, and-true, numbers, of_one, own_present, same_present, vm_or, row_end, first_of, last_of, contains_here, later_in, least_of_each, same_is}
 use Rattle.rule_pair.specs.Prelude.{Act, AreFewer, At, base, Bound, Choice, choices, Climbs, comes_by, Constraint, DomainView, Element, Empty, gain, Group, Hall, HasPair, has_come, have_come, hosted_in, Idle, Instance, is_continuous, IsClean, IsDisturbed, IsElement, IsEnd, IsStanding, IsUnmoved, kept_use, least, leave_climbs, leave_of, Levels, Load, never, no_row, Nowhere, of_kind, one, Pair, Place as PlaceKind, Power, Presence, present_at, putting, reason_kind, ReasonKind, Row, rule_watch, same_element, SetLoad, Sets, setting, Standing, state_of, sure, surely, Usable, vm, Vm, VmId, watch_at, place_index}
 use Rattle.cluster.specs.declared.choices.Place.{Place}
 use Rattle.rule_constraint.specs.Watches.{choose, kept_watch, no_watch, passes}

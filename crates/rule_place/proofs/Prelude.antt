@@ -1,8 +1,8 @@
 -- What proofs of this crate cite together of std, of the crates below and of its definitions, passed on from one place. Declares nothing.
-pub use Rattle.base.proofs.Public.{Bool, Contains, Decides-eqb, IsSomeAnd, IsTrue, List, None, Option, Some, [], and_parts, ap, arith, cases_eq, cases_lt, cond, eqb-true, false, false≢true, filter, get_or, get_or-set_at, get_or-set_other, inl, inr, length, length-set, nat_le, nat_lt, ne_eqb, nat_tests, refl, set, slice_get, slice_index_or, subst, sym, true, ℕ, ◌&&◌, ◌+◌, ◌-◌, ◌<◌, ◌==◌, ◌||◌, ◌∙◌, ◌∷◌, ◌≡◌, ◌≢◌, ◌≤◌, ◌⊎◌}
+pub use Rattle.base.proofs.Public.{Bool, Contains, Decides-eqb, IsSomeAnd, IsTrue, List, None, Option, Some, [], and_parts, ap, arith, cases_eq, cases_lt, cond, eqb-true, false, false≢true, filter, get_or, get_or-set_at, get_or-set_other, inl, inr, length, length-set, nat_le, nat_lt, ne_eqb, nat_tests, refl, set, slice_get, slice_index_or, sym, true, ℕ, ◌&&◌, ◌+◌, ◌-◌, ◌<◌, ◌==◌, ◌||◌, ◌∙◌, ◌∷◌, ◌≡◌, ◌≢◌, ◌≤◌, ◌⊎◌}
 pub use Rattle.cluster.specs.declared.choices.Choice.TheVariants.{Idle, Idle as Stay}
 pub use Rattle.cluster.specs.declared.choices.Place.{Place}
-pub use Rattle.domains.proofs.Public.{contains_here, least_of_each, lowest_before, may_each, surely_each}
+pub use Rattle.domains.proofs.Public.{contains_here, least_of_each, may_each, surely_each}
 pub use Rattle.profiles.proofs.Public.{kept_law}
 pub use Rattle.reasons.proofs.Public.{end_is_choice, ends_of_rows, setting_sets, some_end}
 pub use Rattle.relax.proofs.Public.{away, away_least}

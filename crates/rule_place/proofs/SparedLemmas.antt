@@ -1,5 +1,5 @@
 -- A constraint on places stays clean where a machine loses choices, as long as one is left.
-use Rattle.rule_place.proofs.Prelude.{IsTrue, slice_get, ◌≡◌, ◌≢◌, inl, inr, ℕ, ◌<◌, ◌≤◌, ◌||◌, ◌==◌, true, List, [], Some, refl, sym, subst, ◌∙◌, arith, cases_eq, ne_eqb, Contains, Decides-eqb, end_is_choice, own_present, same_present, some_end, surely_each, vm_or}
+use Rattle.rule_place.proofs.Prelude.{IsTrue, slice_get, ◌≡◌, ◌≢◌, inl, inr, ℕ, ◌<◌, ◌≤◌, ◌||◌, ◌==◌, true, List, [], Some, refl, sym, ◌∙◌, arith, cases_eq, ne_eqb, Contains, Decides-eqb, end_is_choice, own_present, same_present, some_end, surely_each, vm_or}
 use Rattle.rule_place.specs.Prelude.{Allowed, AreFewer, Choice, Constraint, constraint_watch, Element, ForbidsPlace, form_of, Instance, is_continuous, IsClean, IsElement, IsEnd, IsHarmless, IsInstance, machine_count, node_count, of_kind, one, Place as PlaceKind, Places, present_at, putting, reason_kind, rule_watch, Sets, setting, sure, vm, VmId, Vm}
 use Rattle.rule_place.proofs.PresentLemmas.{end_there}
 
