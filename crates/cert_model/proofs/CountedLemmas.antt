@@ -1,5 +1,5 @@
 -- The numbers of machines are those of a trail still after each call.
-use Rattle.cert_model.proofs.Prelude.{◌≡◌, ◌∷◌, ◌++◌, ◌<◌, ℕ, List, [], length, arith, refl, length-reverse, reverse, reverse-append, before_law, fewer_law, AreCounted, AreCountedAt, AreFewer, AreKnown, AreStanding, Before, Change, choices, Choice, domain_at, domain_before, DomainView, Element, Instance, IsRegionOf, keeping, Marked, on_side, RegionView, sets, Standing, Tables}
+use Rattle.cert_model.proofs.Prelude.{◌≡◌, ◌≢◌, ◌∷◌, ◌++◌, ◌<◌, List, [], length, arith, refl, length-reverse, reverse, reverse-append, before_law, fewer_law, AreCounted, AreCountedAt, AreFewer, AreKnown, AreStanding, Before, Change, choices, Choice, domain_at, domain_before, DomainView, Element, IfSome, Instance, IsRegionOf, IsTally, keeping, Marked, on_side, RegionView, Sets, sets, Standing, Tables, Tally, Bool, Option, None, Some, tally_stays}
 use Rattle.domains.specs.SetsBefore.{sets_before}
 use Rattle.prop_core.proofs.Public.{trail_back, trail_changed, trail_marked, trail_started}
 
@@ -54,3 +54,8 @@ module _ (p : Instance) where
 
     pub fewer_told : (before : Before) (kept : DomainView) → domain_before before kept (domain_at u.region change.element) ≡ domain_at t.region change.element → AreFewer (sets u.region change.element) (choices (domain_before before kept (domain_at u.region change.element)))
     fewer_told before kept was = fewer_law t.region u.region change.element (on_side change.side change.part) before kept was narrower
+
+-- what is told to be held together is so once an element is narrowed that has a choice left
+pub told_stays : (p : Instance) (s narrow : Sets) (x : Element) (keep : Choice → Bool) → ((e : Element) → narrow e ≡ keeping x keep s e) → narrow x ≢ [] → (o : Option Tally) → IfSome o (IsTally p s) → IfSome o (IsTally p narrow)
+told_stays p s narrow x keep same some None told = told
+told_stays p s narrow x keep same some (Some y) told = tally_stays p s narrow x keep same some y told

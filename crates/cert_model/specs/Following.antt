@@ -1,8 +1,10 @@
 -- Propagators, and numbers of machines, that follow the regions of a walk.
-use Rattle.std.specs.Prelude.{◌≡◌, Bool, true, List, [], ◌∷◌, reverse}
+use Rattle.std.specs.Prelude.{◌≡◌, Bool, true, IfSome, List, [], ◌∷◌, Option, reverse}
 use Rattle.prop_core.specs.Prelude.{AllFollow, Covered, Instance, IsTrailOf, Marked, Meaning, RegionView, sets}
-use Rattle.profiles.specs.Prelude.{AreStanding, Tables}
-use Rattle.profiles.specs.declared.standing.numbers.Standing.{Standing}
+use Rattle.standings.specs.Prelude.{AreStanding, Tables}
+use Rattle.standings.specs.declared.numbers.Standing.{Standing}
+use Rattle.quick_checks.specs.Prelude.{IsTally}
+use Rattle.quick_checks.specs.declared.tally.Tally.{Tally}
 
 -- they cover each kind of standard reasons, and follow the trail, whose regions are ones of the instance
 pub record AreFollowing {B : Type 0} (m : B → Meaning) (p : Instance) (t : Marked) (xs : List B) : Type 0 where
@@ -23,7 +25,8 @@ pub record AreCounted (p : Instance) (t : Marked) (table : Tables) : Type 0 wher
   pub top : AreStanding p (sets t.region) table.top
   pub older : AreCountedAt p t.marks (reverse table.older)
 
--- both do where it is said that they do, and else nothing is known of them
-pub record FollowWhile {B : Type 0} (m : B → Meaning) (p : Instance) (t : Marked) (follow : Bool) (xs : List B) (counted : Bool) (table : Tables) : Type 0 where
+-- both do where it is said that they do, and else nothing is known of them; what is told to be held together is so in the region of the trail
+pub record FollowWhile {B : Type 0} (m : B → Meaning) (p : Instance) (t : Marked) (follow : Bool) (xs : List B) (counted : Bool) (table : Tables) (tally : Option Tally) : Type 0 where
   pub following : follow ≡ true → AreFollowing m p t xs
   pub counting : counted ≡ true → AreCounted p t table
+  pub telling : IfSome tally (IsTally p (sets t.region))

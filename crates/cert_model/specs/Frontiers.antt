@@ -55,9 +55,9 @@ pub record AreSame (f g : Frontier) : Type 0 where
   pub sum : f.sum ≡ g.sum
   pub outers : f.outers.items ≡ g.outers.items
 
--- while it says so, the propagators that are handed in, and the numbers of machines, follow its trail
+-- while it says so, the propagators that are handed in, the numbers of machines and what some of them hold follow its trail
 abbrev pub FollowFrontier : {B : Type 0} → (B → Meaning) → Instance → Frontier → List B → Type 0
-FollowFrontier m p f xs = FollowWhile m p f.trail f.followers.follow xs f.followers.counted f.followers.table
+FollowFrontier m p f xs = FollowWhile m p f.trail f.followers.follow xs f.followers.counted f.followers.table f.followers.tally
 
 -- nothing is kept back: what is due is the region as it is, or there is nothing
 abbrev pub IsEntered : Due → Type 0

@@ -2,7 +2,8 @@
 use Rattle.std.specs.Prelude.{◌≡◌, ◌≢◌, ◌⊎◌, ℕ, ◌+◌, ◌<◌, ◌^◌, Bool, true, List, [], ◌∷◌, ◌++◌, length, map, Option, Some, None, MatchOption}
 use Rattle.trees.specs.Prelude.{Choices, choices_of, decisions, gathered_along, inside, Instance, IsElement, IsLean, IsPlanLeaf, IsSplit, Leads, LeanAt, least_cost, left_set, lower_of, lowest, machine_count, node_count, plan_costs, PlanChoices, Proves, Refutes, RegionView, Sets, sets, shown, start_sets, StepHolds, steps_of, Tree}
 use Rattle.prop_core.specs.Prelude.{Meaning}
-use Rattle.profiles.specs.Prelude.{Tables}
+use Rattle.standings.specs.Prelude.{Tables}
+use Rattle.quick_checks.specs.declared.tally.Tally.{Tally}
 use Rattle.trees.specs.declared.steps.{Goal.Goal as TreeGoal, Step.Step, Step.TheVariants.Decide, Step.TheVariants.Cut, Step.TheVariants.Fail, Step.TheVariants.Plan as PlanStep, Step.TheVariants.Left}
 use Rattle.cert_model.specs.{declared.frontier.Due.Due, declared.frontier.Outer.Outer, declared.why.Why.Why, declared.why.Why.TheVariants.Structure, declared.why.Why.TheVariants.Name, declared.why.Why.TheVariants.Part, declared.why.Why.TheVariants.Reason, declared.why.Why.TheVariants.Plan, declared.why.Why.TheVariants.Goal, declared.why.Why.TheVariants.Lean, Following.FollowWhile, Open.due_sets, Open.due_sums, Open.outer_sets}
 
@@ -26,6 +27,8 @@ pub record Kept : Type 0 where
   pub follow : Bool
   pub counted : Bool
   pub table : Tables
+  -- what machines hold together in the region at hand, of one constraint or of none
+  pub tally : Option Tally
 
 -- the sets that are open, those that are due first, and the sum of the least ends that is kept of each
 abbrev pub open_of : Kept → List Sets
@@ -85,9 +88,9 @@ pub record IsStanding (p : Instance) (w : Kept) : Type 0 where
   pub stands : Stands p bound strict steps w
   pub few : length steps + 1 < 2 ^ 64
 
--- while the walk says so, the propagators that are handed in, and the numbers of machines, follow its regions
+-- while the walk says so, the propagators that are handed in, the numbers of machines and what some of them hold follow its regions
 abbrev pub FollowWalk : {B : Type 0} → (B → Meaning) → Instance → Kept → List B → Type 0
-FollowWalk m p w xs = FollowWhile m p (record { region = w.region; marks = w.marks }) w.follow xs w.counted w.table
+FollowWalk m p w xs = FollowWhile m p (record { region = w.region; marks = w.marks }) w.follow xs w.counted w.table w.tally
 
 -- ---- why a step is refused
 

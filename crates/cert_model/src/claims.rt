@@ -1,6 +1,6 @@
 //! What a step claims of the region that is due, tried in order.
 ghost use Rattle.std.specs.Prelude.{filter, ◌≡◌, ◌↔◌, [], false, IfOk, IfSome, IsTrue};
-ghost use Rattle.cert_model.specs.Prelude.{AreKnown, AreLegal, HasElement, inside, IsElement, IsFault, IsPlanLeaf, IsSized, IsSplit, least_cost, on_side, PartHolds, PlanHolds, ReasonHolds, Refutes, seen, sets, StepHolds};
+ghost use Rattle.cert_model.specs.Prelude.{AreKnown, AreLegal, HasElement, inside, IsElement, IsFault, IsPlanLeaf, IsSized, IsSplit, IsTally, least_cost, on_side, PartHolds, PlanHolds, ReasonHolds, Refutes, seen, sets, StepHolds};
 
 use crate::ends::sum_seen;
 use crate::why::Why;
@@ -30,6 +30,7 @@ pub fn fault(
 ) -> Result<Option<Why>, Memory>
     requires region { IsSized p.now.given g.now }
     requires known { AreKnown p.now.given (sets g.now) known.now.standings.now }
+    requires tally { IfSome known.now.tally (IsTally p.now.given (sets g.now)) }
     requires legal { AreLegal p.now.given (sets g.now) }
     requires sum { sum ≡ least_cost p.now.given (sets g.now) }
     ensures holds { IfOk result (λ why. why ≡ None → StepHolds p.now.given bound (sets g.now) step.now) }
@@ -98,6 +99,7 @@ fn reason_holds(
 ) -> bool
     requires region { IsSized p.now.given g.now }
     requires known { AreKnown p.now.given (sets g.now) known.now.standings.now }
+    requires tally { IfSome known.now.tally (IsTally p.now.given (sets g.now)) }
     requires legal { AreLegal p.now.given (sets g.now) }
     requires sum { sum ≡ least_cost p.now.given (sets g.now) }
     requires part { PartHolds p.now.given (sets g.now) step.now }
@@ -123,6 +125,7 @@ fn is_refuted(
     requires region { IsSized p.now.given view.now.region.now }
     requires legal { AreLegal p.now.given (sets view.now.region.now) }
     requires known { AreKnown p.now.given (sets view.now.region.now) known.now.standings.now }
+    requires tally { IfSome known.now.tally (IsTally p.now.given (sets view.now.region.now)) }
     requires least { IfSome least (λ n. n ≡ least_cost p.now.given (seen view.now.region.now view.now.lens)) }
     ensures yes { IsTrue result → Refutes p.now.given bound (seen view.now.region.now view.now.lens) reason.now }
     ensures no { result ≡ false → ¬ Refutes p.now.given bound (seen view.now.region.now view.now.lens) reason.now }
@@ -145,6 +148,7 @@ fn refutes_all(
     requires region { IsSized p.now.given g.now }
     requires legal { AreLegal p.now.given (sets g.now) }
     requires known { AreKnown p.now.given (sets g.now) known.now.standings.now }
+    requires tally { IfSome known.now.tally (IsTally p.now.given (sets g.now)) }
     requires sum { sum ≡ least_cost p.now.given (sets g.now) }
     ensures yes { IsTrue result → Refutes p.now.given bound (sets g.now) reason.now }
     ensures no { result ≡ false → ¬ Refutes p.now.given bound (sets g.now) reason.now }
@@ -169,6 +173,7 @@ fn refutes_inside(
 ) -> bool
     requires region { IsSized p.now.given g.now }
     requires known { AreKnown p.now.given (sets g.now) known.now.standings.now }
+    requires tally { IfSome known.now.tally (IsTally p.now.given (sets g.now)) }
     requires legal { AreLegal p.now.given (sets g.now) }
     requires sum { sum ≡ least_cost p.now.given (sets g.now) }
     requires element { IsElement p.now.given x }

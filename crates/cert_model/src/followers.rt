@@ -1,19 +1,22 @@
 //! Propagators that follow a trail: told of its changes, marked and taken back with it, and asked whether its region is closed.
-//! The numbers of its machines follow it too.
-ghost use Rattle.std.specs.Prelude.{◌≡◌, ◌∷◌, ◌<◌, ◌++◌, [], true, IfOk, IfSome, IsTrue, OnErr, OnOk, length};
-ghost use Rattle.cert_model.specs.Prelude.{AreCounted, AreFewer, AreFollowing, AreKnown, AreStanding, choices, domain_at, domain_before, FollowWhile, HasElement, HaveChoices, Instance, IsClosed, IsElement, IsNarrowed, IsRegionOf, IsSized, keeping, Marked, on_side, Pairs, sets, ToldSame, TopsAgree};
+//! The numbers of its machines follow it too, and what those of one amount hold together.
+ghost use Rattle.std.specs.Prelude.{◌≡◌, ◌∷◌, ◌<◌, ◌++◌, [], Bool, true, IfOk, IfSome, IsTrue, OnErr, OnOk, length};
+ghost use Rattle.cert_model.specs.Prelude.{AreCounted, AreFewer, AreFollowing, AreKnown, AreStanding, choices, domain_at, domain_before, FollowWhile, HasElement, HaveChoices, Instance, IsClosed, IsElement, IsNarrowed, IsRegionOf, IsSized, IsTally, keeping, Marked, on_side, Pairs, Sets, sets, ToldSame, TopsAgree};
 ghost use Rattle.domains.specs.SetsBefore.{sets_before};
+ghost use Rattle.cluster.specs.declared.choices.Choice.{Choice as AnyChoice};
 ghost use Rattle.cluster.specs.declared.ids.Element.{Element as AnyElement};
 
 use base::Memory;
 use catalogue::Problem;
+use cluster::Element;
 use domains::{Before, Change, Domain, Region};
-use profiles::standing::numbers::Standing;
-use profiles::standing::table::Table;
 use prop_core::all::{back_all, mark_all, post_all, tell_all};
 use prop_core::asking::ask_all;
 use prop_core::cover::covered;
 use prop_core::propagator::{Answer, Propagator};
+use quick_checks::tally::Tally;
+use standings::numbers::Standing;
+use standings::table::Table;
 use std::alloc::Global;
 use trail::Trail;
 
@@ -30,6 +33,8 @@ pub struct Followers {
     /// Whether the numbers of the machines are those of the trail.
     pub counted: bool,
     pub table: Table,
+    /// What the machines of one bounded amount are known to hold together, or of none.
+    pub tally: Option<Tally>,
 }
 
 impl Followers {
@@ -43,7 +48,7 @@ impl Followers {
         rules: &mut Vec<Box<dyn Propagator>>,
     ) -> Followers
         requires { IsRegionOf p.now.given region.now }
-        ensures { FollowWhile (λ b. meaning b) p.now.given (record { region = region.now; marks = [] }) result.follow rules.new.items result.counted result.table }
+        ensures { FollowWhile (λ b. meaning b) p.now.given (record { region = region.now; marks = [] }) result.follow rules.new.items result.counted result.table result.tally }
     {
         let mut table = Table::new(alloc);
         let counted = table.post(p, region).is_ok();
@@ -52,6 +57,7 @@ impl Followers {
             kept: Domain::new(alloc, false),
             counted,
             table,
+            tally: None,
         }
     }
 
@@ -75,22 +81,24 @@ impl Followers {
         change: Change,
     ) -> Result<(), Memory>
         requires element { HasElement trail.old.region change.element }
-        requires follow { FollowWhile (λ b. meaning b) p.now.given trail.old self.old.follow rules.old.items self.old.counted self.old.table }
+        requires follow { FollowWhile (λ b. meaning b) p.now.given trail.old self.old.follow rules.old.items self.old.counted self.old.table self.old.tally }
         ensures machines { length trail.new.region.machines ≡ length trail.old.region.machines }
         ensures nodes { length trail.new.region.nodes ≡ length trail.old.region.nodes }
         ensures sets { OnOk result ((e : AnyElement) → sets trail.new.region e
             ≡ keeping change.element (on_side change.side change.part) (sets trail.old.region) e) }
         ensures marks { trail.new.marks ≡ trail.old.marks }
         ensures err { OnErr result (trail.new ≡ trail.old) }
-        ensures follow { FollowWhile (λ b. meaning b) p.now.given trail.new self.new.follow rules.new.items self.new.counted self.new.table }
+        ensures follow { FollowWhile (λ b. meaning b) p.now.given trail.new self.new.follow rules.new.items self.new.counted self.new.table self.new.tally }
     {
         let Some(before) = applied(trail, &mut self.kept, change)? else {
             // telling alone may be what there is no memory for
             self.follow = false;
             self.counted = false;
+            self.tally = None;
             return Ok(());
         };
         let g = trail.region();
+        let stood = self.standing(change.element);
         self.follow = rules_told(p, g, rules, change, before, &self.kept, self.follow);
         self.counted = table_told(
             p,
@@ -101,7 +109,17 @@ impl Followers {
             &self.kept,
             self.counted,
         );
+        let stands = stood == self.standing(change.element);
+        self.tally = tally_told(p, g, change.element, stands, self.tally);
         Ok(())
+    }
+
+    // the numbers of an element, if it is a machine that has some
+    fn standing(&self, x: Element) -> Option<Standing> {
+        match x {
+            Element::Vm(v) => self.table.standings().get(v.0 as usize).copied(),
+            Element::Node(_) => None,
+        }
     }
 
     /// Makes a mark, to which `back` returns, also in those that follow.
@@ -111,10 +129,10 @@ impl Followers {
         trail: &mut Trail,
         rules: &mut Vec<Box<dyn Propagator>>,
     ) -> Result<(), Memory>
-        requires { FollowWhile (λ b. meaning b) p.now.given trail.old self.old.follow rules.old.items self.old.counted self.old.table }
+        requires { FollowWhile (λ b. meaning b) p.now.given trail.old self.old.follow rules.old.items self.old.counted self.old.table self.old.tally }
         ensures ok { OnOk result (trail.new ≡ record { region = trail.old.region; marks = trail.old.region ∷ trail.old.marks }) }
         ensures err { OnErr result (trail.new ≡ trail.old) }
-        ensures follow { FollowWhile (λ b. meaning b) p.now.given trail.new self.new.follow rules.new.items self.new.counted self.new.table }
+        ensures follow { FollowWhile (λ b. meaning b) p.now.given trail.new self.new.follow rules.new.items self.new.counted self.new.table self.new.tally }
     {
         self.follow = mark_told(p, trail, rules, self.follow)?;
         self.counted = table_marked(&mut self.table, self.counted);
@@ -124,12 +142,13 @@ impl Followers {
     /// Goes back to the last mark, and drops it, also in those that follow.
     pub fn back(&mut self, p: &Problem, trail: &mut Trail, rules: &mut Vec<Box<dyn Propagator>>)
         requires marked { 0 < length trail.old.marks }
-        requires follow { FollowWhile (λ b. meaning b) p.now.given trail.old self.old.follow rules.old.items self.old.counted self.old.table }
+        requires follow { FollowWhile (λ b. meaning b) p.now.given trail.old self.old.follow rules.old.items self.old.counted self.old.table self.old.tally }
         ensures marks { trail.old.marks ≡ trail.new.region ∷ trail.new.marks }
-        ensures follow { FollowWhile (λ b. meaning b) p.now.given trail.new self.new.follow rules.new.items self.new.counted self.new.table }
+        ensures follow { FollowWhile (λ b. meaning b) p.now.given trail.new self.new.follow rules.new.items self.new.counted self.new.table self.new.tally }
     {
         back_told(p, trail, rules, self.follow);
         table_back(&mut self.table, self.counted);
+        self.tally = None;
     }
 
     /// Whether those that follow are all quiet at the region, which is then closed if each element has a
@@ -140,9 +159,9 @@ impl Followers {
         trail: &Trail,
         rules: &mut Vec<Box<dyn Propagator>>,
     ) -> bool
-        requires { FollowWhile (λ b. meaning b) p.now.given trail.now self.now.follow rules.old.items self.now.counted self.now.table }
+        requires { FollowWhile (λ b. meaning b) p.now.given trail.now self.now.follow rules.old.items self.now.counted self.now.table self.now.tally }
         ensures closed { IsTrue result → HaveChoices p.now.given (sets trail.now.region) → IsClosed p.now.given (sets trail.now.region) }
-        ensures follow { FollowWhile (λ b. meaning b) p.now.given trail.now self.now.follow rules.new.items self.now.counted self.now.table }
+        ensures follow { FollowWhile (λ b. meaning b) p.now.given trail.now self.now.follow rules.new.items self.now.counted self.now.table self.now.tally }
     {
         if !self.follow {
             return false;
@@ -234,6 +253,26 @@ fn table_told(
     match table.told(p, g, change, before, kept) {
         Ok(()) => true,
         Err(_) => false,
+    }
+}
+
+// what is known to be held together once an element is narrowed: the same, where that has a choice left. Where its machine
+// stands otherwise more may be held, and it is to be told anew
+fn tally_told(
+    p: &Problem,
+    g: &Region,
+    x: Element,
+    stands: bool,
+    tally: Option<Tally>,
+) -> Option<Tally>
+    requires { HasElement g.now x }
+    ensures { (s : Sets) (keep : AnyChoice → Bool) → ((e : AnyElement) → sets g.now e ≡ keeping x keep s e)
+        → IfSome tally (IsTally p.now.given s) → IfSome result (IsTally p.now.given (sets g.now)) }
+{
+    if stands && !g.domain(x).is_empty() {
+        tally
+    } else {
+        None
     }
 }
 

@@ -48,7 +48,7 @@ pub struct Frontier {
     pub nearby: Nearby,
     /// At which place of the list of a constraint to look for a machine.
     pub seats: Seats,
-    /// Whether the propagators that are handed in follow the trail, and where machines surely stand in it.
+    /// Whether the propagators that are handed in follow the trail, where machines surely stand in it, and what some hold together.
     pub followers: Followers,
 }
 

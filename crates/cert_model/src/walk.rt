@@ -1,11 +1,12 @@
 //! The walk.
-ghost use Rattle.std.specs.Prelude.{◌≡◌, ◌++◌, [], List, map, IfOk, IfSome, OnErr, OnOk};
+ghost use Rattle.std.specs.Prelude.{◌≡◌, ◌++◌, [], true, List, map, IfOk, IfSome, OnErr, OnOk};
 ghost use Rattle.std.specs.Option.{option_copied};
 ghost use Rattle.base.specs.Least.{lowest};
 ghost use Rattle.trees.specs.Prelude.{bound_of, children, Instance, IsPlanOf, least_cost, plan_costs, sets};
 ghost use Rattle.trees.specs.declared.steps.Step.{Step as AnyStep};
 ghost use Rattle.relax.specs.Areas.{AreLegal, IsSized};
-ghost use Rattle.cert_model.specs.{Frontiers.AreSame, Frontiers.AreSameSize, Frontiers.FollowFrontier, Frontiers.IsKept, Frontiers.later_sets, Frontiers.later_sums, Frontiers.open_sets, Frontiers.open_sums, Walks.Answers, Walks.Ends, Walks.FollowWalk, Walks.IsLeast, Walks.IsStanding, Walks.IsUnchanged, Walks.IsWholeAt, Walks.IsWrong, Walks.PartHolds, Walks.Stands, Walks.WalkAt, Walks.choices_handed};
+ghost use Rattle.quick_checks.specs.Prelude.{IsTally};
+ghost use Rattle.cert_model.specs.{Following.AreCounted, Frontiers.AreSame, Frontiers.AreSameSize, Frontiers.FollowFrontier, Frontiers.IsKept, Frontiers.later_sets, Frontiers.later_sums, Frontiers.open_sets, Frontiers.open_sums, Walks.Answers, Walks.Ends, Walks.FollowWalk, Walks.IsLeast, Walks.IsStanding, Walks.IsUnchanged, Walks.IsWholeAt, Walks.IsWrong, Walks.PartHolds, Walks.Stands, Walks.WalkAt, Walks.choices_handed};
 
 use crate::claims::fault;
 use crate::counts::{cheaper, counted, goal_shown, is_same_goal, least_with, lower};
@@ -21,6 +22,8 @@ use domains::Side;
 use hints::{Nearby, Seats};
 use prop_core::propagator::Propagator;
 use quick_checks::known::Known;
+use quick_checks::tally::{Tally, tally_of};
+use reasons::Reason;
 use relax::start::start_region;
 use slices::Plan;
 use slices::plan::cost;
@@ -63,6 +66,7 @@ impl Model for Walk {
       follow = w.frontier.followers.follow;
       counted = w.frontier.followers.counted;
       table = w.frontier.followers.table;
+      tally = w.frontier.followers.tally;
     } };
 
     ghost invariant = { λ w. IsKept w.frontier };
@@ -121,6 +125,7 @@ impl Walk {
         let Due::Whole = self.frontier.due else {
             return Ok(Some(Why::Structure));
         };
+        self.frontier.followers.tally = tally_for(p, &self.frontier, step);
         let sum = self.frontier.sum;
         if let Some(why) = refusal(
             p,
@@ -176,6 +181,38 @@ impl Walk {
     }
 }
 
+// what is known to be held together, of the amount that a step gives as its reason where it gives one
+fn tally_for(p: &Problem, frontier: &Frontier, step: &Step) -> Option<Tally>
+    requires region { IsSized p.now.given frontier.now.trail.region }
+    requires legal { AreLegal p.now.given (sets frontier.now.trail.region) }
+    requires counting { frontier.now.followers.counted ≡ true → AreCounted p.now.given frontier.now.trail frontier.now.followers.table }
+    requires telling { IfSome frontier.now.followers.tally (IsTally p.now.given (sets frontier.now.trail.region)) }
+    ensures { IfSome result (IsTally p.now.given (sets frontier.now.trail.region)) }
+{
+    let told = frontier.followers.tally;
+    let Some(Reason::SetLoad(c, t)) = reason_of(step) else {
+        return told;
+    };
+    if told.is_some_and(|x| x.constraint == *c && x.at == *t) {
+        return told;
+    }
+    let known = Known {
+        nearby: &frontier.nearby,
+        seats: &frontier.seats,
+        standings: frontier.followers.standings(),
+        tally: None,
+    };
+    tally_of(p, frontier.trail.region(), &known, *c, *t)
+}
+
+// the reason that a step gives, if it gives one
+fn reason_of(step: &Step) -> Option<&Reason> {
+    match step {
+        Step::Cut(_, _, reason) | Step::Fail(reason) => Some(reason),
+        Step::Decide(_, _) | Step::Plan(_) | Step::Left => None,
+    }
+}
+
 // what is wrong with a step at the region, which is due; None where it holds and is lean if that is asked
 fn refusal(
     p: &Problem,
@@ -202,6 +239,7 @@ fn refusal(
         nearby: &frontier.nearby,
         seats: &frontier.seats,
         standings: frontier.followers.standings(),
+        tally: frontier.followers.tally,
     };
     if let Some(why) = fault(alloc, p, &known, bound, region, frontier.sum, step)? {
         return Ok(Some(why));

@@ -21,5 +21,5 @@ pub use Rattle.slices.specs.declared.slice.Slices.{Slices}
 pub use Rattle.slices.specs.declared.slice.Weight.{Weight}
 pub use Rattle.slices.specs.declared.slice.Weight.TheVariants.{Amount}
 pub use Rattle.slices.specs.declared.stage.Stage.{Stage}
-pub use Rattle.profiles.specs.declared.standing.numbers.Arrival.{Arrival}
-pub use Rattle.profiles.specs.declared.standing.numbers.Standing.{Standing}
+pub use Rattle.standings.specs.declared.numbers.Arrival.{Arrival}
+pub use Rattle.standings.specs.declared.numbers.Standing.{Standing}

@@ -10,10 +10,10 @@ use cluster::{Element, Instant, NodeId, Place, VmId};
 use domains::view::{Sight, shown};
 use domains::{Domain, Row, View};
 use profiles::near::is_listed;
-use profiles::seen::{is_narrowed, narrowed, room_seen};
 use relax::Area;
 use relax::sure::least_held;
 use slices::Weight;
+use standings::seen::{is_narrowed, narrowed, room_seen};
 
 // what a machine with these numbers surely uses of a node
 #[inline(always)]

@@ -10,11 +10,11 @@ use catalogue::Problem;
 use cluster::{Instant, VmId};
 use domains::View;
 use profiles::movers::Movers;
-use profiles::seen::narrowed;
 use relax::Area;
 use relax::sure::least_held;
 use relax::totals::room;
 use slices::Weight;
+use standings::seen::narrowed;
 
 // how much more a machine surely uses on all nodes than at present, or less
 fn beside_one(p: &Problem, view: &View, v: VmId, r: u8, t: Instant) -> Beside

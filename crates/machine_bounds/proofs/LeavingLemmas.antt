@@ -2,7 +2,7 @@
 use Rattle.base.proofs.Public.{◌≡◌, ℕ, ◌+◌, ◌<◌, ◌≤◌, Bool, true, false, length, max, zero, suc, Option, Some, None, List, [], ◌∷◌, unwrap_or, refl, sym, ◌∙◌, inl, inr, arith, filter, slice_index_or, Contains, false≢true}
 use Rattle.domains.proofs.Public.{least_of_each, lowest_before}
 use Rattle.reasons.proofs.Public.{ends_of_rows}
-use Rattle.profiles.proofs.Public.{all_stay}
+use Rattle.standings.proofs.Public.{all_stay}
 use Rattle.cluster.specs.declared.choices.Choice.TheVariants.{Idle}
 use Rattle.cluster.specs.declared.choices.Place.{Place}
 use Rattle.domains.specs.declared.parts.Row.{Row}

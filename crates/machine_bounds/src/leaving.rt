@@ -8,8 +8,8 @@ use catalogue::Problem;
 use cluster::{Choice, Element, Instant, Place, VmId};
 use domains::measure::{Measure, lowest, lowest_lost};
 use domains::{Before, Domain, Row};
-use profiles::standing::leaves::{Leaves, leaves_of};
-use profiles::standing::numbers::{Leaving, LeavingFrom, NEVER, leave};
+use standings::leaves::{Leaves, leaves_of};
+use standings::numbers::{Leaving, LeavingFrom, NEVER, leave};
 
 // how a machine leaves its host, where all its starts are at nodes; a row at no node comes before all others
 fn leaves_for_nodes(p: &Problem, v: VmId, domain: &Domain) -> Option<Leaves>

@@ -1,12 +1,7 @@
 -- Hosts, and the most that is used, by lists.
-use Rattle.profiles.proofs.Prelude.{Vec, ◌≡◌, inl, inr, ℕ, ◌+◌, ◌<◌, Bool, List, [], ◌∷◌, ◌++◌, Option, Some, None, get_or, sym, ap, subst, ◌∙◌, arith, IsNonDecreasingBy, IsPermutation, cases_eq, get_or-map, length-append, length-map, map-append, All-push, All-weaker, Contains-append_left, Contains-push, All-permutation, Contains-permutation, AreHosts, AreMostUses, AreOrders, AreTotalBases, AreUses, hosted_in, HostIs, Instance, IsMostUse, IsOrder, IsTotalBase, lists_of, machine_count, most_use, MostUse, NodeId, one, state_of, host_of, State, is_node_in}
-use Rattle.profiles.proofs.StandingLemmas.Tables.{each_push}
+use Rattle.profiles.proofs.Prelude.{Vec, ◌≡◌, inl, inr, ℕ, ◌+◌, ◌<◌, Bool, List, [], ◌∷◌, ◌++◌, Option, Some, None, get_or, sym, ap, subst, ◌∙◌, arith, IsNonDecreasingBy, IsPermutation, cases_eq, get_or-map, length-append, length-map, map-append, All-push, All-weaker, Contains-append_left, Contains-push, All-permutation, Contains-permutation, AreHosts, AreMostUses, AreOrders, AreTotalBases, AreUses, hosted_in, HostIs, Instance, IsMostUse, IsOrder, IsTotalBase, lists_of, machine_count, most_use, MostUse, NodeId, one, state_of}
+use Rattle.standings.proofs.Public.{each_push}
 use Rattle.base.proofs.Public.{Global}
-
--- the host of a state tells where a machine in it is hosted
-pub host_is : (s : State) (h : Option NodeId) (n : ℕ) → h ≡ host_of s → HostIs h n (hosted_in s (one n))
-host_is s None n e = ap (λ h. is_node_in h (one n)) (sym e)
-host_is s (Some m) n e = ap (λ h. is_node_in h (one n)) (sym e)
 
 -- both tell whether the node is the host
 pub host_tells : (h : Option NodeId) (n : ℕ) (a b : Bool) → HostIs h n a → HostIs h n b → a ≡ b

@@ -4,11 +4,8 @@ mod Prelude
 pub mod FirstLemmas
 mod FixedLemmas
 mod RankLemmas
-mod LevelLemmas
 mod MoverLemmas
 mod NearLemmas
 mod NodeLoadLemmas
 mod NumberListLemmas
-mod SeenLemmas
-mod StandingLemmas
 mod SumLemmas

@@ -1,6 +1,6 @@
 -- What is added up is the load of the node.
 use Rattle.profiles.proofs.Prelude.{◌≡◌, ℕ, ◌+◌, ◌<◌, Bool, true, false, ◌&&◌, nat_lt, cond, refl, sym, ap, ◌∙◌, slice_index_or, sum_to-same, Amount, base, comes_by, gain, hosted_in, Instance, IsProfile, IsShare, kept_use, load, machine_count, never, no_share, no_standing, one, ProfileView, Sets, Share, share_use, Standing, state_of, sum_to, sure, total_use}
-use Rattle.profiles.proofs.StandingLemmas.Laws.{load_law}
+use Rattle.standings.proofs.Public.{load_law}
 
 -- a machine's share is what it surely has
 share-is : (p : Instance) (n r v t : ℕ) (x : Share) (k : Standing) → IsShare p n r v x → kept_use p v (Amount r) n t k ≡ share_use n t x k

@@ -5,7 +5,8 @@ use Rattle.std.specs.declared.alloc.Global.{Global}
 use Rattle.relax.specs.Prelude.{demand_of, hosted_in, Instance, machine_count, max_amount, max_machines, one, state_of, sum_to}
 use Rattle.cluster.specs.declared.ids.NodeId.{NodeId}
 use Rattle.slices.specs.declared.slice.Weight.TheVariants.{Amount}
-use Rattle.profiles.specs.{Hosts.HostIs, Standing.Standings.base, declared.fixed.MostUse.MostUse}
+use Rattle.standings.specs.Prelude.{base, HostIs}
+use Rattle.profiles.specs.declared.fixed.MostUse.{MostUse}
 
 -- what a contract sees of it: the host of each machine, and by resource the most that any machine has and brings, what all have at
 -- present, and the machines by what each has and brings

@@ -1,7 +1,4 @@
 -- what a reader must believe
-pub mod Levels
-pub mod Standing
-pub mod Hosts
 pub mod Near
 pub mod Movers
 pub mod Firsts

@@ -2,7 +2,9 @@
 use Rattle.std.specs.Prelude.{◌≡◌, ℕ, ◌+◌, ◌<◌, ◌≤◌, List, length, nat_lt, slice_index_or, if◌then◌else◌}
 use Rattle.relax.specs.Prelude.{hosted_in, Instance, machine_count, max_amount, max_machines, one, Sets, state_of, sum_to}
 use Rattle.slices.specs.declared.slice.Weight.TheVariants.{Amount}
-use Rattle.profiles.specs.{declared.standing.numbers.Standing.Standing, Standing.Standings.base, Standing.Standings.comes_by, Standing.Standings.gain, Standing.Tables.AreStanding, Standing.Tables.Tables, Standing.Tables.no_standing, declared.node_load.share.Share.Share}
+use Rattle.standings.specs.Prelude.{AreStanding, base, comes_by, gain, no_standing, Tables}
+use Rattle.standings.specs.declared.numbers.Standing.{Standing}
+use Rattle.profiles.specs.declared.node_load.share.Share.{Share}
 
 -- what a contract sees of a `Profile`: its node and resource, what each machine has and brings there, and the numbers of all machines
 -- at each level

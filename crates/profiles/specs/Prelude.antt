@@ -5,5 +5,7 @@ pub use Rattle.cluster.specs.declared.{choices.Choice.Choice, choices.Choice.The
 pub use Rattle.catalogue.specs.declared.targets.{Target.TheVariants.Killed, Target.TheVariants.Offline, Target.TheVariants.Online, Target.TheVariants.Ready, Target.TheVariants.Running, Target.TheVariants.Sleeping, Wish.Wish, Wish.TheVariants.Clash, Wish.TheVariants.Keep, Wish.TheVariants.To}
 pub use Rattle.domains.specs.declared.{parts.Part.TheVariants.From, parts.Row.Row, undo.Lost.Lost, view.Lens.Lens}
 pub use Rattle.slices.specs.declared.{slice.Slices.Slices, slice.Weight.Weight, slice.Weight.TheVariants.Amount, slice.Weight.TheVariants.Image, slice.Weight.TheVariants.Presence, slice.What.TheVariants.Demand, slice.What.TheVariants.Use, stage.Stage.Stage}
-pub use Rattle.profiles.specs.{Firsts.AreFirstAt, Firsts.AreFirsts, Firsts.IsNoLater, Firsts.slot_of, Firsts.start_count, Fixed.AreHosts, Fixed.AreMostUses, Fixed.AreOrders, Fixed.AreTotalBases, Fixed.AreUses, Fixed.FixedView, Fixed.IsFixed, Fixed.IsMostUse, Fixed.IsOrder, Fixed.IsTotalBase, Fixed.lists_of, Fixed.most_use, Hosts.HostIs, Levels.IsLog, Levels.level_at, Levels.Levels, Levels.olders, Movers.AreMovers, Movers.IsGrown, Movers.IsListedOrStays, Movers.IsToldOf, Near.AreMachines, Near.AreNear, Near.IsEachOnce, Near.IsNear, Near.IsPut, Near.list_at, NodeLoad.AreShares, NodeLoad.AreSmall, NodeLoad.IsProfile, NodeLoad.IsShare, NodeLoad.IsSmall, NodeLoad.no_share, NodeLoad.ProfileView, NodeLoad.share_use, NodeLoad.total_use, Standing.Ends.leave_climbs, Standing.Laws.BeforeLaw, Standing.Laws.FewerLaw, Standing.Laws.GrowLaw, Standing.Laws.KeptLaw, Standing.Laws.LoadLaw, Standing.Laws.PresencesLaw, Standing.Laws.PresentLaw, Standing.Leaves.AreLeaves, Standing.Standings.base, Standing.Standings.brought, Standing.Standings.comes_by, Standing.Standings.gain, Standing.Standings.had_there, Standing.Standings.has_come, Standing.Standings.have_come, Standing.Standings.IsStanding, Standing.Standings.kept_until, Standing.Standings.kept_use, Standing.Standings.leave_of, Standing.Standings.never, Standing.Standings.weight_if, Standing.Tables.AreStanding, Standing.Tables.AreStandingUpTo, Standing.Tables.no_standing, Standing.Tables.Tables}
-pub use Rattle.profiles.specs.declared.{fixed.MostUse.MostUse, levels.Entry.Entry, levels.Entry.TheVariants.Mark, levels.Entry.TheVariants.Undo, node_load.share.Share.Share, standing.leaves.Leaves.Leaves, standing.numbers.Arrival.Arrival, standing.numbers.Standing.Standing}
+pub use Rattle.standings.specs.Prelude.{AreLeaves, AreStanding, AreStandingUpTo, base, BeforeLaw, brought, comes_by, FewerLaw, gain, GrowLaw, had_there, has_come, have_come, HostIs, IsLog, IsStanding, kept_until, kept_use, KeptLaw, leave_climbs, leave_of, level_at, Levels, LoadLaw, never, no_standing, olders, PresencesLaw, PresentLaw, Tables, weight_if}
+pub use Rattle.standings.specs.declared.{levels.Entry.Entry, levels.Entry.TheVariants.Mark, levels.Entry.TheVariants.Undo, numbers.Arrival.Arrival, numbers.Standing.Standing}
+pub use Rattle.profiles.specs.{Firsts.AreFirstAt, Firsts.AreFirsts, Firsts.IsNoLater, Firsts.slot_of, Firsts.start_count, Fixed.AreHosts, Fixed.AreMostUses, Fixed.AreOrders, Fixed.AreTotalBases, Fixed.AreUses, Fixed.FixedView, Fixed.IsFixed, Fixed.IsMostUse, Fixed.IsOrder, Fixed.IsTotalBase, Fixed.lists_of, Fixed.most_use, Movers.AreMovers, Movers.IsGrown, Movers.IsListedOrStays, Movers.IsToldOf, Near.AreMachines, Near.AreNear, Near.IsEachOnce, Near.IsNear, Near.IsPut, Near.list_at, NodeLoad.AreShares, NodeLoad.AreSmall, NodeLoad.IsProfile, NodeLoad.IsShare, NodeLoad.IsSmall, NodeLoad.no_share, NodeLoad.ProfileView, NodeLoad.share_use, NodeLoad.total_use}
+pub use Rattle.profiles.specs.declared.{fixed.MostUse.MostUse, node_load.share.Share.Share}

@@ -1,14 +1,15 @@
 //! No later than when each machine first starts at each node, kept with levels.
 ghost use Rattle.std.specs.Prelude.{◌≡◌, ℕ, ◌+◌, ◌*◌, ◌<◌, [], IsTrue, length, OnErr, OnOk};
 ghost use Rattle.relax.specs.Prelude.{choices, IsElement, IsSized, machine_count, node_count, sets};
-ghost use Rattle.profiles.specs.{Levels.IsBack, Levels.marked, Firsts.AreFirstAt, Firsts.AreFirsts, Firsts.IsNoLater, Firsts.slot_of as the_slot_of, Firsts.start_count};
+ghost use Rattle.standings.specs.Levels.{IsBack, marked};
+ghost use Rattle.profiles.specs.{Firsts.AreFirstAt, Firsts.AreFirsts, Firsts.IsNoLater, Firsts.slot_of as the_slot_of, Firsts.start_count};
 
-use crate::levels::Levelled;
 use base::Memory;
 use catalogue::Problem;
 use cluster::{Choice, Element, Instant, NodeId, Place, VmId};
 use domains::measure::{Measure, lowest};
 use domains::{Change, Domain, Part, Region, Side};
+use standings::levels::Levelled;
 use std::alloc::Global;
 use std::marker::Model;
 
@@ -25,7 +26,7 @@ pub struct Firsts {
 
 impl Model for Firsts {
     ghost use Rattle.std.specs.Prelude.{ℕ};
-    ghost use Rattle.profiles.specs.Levels.{Levels};
+    ghost use Rattle.standings.specs.Levels.{Levels};
 
     ghost Value = { Levels ℕ };
 

@@ -3,12 +3,12 @@ ghost use Rattle.std.specs.Prelude.{◌≡◌, ◌+◌, ◌<◌, [], IfOk, lengt
 ghost use Rattle.relax.specs.Prelude.{hosted_in, IsElement, machine_count, one, state_of};
 ghost use Rattle.profiles.specs.Fixed.{AreHosts, AreMostUses, AreOrders, AreTotalBases, AreUses, IsFixed, IsMostUse, IsOrder, IsTotalBase, lists_of};
 
-use crate::host::{host_of, is_this};
-use crate::standing::uses::base;
 use base::Memory;
 use catalogue::Problem;
 use cluster::{Element, NodeId, VmId};
 use slices::Weight;
+use standings::host::{host_of, is_this};
+use standings::uses::base;
 use std::alloc::Global;
 use std::marker::Model;
 

@@ -1,13 +1,9 @@
-//! Numbers that are kept beside a region while it is changed and undone.
+//! Numbers of nodes that are kept beside a region while it is changed and undone.
 #![tactic(auto)]
 
 pub mod firsts;
 pub mod fixed;
-pub mod host;
-pub mod levels;
 pub mod movers;
 pub mod near;
 pub mod node_load;
 pub mod number_lists;
-pub mod seen;
-pub mod standing;

@@ -3,7 +3,7 @@ ghost use Rattle.std.specs.Prelude.{◌≡◌, ℕ, ◌+◌, ◌<◌, ◌≤◌,
 ghost use Rattle.std.specs.List.{Contains};
 ghost use Rattle.relax.specs.Prelude.{IsElement, IsSized, machine_count, sets, vm};
 ghost use Rattle.cluster.specs.declared.choices.Choice.TheVariants.{Idle};
-ghost use Rattle.profiles.specs.Levels.{IsBack, marked};
+ghost use Rattle.standings.specs.Levels.{IsBack, marked};
 ghost use Rattle.profiles.specs.Movers.{AreMovers, IsGrown, IsListedOrStays, IsToldOf};
 
 use base::Memory;
@@ -26,7 +26,7 @@ pub struct Movers {
 
 impl Model for Movers {
     ghost use Rattle.std.specs.Prelude.{ℕ, map, take};
-    ghost use Rattle.profiles.specs.Levels.{Levels};
+    ghost use Rattle.standings.specs.Levels.{Levels};
     ghost use Rattle.profiles.specs.Ranks.{IsRanked};
 
     ghost Value = { Levels ℕ };

@@ -4,11 +4,11 @@ ghost use Rattle.std.specs.List.{Contains};
 ghost use Rattle.slices.specs.Elements.{machine_count, node_count};
 ghost use Rattle.profiles.specs.Near.{AreNear, IsNear, IsPut, list_at};
 
-use crate::host::host_of;
 use crate::number_lists::NumberLists;
 use base::Memory;
 use catalogue::Problem;
 use cluster::{NodeId, VmId};
+use standings::host::host_of;
 use std::alloc::Global;
 use std::marker::Model;
 

@@ -3,8 +3,8 @@ use Rattle.base.proofs.Public.{cond, Contains, eqb-true, false, false≢true, le
 use Rattle.domains.specs.Prelude.{place_index, same_place}
 use Rattle.quick_checks.proofs.Prelude.{◌≡◌, ◌<◌, ◌≤◌, ◌+◌, ◌&&◌, ◌∙◌, ◌∷◌, [], and_parts, ap, arith, Bool, Choice, eq-eqb, Instance, IsStanding, IsTrue, kept_law, least, List, lower, lowest, nat_lt, nat_tests, never, None, one, Option, Presence, present_at, refl, Sets, Some, Standing, suc, surely, sym, true, vm, Weight, ℕ}
 use Rattle.quick_checks.specs.Prelude.{held_at, sure}
-use Rattle.profiles.specs.declared.standing.numbers.Arrival.{Arrival}
-use Rattle.profiles.specs.Prelude.{Act, At, base, comes_by, gain, has_come, hosted_in, leave_of, NodeId, Nowhere, state_of}
+use Rattle.standings.specs.declared.numbers.Arrival.{Arrival}
+use Rattle.standings.specs.Prelude.{Act, At, base, comes_by, gain, has_come, hosted_in, leave_of, NodeId, Nowhere, state_of}
 use Rattle.relax.specs.Prelude.{in_part, Part, Upto}
 use Rattle.cluster.specs.declared.choices.{Choice.TheVariants.Idle, Place.Place}
 

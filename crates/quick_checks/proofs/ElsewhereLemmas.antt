@@ -1,14 +1,14 @@
 -- A machine that runs and goes to other nodes is at its host or there.
 use Rattle.base.proofs.Public.{and_parts, ap, arith, Bool, cases_lt, cond, eq-eqb, false, flat_map, inl, inr, IsTrue, length, le-leb, List, lt-ltb, nat_le, nat_lt, ne_eqb, None, refl, slice_index_or, Some, suc, sym, true, zero, [], ℕ, ◌&&◌, ◌+◌, ◌++◌, ◌<◌, ◌==◌, ◌∙◌, ◌∷◌, ◌≡◌, ◌≢◌, ◌≤◌, ◌⊎◌}
-use Rattle.profiles.proofs.Public.{kept_law}
-use Rattle.profiles.specs.Prelude.{Act, AreLeaves, At, Choice, choices, DomainView, Instance, is_raised, machine_kind, never, no_row, node_count, NodeId, Nodes, Nowhere, one, Presence, row_choices, Sets, starts_from, state_of, surely, vm, wanted_state}
-use Rattle.profiles.specs.Standing.Standings.{leave_of}
+use Rattle.standings.proofs.Public.{kept_law}
+use Rattle.standings.specs.Prelude.{Act, AreLeaves, At, Choice, choices, DomainView, Instance, is_raised, machine_kind, never, no_row, node_count, NodeId, Nodes, Nowhere, one, Presence, row_choices, Sets, starts_from, state_of, surely, vm, wanted_state}
+use Rattle.standings.specs.Standings.{leave_of}
 use Rattle.reasons.specs.Prelude.{kind_of, present_at, Row, sure}
 use Rattle.slices.proofs.Public.{present_on_set}
 use Rattle.quick_checks.proofs.ComingLemmas.{numbers, of_one}
 use Rattle.quick_checks.specs.Posts.{GoesInto}
 use Rattle.cluster.specs.declared.choices.{Choice.TheVariants.Idle, Place.Place}
-use Rattle.profiles.specs.declared.standing.leaves.Leaves.{Leaves}
+use Rattle.standings.specs.declared.leaves.Leaves.{Leaves}
 use Rattle.cluster.specs.declared.kinds.Kind.TheVariants.{Migrate}
 use Rattle.cluster.specs.declared.states.State.{State}
 use Rattle.cluster.specs.declared.states.State.TheVariants.{Running}

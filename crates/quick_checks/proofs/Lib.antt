@@ -5,4 +5,6 @@ mod ElsewhereLemmas
 mod HoldLemmas
 mod KnownLemmas
 mod ScatteredLemmas
+mod TallyLemmas
 mod WeighedLemmas
+pub mod Public

@@ -1,5 +1,6 @@
 -- what a reader must believe
 pub mod Known
+pub mod Tallies
 -- what the code's contracts say beside it
 pub mod Posts
 pub mod Weighed

@@ -8,10 +8,10 @@ use catalogue::Problem;
 use cluster::{Element, Instant, NodeId, Place, VmId};
 use domains::view::{Sight, shown};
 use domains::{Lens, Part, View};
-use profiles::standing::uses::gain;
 use relax::is_host;
 use relax::sure::has_none;
 use slices::Weight;
+use standings::uses::gain;
 
 // whether a place is a node
 fn is_there(place: Place, n: NodeId) -> bool

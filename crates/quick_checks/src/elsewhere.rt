@@ -5,9 +5,9 @@ ghost use Rattle.quick_checks.specs.Prelude.{GoesInto, IsSized, machine_count, n
 use catalogue::Problem;
 use cluster::{Element, Instant, NodeId, Place, VmId};
 use domains::{Region, Row, View};
-use profiles::seen::is_narrowed;
-use profiles::standing::leaves::{leaves_of, runs_on};
 use relax::{Area, has};
+use standings::leaves::{leaves_of, runs_on};
+use standings::seen::is_narrowed;
 
 // whether a place is a node of an area other than a host
 fn goes_into(p: &Problem, h: NodeId, area: &Area, place: Place) -> bool

@@ -7,8 +7,8 @@ use catalogue::Problem;
 use catalogue::targets::{Target, Wish};
 use cluster::{Element, NodeId, VmId};
 use domains::View;
-use profiles::seen::is_narrowed;
-use profiles::standing::leaves::runs_on;
+use standings::leaves::runs_on;
+use standings::seen::is_narrowed;
 
 // whether a machine that runs is to run on
 fn is_to_run(p: &Problem, v: VmId) -> bool

@@ -6,26 +6,29 @@ ghost use Rattle.quick_checks.specs.Prelude.{Amount as AmountOf, AreKnown, AreLe
 use crate::coming::{brought, comes_on};
 use crate::elsewhere::is_always_in;
 use crate::holding::holds_on;
+use crate::tally::Tally;
 use catalogue::Problem;
 use cluster::{Element, Instant, NodeId, VmId};
 use domains::View;
 use hints::{Nearby, Seats};
-use profiles::host::host_of;
-use profiles::seen::is_narrowed;
-use profiles::standing::numbers::Standing;
-use profiles::standing::uses::kept_use;
 use relax::{Area, has, least_held, surely_in};
 use slices::Weight;
 use slices::holding::amount;
 use slices::slice::What;
+use standings::host::host_of;
+use standings::numbers::Standing;
+use standings::seen::is_narrowed;
+use standings::uses::kept_use;
 
-/// Where to look first, and where machines surely stand.
+/// Where to look first, where machines surely stand, and what some of them hold together.
 #[derive(Clone, Copy)]
 pub struct Known<'a> {
     pub nearby: &'a Nearby,
     pub seats: &'a Seats,
     /// Of each machine, or of none.
     pub standings: &'a [Standing],
+    /// Of one bounded amount, or of none.
+    pub tally: Option<Tally>,
 }
 
 // the numbers of a machine, where they are known and all of its choices are seen

@@ -7,4 +7,5 @@ mod holding;
 pub mod known;
 pub mod quick;
 mod scattered;
+pub mod tally;
 mod weighed;

@@ -1,6 +1,6 @@
 //! Whether a reason is seen to refute, by what is known beside the region. A yes is a yes; else it is asked exactly.
-ghost use Rattle.std.specs.Prelude.{◌≡◌, ℕ, ◌<◌, length, true, IsTrue, Option as AnyOption};
-ghost use Rattle.quick_checks.specs.Prelude.{AreKnown, AreLegal, Applies, ForbidsPair, ForbidsPlace, IsElement, IsGroup, IsPair, IsPlace, IsSetLoad, IsSized, inventory_of, is_rule, machine_count, Refutes, seen, sets, sure, is_member};
+ghost use Rattle.std.specs.Prelude.{◌≡◌, ℕ, ◌<◌, length, true, IfSome, IsTrue, Option as AnyOption, slice_get, Some};
+ghost use Rattle.quick_checks.specs.Prelude.{AreKnown, AreLegal, Applies, ForbidsPair, ForbidsPlace, IsElement, IsGroup, IsPair, IsPlace, IsSetLoad, IsSized, IsTally, inventory_of, is_rule, machine_count, Refutes, seen, sets, sure, is_member};
 
 use crate::known::{Known, is_on};
 use crate::scattered::is_scattered;
@@ -171,6 +171,8 @@ fn is_exceeded(
     requires region { IsSized p.now.given view.now.region.now }
     requires legal { AreLegal p.now.given (sets view.now.region.now) }
     requires known { AreKnown p.now.given (sets view.now.region.now) known.now.standings.now }
+    requires tally { IfSome known.now.tally (IsTally p.now.given (sets view.now.region.now)) }
+    requires there { slice_get p.now.given.constraints c ≡ Some constraint.now }
     requires rule { is_rule (inventory_of p.now.given) constraint.now ≡ true }
     ensures { IsTrue result → IsSetLoad p.now.given (sure p.now.given (seen view.now.region.now view.now.lens) t) constraint.now }
 {
@@ -193,6 +195,7 @@ fn amount_applies(p: &Problem, view: &View, known: &Known, c: u32, t: Instant) -
     requires region { IsSized p.now.given view.now.region.now }
     requires legal { AreLegal p.now.given (sets view.now.region.now) }
     requires known { AreKnown p.now.given (sets view.now.region.now) known.now.standings.now }
+    requires tally { IfSome known.now.tally (IsTally p.now.given (sets view.now.region.now)) }
     requires constraint { c < length p.now.given.constraints }
     ensures { IsTrue result → Applies p.now.given c t (IsSetLoad p.now.given (sure p.now.given (seen view.now.region.now view.now.lens) t)) }
 {
@@ -206,6 +209,7 @@ pub fn is_seen(p: &Problem, known: &Known, view: &View, reason: &Reason) -> bool
     requires region { IsSized p.now.given view.now.region.now }
     requires legal { AreLegal p.now.given (sets view.now.region.now) }
     requires known { AreKnown p.now.given (sets view.now.region.now) known.now.standings.now }
+    requires tally { IfSome known.now.tally (IsTally p.now.given (sets view.now.region.now)) }
     ensures { IsTrue result → (bound : AnyOption ℕ) → Refutes p.now.given bound (seen view.now.region.now view.now.lens) reason.now }
 {
     if !is_named(p, reason) {

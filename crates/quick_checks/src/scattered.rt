@@ -10,10 +10,10 @@ use crate::known::{is_in, is_on};
 use catalogue::{Constraint, Problem, Vms};
 use cluster::{Element, Instant, NodeId, NodeSet, Place, VmId};
 use domains::{Lens, Part, Region, View};
-use profiles::standing::numbers::Standing;
 use relax::{Area, has};
 use slices::Form;
 use slices::form::{Groups, form_of};
+use standings::numbers::Standing;
 
 /// A member, and a node on which it is.
 #[derive(Clone, Copy)]

@@ -1,15 +1,16 @@
 //! Whether some machines alone are seen to hold too much on the nodes of a set.
-ghost use Rattle.std.specs.Prelude.{◌≡◌, ◌<◌, length, IsTrue};
-ghost use Rattle.quick_checks.specs.Prelude.{Amount as AmountOf, AreKnown, AreLegal, has_node, IsOverload, IsSized, IsWeighed, IsWeight, machine_count, nodes_of, room as room_of, seen, sets, sure, total};
+ghost use Rattle.std.specs.Prelude.{◌≡◌, ◌<◌, length, IfSome, IsTrue};
+ghost use Rattle.quick_checks.specs.Prelude.{Amount as AmountOf, AreKnown, AreLegal, BoundsAmount, has_node, IsOverload, IsSized, IsTally, IsWeighed, IsWeight, machine_count, nodes_of, room as room_of, seen, sets, sure, total};
 
 use crate::known::{Known, held};
+use crate::tally::{Tally, exceeds};
 use catalogue::Problem;
 use cluster::{Instant, NodeSet, VmId};
 use domains::{Lens, View};
-use profiles::seen::room_seen;
-use profiles::standing::numbers::Standing;
 use relax::{Area, area_of, narrowed, room};
 use slices::Weight;
+use standings::numbers::Standing;
+use standings::seen::room_seen;
 
 /// What some of the machines before a number surely hold together, or less.
 #[derive(Clone, Copy)]
@@ -18,8 +19,11 @@ pub struct Weighed {
     pub total: u64,
 }
 
+/// The number of no machine.
+pub(crate) const NO_OTHER: u32 = u32::MAX;
+
 // how many machines there are
-fn machine_total(p: &Problem) -> usize
+pub(crate) fn machine_total(p: &Problem) -> usize
     ensures { result ≡ machine_count p.now.given }
 {
     p.cluster().machines().len()
@@ -61,8 +65,8 @@ fn with(
     }
 }
 
-// what the machines of a list and one other hold; those out of order are left out
-fn listed(
+// what the machines of a list and one other hold, if there is such a one; those out of order are left out
+pub(crate) fn listed(
     p: &Problem,
     view: &View,
     ks: &[Standing],
@@ -162,7 +166,35 @@ pub fn is_over(p: &Problem, view: &View, known: &Known, r: u8, set: &NodeSet, t:
     room_in(p, view, r, &area, t) < sum.total
 }
 
-/// Whether the machines that are near the nodes of a constraint hold more there than an amount.
+// whether that is told by what is known to be held together there
+fn is_tallied(
+    p: &Problem,
+    view: &View,
+    tally: Option<Tally>,
+    c: u32,
+    weight: Weight,
+    set: &NodeSet,
+    area: &Area,
+    amount: u64,
+    t: Instant,
+) -> bool
+    requires region { IsSized p.now.given view.now.region.now }
+    requires weight { IsWeight p.now.given weight }
+    requires tally { IfSome tally (IsTally p.now.given (sets view.now.region.now)) }
+    requires area { nodes_of p.now.given area.now ≡ has_node set.now }
+    requires bounds { BoundsAmount p.now.given c weight set.now amount }
+    ensures { IsTrue result → amount < total p.now.given (sure p.now.given (seen view.now.region.now view.now.lens) t) weight (nodes_of p.now.given area.now) }
+{
+    match tally {
+        None => false,
+        Some(x) => {
+            x.constraint == c && x.at == t && exceeds(p, view, x.total, weight, area, amount, t)
+        }
+    }
+}
+
+/// Whether the machines that are near the nodes of a constraint hold more there than its amount: by what is known to be held together
+/// there, or else one after the other.
 pub fn is_above(
     p: &Problem,
     view: &View,
@@ -177,9 +209,14 @@ pub fn is_above(
     requires weight { IsWeight p.now.given weight }
     requires legal { AreLegal p.now.given (sets view.now.region.now) }
     requires known { AreKnown p.now.given (sets view.now.region.now) known.now.standings.now }
+    requires tally { IfSome known.now.tally (IsTally p.now.given (sets view.now.region.now)) }
+    requires bounds { BoundsAmount p.now.given c weight set.now amount }
     ensures { IsTrue result → amount < total p.now.given (sure p.now.given (seen view.now.region.now view.now.lens) t) weight (has_node set.now) }
 {
     let area = area_of(p, set);
+    if is_tallied(p, view, known.tally, c, weight, set, &area, amount, t) {
+        return true;
+    }
     let list = known.nearby.of_constraint(c);
     let other = other_of(p, view.lens);
     let sum = listed(p, view, known.standings, weight, &area, t, list, other);

@@ -19,6 +19,6 @@ pub use Rattle.catalogue.specs.declared.constraint.Constraint.{Constraint}
 pub use Rattle.domains.specs.declared.parts.Part.TheVariants.{Upto}
 pub use Rattle.domains.specs.declared.parts.Row.{Row}
 pub use Rattle.reasons.specs.declared.reason.ReasonKind.{ReasonKind}
-pub use Rattle.profiles.specs.declared.standing.numbers.Arrival.{Arrival}
-pub use Rattle.profiles.specs.declared.standing.numbers.Standing.{Standing}
+pub use Rattle.standings.specs.declared.numbers.Arrival.{Arrival}
+pub use Rattle.standings.specs.declared.numbers.Standing.{Standing}
 pub use Rattle.reasons.specs.declared.reason.ReasonKind.TheVariants.{Bound, Empty, Group, Hall, Load, Pair, Place, Power, SetLoad, Usable}

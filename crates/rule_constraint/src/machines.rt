@@ -2,9 +2,9 @@
 ghost use Rattle.std.specs.Prelude.{◌≡◌, ◌<◌, false, IfNone, IfSome};
 ghost use Rattle.rule_constraint.specs.Prelude.{hosted_in, machine_count, Nodes, state_of as the_state_of};
 
-use profiles::standing::leaves::runs_on;
 use rule_frame::{Choice, NodeId, Place, Problem, VmId};
 use slices::elements::state_of;
+use standings::leaves::runs_on;
 
 /// The host of a machine, running or sleeping.
 pub fn host(p: &Problem, v: VmId) -> Option<NodeId>

@@ -8,7 +8,7 @@ use Rattle.slices.proofs.Public.{present_on_set}
 use Rattle.rule_constraint.specs.Prelude.{Upto}
 use Rattle.relax.specs.Prelude.{Part}
 use Rattle.domains.specs.Prelude.{place_index, row_choices, same_place, starts_from}
-use Rattle.profiles.specs.declared.standing.leaves.Leaves.{Leaves}
+use Rattle.standings.specs.declared.leaves.Leaves.{Leaves}
 use Rattle.cluster.specs.declared.kinds.Kind.TheVariants.{Migrate}
 use Rattle.cluster.specs.declared.states.State.{State}
 use Rattle.cluster.specs.declared.states.State.TheVariants.{Running}

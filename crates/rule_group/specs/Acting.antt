@@ -1,7 +1,7 @@
 -- Helping only: when machines surely act, and who keeps off then.
 use Rattle.std.specs.Prelude.{◌≡◌, ◌≢◌, ◌⊎◌, ℕ, ◌<◌, ◌≤◌, false, true, [], List, IsTrue}
 use Rattle.relax.specs.Prelude.{Started, Unended, Acting, surely, action_at, end_of}
-use Rattle.profiles.specs.Prelude.{never}
+use Rattle.standings.specs.Prelude.{never}
 use Rattle.rule_constraint.specs.Prelude.{Instance, IsEnd, Sets, sure, vm}
 use Rattle.cluster.specs.declared.choices.Choice.{Choice}
 use Rattle.cluster.specs.declared.choices.Choice.TheVariants.{Act, Idle}

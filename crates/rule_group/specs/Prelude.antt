@@ -2,8 +2,8 @@
 pub use Rattle.closing.specs.Prelude.{are_below, inventory_of, is_rule, members}
 pub use Rattle.relax.specs.Prelude.{AreScattered, AreBothActing, HasOutside, in_part, keeping, Refutes, seen, Started, Unended, Acting, surely, Progress}
 unfoldable pub use Rattle.relax.specs.Prelude.{action_at, action_duration, end_of}
-pub use Rattle.profiles.specs.Prelude.{kept_use, never}
-unfoldable pub use Rattle.profiles.specs.Prelude.{stage_at}
+pub use Rattle.standings.specs.Prelude.{kept_use, never}
+unfoldable pub use Rattle.standings.specs.Prelude.{stage_at}
 pub use Rattle.rule_frame.specs.Prelude.{max_nodes}
 pub use Rattle.rule_constraint.specs.Prelude.{AreLeaves, broken_at, choices, Climbs, comes_by, constraint_watch, DomainView, Form, form_of, has_come, hosted_in, Instance, InTurn, is_continuous, is_member, IsBrokenBy, IsClean, IsElement, IsEnd, IsLook, IsMember, IsSized, leave_of, machine_count, no_row, node_count, Nodes, NodeSet, one, Ordered, present_at, reason_kind, row_at, rule_watch, Sets, sets, setting, Snapshot, state_of, Together, vm, VmId, watch_at}
 unfoldable pub use Rattle.rule_constraint.specs.Prelude.{has_node, sure}

@@ -5,7 +5,7 @@ use Rattle.relax.specs.Prelude.{keeping, Part}
 use Rattle.cluster.specs.declared.choices.Place.{Place}
 use Rattle.cluster.specs.declared.choices.Place.TheVariants.{At, Nowhere}
 use Rattle.cluster.specs.declared.states.State.TheVariants.{Running}
-use Rattle.profiles.specs.declared.standing.leaves.Leaves.{Leaves}
+use Rattle.standings.specs.declared.leaves.Leaves.{Leaves}
 use Rattle.rule_group.specs.declared.spots.Spots.{Spots}
 
 -- the set does not have the node, if there is one

@@ -2,9 +2,9 @@
 ghost use Rattle.std.specs.Prelude.{◌≡◌, ◌<◌, ◌≤◌, length};
 ghost use Rattle.rule_group.specs.Prelude.{choices, Choice as AnyChoice, end_of, HasSpan, IsSized, machine_count, row_at, sets, vm};
 
-use profiles::standing::numbers::NEVER;
 use relax::measures::end;
 use rule_frame::{Choice, Domain, Element, Problem, Region, Row, VmId};
+use standings::numbers::NEVER;
 
 /// From one instant on an action surely has started, and before the other it surely has not ended: it surely acts between
 /// the two.

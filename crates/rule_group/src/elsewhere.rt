@@ -3,9 +3,9 @@ ghost use Rattle.std.specs.Prelude.{◌≡◌, ℕ, ◌<◌, length, not, slice_
 ghost use Rattle.rule_group.specs.Prelude.{group_count as the_group_count, group_nodes, groups_seen, has_node, IsOut, IsSized, machine_count, never, no_row, sets, sure};
 
 use crate::places::has;
-use profiles::standing::leaves::{leaves_of, runs_on};
 use rule_frame::{Element, NodeId, NodeSet, Place, Problem, Region, Row, VmId};
 use slices::form::Groups;
+use standings::leaves::{leaves_of, runs_on};
 
 // whether a place is a node other than a host, and not in a set
 fn is_outside_set(p: &Problem, h: NodeId, set: &NodeSet, place: Place) -> bool

@@ -10,8 +10,6 @@ use crate::elsewhere::stays_elsewhere;
 use crate::places::{group_count, has};
 use crate::spots::{Spots, place_spot};
 use cluster::limits::MAX_NODES;
-use profiles::seen::is_narrowed;
-use profiles::standing::leaves::{leaves_of, runs_on};
 use relax::named::is_named;
 use relax::refutes::refutes_inside;
 use relax::surely_in;
@@ -21,6 +19,8 @@ use rule_frame::{
     Region, View, VmId, form_of,
 };
 use slices::form::Groups;
+use standings::leaves::{leaves_of, runs_on};
+use standings::seen::is_narrowed;
 
 // ---- one group
 

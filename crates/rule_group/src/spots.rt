@@ -3,10 +3,10 @@ ghost use Rattle.std.specs.Prelude.{◌≡◌, ◌<◌, ◌≤◌, IfSome, IsTru
 ghost use Rattle.rule_group.specs.Prelude.{AreLeaves, AreSpots, Choice as AnyChoice, HasHost, IsElement, IsPlaceSpot, leave_of, machine_count};
 
 use domains::measure::Measure;
-use profiles::standing::leaves::{Leaves, left_by};
-use profiles::standing::numbers::Leaving;
 use rule_constraint::host;
 use rule_frame::{Choice, Element, NodeId, Place, Problem, Row, VmId};
+use standings::leaves::{Leaves, left_by};
+use standings::numbers::Leaving;
 
 /// The nodes on which a machine may be: its host, as long as that may count, and the place of its action.
 #[derive(Clone, Copy)]

@@ -6,9 +6,9 @@ ghost use Rattle.rule_group.specs.Prelude.{AreCommon, AreLeaves, AreNodesOf, Cho
 
 use crate::places::{add_serving, all_groups, is_served, is_served_by, nodes_of};
 use crate::spots::{spots_of_idle, spots_of_row};
-use profiles::standing::leaves::{Leaves, leaves_of};
 use rule_frame::{Constraint, Domain, Element, NodeSet, Problem, Region, Row, VmId};
 use slices::form::Groups;
+use standings::leaves::{Leaves, leaves_of};
 
 // those of some groups that a machine may be in that may stay
 fn groups_of_idle(

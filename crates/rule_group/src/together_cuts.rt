@@ -9,9 +9,9 @@ use crate::cuts::{instant_of, put};
 use crate::places::{is_served, is_served_by, nodes_of};
 use crate::spots::{spots_of_idle, spots_of_row};
 use crate::together::common_groups;
-use profiles::standing::leaves::{Leaves, leaves_of};
 use rule_frame::{Element, Memory, NodeSet, Part, Place, Problem, Region, Row, Suggestion, VmId};
 use slices::form::Groups;
+use standings::leaves::{Leaves, leaves_of};
 
 // a constraint by its number, and the groups that each member may be in, with their nodes: always, or at the horizon
 #[derive(Clone, Copy)]

@@ -1,6 +1,6 @@
 -- The machines near each node, told of one more.
 use Rattle.rule_load.proofs.Prelude.{narrowed_is_fewer, ◌≡◌, inl, inr, ℕ, ◌<◌, Bool, true, false, cond, nat_le, List, length, Some, None, refl, sym, ap, subst, ◌∙◌, arith, slice_index_or, Contains, and_parts, cases_eq, false≢true, ne_eqb, nat_tests, AreFirstAt, AreFirsts, AreKept, AreKeptAt, AreMovers, AreStanding, Arrival, Before, cache_of, Change, Choice, choices, comes_by, domain_at, domain_before, DomainView, Element, FixedView, Grows, HaveCome, Instance, Idle, IsCacheTold, IsListedBy, IsListedFor, IsNarrowed, IsNear, IsPut, level_at, list_at, machine_count, no_standing, TheNode, node_count, one, RegionView, same_element, Sets, sets, Standing, Tables, Vm, vm, sets_before, same_is, level_below, level_top, near_put, firsts_fewer}
-use Rattle.profiles.specs.Levels.{Levels}
+use Rattle.standings.specs.Levels.{Levels}
 use Rattle.rule_load.specs.Prelude.{AreRooms, IsWidened, RoomsView, StayersHoldOn}
 use Rattle.load_bounds.proofs.Public.{rooms_widened}
 

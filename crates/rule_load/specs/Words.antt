@@ -25,7 +25,7 @@ pub use Rattle.slices.specs.declared.slice.Weight.{Weight}
 pub use Rattle.slices.specs.declared.slice.Weight.TheVariants.{Amount}
 pub use Rattle.closing.specs.declared.look.Look.TheVariants.{Cut}
 pub use Rattle.profiles.specs.declared.fixed.MostUse.{MostUse}
-pub use Rattle.profiles.specs.declared.standing.numbers.Arrival.{Arrival}
-pub use Rattle.profiles.specs.declared.standing.numbers.Standing.{Standing}
+pub use Rattle.standings.specs.declared.numbers.Arrival.{Arrival}
+pub use Rattle.standings.specs.declared.numbers.Standing.{Standing}
 pub use Rattle.reasons.specs.declared.reason.ReasonKind.{ReasonKind}
 pub use Rattle.reasons.specs.declared.reason.ReasonKind.TheVariants.{Bound, Empty, Group, Hall, Load, Pair, Place, Power, SetLoad, Usable}

@@ -4,7 +4,7 @@ ghost use Rattle.std.specs.List.{Contains};
 ghost use Rattle.rule_load.specs.Prelude.{AreFewer, AreSpared, cache_of, CameBefore, Choice as AnyChoice, choices, comes_by, domain_at, domain_before, goes_in, has_come, HasElement, have_come, hosted_in, IsCacheFor, IsDisturbed, IsElement, IsSized, IsStill, KeepsHost, least, leave_of, load_scope, lost_choices, node_count, one, sets, state_of, vm, watch_at};
 
 use crate::nodes::node_total;
-use crate::{Arrival, Leaving, Standings, host_of, leaves_of};
+use crate::{Arrival, Leaving, LoadKeeper, host_of, leaves_of};
 use domains::measure::lowest_lost;
 use domains::undo::Lost;
 use rule_frame::{
@@ -185,7 +185,7 @@ fn set_come_dirty(
 
 // sets dirty for a machine its host, and the one node that all its choices go to, but where nothing has changed there
 fn set_machine_dirty(
-    k: &Standings,
+    k: &LoadKeeper,
     p: &Problem,
     g: &Region,
     v: VmId,
@@ -207,7 +207,7 @@ fn set_machine_dirty(
 /// Sets dirty the load of all nodes together, and of a machine that of its host and of the one node that all its choices now
 /// go to, but where nothing has changed there, of a node its own.
 pub(crate) fn set_disturbed_dirty(
-    k: &Standings,
+    k: &LoadKeeper,
     p: &Problem,
     g: &Region,
     x: Element,

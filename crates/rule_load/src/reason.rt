@@ -2,7 +2,7 @@
 ghost use Rattle.std.specs.Prelude.{◌+◌, ◌<◌, ◌≤◌, IfNone, IfSome, length};
 ghost use Rattle.rule_load.specs.Prelude.{cache_of, FailHolds, has_node, IsCacheFor, IsOverload, IsOverloaded, IsSized, node_count, nodes_at, seen, sets, sure};
 
-use crate::Standings;
+use crate::LoadKeeper;
 use crate::nodes::{node_at, watched_nodes};
 use load_bounds::over::overloaded_at;
 use relax::amounts::is_overload;
@@ -23,7 +23,7 @@ pub(crate) fn overloaded(p: &Problem, view: &View, set: &NodeSet, t: Instant) ->
 }
 
 /// The reason why the watch of a number is broken: the first resource that its nodes lack.
-pub(crate) fn load_reason(k: &Standings, p: &Problem, view: &View, i: usize, t: Instant) -> Reason
+pub(crate) fn load_reason(k: &LoadKeeper, p: &Problem, view: &View, i: usize, t: Instant) -> Reason
     requires region { IsSized p.now.given view.now.region.now }
     requires right { IsCacheFor (cache_of k.now.table k.now.fixed k.now.near k.now.firsts k.now.movers k.now.rooms k.now.hold_on) p.now.given (sets view.now.region.now) }
     requires watch { i < node_count p.now.given + 1 }
@@ -41,7 +41,7 @@ pub(crate) fn load_reason(k: &Standings, p: &Problem, view: &View, i: usize, t: 
 }
 
 // the first resource that the node of a watch, if it is one node, is seen to lack by the machines near it
-fn lacking_near(k: &Standings, p: &Problem, view: &View, i: usize, t: Instant) -> Option<u8>
+fn lacking_near(k: &LoadKeeper, p: &Problem, view: &View, i: usize, t: Instant) -> Option<u8>
     requires region { IsSized p.now.given view.now.region.now }
     requires right { IsCacheFor (cache_of k.now.table k.now.fixed k.now.near k.now.firsts k.now.movers k.now.rooms k.now.hold_on) p.now.given (sets view.now.region.now) }
     requires watch { i < node_count p.now.given + 1 }

@@ -2,7 +2,7 @@
 ghost use Rattle.std.specs.Prelude.{◌≡◌, ◌<◌, ◌≤◌, IfSome, IsTrue, length};
 ghost use Rattle.rule_load.specs.Prelude.{all_nodes, cache_of, FailHolds, in_part, IsCacheFor, IsElement, IsOverload, IsSized, keeping, MayAnswer, node_count, nodes_of, one, sets, sure};
 
-use crate::{Standings, resource_total};
+use crate::{LoadKeeper, resource_total};
 use load_bounds::over::is_over;
 use load_bounds::total_over::is_over_all;
 use relax::area::area_of;
@@ -28,7 +28,7 @@ fn only_node(p: &Problem, area: Area) -> Option<NodeId>
 /// Whether it is seen that a reason does: the load of one node by the machines near it, that of all nodes by the machines that
 /// may not stay, all others exactly.
 pub(crate) fn refutes_part(
-    k: &Standings,
+    k: &LoadKeeper,
     p: &Problem,
     g: &Region,
     e: Element,
@@ -64,7 +64,7 @@ pub(crate) fn refutes_part(
 
 // whether what is inside a part is seen to overload a node
 fn overloads(
-    k: &Standings,
+    k: &LoadKeeper,
     p: &Problem,
     g: &Region,
     e: Element,
@@ -90,7 +90,7 @@ fn overloads(
 
 // whether it is seen to overload all nodes together, where an area is all of them
 fn overloads_all(
-    k: &Standings,
+    k: &LoadKeeper,
     p: &Problem,
     g: &Region,
     e: Element,

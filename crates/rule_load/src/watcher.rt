@@ -5,7 +5,7 @@ ghost use Rattle.closing.proofs.Public.{load_is_local};
 ghost use Rattle.rule_load.specs.Quiet.{load_is_quiet};
 ghost use Rattle.rule_load.specs.Watched.{is_load, nodes_at, watch_at};
 
-use crate::Standings;
+use crate::LoadKeeper;
 use crate::dirty::set_disturbed_dirty;
 use crate::horizon::lack_at_horizon;
 use crate::node_look::node_look;
@@ -24,7 +24,7 @@ use rule_frame::{
 #[derive(Clone, Copy, Default)]
 pub struct Loads;
 
-impl Watcher<Standings> for Loads {
+impl Watcher<LoadKeeper> for Loads {
     ghost watch = { λ w. watch_at };
 
     ghost count_of = { λ w p. node_count p + 1 };
@@ -41,7 +41,7 @@ impl Watcher<Standings> for Loads {
 
     fn disturb(
         &self,
-        k: &Standings,
+        k: &LoadKeeper,
         p: &Problem,
         g: &Region,
         change: Change,
@@ -53,7 +53,7 @@ impl Watcher<Standings> for Loads {
     }
 
     // the first watch is asked before all others, so what refutes the region at once is looked for there
-    fn refuted(&self, k: &Standings, p: &Problem, g: &Region, i: usize) -> Option<Reason> {
+    fn refuted(&self, k: &LoadKeeper, p: &Problem, g: &Region, i: usize) -> Option<Reason> {
         if i > 0 {
             return None;
         }
@@ -64,7 +64,7 @@ impl Watcher<Standings> for Loads {
         i < node_total(p)
     }
 
-    fn look(&self, k: &Standings, p: &Problem, g: &Region, i: usize) -> Look {
+    fn look(&self, k: &LoadKeeper, p: &Problem, g: &Region, i: usize) -> Look {
         match node_at(p, i) {
             None => total_look(
                 p,
@@ -78,13 +78,13 @@ impl Watcher<Standings> for Loads {
         }
     }
 
-    fn reason(&self, k: &Standings, p: &Problem, view: &View, i: usize, t: Instant) -> Reason {
+    fn reason(&self, k: &LoadKeeper, p: &Problem, view: &View, i: usize, t: Instant) -> Reason {
         load_reason(k, p, view, i, t)
     }
 
     fn refutes(
         &self,
-        k: &Standings,
+        k: &LoadKeeper,
         p: &Problem,
         g: &Region,
         e: Element,
@@ -96,7 +96,7 @@ impl Watcher<Standings> for Loads {
 
     fn suggest(
         &self,
-        k: &Standings,
+        k: &LoadKeeper,
         p: &Problem,
         g: &Region,
         i: usize,

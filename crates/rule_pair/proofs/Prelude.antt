@@ -3,7 +3,7 @@ pub use Rattle.base.proofs.Public.{Bool, IsTrue, List, None, Option, Some, [], a
 pub use borrow.Author.Count.{below_more}
 pub use Rattle.catalogue.proofs.Public.{below_parts}
 pub use Rattle.domains.proofs.Public.{contains_here, least_of_each, same_is, surely_each}
-pub use Rattle.profiles.proofs.Public.{level_below, level_top, present_law}
+pub use Rattle.standings.proofs.Public.{level_below, level_top, present_law}
 pub use Rattle.reasons.proofs.Public.{end_is_choice, ends_of_rows, some_end}
 pub use Rattle.rule_constraint.proofs.Public.{and-true, arrival, arrived, each_member, each_more, kept_applies, numbers, of_one, other-vm, own_present, row_end, same_present, vm_or}
 pub use Rattle.rule_frame.proofs.Public.{first_of, last_of, later_in, narrowed_is_fewer}

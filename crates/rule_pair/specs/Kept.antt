@@ -1,8 +1,8 @@
 -- Helping only: what is kept beside the rule: which constraints look at each element, and with levels where each machine surely stands, and
--- at which nodes it is known not to start.
+-- before which instants it is known not to start at nodes.
 use Rattle.std.specs.Prelude.{◌≡◌, ◌≢◌, ℕ, ◌<◌, Bool, true, List, [], length, slice_index_or}
-use Rattle.profiles.specs.Levels.{Levels}
-use Rattle.profiles.specs.Prelude.{AreStanding, level_at, no_standing, Tables}
+use Rattle.standings.specs.Levels.{Levels}
+use Rattle.standings.specs.Prelude.{AreStanding, level_at, no_standing, Tables}
 use Rattle.rule_constraint.specs.Prelude.{Instance, IsIndexOf, IsStanding, Lists, Sets, Standing, vm}
 use Rattle.rule_frame.specs.Caches.{Cache}
 use Rattle.machine_bounds.specs.Gone.{AreGone}

@@ -1,7 +1,7 @@
 -- What is cited together of this crate and of those below it, passed on from one place. Declares nothing.
 pub use Rattle.relax.specs.Prelude.{Applies, AreFewer, domain_before, ForbidsPair, surely}
 pub use Rattle.closing.specs.Prelude.{are_below, FromOthers, inventory_of, is_continuous, is_rule, IsMetWith, separated, separation_seen}
-pub use Rattle.profiles.specs.Prelude.{AreStanding, gain, have_come, IsPair, kept_use, leave_climbs, level_at, lowest, never, no_standing, stays, Tables}
+pub use Rattle.standings.specs.Prelude.{AreStanding, gain, have_come, IsPair, kept_use, leave_climbs, level_at, lowest, never, no_standing, stays, Tables}
 pub use Rattle.rule_frame.specs.Prelude.{domain_at, HasPair, IsDisturbed, keeping, Levels, max_nodes, place_index, Refutes, same_element, seen}
 pub use Rattle.rule_constraint.specs.Prelude.{Apart, Arrival, base, Between, broken_at, choices, Climbs, comes_by, constraint_watch, DomainView, Each, FailHolds, form_of, has_come, hosted_in, in_part, Instance, is_member, IsBrokenBy, IsClean, IsElement, IsEnd, IsIndexOf, IsInPart, IsLook, IsMember, IsSized, IsStanding, least, leave_of, Lists, machine_count, no_row, node_count, one, present_at, reason_kind, row_at, rule_watch, Separates, Separation, Sets, sets, setting, Snapshot, state_of, vm, watch_at}
 unfoldable pub use Rattle.rule_constraint.specs.Prelude.{sure}
@@ -18,14 +18,15 @@ pub use Rattle.domains.specs.declared.parts.Row.{Row}
 pub use Rattle.slices.specs.declared.slice.Weight.TheVariants.{Presence}
 pub use Rattle.reasons.specs.declared.reason.ReasonKind.{ReasonKind}
 pub use Rattle.reasons.specs.declared.reason.ReasonKind.TheVariants.{Bound, Empty, Group, Hall, Load, Pair, Place, Power, SetLoad, Usable}
-pub use Rattle.profiles.specs.declared.standing.numbers.Standing.{Standing}
+pub use Rattle.standings.specs.declared.numbers.Standing.{Standing}
 pub use Rattle.rule_constraint.specs.Broken.{of_kind}
 pub use Rattle.rule_pair.specs.Apart.{AreClear, class_of, ComesLate, HasPosts, IsAt, IsLate, IsTold, KeepsClear, KeepsOff, OnClear, part_of}
 pub use Rattle.rule_pair.specs.Covers.{pair_kinds}
-pub use Rattle.machine_bounds.specs.Gone.{AreGone, gone_at}
+pub use Rattle.machine_bounds.specs.declared.ends.Ends.{Ends}
+pub use Rattle.machine_bounds.specs.Prelude.{AreEnds, AreGone, IsKnown, StartsFrom}
 pub use Rattle.rule_pair.specs.Kept.{AreKept, AreRight, cache_of, StandsIn}
 pub use Rattle.rule_pair.specs.Longest.{AreLonger, AreOrdered, IsOrdered, of_others, told_until}
-pub use Rattle.rule_pair.specs.Reach.{AreEnds, AreUntils, HaveBits, IsReach}
+pub use Rattle.rule_pair.specs.Ends.{AreUntils, AreUntilsOver, IsLateAt}
 pub use Rattle.rule_pair.specs.Stays.{StandsWithin}
 pub use Rattle.rule_pair.specs.Twins.{HasTwin, IsTwin, StandsFor}
 pub use Rattle.rule_pair.specs.Unmoved.{IsUnmoved}
@@ -33,5 +34,3 @@ pub use Rattle.rule_pair.specs.declared.clear.Seen.{Seen}
 pub use Rattle.rule_pair.specs.declared.clear.Seen.TheVariants.{Clear, Doubtful, Unknown}
 pub use Rattle.rule_pair.specs.declared.longest.Longest.{Longest}
 pub use Rattle.rule_pair.specs.declared.posts.Posts.{Posts}
-pub use Rattle.rule_pair.specs.declared.reach.Ends.{Ends}
-pub use Rattle.rule_pair.specs.declared.reach.Reach.{Reach}

@@ -4,12 +4,12 @@ ghost use Rattle.std.specs.List.{list_all};
 ghost use Rattle.rule_pair.specs.Prelude.{are_below, FailHolds, IsSized, machine_count, separated, separation_seen, sets};
 
 use crate::pairs::separation_of;
-use profiles::standing::leaves::runs_on;
-use profiles::standing::numbers::Standing;
 use relax::refutes::refutes;
 use rule_frame::{
     Domain, Element, NodeId, NodeSet, Place, Problem, Reason, Region, Separation, VmId,
 };
+use standings::leaves::runs_on;
+use standings::numbers::Standing;
 
 // nodes, and how many more there must be for each of some machines to have one of its own
 #[derive(Clone, Copy)]

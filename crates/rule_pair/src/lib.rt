@@ -3,6 +3,7 @@
 
 mod clear;
 mod dirty;
+mod ends;
 mod hall;
 pub mod keeper;
 mod longest;
@@ -10,7 +11,6 @@ mod members;
 mod pair_look;
 mod pairs;
 mod posts;
-mod reach;
 mod refuting;
 pub mod rule;
 mod strangers;

@@ -5,12 +5,12 @@ ghost use Rattle.rule_pair.specs.Prelude.{AreGone, AreRight, broken_at, choices,
 use crate::clear::{Doubt, Seen, look_over};
 use crate::rule::Pairs;
 use closing::watch::look_at_constraint;
-use profiles::host::is_host;
-use profiles::standing::numbers::Standing;
-use profiles::standing::pairs::is_pair;
 use rule_constraint::Kinds;
 use rule_constraint::kinds::reason_kind;
 use rule_frame::{Choice, Domain, Element, Lens, Look, NodeId, Place, Problem, Region, View, VmId};
+use standings::host::is_host;
+use standings::numbers::Standing;
+use standings::pairs::is_pair;
 
 // whether a place is a node
 fn is_at(place: Place, n: NodeId) -> bool {

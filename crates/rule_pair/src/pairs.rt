@@ -2,14 +2,14 @@
 ghost use Rattle.std.specs.Prelude.{◌≡◌, ℕ, ◌<◌, ◌≤◌, false, length, IfNone, IfSome, IsTrue};
 ghost use Rattle.rule_pair.specs.Prelude.{Apart, Applies, FailHolds, ForbidsPair, form_of as the_form_of, HasPair, IsInPart, IsPair, IsSized, machine_count, node_count, seen, Separates, separation_seen, sure};
 
-use profiles::host::is_host;
-use profiles::standing::pairs::is_pair;
-use profiles::standing::stays::surely_at;
 use rule_constraint::machines::likely_node;
 use rule_frame::{
     Choice, Constraint, Element, Form, Instant, Lens, NodeId, Place, Problem, Reason, Separation,
     View, VmId, Vms, form_of,
 };
+use standings::host::is_host;
+use standings::pairs::is_pair;
+use standings::stays::surely_at;
 
 /// How a constraint keeps machines apart, if it does.
 pub fn separation_of(constraint: &Constraint) -> Option<Separation<'_>>

@@ -3,9 +3,9 @@ ghost use Rattle.std.specs.Prelude.{◌≡◌, ℕ, ◌<◌, ◌≤◌, ◌&&◌
 ghost use Rattle.rule_pair.specs.Prelude.{AreRight, choices, comes_by, HasPosts, hosted_in, IsAt, IsSized, machine_count, one, sets, StandsWithin, state_of};
 
 use machine_bounds::leaving::leave_or_later;
-use profiles::standing::numbers::{Arrival, Standing, standing_of};
 use rule_constraint::host;
 use rule_frame::{Domain, Element, Instant, NodeId, Problem, Region, VmId};
+use standings::numbers::{Arrival, Standing, standing_of};
 
 /// A node, and the last instant at which a machine may surely be there.
 #[derive(Clone, Copy)]

@@ -3,14 +3,14 @@ ghost use Rattle.std.specs.Prelude.{◌≡◌, ◌<◌, ℕ, IfSome, IsTrue, Non
 ghost use Rattle.rule_pair.specs.Prelude.{AreRight, in_part, IsSized, keeping, kept_use as the_kept_use, machine_count, one, Presence, Refutes, sets, StandsIn, sure, vm};
 
 use crate::members::keeps_apart;
-use profiles::standing::numbers::{Standing, standing_of};
-use profiles::standing::stays::surely_at;
-use profiles::standing::uses::kept_use;
 use quick_checks::coming::comes_on;
 use relax::named::is_named;
 use relax::refutes::refutes_inside;
 use rule_frame::{Element, Instant, Lens, NodeId, Part, Problem, Reason, Region, View, VmId};
 use slices::Weight;
+use standings::numbers::{Standing, standing_of};
+use standings::stays::surely_at;
+use standings::uses::kept_use;
 
 // where a machine surely stands that keeps the choices in a part, if it has one there
 #[tactic(auto, using(crate::proofs::KeptLemmas::stands_inside))]

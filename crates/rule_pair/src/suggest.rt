@@ -11,12 +11,12 @@ use crate::posts::last_before;
 use crate::strangers::{class_of, members, tell_all};
 use cluster::MachineSet;
 use cluster::limits::MAX_NODES;
-use profiles::standing::numbers::Standing;
 use rule_constraint::host;
 use rule_frame::{
     Change, Element, Instant, Memory, NodeId, Part, Place, Problem, Reason, Region, Separation,
     Side, Suggestion, VmId, Vms,
 };
+use standings::numbers::Standing;
 
 // how many cuts are put into the list at once: each takes some hundred bytes
 const MOST: usize = 65_536;

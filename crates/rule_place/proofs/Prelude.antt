@@ -3,7 +3,7 @@ pub use Rattle.base.proofs.Public.{Bool, Contains, Decides-eqb, IsSomeAnd, IsTru
 pub use Rattle.cluster.specs.declared.choices.Choice.TheVariants.{Idle, Idle as Stay}
 pub use Rattle.cluster.specs.declared.choices.Place.{Place}
 pub use Rattle.domains.proofs.Public.{contains_here, least_of_each, may_each, surely_each}
-pub use Rattle.profiles.proofs.Public.{kept_law}
+pub use Rattle.standings.proofs.Public.{kept_law}
 pub use Rattle.reasons.proofs.Public.{end_is_choice, ends_of_rows, setting_sets, some_end}
 pub use Rattle.relax.proofs.Public.{away, away_least}
 pub use Rattle.rule_constraint.proofs.Public.{arrival, arrived, each_member, kept_applies, not_come, numbers, of_one, other-vm, own_present, row_end, same_present, vm_or}

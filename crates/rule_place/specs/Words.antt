@@ -1,10 +1,10 @@
 -- What definitions of this crate cite of those below it, passed on from one place. Declares nothing.
 pub use Rattle.closing.specs.Prelude.{are_below, inventory_of, is_rule, IsMachineUnder, IsNeeded, IsSameMachine, Places, places_seen}
-pub use Rattle.profiles.specs.Prelude.{base, gain, kept_use, leave_climbs, lost_choices, lowest, never, restored}
+pub use Rattle.standings.specs.Prelude.{base, gain, kept_use, leave_climbs, lost_choices, lowest, never, restored}
 pub use Rattle.rule_frame.specs.Prelude.{domain_at, in_part, keeping}
 pub use Rattle.relax.specs.Prelude.{AreFewer, domain_before, least, surely}
 pub use Rattle.slices.specs.Prelude.{IsInstance}
-unfoldable pub use Rattle.profiles.specs.Prelude.{stage_at}
+unfoldable pub use Rattle.standings.specs.Prelude.{stage_at}
 pub use Rattle.rule_frame.specs.Prelude.{HasPlace, IsLess, IsRegionOf, seen}
 pub use Rattle.rule_constraint.specs.Prelude.{AllClean, Allowed, AreLeaves, broken_at, choices, choose, Climbs, constraint_watch, comes_by, DomainView, FailHolds, ForbidsPlace, form_of, goes_in, has_come, hosted_in, Instance, is_continuous, IsBrokenBy, IsClean, IsDisturbed, IsElement, IsEnd, IsHarmless, IsLocal, IsLook, IsMember, IsQuietKind, IsSized, IsStill, kinds_are_quiet, leave_of, Levels, machine_count, MayAnswer, no_row, node, node_count, Nodes, one, present_at, reason_kind, row_at, rule_watch, Sets, sets, setting, Snapshot, stands_on, StandsUnder, state_of, usable_watch, vm, Watch, watch_at, watch_count, watches_are_local}
 unfoldable pub use Rattle.rule_constraint.specs.Prelude.{held_at, sure, usable_at}

@@ -3,7 +3,6 @@ ghost use Rattle.std.specs.Prelude.{◌≡◌, ◌<◌, true, length, IsTrue};
 ghost use Rattle.rule_place.specs.Prelude.{Applies, Choice, FailHolds, ForbidsPlace, has_come, in_part, IsNamed, IsSized, keeping, machine_count, PlaceReason, sets, Vm};
 
 use crate::places::limits_of;
-use profiles::standing::uses::gain;
 use relax::forbidden::forbids_place;
 use relax::named::is_named;
 use rule_frame::{
@@ -11,6 +10,7 @@ use rule_frame::{
     Weight,
 };
 use slices::form::{Places, is_off_limits};
+use standings::uses::gain;
 
 // the cut of a whole row, where it goes to a node that is off limits: it is there at the horizon
 fn cut_of(p: &Problem, c: u32, places: &Places, v: VmId, row: Row) -> Option<Suggestion>

@@ -4,9 +4,9 @@ ghost use Rattle.std.specs.List.{Contains};
 ghost use Rattle.rule_place.specs.Prelude.{Choice as AnyChoice, goes_in, IsAway, IsClean, IsShutdown, IsSized, LetsGo, machine_count, node_count, one, sets, usable_watch};
 
 use crate::shutdowns::{Shutdown, leave_at};
-use profiles::host::is_host;
 use rule_frame::{Choice, Element, Instant, NodeId, Place, Problem, Region, Row, VmId};
 use slices::choice::usable;
+use standings::host::is_host;
 
 // the first start of a node that is usable and may stay so, where it may go to one place; past the horizon it has shut down
 // at the latest

@@ -5,13 +5,13 @@ ghost use Rattle.rule_place.specs.Prelude.{Choice as AnyChoice, has_come, IsClea
 
 use domains::measure::Measure;
 use machine_bounds::leaving::{leaves_by, may_leave_by};
-use profiles::host::is_host;
-use profiles::standing::leaves::leaves_of;
-use profiles::standing::numbers::Leaving;
 use rule_frame::{
     Change, Choice, Element, Instant, NodeId, Part, Place, Problem, Region, Row, Side, VmId,
 };
 use slices::choice::usable;
+use standings::host::is_host;
+use standings::leaves::leaves_of;
+use standings::numbers::Leaving;
 
 /// The first and the last start of a node that shuts down.
 #[derive(Clone, Copy)]

@@ -7,7 +7,7 @@ use Rattle.cluster.specs.declared.choices.Choice.{Choice}
 use Rattle.catalogue.specs.declared.constraint.Constraint.{Constraint}
 use Rattle.slices.specs.declared.slice.Weight.{Weight}
 use Rattle.rule_frame.specs.Caches.{Cache}
-use Rattle.profiles.specs.declared.standing.numbers.Standing.{Standing}
+use Rattle.standings.specs.declared.numbers.Standing.{Standing}
 use Rattle.rule_setload.specs.declared.bounds.Bound.{Bound}
 use Rattle.rule_setload.specs.declared.holders.Holder.{Holder}
 use Rattle.rule_setload.specs.declared.stayers.Stayers.{Stayers}

@@ -43,6 +43,6 @@ pub use Rattle.rule_setload.specs.declared.concerned.Members.{Members}
 pub use Rattle.rule_setload.specs.declared.holders.Holder.{Holder}
 pub use Rattle.rule_setload.specs.declared.span.RowRange.{RowRange}
 pub use Rattle.rule_setload.specs.declared.span.Span.{Span}
-pub use Rattle.profiles.specs.declared.standing.numbers.Standing.{Standing}
-pub use Rattle.profiles.specs.declared.standing.numbers.Arrival.{Arrival}
+pub use Rattle.standings.specs.declared.numbers.Standing.{Standing}
+pub use Rattle.standings.specs.declared.numbers.Arrival.{Arrival}
 pub use Rattle.rule_setload.specs.declared.stayers.Stayers.{Stayers}

@@ -14,13 +14,13 @@ use crate::stayers::{Stayers, all_stayers};
 use crate::walk::stays_when_due;
 use power_bounds::power::{power_of, power_when_due};
 use profiles::movers::Movers;
-use profiles::standing::numbers::Standing;
-use profiles::standing::table::Table;
 use rule_constraint::{ConstraintIndex, ConstraintWatcher};
 use rule_frame::{
     Before, Change, Constraint, DirtySet, Domain, Element, Form, Instant, Keeper, Lens, Look,
     Memory, Part, Problem, Reason, ReasonKind, Region, Suggestion, View, Watcher, form_of,
 };
+use standings::numbers::Standing;
+use standings::table::Table;
 use std::alloc::Global;
 use std::default::MadeWith;
 

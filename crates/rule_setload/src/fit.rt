@@ -11,8 +11,8 @@ use crate::movers_hold::is_outside;
 use crate::span::{RowRange, Span, rows_within};
 use crate::stayers::{stay, unit};
 use power_bounds::period::{Period, act};
-use profiles::standing::numbers::Standing;
 use rule_frame::{Choice, Element, Instant, NodeSet, Problem, Region, Row, VmId};
+use standings::numbers::Standing;
 
 /// More than can be spare anywhere.
 const MOST: u64 = 1_000_000_000_000_000_000;

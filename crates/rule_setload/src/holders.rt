@@ -3,9 +3,9 @@ ghost use Rattle.std.specs.Prelude.{◌≡◌, ◌<◌, ◌∷◌, ◌++◌, [],
 ghost use Rattle.rule_setload.specs.Prelude.{AreAllHolders, AreHolders, AreKept, bound_of as the_bound_of, form_of, has_node, inventory_of, is_rule, IsKept, IsWeight, machine_count, node_count};
 
 use crate::bounds::{Bound, bound_of};
-use profiles::standing::uses::base;
 use rule_constraint::host;
 use rule_frame::{Constraint, Memory, NodeId, NodeSet, Problem, VmId};
+use standings::uses::base;
 use std::alloc::Global;
 use std::marker::Model;
 

@@ -7,10 +7,10 @@ use crate::holders::is_among;
 use crate::stayers::unit;
 use domains::measure::Measure;
 use power_bounds::period::Period;
-use profiles::standing::leaves::leaves_of;
-use profiles::standing::numbers::{Leaving, Standing};
-use profiles::standing::uses::gain;
 use rule_frame::{Choice, Instant, NodeSet, Place, Problem, Region, Row, VmId};
+use standings::leaves::leaves_of;
+use standings::numbers::{Leaving, Standing};
+use standings::uses::gain;
 
 /// Whether the action of a choice goes to a node of a set.
 pub(crate) fn goes_in(c: Choice, nodes: &NodeSet) -> bool

@@ -7,8 +7,8 @@ use crate::concerned::Members;
 use crate::holding::share;
 use crate::stayers::{stay, unit};
 use power_bounds::period::{Period, act};
-use profiles::standing::numbers::Standing;
 use rule_frame::{Domain, Element, Problem, Region, Row, VmId};
+use standings::numbers::Standing;
 
 // the row of a number
 fn row_at(domain: &Domain, i: usize) -> Row

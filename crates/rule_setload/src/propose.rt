@@ -9,8 +9,8 @@ use crate::most::{most_held, most_total};
 use crate::stayers::{Stayers, stay, unit};
 use crate::walk::next_change;
 use power_bounds::period::{Period, act};
-use profiles::standing::numbers::Standing;
 use rule_frame::{Element, Instant, Memory, Part, Problem, Reason, Region, Row, Suggestion, VmId};
+use standings::numbers::Standing;
 use std::alloc::Global;
 
 /// What is spare of an amount during a period; nothing where what is surely held is more.

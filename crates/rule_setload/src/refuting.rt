@@ -6,10 +6,10 @@ use crate::bounds::{Bound, bound_of};
 use crate::holders::{Holder, Holders};
 use crate::holding::{still_kept, surely_held};
 use power_bounds::period::Period;
-use profiles::seen::{is_narrowed, narrowed};
-use profiles::standing::numbers::Standing;
 use relax::sure::least_held;
 use rule_frame::{Area, Instant, Lens, Problem, View, VmId};
+use standings::numbers::Standing;
+use standings::seen::{is_narrowed, narrowed};
 
 // what a machine has at present, where the next of a list is that machine: nothing where it is another one
 #[tactic(auto, using(crate::proofs::HolderLemmas::listed_kept, crate::proofs::HolderLemmas::none_kept))]

@@ -3,9 +3,9 @@ ghost use Rattle.std.specs.Prelude.{◌≡◌, ◌+◌, ◌<◌, ◌≤◌, IfOk
 ghost use Rattle.rule_setload.specs.Prelude.{AreAllStayers, AreStayersOf, AreStayersTo, bound_of as the_bound_of, form_of, has_node, inventory_of, is_rule, IsWeight, machine_count, max_amount, stay_of, unit_of};
 
 use crate::bounds::{Bound, bound_of};
-use profiles::standing::uses::base;
 use rule_constraint::host;
 use rule_frame::{Constraint, Memory, Problem, VmId, Weight};
+use standings::uses::base;
 use std::alloc::Global;
 
 /// What machines have on the nodes of a bound at present, and the most that one of them brings.

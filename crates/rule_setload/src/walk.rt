@@ -8,9 +8,9 @@ use crate::fit::stays_during;
 use crate::movers_hold::is_outside;
 use crate::stayers::Stayers;
 use power_bounds::period::{Period, sooner};
-use profiles::standing::numbers::Standing;
 use rule_constraint::host;
 use rule_frame::{Element, NodeSet, Problem, Region, Row, VmId};
+use standings::numbers::Standing;
 
 // the first instant of these at which a row at the nodes starts or ends
 fn next_of_rows(rows: &[Row], nodes: &NodeSet, after: u64, best: u64) -> u64

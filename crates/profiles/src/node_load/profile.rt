@@ -1,14 +1,14 @@
 //! The profile of one node and resource.
 ghost use Rattle.std.specs.Prelude.{◌≡◌, ◌<◌, [], length, OnOk, OnErr, IfOk};
 ghost use Rattle.relax.specs.Prelude.{AreFewer, choices, domain_at, domain_before, Instance, IsElement, IsSized, load, one, Sets, sets, sure};
-ghost use Rattle.{profiles.specs.Levels.IsBack, profiles.specs.Levels.marked, profiles.specs.NodeLoad.IsProfile, domains.specs.SetsBefore.sets_before};
+ghost use Rattle.{standings.specs.Levels.IsBack, standings.specs.Levels.marked, profiles.specs.NodeLoad.IsProfile, domains.specs.SetsBefore.sets_before};
 
 use crate::node_load::share::{Share, shares_of, total_use};
-use crate::standing::table::Table;
 use base::Memory;
 use catalogue::Problem;
 use cluster::{Instant, NodeId};
 use domains::{Before, Change, Domain, Region};
+use standings::table::Table;
 use std::alloc::Global;
 use std::marker::Model;
 

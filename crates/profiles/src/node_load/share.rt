@@ -2,13 +2,13 @@
 ghost use Rattle.std.specs.Prelude.{◌≡◌, ◌≤◌, ◌<◌, length, IfOk, slice_index_or};
 ghost use Rattle.profiles.specs.Prelude.{AreShares, AreSmall, IsElement, IsShare, IsSmall, machine_count, no_standing, share_use as the_share_use, total_use as the_total_use};
 
-use crate::standing::numbers::Standing;
-use crate::standing::uses::{base, comes_by, gain};
 use base::Memory;
 use catalogue::Problem;
 use cluster::{Element, Instant, NodeId, VmId};
 use relax::is_host;
 use slices::Weight;
+use standings::numbers::Standing;
+use standings::uses::{base, comes_by, gain};
 use std::alloc::Global;
 
 /// What a machine has of a resource on a node until it leaves, and what it brings there.

@@ -8,4 +8,5 @@ pub returns-clause-follow : goal.returns-clause-follow
 returns-clause-follow g c = record {
   following = λ yes. c.back_told.ensures.follow yes;
   counting = λ yes. counted_back _ c.args.trail.now c.back_told.new.trail c.args.self.now.table c.table_back.new.table c.back_told.ensures.marks (c.table_back.ensures yes) (c.requires.follow.counting yes);
+  telling = tt;
 }

@@ -1,3 +1,4 @@
+use Rattle.cert_model.proofs.Prelude.{on_side, sets}
 use Rattle.cert_model.proofs.FollowLemmas.{agreed_told, following_told, region_told}
 use Rattle.cert_model.proofs.CountedLemmas.{counted_told, fewer_told, right_told}
 use Rattle.cert_model.proofs.followers.Followers.narrow.Goals as goal
@@ -28,4 +29,5 @@ returns-clause-follow g c =
     record {
       following = λ yes. following_told _ _ c.args.trail.now c.applied.new.trail c.args.change t.machines t.nodes t.sets _ (c.requires.follow.following (c.rules_told-self.ensures.follow yes)) _ t.marks (rw c.region-g.ensures at (c.rules_told-self.ensures.told yes));
       counting = λ yes. counted_told _ c.args.trail.now c.applied.new.trail c.args.change c.args.self.now.table t.sets (c.requires.follow.counting (c.table_told-self.ensures.counted yes)) c.table_told-self.new.table t.machines t.nodes t.marks c.table_told-self.ensures.older (rw c.region-g.ensures at (c.table_told-self.ensures.top yes));
+      telling = (rw c.region-g.ensures at c.tally_told-self.ensures) (sets c.args.trail.now.region) (on_side c.args.change.side c.args.change.part) t.sets c.requires.follow.telling;
     }

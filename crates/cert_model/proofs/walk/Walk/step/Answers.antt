@@ -2,6 +2,15 @@ use Rattle.cert_model.proofs.Prelude.{sym, refl, least_cost, left_along, sets, t
 use Rattle.cert_model.proofs.StandLemmas.{IsHeld, few_decisions, legal_here, no_value, stands_as, stands_next, sum_here}
 use Rattle.cert_model.proofs.walk.Walk.step.Goals as goal
 
+pub tally_for-self-inside-requires-clause-legal : goal.tally_for-self-inside-requires-clause-legal
+tally_for-self-inside-requires-clause-legal g c =
+    let r = c.requires.stands in
+    let p = c.args.p.now.given in
+    let w = the_view c.self.inside in
+    let opened = c.in_ok-enter.ensures in
+    let held : IsHeld w c.enter.new.self = record { sets_kept = opened.sets; sums_kept = opened.sums; machines = sym opened.size.machines; nodes = sym opened.size.nodes } in
+    legal_here p r.bound r.strict r.steps w c.enter.new.self held (stands_as p r.bound r.strict r.steps w c.args.self.now c.self.view_is r.stands) c.in-Whole.is
+
 pub refusal-requires-clause-legal : goal.refusal-requires-clause-legal
 refusal-requires-clause-legal g c =
     let r = c.requires.stands in

@@ -1,9 +1,0 @@
-pub mod Changes
-pub mod Choices
-pub mod Laws
-pub mod Leaves
-pub mod Lists
-pub mod Numbers
-pub mod Rows
-pub mod Stays
-pub mod Tables
