@@ -1,6 +1,6 @@
--- Instants before which machines do not start at nodes.
-use Rattle.base.proofs.Public.{◌≡◌, ◌⊎◌, inl, inr, ℕ, ◌<◌, ◌≤◌, true, List, [], length, filter, refl, sym, subst, ◌∙◌, arith, slice_index_or, cases_eq, cases_lt, Contains, nat_tests}
-use Rattle.std.proofs.Common.{◌-◌, ◌*◌, ◌%◌, ◌^◌, min, w64}
+-- Nodes at which machines do not start.
+use Rattle.base.proofs.Public.{get_or_past, ◌≡◌, ◌⊎◌, inl, inr, ℕ, ◌+◌, ◌<◌, ◌≤◌, true, List, [], length, filter, refl, sym, subst, ◌∙◌, arith, slice_index_or, cases_eq, cases_lt, Contains, nat_tests}
+use Rattle.std.proofs.Common.{◌*◌, ◌/◌, ◌%◌, ◌^◌, min, w64}
 use Rattle.std.specs.Prelude.{bit_or, slice_set}
 use Rattle.std.specs.Int.{bit_at}
 use Rattle.std.specs.Prelude.{bit_and}
@@ -8,8 +8,8 @@ use Rattle.std.proofs.lemmas.Grind.{get_or-set_at}
 use Rattle.std.proofs.lemmas.List.{get_or-set_other}
 use Rattle.std.proofs.lemmas.Nat.Bits.{bit_at-lt, bit_at-zero, bit_at_and, bit_at_set_other, bit_at_set_same}
 use Rattle.domains.proofs.Public.{contains_filter}
-use Rattle.domains.specs.declared.parts.Part.TheVariants.{Upto}
-use Rattle.machine_bounds.specs.Prelude.{Act, AreGone, At, bound_count, Choice, gone_at, in_part, max_nodes, Sets, StartsFrom, vm}
+use Rattle.domains.specs.declared.parts.Part.TheVariants.{From}
+use Rattle.machine_bounds.specs.Prelude.{Act, AreGone, At, Choice, gone_at, in_part, max_nodes, Sets, StartsNowhereAt, vm}
 
 -- ---- bits of words
 
@@ -49,44 +49,40 @@ bit_within g w x inside on =
 
 -- ---- machines
 
--- a word that is 0 has no bit
-no-bit : (gs : List ℕ) (i x : ℕ) → slice_index_or gs i 0 ≡ 0 → bit_at (slice_index_or gs i 0) x ≡ 1 → ⊥
-no-bit gs i x nought on = omega (arith, sym (bit_at-zero x) ∙ (rw nought at on))
-
-pub nought_gone : (s : Sets) (gs : List ℕ) → ((i : ℕ) → bound_count ≤ i → slice_index_or gs i 0 ≡ 0) → AreGone s gs
-nought_gone s gs nought = record { each = λ v b low on. absurd (no-bit gs (gone_at v b) (b % 64) (nought (gone_at v b) (omega arith)) on) }
+pub nought_gone : (s : Sets) (gs : List ℕ) → ((i : ℕ) → slice_index_or gs i 0 ≡ 0) → AreGone s gs
+nought_gone s gs nought = record { each = λ v n low on. absurd (omega (arith, sym (bit_at-zero (n % 64)) ∙ (rw (nought (gone_at v n)) at on))) }
 
 pub none_gone : (s : Sets) → AreGone s []
-none_gone s = record { each = λ v b low on. absurd (no-bit [] (gone_at v b) (b % 64) refl on) }
+none_gone s = record { each = λ v n low on. absurd (omega (arith, sym (bit_at-zero (n % 64)) ∙ on)) }
 
--- two words and bits that are the same are those of one machine and one bound
-one-bit : (v b w c : ℕ) → b < bound_count → c < bound_count → gone_at w c ≡ gone_at v b → c % 64 ≡ b % 64 → (w ≡ v) × (c ≡ b)
-one-bit v b w c low l word bit = (omega (arith, low, l, word, bit), omega (arith, low, l, word, bit))
+-- two words and bits that are the same are those of one machine and one node
+one-bit : (v n w m : ℕ) → n < max_nodes → m < max_nodes → gone_at w m ≡ gone_at v n → m % 64 ≡ n % 64 → (w ≡ v) × (m ≡ n)
+one-bit v n w m low l word bit = (omega (arith, low, l, word, bit), omega (arith, low, l, word, bit))
 
-pub gone_put : (s : Sets) (gs : List ℕ) (v b : ℕ) → b < bound_count → gone_at v b < length gs → AreGone s gs → StartsFrom (s (vm v)) (b % max_nodes) (slice_index_or gs b 0) → AreGone s (with_bit gs (gone_at v b) (b % 64))
-gone_put s gs v b low there was late = record { each = λ w c l on. rw (same c l) (by w c l on) }
-  where
-    same : (c : ℕ) → c < bound_count → slice_index_or (with_bit gs (gone_at v b) (b % 64)) c 0 ≡ slice_index_or gs c 0
-    same c l = get_or-set_other gs (gone_at v b) c (bit_or (slice_index_or gs (gone_at v b) 0) (1 * 2 ^ (b % 64) % 2 ^ 64)) 0 (λ e. omega (arith, l, e))
-
-    by : (w c : ℕ) → c < bound_count → bit_at (slice_index_or (with_bit gs (gone_at v b) (b % 64)) (gone_at w c) 0) (c % 64) ≡ 1 → StartsFrom (s (vm w)) (c % max_nodes) (slice_index_or gs c 0)
-    by w c l on = elim (bit_was gs (gone_at v b) (b % 64) (gone_at w c) (c % 64) there (omega arith) on) [
-      | inl is ↦ let one = one-bit v b w c low l is.0 is.1 in rw (one.0, one.1) late
-      | inr before ↦ was.each w c l before
-    ]
+pub gone_put : (s : Sets) (gs : List ℕ) (v n : ℕ) → n < max_nodes → gone_at v n < length gs → AreGone s gs → StartsNowhereAt (s (vm v)) n → AreGone s (with_bit gs (gone_at v n) (n % 64))
+gone_put s gs v n low there was nowhere = record {
+  each = λ w m l on. elim (bit_was gs (gone_at v n) (n % 64) (gone_at w m) (m % 64) there (omega arith) on) [
+    | inl same ↦ let one = one-bit v n w m low l same.0 same.1 in rw (one.0, one.1) nowhere
+    | inr before ↦ was.each w m l before
+  ];
+}
 
 -- of fewer choices they are as right
 pub gone_fewer : (s old : Sets) (gs : List ℕ) → AreGone old gs → ((v : ℕ) (c : Choice) → Contains (s (vm v)) c → Contains (old (vm v)) c) → AreGone s gs
-gone_fewer s old gs was fewer = record { each = λ v b low on. record { each = λ start h. (was.each v b low on).each start (fewer v (Act (At (record { 0 = b % max_nodes })) start) h) } }
+gone_fewer s old gs was fewer = record { each = λ v n low on. record { none = λ start h. (was.each v n low on).none start (fewer v (Act (At (record { 0 = n })) start) h) } }
 
--- where nothing is left of all starts at a node before an instant there is none
-pub starts_late : (cs : List Choice) (n t : ℕ) → 1 ≤ t → filter (in_part (Upto (At (record { 0 = n })) (t - 1))) cs ≡ [] → StartsFrom cs n t
-starts_late cs n t some empty = record {
-  each = λ start h. elim (cases_lt start t) [
-    | inl early ↦
-        let inside : in_part (Upto (At (record { 0 = n })) (t - 1)) (Act (At (record { 0 = n })) start) ≡ true = grind (arith, nat_tests, early, some) in
-        let there = subst (λ xs. Contains xs (Act (At (record { 0 = n })) start)) empty (contains_filter (in_part (Upto (At (record { 0 = n })) (t - 1))) cs (Act (At (record { 0 = n })) start) h inside) in
-        absurd (omega (arith, there.1))
-    | inr late ↦ late
-  ];
+-- where nothing is left of all starts at a node there is none
+pub nowhere : (cs : List Choice) (n : ℕ) → filter (in_part (From (At (record { 0 = n })) 0)) cs ≡ [] → StartsNowhereAt cs n
+nowhere cs n empty = record {
+  none = λ start h.
+      let inside : in_part (From (At (record { 0 = n })) 0) (Act (At (record { 0 = n })) start) ≡ true = grind (arith, nat_tests) in
+      let there = subst (λ xs. Contains xs (Act (At (record { 0 = n })) start)) empty (contains_filter (in_part (From (At (record { 0 = n })) 0)) cs (Act (At (record { 0 = n })) start) h inside) in
+      absurd (omega (arith, there.1));
 }
+
+-- where the words of a machine hold those of some nodes, the bits of the nodes are set in them
+pub covered : (gs ws : List ℕ) (w : ℕ) → length ws ≤ 8 → ((k : ℕ) → k < 8 → bit_and (slice_index_or gs (w * 8 + k) 0) (slice_index_or ws k 0) ≡ slice_index_or ws k 0) → (n : ℕ) → bit_at (slice_index_or ws (n / 64) 0) (n % 64) ≡ 1 → bit_at (slice_index_or gs (gone_at w n) 0) (n % 64) ≡ 1
+covered gs ws w count inside n on = elim (cases_lt (n / 64) 8) [
+  | inl low ↦ bit_within (slice_index_or gs (gone_at w n) 0) (slice_index_or ws (n / 64) 0) (n % 64) (inside (n / 64) low) on
+  | inr past ↦ absurd (omega (arith, sym (bit_at-zero (n % 64)) ∙ (rw (get_or_past ws (n / 64) 0 (omega (arith, count, past))) at on)))
+]

@@ -1,4 +1,3 @@
 pub mod Public
-mod EndLemmas
 mod GoneLemmas
 mod LeavingLemmas

@@ -1,4 +1,3 @@
 -- what the code says
-pub mod Ends
 pub mod Gone
 pub mod Prelude

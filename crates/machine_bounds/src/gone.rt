@@ -1,29 +1,23 @@
-//! Before which instants it is known that a machine does not start at a node, kept with levels: of these no row need be
-//! read.
-ghost use Rattle.std.specs.Prelude.{◌≡◌, ◌<◌, ◌/◌, ◌%◌, [], ◌≤◌, ℕ, length, slice_index_or, IsTrue, OnErr, OnOk};
+//! At which nodes it is known that a machine does not start, kept with levels: of these no row need be read.
+ghost use Rattle.std.specs.Prelude.{◌≡◌, ℕ, ◌<◌, ◌/◌, ◌%◌, [], length, slice_index_or, IsTrue, OnErr, OnOk};
+ghost use Rattle.std.specs.Int.{bit_at};
 ghost use Rattle.standings.specs.{Levels.IsBack, Levels.marked};
-ghost use Rattle.machine_bounds.specs.Prelude.{AreGone, bound_count, choices, gone_at, IsElement, IsSized, max_nodes, sets, StartsFrom};
+ghost use Rattle.machine_bounds.specs.Prelude.{AreGone, choices, gone_at, IsElement, IsSized, max_nodes, sets, StartsNowhereAt};
 
 use base::Memory;
 use catalogue::Problem;
 use cluster::limits::MAX_NODES;
 use cluster::{Element, NodeId, Place, VmId};
 use domains::{Change, Domain, Part, Region, Side};
-use standings::host::host_of;
 use standings::levels::Levelled;
-use standings::numbers::{NEVER, Standing};
 use std::alloc::Global;
 use std::marker::Model;
 
 /// How many words of 64 bits hold a bit for each node.
 pub const WORDS: usize = MAX_NODES / 64;
 
-/// How many bounds there are, each an instant at a node: first one for each node that lets no start past, then one for
-/// each that lets late ones.
-pub const BOUNDS: usize = 2 * MAX_NODES;
-
-/// An instant for each bound, and for each machine a bit for each bound, set only where no choice of the machine starts
-/// at the node before the instant. As a region narrows each stays right, so not all need be told of.
+/// For each machine a bit for each node, set only where no choice of the machine starts there. As a region narrows each
+/// stays right, so not all need be told of.
 #[derive(Drop)]
 pub struct Gone {
     words: Levelled<u64>,
@@ -39,59 +33,19 @@ impl Model for Gone {
     ghost view = { λ m. m.words };
 }
 
-/// Whether no choice starts at a node before an instant.
-#[tactic(auto, using(crate::proofs::GoneLemmas::starts_late))]
-pub fn starts_from(domain: &Domain, n: NodeId, t: u64) -> bool
-    ensures { IsTrue result → StartsFrom (choices domain.now) n.0 t }
+// whether no choice starts at a node
+#[tactic(auto, using(crate::proofs::GoneLemmas::nowhere))]
+fn starts_nowhere_at(domain: &Domain, n: NodeId) -> bool
+    ensures { IsTrue result → StartsNowhereAt (choices domain.now) n.0 }
 {
-    if t == 0 || t > NEVER {
-        return false;
-    }
-    domain.leaves_none(Part::Upto(Place::At(n), (t - 1) as u32), Side::Inside)
+    domain.leaves_none(Part::From(Place::At(n), 0), Side::Inside)
 }
 
-/// Where the word of a machine and a bound stands.
-pub fn place_of(v: VmId, b: usize) -> usize
-    ensures { result ≡ gone_at v.0 b }
+// where the word of a machine and a node stands
+fn place_of(v: VmId, n: NodeId) -> usize
+    ensures { result ≡ gone_at v.0 n.0 }
 {
-    BOUNDS + v.0 as usize * (BOUNDS / 64) + b / 64
-}
-
-// sets the second bound of a node to an instant at which a machine may leave it, where it is later
-fn raise(bounds: &mut [u64; BOUNDS], host: Option<NodeId>, leave: u64) {
-    let Some(n) = host else {
-        return;
-    };
-    let i = MAX_NODES + n.0 as usize;
-    if i < BOUNDS && leave < NEVER && bounds[i] < leave {
-        bounds[i] = leave;
-    }
-}
-
-// good bounds: that a machine never starts at a node, and that it does not before all have left that are hosted there
-fn bounds_of(p: &Problem, standings: &[Standing]) -> [u64; BOUNDS] {
-    let mut bounds = [1; BOUNDS];
-    for n in 0..MAX_NODES {
-        bounds[n] = NEVER;
-    }
-    for i in 0..p.cluster().machines().len() {
-        if i < standings.len() {
-            raise(&mut bounds, host_of(p, VmId(i as u32)), standings[i].leave);
-        }
-    }
-    bounds
-}
-
-// writes the bounds before all else
-fn write_bounds(words: &mut [u64], bounds: &[u64; BOUNDS])
-    requires nought { (i : ℕ) → bound_count ≤ i → slice_index_or words.old i 0 ≡ 0 }
-    ensures nought { (i : ℕ) → bound_count ≤ i → slice_index_or words.new i 0 ≡ 0 }
-{
-    for b in 0..BOUNDS {
-        if b < words.len() {
-            words[b] = bounds[b];
-        }
-    }
+    v.0 as usize * WORDS + n.0 as usize / 64
 }
 
 impl Gone {
@@ -112,75 +66,46 @@ impl Gone {
         self.words.level()
     }
 
-    /// The bounds, and the words of all machines.
+    /// The words of all machines.
     pub fn words(&self) -> &[u64]
         ensures { result.now ≡ self.now.top }
     {
         self.words.items()
     }
 
-    /// Starts anew for a region, with no mark and no bit: what matters is told of sooner or later. By where machines stand
-    /// the bounds are chosen. The only error is want of memory.
+    /// Starts anew for a region, with no mark and no bit: what matters is told of sooner or later. The only error is want
+    /// of memory.
     #[tactic(auto, using(crate::proofs::GoneLemmas::nought_gone))]
-    pub fn post(&mut self, p: &Problem, _g: &Region, standings: &[Standing]) -> Result<(), Memory>
+    pub fn post(&mut self, p: &Problem, _g: &Region) -> Result<(), Memory>
         ensures older { OnOk result (self.new.older ≡ []) }
         ensures top { OnOk result (AreGone (sets _g.now) self.new.top) }
     {
         let mut words = Vec::new(self.alloc);
-        words.resize(place_of(VmId(p.cluster().machines().len() as u32), 0), 0)?;
-        write_bounds(&mut words, &bounds_of(p, standings));
+        words.resize(p.cluster().machines().len() * WORDS, 0)?;
         self.words.reset(words);
         Ok(())
     }
 
-    // sets the bit of a machine and a bound, where no choice starts before its instant
+    // sets the bit of a machine and a node, where no choice starts there
     #[tactic(auto, using(crate::proofs::GoneLemmas::gone_put))]
-    fn put(&mut self, _g: &Region, v: VmId, b: usize) -> Result<(), Memory>
+    fn put(&mut self, _g: &Region, v: VmId, n: NodeId) -> Result<(), Memory>
         requires right { AreGone (sets _g.now) self.old.top }
-        requires bound { b < bound_count }
-        requires late { StartsFrom (sets _g.now (Element.Vm v)) (b % max_nodes) (slice_index_or self.old.top b 0) }
+        requires node { n.0 < max_nodes }
+        requires nowhere { StartsNowhereAt (sets _g.now (Element.Vm v)) n.0 }
         ensures older { self.new.older ≡ self.old.older }
         ensures top { OnOk result (AreGone (sets _g.now) self.new.top) }
     {
-        let i = place_of(v, b);
+        let i = place_of(v, n);
         if i >= self.words.items().len() || i > u32::MAX as usize {
             return Ok(());
         }
         let word = self.words.items()[i];
-        self.words.set(i as u32, word | 1 << (b % 64))?;
+        self.words.set(i as u32, word | 1 << (n.0 % 64))?;
         Ok(())
     }
 
-    // whether the bit of a machine and a bound is set already
-    fn has(&self, v: VmId, b: usize) -> bool {
-        match self.words.items().get(place_of(v, b)) {
-            None => false,
-            Some(word) => (*word >> (b % 64)) & 1 == 1,
-        }
-    }
-
-    // sets it, where it is not set and no choice starts before its instant
-    fn put_late(&mut self, p: &Problem, g: &Region, v: VmId, b: usize) -> Result<(), Memory>
-        requires region { IsSized p.now.given g.now }
-        requires machine { IsElement p.now.given (Element.Vm v) }
-        requires right { AreGone (sets g.now) self.old.top }
-        requires bound { b < bound_count }
-        ensures older { self.new.older ≡ self.old.older }
-        ensures top { OnOk result (AreGone (sets g.now) self.new.top) }
-    {
-        if b >= self.words.items().len() || self.has(v, b) {
-            return Ok(());
-        }
-        let n = NodeId((b % MAX_NODES) as u32);
-        if !starts_from(g.domain(Element::Vm(v)), n, self.words.items()[b]) {
-            return Ok(());
-        }
-        self.put(g, v, b)
-    }
-
-    /// Is told of a change that has led to a region, for which these are right already: the bits of its machine and its node
-    /// are set, where it is of one node at which the machine does not start before their instants now. The only error is want
-    /// of memory.
+    /// Is told of a change that has led to a region, for which these are right already: the bit of its machine and its node
+    /// is set, where it is of one node at which the machine does not start now. The only error is want of memory.
     pub fn told(&mut self, p: &Problem, g: &Region, change: Change) -> Result<(), Memory>
         requires region { IsSized p.now.given g.now }
         requires element { IsElement p.now.given change.element }
@@ -208,16 +133,10 @@ impl Gone {
         let Place::At(n) = place else {
             return Ok(());
         };
-        let b = n.0 as usize;
-        if b >= MAX_NODES {
+        if n.0 as usize >= MAX_NODES || !starts_nowhere_at(g.domain(Element::Vm(v)), n) {
             return Ok(());
         }
-        // a machine that starts there before the earlier instant does so before the later one too
-        self.put_late(p, g, v, b + MAX_NODES)?;
-        if !self.has(v, b + MAX_NODES) {
-            return Ok(());
-        }
-        self.put_late(p, g, v, b)
+        self.put(g, v, n)
     }
 
     /// Makes a mark, to which `back` returns. After want of memory all is as it was.
@@ -235,4 +154,20 @@ impl Gone {
     {
         self.words.back()
     }
+}
+
+/// Whether it is known that a machine starts at none of some nodes, told by their bits.
+pub fn starts_at_none(gone: &[u64], w: VmId, nodes: &[u64; WORDS]) -> bool
+    ensures { IsTrue result → (n : ℕ) → bit_at (slice_index_or nodes.now (n / 64) 0) (n % 64) ≡ 1 → bit_at (slice_index_or gone.now (gone_at w.0 n) 0) (n % 64) ≡ 1 }
+{
+    let from = w.0 as usize * WORDS;
+    if gone.len() < from + WORDS {
+        return false;
+    }
+    for k in 0..WORDS {
+        if gone[from + k] & nodes[k] != nodes[k] {
+            return false;
+        }
+    }
+    true
 }

@@ -1,7 +1,5 @@
-//! How soon a machine gives up its host, until when it may be there, and before which instants it is known not to start at
-//! nodes.
+//! How soon a machine gives up its host, until when it may be there, and at which nodes it is known not to start.
 #![tactic(auto)]
 
-pub mod ends;
 pub mod gone;
 pub mod leaving;

@@ -1,6 +1,7 @@
 -- Machines that are told to keep apart at all instants.
-use Rattle.rule_pair.proofs.Prelude.{if◌then◌else◌, IsTrue, ◌≡◌, ◌≢◌, ◌⊎◌, inl, inr, ℕ, ◌+◌, ◌<◌, ◌≤◌, Bool, true, false, ◌&&◌, ◌||◌, ◌==◌, max, nat_lt, List, [], ◌∷◌, length, get_or, Some, ap, Contains, eq-eqb, nat_le, refl, sym, ◌∙◌, arith, and_parts, cases_eq, eqb-true, false≢true, nat_tests, get_or_default, part_listed, sound_form, surely_each, end_is_choice, some_end, present_law, and-true, arrival, arrived, numbers, of_one, other-vm, own_present, same_present, vm_or}
-use Rattle.rule_pair.specs.Prelude.{Act, Apart, are_below, AreClear, AreLonger, AreOrdered, Arrival, At, base, Between, Choice, class_of, Clear, comes_by, ComesLate, Constraint, Doubtful, Each, Element, form_of, FromOthers, gain, has_come, have_come, HasPosts, hosted_in, Idle, Instance, inventory_of, is_continuous, is_member, is_rule, IsAt, IsClean, IsEnd, IsInPart, IsLate, IsMember, IsStanding, IsTold, KeepsClear, KeepsOff, kept_use, least, leave_of, Longest, machine_count, never, Nowhere, of_kind, OnClear, one, Pair, Posts, Presence, present_at, reason_kind, rule_watch, Seen, separated, Separation, Sets, setting, Standing, StandsWithin, state_of, sure, told_until, Unknown, vm, VmId}
+use Rattle.rule_pair.proofs.Prelude.{if◌then◌else◌, IsTrue, slice_index_or, ◌≡◌, ◌≢◌, ◌⊎◌, inl, inr, ℕ, ◌+◌, ◌<◌, ◌≤◌, Bool, true, false, ◌&&◌, ◌||◌, ◌==◌, max, nat_lt, List, [], ◌∷◌, length, get_or, Some, ap, Contains, eq-eqb, nat_le, refl, sym, ◌∙◌, arith, and_parts, cases_eq, eqb-true, false≢true, nat_tests, get_or_default, part_listed, sound_form, surely_each, end_is_choice, ends_of_rows, some_end, present_law, and-true, arrival, arrived, numbers, of_one, other-vm, own_present, same_present, vm_or}
+use Rattle.machine_bounds.proofs.Public.{row_order}
+use Rattle.rule_pair.specs.Prelude.{Act, Apart, are_below, AreClear, AreLonger, AreOrdered, Arrival, At, base, Between, Choice, choices, class_of, Clear, Climbs, comes_by, ComesLate, Constraint, DomainView, Doubtful, Each, Element, form_of, FromOthers, gain, has_come, have_come, HasPosts, hosted_in, Idle, Instance, inventory_of, is_continuous, is_member, is_rule, IsAt, IsClean, IsEnd, IsInPart, IsLate, IsMember, IsStanding, IsTold, KeepsClear, KeepsOff, kept_use, least, leave_of, Longest, machine_count, never, no_row, Nowhere, of_kind, OnClear, one, Pair, Posts, Presence, present_at, reason_kind, Row, row_at, rule_watch, Seen, separated, Separation, Sets, setting, Standing, StandsWithin, state_of, sure, told_until, Unknown, vm, VmId}
 use Rattle.cluster.specs.declared.choices.Place.{Place}
 
 -- ---- one choice
@@ -112,12 +113,19 @@ module _ (p : Instance) (s : Sets) (xs : List Longest) (part from w : ℕ) (shor
   off-end : (n t : ℕ) (c : Choice) → t ≤ p.horizon → (IsTrue (hosted_in (state_of p w) (one n)) → leave_of p w c ≤ t) → has_come n t c ≡ false → present_at p w (one n) t c ≡ false
   off-end n t c l left come = not-there p w n t c (omega (arith, l, short)) (not-hosted (hosted_in (state_of p w) (one n)) t (leave_of p w c) left) come
 
-  pub keeps_off : (cs : List Choice) → s (vm w) ≡ cs → cs ≢ [] → ((n t : ℕ) (c : Choice) → from ≤ t → t < told_until xs part n → IsTrue (hosted_in (state_of p w) (one n)) → IsEnd cs c → leave_of p w c ≤ t) → ((q : Place) (u : ℕ) → IsEnd cs (Act q u) → IsLate xs part from q u) → KeepsOff p s xs part from w
-  keeps_off cs is some host late = record { some = rw is some; off = λ n t c f l before end. let there : IsEnd cs c = rw is at end in off-end n t c l (λ here. host n t c f before here there) (come n t c f before there) }
+  pub keeps_off : (d : DomainView) (rows : List Row) → s (vm w) ≡ choices d → choices d ≢ [] → rows ≡ d.rows → Climbs 0 rows → ((n t : ℕ) (c : Choice) → from ≤ t → t < told_until xs part n → IsTrue (hosted_in (state_of p w) (one n)) → IsEnd (choices d) c → leave_of p w c ≤ t) → ((i : ℕ) → i < length rows → IsLate xs part from (slice_index_or rows i no_row).place (slice_index_or rows i no_row).lo) → KeepsOff p s xs part from w
+  keeps_off d rows is some same climbs host late = record { some = rw is some; off = λ n t c f l before end. let there : IsEnd (choices d) c = rw is at end in off-end n t c l (λ here. host n t c f before here there) (come n t c f before there) }
     where
-      come : (n t : ℕ) (c : Choice) → from ≤ t → t < told_until xs part n → IsEnd cs c → has_come n t c ≡ false
+      own : Climbs 0 d.rows
+      own = rw same at climbs
+
+      by : (n t i u : ℕ) (q : Place) → from ≤ t → t < told_until xs part n → i < length d.rows → (row_at d i).place ≡ q → ((row_at d i).lo ≡ u) ⊎ ((row_at d i).hi ≡ u) → has_come n t (Act q u) ≡ false
+      by n t i u q f before low place ends =
+          late-come xs part from n t q (row_at d i).lo u (rw place at ((rw same at late) i low)) (elim ends [ inl first ↦ omega (arith, first) | inr last ↦ omega (arith, last, row_order 0 d.rows i own low) ]) f before
+
+      come : (n t : ℕ) (c : Choice) → from ≤ t → t < told_until xs part n → IsEnd (choices d) c → has_come n t c ≡ false
       come n t Idle f before end = refl
-      come n t (Act q u) f before end = late-come xs part from n t q u u (late q u end) (omega arith) f before
+      come n t (Act q u) f before end = let r = (ends_of_rows d own (Act q u)).0 end in by n t r.0 u q f before r.1 r.2 r.3
 
   -- all choices go to one node, at which no stay goes on
   pub keeps_off_there : (cs : List Choice) (k : Standing) → s (vm w) ≡ cs → cs ≢ [] → IsStanding p w (s (vm w)) k → ComesLate xs part from k → ((n t : ℕ) (c : Choice) → from ≤ t → t < told_until xs part n → IsTrue (hosted_in (state_of p w) (one n)) → IsEnd cs c → leave_of p w c ≤ t) → KeepsOff p s xs part from w

@@ -54,7 +54,7 @@ was-there p g x before kept fewer v c h = at (same_element (vm v) x) refl
     at true same = fewer c (subst (λ e. Contains (sets g e) c) (same_is (vm v) x same) h)
     at false other = h
 
--- so it starts no sooner than it did before
+-- so it does not start at the nodes at which it did not before
 pub gone_still : (p : Instance) (g : RegionView) (x : Element) (before : Before) (kept : DomainView) (lists : Lists) (m : Tables) (f : Levels ℕ) (wanted : Bool) → AreFewer (sets g x) (choices (domain_before before kept (domain_at g x))) → AreKept p (sets_before g x before kept) lists m f wanted (length m.older) → wanted ≡ true → AreGone (sets g) f.top
 gone_still p g x before kept lists m f wanted fewer was on = gone_fewer (sets g) (sets_before g x before kept) f.top (kept_gone p (sets_before g x before kept) lists m f wanted was on) (λ v c h. was-there p g x before kept fewer v c h)
 

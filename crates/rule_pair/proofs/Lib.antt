@@ -1,10 +1,10 @@
 mod Prelude
 mod ApartLemmas
 mod BrokenLemmas
-mod EndLemmas
 mod KeptLemmas
 mod LongestLemmas
 mod StayLemmas
 mod StrangerLemmas
 mod UnmovedLemmas
 mod TwinLemmas
+mod ReachLemmas

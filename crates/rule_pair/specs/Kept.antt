@@ -1,5 +1,5 @@
 -- Helping only: what is kept beside the rule: which constraints look at each element, and with levels where each machine surely stands, and
--- before which instants it is known not to start at nodes.
+-- at which nodes it is known not to start.
 use Rattle.std.specs.Prelude.{◌≡◌, ◌≢◌, ℕ, ◌<◌, Bool, true, List, [], length, slice_index_or}
 use Rattle.standings.specs.Levels.{Levels}
 use Rattle.standings.specs.Prelude.{AreStanding, level_at, no_standing, Tables}

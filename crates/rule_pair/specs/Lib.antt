@@ -2,9 +2,9 @@
 pub mod Covers
 -- what the code says beside it
 pub mod Apart
-pub mod Ends
 pub mod Kept
 pub mod Longest
+pub mod Reach
 pub mod Stays
 pub mod Twins
 pub mod Unmoved

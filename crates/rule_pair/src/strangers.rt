@@ -1,14 +1,13 @@
 //! Members that are to be alone: they keep off all other machines, and these off them.
 ghost use Rattle.std.specs.Prelude.{◌≡◌, ◌≢◌, ℕ, ◌<◌, nat_lt, true, IsTrue};
 ghost use Rattle.std.specs.List.{list_all};
-ghost use Rattle.rule_pair.specs.Prelude.{AreGone, AreOrdered, AreRight, AreUntilsOver, class_of as the_class_of, has_machine, is_member, IsSized, IsTold, KeepsClear, KeepsOff, machine_count, OnClear, sets};
+ghost use Rattle.rule_pair.specs.Prelude.{AreEnds, AreGone, AreOrdered, AreRight, class_of as the_class_of, has_machine, is_member, IsSized, IsTold, KeepsClear, KeepsOff, machine_count, OnClear, sets};
 
 use crate::clear::{Seen, machine_keeps_off, tell_machine};
-use crate::ends::ends_of;
 use crate::longest::{NOBODY, Table};
+use crate::reach::{Ends, ends_of};
 use cluster::MachineSet;
 use cluster::limits::MAX_NODES;
-use machine_bounds::ends::Ends;
 use rule_frame::{Instant, Problem, Region, VmId};
 use standings::numbers::Standing;
 
@@ -71,8 +70,8 @@ fn one_keeps_off(
     requires kept { AreRight p.now.given (sets g.now) kept.now }
     requires gone { AreGone (sets g.now) gone.now }
     requires machine { w.0 < machine_count p.now.given }
-    requires strangers { AreUntilsOver table.now gone.now 0 from strangers_ends.now }
-    requires members { AreUntilsOver table.now gone.now 1 from members_ends.now }
+    requires strangers { AreEnds table.now 0 from strangers_ends.now }
+    requires members { AreEnds table.now 1 from members_ends.now }
     ensures { OnClear result (KeepsOff p.now.given (sets g.now) table.now part from w.0) }
 {
     if part == 0 {
@@ -99,8 +98,8 @@ fn all_keep_off(
     requires gone { AreGone (sets g.now) gone.now }
     ensures { OnClear result ((w : ℕ) → w < machine_count p.now.given → KeepsOff p.now.given (sets g.now) table.now (the_class_of (has_machine members.now) w) from w) }
 {
-    let strangers_ends = ends_of(table, gone, 0, from);
-    let members_ends = ends_of(table, gone, 1, from);
+    let strangers_ends = ends_of(table, 0, from);
+    let members_ends = ends_of(table, 1, from);
     for i in 0..p.cluster().machines().len() {
         let w = VmId(i as u32);
         let part = class_of(members, w);

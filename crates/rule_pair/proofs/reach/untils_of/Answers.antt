@@ -1,7 +1,7 @@
 use Rattle.rule_pair.proofs.Prelude.{arith, ◌∙◌}
 use Rattle.std.proofs.lemmas.List.{length-set}
-use Rattle.rule_pair.proofs.EndLemmas.{told_more}
-use Rattle.rule_pair.proofs.ends.untils_of.Goals as goal
+use Rattle.rule_pair.proofs.ReachLemmas.{told_more}
+use Rattle.rule_pair.proofs.reach.untils_of.Goals as goal
 
 pub loop-n-preserved : goal.loop-n-preserved
 loop-n-preserved c = record {
