@@ -1,5 +1,5 @@
 -- The ends of rows, and the least of a measure over the choices of a domain, beside the least with those that it has lost.
-use Rattle.base.proofs.Public.{◌≡◌, ℕ, ◌+◌, ◌<◌, ◌≤◌, Bool, true, false, length, max, zero, suc, Option, Some, None, List, [], ◌∷◌, unwrap_or, refl, sym, ◌∙◌, inl, inr, arith, filter, slice_index_or, Contains, false≢true}
+use Rattle.base.proofs.Public.{◌≡◌, ℕ, ◌+◌, ◌<◌, ◌≤◌, false, length, max, zero, suc, Option, Some, None, List, [], ◌∷◌, unwrap_or, refl, sym, ◌∙◌, inl, inr, arith, filter, slice_index_or, Contains, false≢true}
 use Rattle.domains.proofs.Public.{least_of_each, lowest_before}
 use Rattle.reasons.proofs.Public.{ends_of_rows}
 use Rattle.standings.proofs.Public.{all_stay}
@@ -8,7 +8,7 @@ use Rattle.cluster.specs.declared.choices.Place.{Place}
 use Rattle.domains.specs.declared.parts.Row.{Row}
 use Rattle.domains.specs.declared.undo.Lost.{Lost}
 use Rattle.domains.specs.Prelude.{lost_choices, lowest, place_index, restored, stays}
-use Rattle.machine_bounds.specs.Prelude.{Act, AreFewer, Choice, choices, Climbs, DomainView, Instance, IsEnd, least, leave_climbs, leave_of, never, no_row, row_at}
+use Rattle.machine_bounds.specs.Prelude.{Act, AreFewer, Choice, choices, Climbs, DomainView, Instance, IsEnd, least, leave_climbs, leave_of, no_row, row_at}
 
 -- ---- rows
 
@@ -51,15 +51,6 @@ raised f a (c ∷ d ∷ cs) = let rest = raised f a (d ∷ cs) in omega (arith, 
 
 pub least_raised : (f : Choice → ℕ) (a : ℕ) (cs : List Choice) (found : Option ℕ) → found ≡ lowest (λ c. max a (f c)) (filter (stays None) cs) → least f cs ≤ unwrap_or found 0
 least_raised f a cs found is = rw (is, all_stay cs) (raised f a cs)
-
--- without a row it may stay for ever, or has no choice
-pub never_leaves : (p : Instance) (v : ℕ) (d : DomainView) (rows : List Row) → rows ≡ d.rows → length rows ≡ 0 → least (leave_of p v) (choices d) ≤ never
-never_leaves p v d rows same none = by d.idle d.rows (rw same at none)
-  where
-    by : (idle : Bool) (rows : List Row) → length rows ≡ 0 → least (leave_of p v) (choices (record { idle = idle; rows = rows; slots = d.slots })) ≤ never
-    by true [] h = omega arith
-    by false [] h = omega arith
-    by idle (r ∷ rs) h = absurd (omega (arith, h))
 
 -- ---- what was lost
 

@@ -1,3 +1,4 @@
 pub mod Public
+mod EndLemmas
 mod GoneLemmas
 mod LeavingLemmas

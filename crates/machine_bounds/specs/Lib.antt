@@ -1,3 +1,4 @@
 -- what the code says
+pub mod Ends
 pub mod Gone
 pub mod Prelude

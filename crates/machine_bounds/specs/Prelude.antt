@@ -4,4 +4,5 @@ pub use Rattle.standings.specs.Prelude.{AreLeaves, leave_climbs, leave_of, never
 pub use Rattle.cluster.specs.declared.choices.Choice.{Choice}
 pub use Rattle.cluster.specs.declared.choices.Choice.TheVariants.{Act}
 pub use Rattle.cluster.specs.declared.choices.Place.TheVariants.{At}
-pub use Rattle.machine_bounds.specs.Gone.{AreGone, gone_at, StartsNowhereAt}
+pub use Rattle.machine_bounds.specs.Ends.{AreEnds, AreEnough, HaveBits, IsKnown}
+pub use Rattle.machine_bounds.specs.Gone.{AreGone, bound_count, gone_at, GoneView, StartsFrom}

@@ -1,8 +1,7 @@
-//! At which nodes it is known that a machine does not start, kept with levels: of these no row need be read.
-ghost use Rattle.std.specs.Prelude.{◌≡◌, ℕ, ◌<◌, ◌/◌, ◌%◌, [], length, slice_index_or, IsTrue, OnErr, OnOk};
-ghost use Rattle.std.specs.Int.{bit_at};
+//! Before when it is known that machines do not start at nodes, kept with levels: of these no row need be read.
+ghost use Rattle.std.specs.Prelude.{◌≡◌, ℕ, ◌<◌, ◌%◌, [], slice_index_or, IsTrue, OnErr, OnOk, length};
 ghost use Rattle.standings.specs.{Levels.IsBack, Levels.marked};
-ghost use Rattle.machine_bounds.specs.Prelude.{AreGone, choices, gone_at, IsElement, IsSized, max_nodes, sets, StartsNowhereAt};
+ghost use Rattle.machine_bounds.specs.Prelude.{AreGone, bound_count, choices, gone_at, IsElement, IsSized, max_nodes, sets, StartsFrom};
 
 use base::Memory;
 use catalogue::Problem;
@@ -10,50 +9,84 @@ use cluster::limits::MAX_NODES;
 use cluster::{Element, NodeId, Place, VmId};
 use domains::{Change, Domain, Part, Region, Side};
 use standings::levels::Levelled;
+use standings::numbers::{NEVER, Standing};
 use std::alloc::Global;
 use std::marker::Model;
 
 /// How many words of 64 bits hold a bit for each node.
-pub const WORDS: usize = MAX_NODES / 64;
+pub const NODE_WORDS: usize = MAX_NODES / 64;
 
-/// For each machine a bit for each node, set only where no choice of the machine starts there. As a region narrows each
-/// stays right, so not all need be told of.
+/// For how many instants a bit is kept of each machine: for each node `NEVER`, and for each node a second one.
+pub const BOUNDS: usize = 2 * MAX_NODES;
+
+/// How many words of 64 bits hold the bits of a machine.
+pub const BOUND_WORDS: usize = 2 * NODE_WORDS;
+
+/// For each machine two bits for each node, set only where no choice of the machine starts there before an instant: that
+/// is `NEVER`, and when all machines that the node hosts have left it, as they were posted. As a region narrows each bit
+/// stays right, so not all changes need be told.
 #[derive(Drop)]
 pub struct Gone {
+    bounds: [u64; BOUNDS],
     words: Levelled<u64>,
     alloc: Global,
 }
 
 impl Model for Gone {
-    ghost use Rattle.std.specs.Prelude.{ℕ};
-    ghost use Rattle.standings.specs.Levels.{Levels};
+    ghost use Rattle.machine_bounds.specs.Gone.{GoneView};
 
-    ghost Value = { Levels ℕ };
+    ghost Value = { GoneView };
 
-    ghost view = { λ m. m.words };
+    ghost view = { λ m. record { bounds = m.bounds; words = m.words } };
 }
 
-// whether no choice starts at a node
-#[tactic(auto, using(crate::proofs::GoneLemmas::nowhere))]
-fn starts_nowhere_at(domain: &Domain, n: NodeId) -> bool
-    ensures { IsTrue result → StartsNowhereAt (choices domain.now) n.0 }
+// whether no choice starts at a node before an instant
+#[tactic(auto, using(crate::proofs::GoneLemmas::none_ever, crate::proofs::GoneLemmas::none_before))]
+fn starts_from(domain: &Domain, n: NodeId, from: u64) -> bool
+    ensures { IsTrue result → StartsFrom (choices domain.now) n.0 from }
 {
-    domain.leaves_none(Part::From(Place::At(n), 0), Side::Inside)
+    if from == 0 {
+        return true;
+    }
+    if from > u64::from(u32::MAX) {
+        return domain.leaves_none(Part::From(Place::At(n), 0), Side::Inside);
+    }
+    domain.leaves_none(Part::Upto(Place::At(n), (from - 1) as u32), Side::Inside)
 }
 
-// where the word of a machine and a node stands
-fn place_of(v: VmId, n: NodeId) -> usize
-    ensures { result ≡ gone_at v.0 n.0 }
+// where the word of a machine stands that has its bit for the bound of a number
+fn place_of(v: VmId, bound: usize) -> usize
+    ensures { result ≡ gone_at v.0 bound }
 {
-    v.0 as usize * WORDS + n.0 as usize / 64
+    v.0 as usize * BOUND_WORDS + bound / 64
+}
+
+// `NEVER` for each node, and for each when the last machine that it hosts has left it by some numbers
+fn bounds_of(p: &Problem, standings: &[Standing]) -> [u64; BOUNDS] {
+    let mut bounds = [0; BOUNDS];
+    for n in 0..MAX_NODES {
+        bounds[n] = NEVER;
+    }
+    let machines = p.cluster().machines();
+    for i in 0..machines.len().min(standings.len()) {
+        let Some(host) = machines[i].state.host() else {
+            continue;
+        };
+        let bound = MAX_NODES + host.0 as usize;
+        if bound < BOUNDS {
+            bounds[bound] = bounds[bound].max(standings[i].leave);
+        }
+    }
+    bounds
 }
 
 impl Gone {
     /// Of no machine, with one level. It takes no memory.
     pub fn new(alloc: Global) -> Gone
-        ensures { result ≡ record { older = []; top = [] } }
+        ensures { result.words ≡ record { older = []; top = [] } }
     {
         Gone {
+            bounds: [0; BOUNDS],
             words: Levelled::new(alloc),
             alloc,
         }
@@ -61,57 +94,67 @@ impl Gone {
 
     /// How many marks stand.
     pub fn level(&self) -> u64
-        ensures { result ≡ length self.now.older }
+        ensures { result ≡ length self.now.words.older }
     {
         self.words.level()
     }
 
+    /// The instants for which bits are kept: the first one of each node, and then the second ones.
+    pub fn bounds(&self) -> &[u64; BOUNDS]
+        ensures { result.now ≡ self.now.bounds }
+    {
+        &self.bounds
+    }
+
     /// The words of all machines.
     pub fn words(&self) -> &[u64]
-        ensures { result.now ≡ self.now.top }
+        ensures { result.now ≡ self.now.words.top }
     {
         self.words.items()
     }
 
-    /// Starts anew for a region, with no mark and no bit: what matters is told of sooner or later. The only error is want
-    /// of memory.
+    /// Starts anew for a region in which machines have these numbers, with no mark and no bit: what matters is told of
+    /// sooner or later. The only error is want of memory.
     #[tactic(auto, using(crate::proofs::GoneLemmas::nought_gone))]
-    pub fn post(&mut self, p: &Problem, _g: &Region) -> Result<(), Memory>
-        ensures older { OnOk result (self.new.older ≡ []) }
-        ensures top { OnOk result (AreGone (sets _g.now) self.new.top) }
+    pub fn post(&mut self, p: &Problem, _g: &Region, standings: &[Standing]) -> Result<(), Memory>
+        ensures older { OnOk result (self.new.words.older ≡ []) }
+        ensures top { OnOk result (AreGone (sets _g.now) self.new.bounds self.new.words.top) }
     {
         let mut words = Vec::new(self.alloc);
-        words.resize(p.cluster().machines().len() * WORDS, 0)?;
+        words.resize(p.cluster().machines().len() * BOUND_WORDS, 0)?;
         self.words.reset(words);
+        self.bounds = bounds_of(p, standings);
         Ok(())
     }
 
-    // sets the bit of a machine and a node, where no choice starts there
+    // sets the bit of a machine for the bound of a number, where no choice starts at its node before
     #[tactic(auto, using(crate::proofs::GoneLemmas::gone_put))]
-    fn put(&mut self, _g: &Region, v: VmId, n: NodeId) -> Result<(), Memory>
-        requires right { AreGone (sets _g.now) self.old.top }
-        requires node { n.0 < max_nodes }
-        requires nowhere { StartsNowhereAt (sets _g.now (Element.Vm v)) n.0 }
-        ensures older { self.new.older ≡ self.old.older }
-        ensures top { OnOk result (AreGone (sets _g.now) self.new.top) }
+    fn put(&mut self, _g: &Region, v: VmId, bound: usize) -> Result<(), Memory>
+        requires right { AreGone (sets _g.now) self.old.bounds self.old.words.top }
+        requires bound { bound < bound_count }
+        requires from { StartsFrom (sets _g.now (Element.Vm v)) (bound % max_nodes) (slice_index_or self.old.bounds bound 0) }
+        ensures bounds { self.new.bounds ≡ self.old.bounds }
+        ensures older { self.new.words.older ≡ self.old.words.older }
+        ensures top { OnOk result (AreGone (sets _g.now) self.new.bounds self.new.words.top) }
     {
-        let i = place_of(v, n);
+        let i = place_of(v, bound);
         if i >= self.words.items().len() || i > u32::MAX as usize {
             return Ok(());
         }
         let word = self.words.items()[i];
-        self.words.set(i as u32, word | 1 << (n.0 % 64))?;
+        self.words.set(i as u32, word | 1 << (bound % 64))?;
         Ok(())
     }
 
-    /// Is told of a change that has led to a region, for which these are right already: the bit of its machine and its node
-    /// is set, where it is of one node at which the machine does not start now. The only error is want of memory.
+    /// Is told of a change that has led to a region, for which these are right already: a bit of its machine is set, where
+    /// it is of one node at which the machine does not start before a bound now. The only error is want of memory.
     pub fn told(&mut self, p: &Problem, g: &Region, change: Change) -> Result<(), Memory>
         requires region { IsSized p.now.given g.now }
         requires element { IsElement p.now.given change.element }
-        requires right { AreGone (sets g.now) self.old.top }
-        ensures older { self.new.older ≡ self.old.older }
-        ensures top { OnOk result (AreGone (sets g.now) self.new.top) }
+        requires right { AreGone (sets g.now) self.old.bounds self.old.words.top }
+        ensures bounds { self.new.bounds ≡ self.old.bounds }
+        ensures older { self.new.words.older ≡ self.old.words.older }
+        ensures top { OnOk result (AreGone (sets g.now) self.new.bounds self.new.words.top) }
     {
         let Element::Vm(v) = change.element else {
             return Ok(());
@@ -122,26 +165,38 @@ impl Gone {
         }
     }
 
-    // of a machine at a place
+    // of a machine at a place: the later of the two bounds that it keeps to
     fn put_at(&mut self, p: &Problem, g: &Region, v: VmId, place: Place) -> Result<(), Memory>
         requires region { IsSized p.now.given g.now }
         requires machine { IsElement p.now.given (Element.Vm v) }
-        requires right { AreGone (sets g.now) self.old.top }
-        ensures older { self.new.older ≡ self.old.older }
-        ensures top { OnOk result (AreGone (sets g.now) self.new.top) }
+        requires right { AreGone (sets g.now) self.old.bounds self.old.words.top }
+        ensures bounds { self.new.bounds ≡ self.old.bounds }
+        ensures older { self.new.words.older ≡ self.old.words.older }
+        ensures top { OnOk result (AreGone (sets g.now) self.new.bounds self.new.words.top) }
     {
         let Place::At(n) = place else {
             return Ok(());
         };
-        if n.0 as usize >= MAX_NODES || !starts_nowhere_at(g.domain(Element::Vm(v)), n) {
+        let first = n.0 as usize;
+        if first >= MAX_NODES {
             return Ok(());
         }
-        self.put(g, v, n)
+        let second = MAX_NODES + first;
+        let domain = g.domain(Element::Vm(v));
+        if !starts_from(domain, n, self.bounds[second]) {
+            return Ok(());
+        }
+        if starts_from(domain, n, self.bounds[first]) {
+            self.put(g, v, first)
+        } else {
+            self.put(g, v, second)
+        }
     }
 
     /// Makes a mark, to which `back` returns. After want of memory all is as it was.
     pub fn mark(&mut self) -> Result<(), Memory>
-        ensures ok { OnOk result (self.new ≡ marked self.old) }
+        ensures bounds { self.new.bounds ≡ self.old.bounds }
+        ensures ok { OnOk result (self.new.words ≡ marked self.old.words) }
         ensures err { OnErr result (self.new ≡ self.old) }
     {
         self.words.mark()
@@ -149,25 +204,10 @@ impl Gone {
 
     /// Goes back to the last mark, and drops it.
     pub fn back(&mut self)
-        requires { 0 < length self.old.older }
-        ensures { IsBack self.old self.new }
+        requires { 0 < length self.old.words.older }
+        ensures bounds { self.new.bounds ≡ self.old.bounds }
+        ensures words { IsBack self.old.words self.new.words }
     {
         self.words.back()
     }
-}
-
-/// Whether it is known that a machine starts at none of some nodes, told by their bits.
-pub fn starts_at_none(gone: &[u64], w: VmId, nodes: &[u64; WORDS]) -> bool
-    ensures { IsTrue result → (n : ℕ) → bit_at (slice_index_or nodes.now (n / 64) 0) (n % 64) ≡ 1 → bit_at (slice_index_or gone.now (gone_at w.0 n) 0) (n % 64) ≡ 1 }
-{
-    let from = w.0 as usize * WORDS;
-    if gone.len() < from + WORDS {
-        return false;
-    }
-    for k in 0..WORDS {
-        if gone[from + k] & nodes[k] != nodes[k] {
-            return false;
-        }
-    }
-    true
 }

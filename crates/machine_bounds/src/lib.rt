@@ -1,5 +1,6 @@
-//! How soon a machine gives up its host, until when it may be there, and at which nodes it is known not to start.
+//! How soon a machine gives up its host, until when it may surely be there, and before when it is known not to start at nodes.
 #![tactic(auto)]
 
+pub mod ends;
 pub mod gone;
 pub mod leaving;

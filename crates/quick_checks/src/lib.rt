@@ -5,6 +5,7 @@ pub mod coming;
 mod elsewhere;
 mod holding;
 pub mod known;
+pub mod members;
 pub mod quick;
 mod scattered;
 pub mod tally;

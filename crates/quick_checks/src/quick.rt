@@ -1,27 +1,19 @@
 //! Whether a reason is seen to refute, by what is known beside the region. A yes is a yes; else it is asked exactly.
 ghost use Rattle.std.specs.Prelude.{◌≡◌, ℕ, ◌<◌, length, true, IfSome, IsTrue, Option as AnyOption, slice_get, Some};
-ghost use Rattle.quick_checks.specs.Prelude.{AreKnown, AreLegal, Applies, ForbidsPair, ForbidsPlace, IsElement, IsGroup, IsPair, IsPlace, IsSetLoad, IsSized, IsTally, inventory_of, is_rule, machine_count, Refutes, seen, sets, sure, is_member};
+ghost use Rattle.quick_checks.specs.Prelude.{AreKnown, AreLegal, Applies, ForbidsPair, ForbidsPlace, IsElement, IsGroup, IsPair, IsPlace, IsSetLoad, IsSized, IsTally, inventory_of, is_rule, machine_count, Refutes, seen, sets, sure};
 
 use crate::known::{Known, is_on};
+use crate::members::{self, is_at};
 use crate::scattered::is_scattered;
 use crate::weighed::{is_above, is_over};
-use catalogue::{Constraint, Problem, Vms};
+use catalogue::{Constraint, Problem};
 use cluster::{Element, Instant, NodeId, VmId};
 use domains::View;
 use hints::Seats;
 use reasons::Reason;
-use relax::forbidden::forbids_pair;
 use relax::named::is_named;
 use slices::Form;
 use slices::form::{Separation, form_of, is_off_limits};
-
-// whether a machine is at a place of a list
-fn is_at(machines: &Vms, place: usize, v: VmId) -> bool
-    ensures { IsTrue result → IsTrue (is_member machines.now v.0) }
-{
-    let items = machines.items();
-    place < items.len() && items[place].0 == v.0
-}
 
 // whether the constraint of a number is seen to let a machine not be on a node
 fn bans(p: &Problem, seats: &Seats, c: u32, constraint: &Constraint, v: VmId, n: NodeId) -> bool
@@ -30,7 +22,7 @@ fn bans(p: &Problem, seats: &Seats, c: u32, constraint: &Constraint, v: VmId, n:
 {
     match form_of(constraint) {
         Form::Allowed(machines, places) => {
-            is_at(machines, seats.place_of(c, v), v) && is_off_limits(p, &places, v, n)
+            is_at(machines.items(), seats.place_of(c, v), v) && is_off_limits(p, &places, v, n)
         }
         Form::Apart(..)
         | Form::Together(..)
@@ -49,12 +41,12 @@ fn keeps_apart(seats: &Seats, c: u32, constraint: &Constraint, v: VmId, w: VmId)
     match form_of(constraint) {
         Form::Apart(Separation::Each(machines)) => {
             v.0 != w.0
-                && is_at(machines, seats.place_of(c, v), v)
-                && is_at(machines, seats.place_of(c, w), w)
+                && is_at(machines.items(), seats.place_of(c, v), v)
+                && is_at(machines.items(), seats.place_of(c, w), w)
         }
-        Form::Apart(Separation::Between(_) | Separation::FromOthers(_)) => forbids_pair(
-            constraint, v, w,
-        ),
+        Form::Apart(Separation::Between(_) | Separation::FromOthers(_)) => {
+            members::keeps_apart(constraint, v, w)
+        }
         Form::Allowed(..)
         | Form::Together(..)
         | Form::Ordered(..)

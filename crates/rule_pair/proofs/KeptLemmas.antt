@@ -11,6 +11,7 @@ use Rattle.domains.specs.SetsBefore.{sets_before}
 use Rattle.domains.specs.declared.undo.Before.{Before}
 use Rattle.standings.specs.Levels.{Levels}
 use Rattle.machine_bounds.proofs.Public.{gone_fewer}
+use Rattle.machine_bounds.specs.Gone.{GoneView}
 
 -- ---- numbers that are right
 
@@ -20,30 +21,30 @@ none_right p s = record { each = λ v low. absurd (omega (arith, low)) }
 pub all_right : (p : Instance) (s : Sets) (ks : List Standing) → AreStanding p s ks → AreRight p s ks
 all_right p s ks are = record { each = λ v low. are.each v (omega (arith, low, are.count)) }
 
-pub kept_right : (p : Instance) (s : Sets) (lists : Lists) (m : Tables) (f : Levels ℕ) (wanted : Bool) → AreKept p s lists m f wanted (length m.older) → wanted ≡ true → AreRight p s m.top
+pub kept_right : (p : Instance) (s : Sets) (lists : Lists) (m : Tables) (f : GoneView) (wanted : Bool) → AreKept p s lists m f wanted (length m.older) → wanted ≡ true → AreRight p s m.top
 kept_right p s lists m f wanted kept on = all_right p s m.top (subst (λ ks. AreStanding p s ks) (level_top m) (kept.standing on))
 
 -- the top of what has as many levels
-same-top : (m : Tables) (f : Levels ℕ) → length f.older ≡ length m.older → level_at f (length m.older) ≡ f.top
-same-top m f same = ap (level_at f) (sym same) ∙ level_top f
+same-top : (m : Tables) (ws : Levels ℕ) → length ws.older ≡ length m.older → level_at ws (length m.older) ≡ ws.top
+same-top m ws same = ap (level_at ws) (sym same) ∙ level_top ws
 
-pub kept_gone : (p : Instance) (s : Sets) (lists : Lists) (m : Tables) (f : Levels ℕ) (wanted : Bool) → AreKept p s lists m f wanted (length m.older) → wanted ≡ true → AreGone s f.top
-kept_gone p s lists m f wanted kept on = subst (λ gs. AreGone s gs) (same-top m f kept.same) (kept.gone on)
+pub kept_gone : (p : Instance) (s : Sets) (lists : Lists) (m : Tables) (f : GoneView) (wanted : Bool) → AreKept p s lists m f wanted (length m.older) → AreGone s f.bounds f.words.top
+kept_gone p s lists m f wanted kept = subst (λ gs. AreGone s f.bounds gs) (same-top m f.words kept.same) kept.gone
 
 -- ---- levels
 
-pub kept_posted : (p : Instance) (s : Sets) (lists : Lists) (m : Tables) (f : Levels ℕ) (wanted : Bool) → m.older ≡ [] → f.older ≡ [] → IsIndexOf p (length p.constraints) lists → (wanted ≡ true → AreStanding p s m.top) → (wanted ≡ true → AreGone s f.top) → IsCachePosted p s (cache_of lists m f wanted)
+pub kept_posted : (p : Instance) (s : Sets) (lists : Lists) (m : Tables) (f : GoneView) (wanted : Bool) → m.older ≡ [] → f.words.older ≡ [] → IsIndexOf p (length p.constraints) lists → (wanted ≡ true → AreStanding p s m.top) → AreGone s f.bounds f.words.top → IsCachePosted p s (cache_of lists m f wanted)
 kept_posted p s lists m f wanted none fresh index standing gone = record {
   level = ap length none;
   top = record {
     index = index;
     standing = λ on. subst (λ ks. AreStanding p s ks) (sym (level_top m)) (standing on);
-    gone = λ on. subst (λ gs. AreGone s gs) (sym (same-top m f same)) (gone on);
+    gone = subst (λ gs. AreGone s f.bounds gs) (sym (same-top m f.words same)) gone;
     same = same;
   };
 }
   where
-    same : length f.older ≡ length m.older
+    same : length f.words.older ≡ length m.older
     same = ap length fresh ∙ sym (ap length none)
 
 -- what a machine may do after a change that has taken choices from an element it might do before
@@ -55,35 +56,35 @@ was-there p g x before kept fewer v c h = at (same_element (vm v) x) refl
     at false other = h
 
 -- so it does not start at the nodes at which it did not before
-pub gone_still : (p : Instance) (g : RegionView) (x : Element) (before : Before) (kept : DomainView) (lists : Lists) (m : Tables) (f : Levels ℕ) (wanted : Bool) → AreFewer (sets g x) (choices (domain_before before kept (domain_at g x))) → AreKept p (sets_before g x before kept) lists m f wanted (length m.older) → wanted ≡ true → AreGone (sets g) f.top
-gone_still p g x before kept lists m f wanted fewer was on = gone_fewer (sets g) (sets_before g x before kept) f.top (kept_gone p (sets_before g x before kept) lists m f wanted was on) (λ v c h. was-there p g x before kept fewer v c h)
+pub gone_still : (p : Instance) (g : RegionView) (x : Element) (before : Before) (kept : DomainView) (lists : Lists) (m : Tables) (f : GoneView) (wanted : Bool) → AreFewer (sets g x) (choices (domain_before before kept (domain_at g x))) → AreKept p (sets_before g x before kept) lists m f wanted (length m.older) → AreGone (sets g) f.bounds f.words.top
+gone_still p g x before kept lists m f wanted fewer was = gone_fewer (sets g) (sets_before g x before kept) f.bounds f.words.top (kept_gone p (sets_before g x before kept) lists m f wanted was) (λ v c h. was-there p g x before kept fewer v c h)
 
-pub kept_told : (p : Instance) (s old : Sets) (lists : Lists) (m now : Tables) (f h : Levels ℕ) (wanted : Bool) → now.older ≡ m.older → h.older ≡ f.older → AreKept p old lists m f wanted (length m.older) → AreStanding p s now.top → AreGone s h.top → IsCacheTold p s (cache_of lists m f wanted) (cache_of lists now h wanted)
-kept_told p s old lists m now f h wanted same like was are gone = record {
+pub kept_told : (p : Instance) (s old : Sets) (lists : Lists) (m now : Tables) (f h : GoneView) (wanted : Bool) → now.older ≡ m.older → h.bounds ≡ f.bounds → h.words.older ≡ f.words.older → AreKept p old lists m f wanted (length m.older) → AreStanding p s now.top → AreGone s h.bounds h.words.top → IsCacheTold p s (cache_of lists m f wanted) (cache_of lists now h wanted)
+kept_told p s old lists m now f h wanted same equal like was are gone = record {
   below = record {
     kept = λ j q r low k. record {
       index = k.index;
       standing = λ on. subst (λ ks. AreStanding q r ks) (sym (level_below m now j same low)) (k.standing on);
-      gone = λ on. subst (λ gs. AreGone r gs) (sym (level_below f h j like (omega (arith, low, was.same)))) (k.gone on);
+      gone = subst (λ bs. AreGone r bs (level_at h.words j)) (sym equal) (subst (λ gs. AreGone r f.bounds gs) (sym (level_below f.words h.words j like (omega (arith, low, was.same)))) k.gone);
       same = level;
     };
   };
   top = record {
     index = was.index;
     standing = λ on. subst (λ ks. AreStanding p s ks) (sym (level_top now)) are;
-    gone = λ on. subst (λ gs. AreGone s gs) (sym (same-top now h level)) gone;
+    gone = subst (λ gs. AreGone s h.bounds gs) (sym (same-top now h.words level)) gone;
     same = level;
   };
 }
   where
-    level : length h.older ≡ length now.older
+    level : length h.words.older ≡ length now.older
     level = rw (like, same) was.same
 
--- nothing is kept that a change could touch
-pub unwanted_told : (p : Instance) (s old : Sets) (lists : Lists) (m : Tables) (f : Levels ℕ) (wanted : Bool) → wanted ≡ false → AreKept p old lists m f wanted (length m.older) → IsCacheTold p s (cache_of lists m f wanted) (cache_of lists m f wanted)
-unwanted_told p s old lists m f wanted off was = record {
+-- nothing is kept that a change could make wrong
+pub unwanted_told : (p : Instance) (s old : Sets) (lists : Lists) (m : Tables) (f : GoneView) (wanted : Bool) → wanted ≡ false → AreKept p old lists m f wanted (length m.older) → AreGone s f.bounds f.words.top → IsCacheTold p s (cache_of lists m f wanted) (cache_of lists m f wanted)
+unwanted_told p s old lists m f wanted off was gone = record {
   below = record { kept = λ j q r low k. k };
-  top = record { index = was.index; standing = λ on. absurd (false≢true (sym off ∙ on)); gone = λ on. absurd (false≢true (sym off ∙ on)); same = was.same };
+  top = record { index = was.index; standing = λ on. absurd (false≢true (sym off ∙ on)); gone = subst (λ gs. AreGone s f.bounds gs) (sym (same-top m f.words was.same)) gone; same = was.same };
 }
 
 -- ---- numbers of what is seen

@@ -22,10 +22,10 @@ pub use Rattle.standings.specs.declared.numbers.Standing.{Standing}
 pub use Rattle.rule_constraint.specs.Broken.{of_kind}
 pub use Rattle.rule_pair.specs.Apart.{AreClear, class_of, ComesLate, HasPosts, IsAt, IsLate, IsTold, KeepsClear, KeepsOff, OnClear, part_of}
 pub use Rattle.rule_pair.specs.Covers.{pair_kinds}
-pub use Rattle.machine_bounds.specs.Gone.{AreGone, gone_at}
+pub use Rattle.machine_bounds.specs.Prelude.{AreEnds, AreEnough, AreGone, HaveBits, IsKnown}
 pub use Rattle.rule_pair.specs.Kept.{AreKept, AreRight, cache_of, StandsIn}
 pub use Rattle.rule_pair.specs.Longest.{AreLonger, AreOrdered, IsOrdered, of_others, told_until}
-pub use Rattle.rule_pair.specs.Reach.{AreEnds, AreUntils, HaveBits, IsReach}
+pub use Rattle.rule_pair.specs.Reach.{AreStayEnds, AreUntils, IsLateOrKnown}
 pub use Rattle.rule_pair.specs.Stays.{StandsWithin}
 pub use Rattle.rule_pair.specs.Twins.{HasTwin, IsTwin, StandsFor}
 pub use Rattle.rule_pair.specs.Unmoved.{IsUnmoved}
@@ -33,5 +33,4 @@ pub use Rattle.rule_pair.specs.declared.clear.Seen.{Seen}
 pub use Rattle.rule_pair.specs.declared.clear.Seen.TheVariants.{Clear, Doubtful, Unknown}
 pub use Rattle.rule_pair.specs.declared.longest.Longest.{Longest}
 pub use Rattle.rule_pair.specs.declared.posts.Posts.{Posts}
-pub use Rattle.rule_pair.specs.declared.reach.Ends.{Ends}
-pub use Rattle.rule_pair.specs.declared.reach.Reach.{Reach}
+pub use Rattle.machine_bounds.specs.declared.ends.Ends.{Ends}

@@ -2,15 +2,16 @@
 ghost use Rattle.std.specs.Prelude.{◌≡◌, ◌≢◌, ℕ, ◌<◌, ◌≤◌, ◌||◌, ◌==◌, nat_lt, true, length, slice_index_or, IfNone, IsTrue};
 ghost use Rattle.std.specs.List.{list_all};
 ghost use Rattle.cluster.specs.declared.choices.Choice.{Choice as AnyChoice};
-ghost use Rattle.rule_pair.specs.Prelude.{are_below, AreClear, AreEnds, AreGone, AreLonger, AreOrdered, AreRight, AreUntils, choices, Climbs, ComesLate, hosted_in, inventory_of, is_continuous, is_rule, IsClean, IsEnd, IsInPart, IsLate, IsMember, IsSized, IsTold, KeepsClear, KeepsOff, leave_of, machine_count, no_row, no_standing, OnClear, one, part_of as the_part_of, rule_watch, separated, separation_seen, sets, state_of, told_until};
+ghost use Rattle.rule_pair.specs.Prelude.{are_below, AreClear, AreGone, AreLonger, AreOrdered, AreRight, AreStayEnds, AreUntils, choices, Climbs, ComesLate, hosted_in, inventory_of, is_continuous, is_rule, IsClean, IsEnd, IsInPart, IsLate, IsMember, IsSized, IsTold, KeepsClear, KeepsOff, leave_of, machine_count, no_row, no_standing, OnClear, one, part_of as the_part_of, rule_watch, separated, separation_seen, sets, state_of, told_until};
 
 use crate::longest::{NOBODY, Stay, Table, stay_after, tell};
 use crate::pairs::separation_of;
 use crate::posts::{Post, last_before, posts_of};
-use crate::reach::{Ends, all_ends, ends_of, rows_met_before, stay_still};
+use crate::reach::{all_ends, ends_of, first_met, stay_still};
 use crate::strangers::strangers_alone;
 use cluster::limits::MAX_NODES;
-use machine_bounds::gone::starts_at_none;
+use machine_bounds::ends::Ends;
+use machine_bounds::gone::Gone;
 use machine_bounds::leaving::leaves_by;
 use rule_constraint::host;
 use rule_frame::{
@@ -238,7 +239,7 @@ pub(crate) fn machine_keeps_off(
     p: &Problem,
     g: &Region,
     kept: &[Standing],
-    gone: &[u64],
+    gone: &Gone,
     w: VmId,
     part: usize,
     from: Instant,
@@ -247,9 +248,9 @@ pub(crate) fn machine_keeps_off(
 ) -> Seen
     requires region { IsSized p.now.given g.now }
     requires kept { AreRight p.now.given (sets g.now) kept.now }
-    requires gone { AreGone (sets g.now) gone.now }
+    requires gone { AreGone (sets g.now) gone.now.bounds gone.now.words.top }
     requires machine { w.0 < machine_count p.now.given }
-    requires ends { AreEnds table.now part from ends.now }
+    requires ends { AreStayEnds table.now part from gone.now.bounds ends.now }
     ensures { OnClear result (KeepsOff p.now.given (sets g.now) table.now part from w.0) }
 {
     let domain = g.domain(Element::Vm(w));
@@ -262,11 +263,7 @@ pub(crate) fn machine_keeps_off(
     if comes_late(kept, w, part, from, ends, table) {
         return Seen::Clear;
     }
-    let rows = domain.rows();
-    if rows.len() > 0 && starts_at_none(gone, w, &ends.nodes) {
-        return Seen::Clear;
-    }
-    match rows_met_before(rows, part, from, ends, table) {
+    match first_met(domain.rows(), gone, w, part, from, ends, table) {
         None => Seen::Clear,
         Some(met) => Seen::Doubtful(make_doubt(p, w, met)),
     }
@@ -277,19 +274,19 @@ fn machines_keep_off(
     p: &Problem,
     g: &Region,
     kept: &[Standing],
-    gone: &[u64],
+    gone: &Gone,
     machines: &[VmId],
     from: Instant,
     table: &Table,
 ) -> Seen
     requires region { IsSized p.now.given g.now }
     requires kept { AreRight p.now.given (sets g.now) kept.now }
-    requires gone { AreGone (sets g.now) gone.now }
+    requires gone { AreGone (sets g.now) gone.now.bounds gone.now.words.top }
     requires machines { list_all (λ x. nat_lt x.0 (machine_count p.now.given)) machines.now ≡ true }
     requires ordered { AreOrdered table.now }
     ensures { OnClear result ((w : ℕ) → IsMember machines.now w → KeepsOff p.now.given (sets g.now) table.now w from w) }
 {
-    let ends = all_ends(table, from);
+    let ends = all_ends(table, from, gone);
     for i in 0..machines.len() {
         let w = machines[i];
         match machine_keeps_off(p, g, kept, gone, w, w.0 as usize, from, &ends, table) {
@@ -306,7 +303,7 @@ fn part_keeps_off(
     p: &Problem,
     g: &Region,
     kept: &[Standing],
-    gone: &[u64],
+    gone: &Gone,
     machines: &[VmId],
     part: usize,
     from: Instant,
@@ -314,11 +311,11 @@ fn part_keeps_off(
 ) -> Seen
     requires region { IsSized p.now.given g.now }
     requires kept { AreRight p.now.given (sets g.now) kept.now }
-    requires gone { AreGone (sets g.now) gone.now }
+    requires gone { AreGone (sets g.now) gone.now.bounds gone.now.words.top }
     requires machines { list_all (λ x. nat_lt x.0 (machine_count p.now.given)) machines.now ≡ true }
     ensures { OnClear result ((w : ℕ) → IsMember machines.now w → KeepsOff p.now.given (sets g.now) table.now part from w) }
 {
-    let ends = ends_of(table, part, from);
+    let ends = ends_of(table, part, from, gone);
     for i in 0..machines.len() {
         match machine_keeps_off(p, g, kept, gone, machines[i], part, from, &ends, table) {
             Seen::Clear => {}
@@ -334,14 +331,14 @@ fn parts_keep_off(
     p: &Problem,
     g: &Region,
     kept: &[Standing],
-    gone: &[u64],
+    gone: &Gone,
     parts: &[Vms],
     from: Instant,
     table: &Table,
 ) -> Seen
     requires region { IsSized p.now.given g.now }
     requires kept { AreRight p.now.given (sets g.now) kept.now }
-    requires gone { AreGone (sets g.now) gone.now }
+    requires gone { AreGone (sets g.now) gone.now.bounds gone.now.words.top }
     requires machines { list_all (list_all (λ x. nat_lt x.0 (machine_count p.now.given))) parts.now ≡ true }
     ensures { OnClear result ((j w : ℕ) → IsInPart parts.now j w → KeepsOff p.now.given (sets g.now) table.now j from w) }
 {
@@ -360,13 +357,13 @@ fn each_alone(
     p: &Problem,
     g: &Region,
     kept: &[Standing],
-    gone: &[u64],
+    gone: &Gone,
     machines: &[VmId],
     from: Instant,
 ) -> Seen
     requires region { IsSized p.now.given g.now }
     requires kept { AreRight p.now.given (sets g.now) kept.now }
-    requires gone { AreGone (sets g.now) gone.now }
+    requires gone { AreGone (sets g.now) gone.now.bounds gone.now.words.top }
     requires machines { list_all (λ x. nat_lt x.0 (machine_count p.now.given)) machines.now ≡ true }
     ensures { OnClear result ((v w : ℕ) → IsMember machines.now v → IsMember machines.now w → v ≢ w → KeepsClear p.now.given (sets g.now) from v w) }
 {
@@ -382,13 +379,13 @@ fn parts_alone(
     p: &Problem,
     g: &Region,
     kept: &[Standing],
-    gone: &[u64],
+    gone: &Gone,
     parts: &[Vms],
     from: Instant,
 ) -> Seen
     requires region { IsSized p.now.given g.now }
     requires kept { AreRight p.now.given (sets g.now) kept.now }
-    requires gone { AreGone (sets g.now) gone.now }
+    requires gone { AreGone (sets g.now) gone.now.bounds gone.now.words.top }
     requires machines { list_all (list_all (λ x. nat_lt x.0 (machine_count p.now.given))) parts.now ≡ true }
     ensures { OnClear result ((i j v w : ℕ) → i ≢ j → IsInPart parts.now i v → IsInPart parts.now j w → KeepsClear p.now.given (sets g.now) from v w) }
 {
@@ -404,13 +401,13 @@ fn all_alone(
     p: &Problem,
     g: &Region,
     kept: &[Standing],
-    gone: &[u64],
+    gone: &Gone,
     separation: &Separation,
     from: Instant,
 ) -> Seen
     requires region { IsSized p.now.given g.now }
     requires kept { AreRight p.now.given (sets g.now) kept.now }
-    requires gone { AreGone (sets g.now) gone.now }
+    requires gone { AreGone (sets g.now) gone.now.bounds gone.now.words.top }
     requires machines { are_below (machine_count p.now.given) (separated (separation_seen separation.now)) ≡ true }
     ensures { OnClear result (AreClear p.now.given (sets g.now) from (separation_seen separation.now)) }
 {
@@ -434,12 +431,12 @@ pub fn look_over(
     p: &Problem,
     g: &Region,
     kept: &[Standing],
-    gone: &[u64],
+    gone: &Gone,
     constraint: &Constraint,
 ) -> Seen
     requires region { IsSized p.now.given g.now }
     requires kept { AreRight p.now.given (sets g.now) kept.now }
-    requires gone { AreGone (sets g.now) gone.now }
+    requires gone { AreGone (sets g.now) gone.now.bounds gone.now.words.top }
     requires rule { is_rule (inventory_of p.now.given) constraint.now ≡ true }
     ensures { OnClear result (IsClean (rule_watch p.now.given constraint.now) p.now.given (sets g.now)) }
 {

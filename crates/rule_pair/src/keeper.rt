@@ -1,4 +1,4 @@
-//! Where machines surely stand and do not start, kept beside the index of constraints.
+//! Where machines surely stand, and before when they do not start at nodes, kept beside the index of constraints.
 ghost use Rattle.std.specs.Prelude.{◌≡◌};
 ghost use Rattle.rule_frame.specs.Caches.{IsCacheFor};
 ghost use Rattle.rule_pair.specs.Prelude.{AreGone, AreRight, cache_of, sets};
@@ -28,8 +28,8 @@ fn has_pairs(p: &Problem) -> bool {
 }
 
 /// Keeps which constraints look at each element, and for each machine until when it surely stands on its host, where it
-/// surely comes to, and nodes at which it does not start. Where no constraint keeps machines apart, nobody asks that, and it
-/// is not kept.
+/// surely comes to, and nodes at which it does not start, or not before an instant. Where no constraint keeps machines
+/// apart, nobody asks that, and it is not kept.
 #[derive(Drop)]
 pub struct PairKeeper {
     index: ConstraintIndex,
@@ -71,17 +71,14 @@ impl PairKeeper {
         }
     }
 
-    /// At which nodes it is known that machines do not start in the region of which this was told last.
-    #[tactic(auto, using(crate::proofs::KeptLemmas::kept_gone, machine_bounds::proofs::Public::none_gone))]
-    pub fn gone(&self, _p: &Problem, _g: &Region) -> &[u64]
+    /// Before when it is known that machines do not start at nodes in the region of which this was told last; of no
+    /// machine, where that is not kept.
+    #[tactic(auto, using(crate::proofs::KeptLemmas::kept_gone))]
+    pub fn gone(&self, _p: &Problem, _g: &Region) -> &Gone
         requires { IsCacheFor (cache_of self.now.index.lists self.now.table self.now.gone self.now.is_wanted) _p.now.given (sets _g.now) }
-        ensures { AreGone (sets _g.now) result.now }
+        ensures { AreGone (sets _g.now) result.now.bounds result.now.words.top }
     {
-        if self.is_wanted {
-            self.gone.words()
-        } else {
-            &[]
-        }
+        &self.gone
     }
 }
 
@@ -101,7 +98,7 @@ impl Keeper for PairKeeper {
         self.is_wanted = has_pairs(p);
         if self.is_wanted {
             self.table.post(p, g)?;
-            self.gone.post(p, g)?;
+            self.gone.post(p, g, self.table.standings())?;
         } else {
             self.table = Table::new(self.alloc);
             self.gone = Gone::new(self.alloc);

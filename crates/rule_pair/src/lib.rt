@@ -6,7 +6,6 @@ mod dirty;
 mod hall;
 pub mod keeper;
 mod longest;
-mod members;
 mod pair_look;
 mod pairs;
 mod posts;

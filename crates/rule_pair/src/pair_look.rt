@@ -5,6 +5,7 @@ ghost use Rattle.rule_pair.specs.Prelude.{AreGone, AreRight, broken_at, choices,
 use crate::clear::{Doubt, Seen, look_over};
 use crate::rule::Pairs;
 use closing::watch::look_at_constraint;
+use machine_bounds::gone::Gone;
 use rule_constraint::Kinds;
 use rule_constraint::kinds::reason_kind;
 use rule_frame::{Choice, Domain, Element, Lens, Look, NodeId, Place, Problem, Region, View, VmId};
@@ -125,10 +126,10 @@ fn broken_end(p: &Problem, g: &Region, c: u32, d: Doubt) -> Option<Choice>
 }
 
 /// A look at the constraint of a number.
-pub fn look_quickly(p: &Problem, g: &Region, kept: &[Standing], gone: &[u64], c: u32) -> Look
+pub fn look_quickly(p: &Problem, g: &Region, kept: &[Standing], gone: &Gone, c: u32) -> Look
     requires region { IsSized p.now.given g.now }
     requires kept { AreRight p.now.given (sets g.now) kept.now }
-    requires gone { AreGone (sets g.now) gone.now }
+    requires gone { AreGone (sets g.now) gone.now.bounds gone.now.words.top }
     requires constraint { c < length p.now.given.constraints }
     ensures { IsLook (constraint_watch p.now.given c) p.now.given (sets g.now) result }
 {
@@ -145,10 +146,10 @@ pub fn look_quickly(p: &Problem, g: &Region, kept: &[Standing], gone: &[u64], c:
 }
 
 /// A look at the constraint of a number, where it keeps machines apart.
-pub fn look_at_pairs(p: &Problem, g: &Region, kept: &[Standing], gone: &[u64], c: usize) -> Look
+pub fn look_at_pairs(p: &Problem, g: &Region, kept: &[Standing], gone: &Gone, c: usize) -> Look
     requires region { IsSized p.now.given g.now }
     requires kept { AreRight p.now.given (sets g.now) kept.now }
-    requires gone { AreGone (sets g.now) gone.now }
+    requires gone { AreGone (sets g.now) gone.now.bounds gone.now.words.top }
     requires constraint { c < length p.now.given.constraints }
     ensures { IsLook (watch_at pair_kinds p.now.given c) p.now.given (sets g.now) result }
 {

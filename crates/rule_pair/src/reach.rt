@@ -1,60 +1,14 @@
-//! When and between which nodes machines of other parts stay: rows elsewhere need not be read, nor late ones asked.
+//! When machines of other parts stay at nodes: rows elsewhere need not be read, nor those of which it is known that they
+//! start later.
 ghost use Rattle.std.specs.Prelude.{◌≡◌, ℕ, ◌<◌, ◌≤◌, length, slice_index_or, IfNone, IsTrue};
-ghost use Rattle.rule_pair.specs.Prelude.{AreEnds, AreOrdered, AreUntils, Climbs, HaveBits, IsLate, IsReach, no_row, place_index, told_until};
+ghost use Rattle.rule_pair.specs.Prelude.{AreEnds, AreOrdered, AreStayEnds, AreUntils, Climbs, IsLate, IsLateOrKnown, no_row, place_index, told_until};
 
 use crate::clear::Met;
 use crate::longest::{Stay, Table, of_others, stay_after};
 use cluster::limits::MAX_NODES;
-use machine_bounds::gone::WORDS;
-use rule_frame::{Instant, NodeId, Place, Row};
-
-/// The first place and the last one at which a stay is told, by their numbers in the order of places.
-#[derive(Clone, Copy)]
-pub struct Reach {
-    pub first: usize,
-    pub last: usize,
-}
-
-/// When at each node the last stay of other parts than one ends, and between which places there are any that do so after
-/// an instant.
-#[derive(Clone, Copy)]
-pub struct Ends {
-    pub reach: Reach,
-    pub until: [u64; MAX_NODES],
-    pub nodes: [u64; WORDS],
-}
-
-// between which places stays end after an instant
-fn reach_of(until: &[u64; MAX_NODES], from: Instant) -> Reach
-    ensures { IsReach until.now from result }
-{
-    let mut reach = Reach {
-        first: usize::MAX,
-        last: 0,
-    };
-    for n in 0..MAX_NODES {
-        if until[n] > u64::from(from) {
-            reach = Reach {
-                first: reach.first.min(n + 1),
-                last: n + 1,
-            };
-        }
-    }
-    reach
-}
-
-// the bits of the nodes at which stays end after an instant
-fn nodes_of(until: &[u64; MAX_NODES], from: Instant) -> [u64; WORDS]
-    ensures { HaveBits until.now from result }
-{
-    let mut nodes = [0; WORDS];
-    for n in 0..MAX_NODES {
-        if until[n] > u64::from(from) {
-            nodes[n / 64] |= 1 << (n % 64);
-        }
-    }
-    nodes
-}
+use machine_bounds::ends::{Ends, first_unknown};
+use machine_bounds::gone::Gone;
+use rule_frame::{Instant, NodeId, Place, Row, VmId};
 
 // when at each node the last stay of other parts than one ends
 #[tactic(auto, using(crate::proofs::ReachLemmas::told_more))]
@@ -80,29 +34,19 @@ fn all_untils(table: &Table) -> [u64; MAX_NODES]
     until
 }
 
-/// When the stays of other parts than one end, and where those are that do so after an instant.
-pub(crate) fn ends_of(table: &Table, part: usize, from: Instant) -> Ends
-    ensures { AreEnds table.now part from result }
+/// When the stays of other parts than one end, beside what is kept of machines.
+pub(crate) fn ends_of(table: &Table, part: usize, from: Instant, gone: &Gone) -> Ends
+    ensures { AreStayEnds table.now part from gone.now.bounds result }
 {
-    let until = untils_of(table, part);
-    Ends {
-        reach: reach_of(&until, from),
-        nodes: nodes_of(&until, from),
-        until,
-    }
+    Ends::new(untils_of(table, part), from, gone)
 }
 
-/// When the stays of all parts end, and where those are that do so after an instant.
-pub(crate) fn all_ends(table: &Table, from: Instant) -> Ends
+/// When the stays of all parts end, beside what is kept of machines.
+pub(crate) fn all_ends(table: &Table, from: Instant, gone: &Gone) -> Ends
     requires { AreOrdered table.now }
-    ensures { (part : ℕ) → AreEnds table.now part from result }
+    ensures { (part : ℕ) → AreStayEnds table.now part from gone.now.bounds result }
 {
-    let until = all_untils(table);
-    Ends {
-        reach: reach_of(&until, from),
-        nodes: nodes_of(&until, from),
-        until,
-    }
+    Ends::new(all_untils(table), from, gone)
 }
 
 /// The longest stay at a node of machines of other parts, where it ends after an instant. It is not sought where it is
@@ -172,25 +116,23 @@ fn row_met_before(row: Row, part: usize, from: Instant, ends: &Ends, table: &Tab
     }
 }
 
-/// The first of some rows at which a stay that has such an end may still last when it starts. Where there is no such stay
-/// no row is read.
-#[tactic(auto, using(crate::proofs::ReachLemmas::late_nowhere))]
-pub(crate) fn rows_met_before(
+// the first of some rows at which a stay may still last when it starts; those before the place of a number are not read,
+// nor those after all stays
+fn rows_met_from(
     rows: &[Row],
+    number: usize,
     part: usize,
     from: Instant,
     ends: &Ends,
     table: &Table,
 ) -> Option<Met>
     requires climbs { Climbs 0 rows.now }
-    requires ends { AreEnds table.now part from ends.now }
-    ensures { IfNone result ((i : ℕ) → i < length rows.now → IsLate table.now part from (slice_index_or rows.now i no_row).place (slice_index_or rows.now i no_row).lo) }
+    requires until { AreUntils table.now part ends.now.until }
+    requires ends { AreEnds from ends.now }
+    ensures { IfNone result ((i : ℕ) → i < length rows.now → number ≤ place_index (slice_index_or rows.now i no_row).place → IsLate table.now part from (slice_index_or rows.now i no_row).place (slice_index_or rows.now i no_row).lo) }
 {
-    if ends.reach.last < ends.reach.first {
-        return None;
-    }
-    for i in rows_before(rows, ends.reach.first)..rows.len() {
-        if number_of(rows[i].place) > ends.reach.last {
+    for i in rows_before(rows, number)..rows.len() {
+        if number_of(rows[i].place) > ends.past {
             return None;
         }
         if let Some(met) = row_met_before(rows[i], part, from, ends, table) {
@@ -198,4 +140,26 @@ pub(crate) fn rows_met_before(
         }
     }
     None
+}
+
+/// The first row of a machine at which a stay may still last when it starts. Where it is known to start at no node before
+/// the stays there end, no row is read; else none at a node before the first of which that is not known.
+pub(crate) fn first_met(
+    rows: &[Row],
+    gone: &Gone,
+    w: VmId,
+    part: usize,
+    from: Instant,
+    ends: &Ends,
+    table: &Table,
+) -> Option<Met>
+    requires climbs { Climbs 0 rows.now }
+    requires ends { AreStayEnds table.now part from gone.now.bounds ends.now }
+    ensures { IfNone result ((i : ℕ) → i < length rows.now → IsLateOrKnown table.now part from gone.now.words.top ends.now.enough w.0 (slice_index_or rows.now i no_row).place (slice_index_or rows.now i no_row).lo) }
+{
+    if rows.len() == 0 {
+        return None;
+    }
+    let first = first_unknown(gone, w, ends)?;
+    rows_met_from(rows, first.saturating_add(1), part, from, ends, table)
 }

@@ -2,8 +2,8 @@
 ghost use Rattle.std.specs.Prelude.{◌≡◌, ◌<◌, ℕ, IfSome, IsTrue, None, Option as AnyOption, true};
 ghost use Rattle.rule_pair.specs.Prelude.{AreRight, in_part, IsSized, keeping, kept_use as the_kept_use, machine_count, one, Presence, Refutes, sets, StandsIn, sure, vm};
 
-use crate::members::keeps_apart;
 use quick_checks::coming::comes_on;
+use quick_checks::members::keeps_apart;
 use relax::named::is_named;
 use relax::refutes::refutes_inside;
 use rule_frame::{Element, Instant, Lens, NodeId, Part, Problem, Reason, Region, View, VmId};

@@ -1,13 +1,15 @@
 //! Members that are to be alone: they keep off all other machines, and these off them.
 ghost use Rattle.std.specs.Prelude.{◌≡◌, ◌≢◌, ℕ, ◌<◌, nat_lt, true, IsTrue};
 ghost use Rattle.std.specs.List.{list_all};
-ghost use Rattle.rule_pair.specs.Prelude.{AreEnds, AreGone, AreOrdered, AreRight, class_of as the_class_of, has_machine, is_member, IsSized, IsTold, KeepsClear, KeepsOff, machine_count, OnClear, sets};
+ghost use Rattle.rule_pair.specs.Prelude.{AreGone, AreOrdered, AreRight, AreStayEnds, class_of as the_class_of, has_machine, is_member, IsSized, IsTold, KeepsClear, KeepsOff, machine_count, OnClear, sets};
 
 use crate::clear::{Seen, machine_keeps_off, tell_machine};
 use crate::longest::{NOBODY, Table};
-use crate::reach::{Ends, ends_of};
+use crate::reach::ends_of;
 use cluster::MachineSet;
 use cluster::limits::MAX_NODES;
+use machine_bounds::ends::Ends;
+use machine_bounds::gone::Gone;
 use rule_frame::{Instant, Problem, Region, VmId};
 use standings::numbers::Standing;
 
@@ -58,7 +60,7 @@ fn one_keeps_off(
     p: &Problem,
     g: &Region,
     kept: &[Standing],
-    gone: &[u64],
+    gone: &Gone,
     w: VmId,
     part: usize,
     from: Instant,
@@ -68,10 +70,10 @@ fn one_keeps_off(
 ) -> Seen
     requires region { IsSized p.now.given g.now }
     requires kept { AreRight p.now.given (sets g.now) kept.now }
-    requires gone { AreGone (sets g.now) gone.now }
+    requires gone { AreGone (sets g.now) gone.now.bounds gone.now.words.top }
     requires machine { w.0 < machine_count p.now.given }
-    requires strangers { AreEnds table.now 0 from strangers_ends.now }
-    requires members { AreEnds table.now 1 from members_ends.now }
+    requires strangers { AreStayEnds table.now 0 from gone.now.bounds strangers_ends.now }
+    requires members { AreStayEnds table.now 1 from gone.now.bounds members_ends.now }
     ensures { OnClear result (KeepsOff p.now.given (sets g.now) table.now part from w.0) }
 {
     if part == 0 {
@@ -88,18 +90,18 @@ fn all_keep_off(
     p: &Problem,
     g: &Region,
     kept: &[Standing],
-    gone: &[u64],
+    gone: &Gone,
     members: &MachineSet,
     from: Instant,
     table: &Table,
 ) -> Seen
     requires region { IsSized p.now.given g.now }
     requires kept { AreRight p.now.given (sets g.now) kept.now }
-    requires gone { AreGone (sets g.now) gone.now }
+    requires gone { AreGone (sets g.now) gone.now.bounds gone.now.words.top }
     ensures { OnClear result ((w : ℕ) → w < machine_count p.now.given → KeepsOff p.now.given (sets g.now) table.now (the_class_of (has_machine members.now) w) from w) }
 {
-    let strangers_ends = ends_of(table, 0, from);
-    let members_ends = ends_of(table, 1, from);
+    let strangers_ends = ends_of(table, 0, from, gone);
+    let members_ends = ends_of(table, 1, from, gone);
     for i in 0..p.cluster().machines().len() {
         let w = VmId(i as u32);
         let part = class_of(members, w);
@@ -128,13 +130,13 @@ fn set_alone(
     p: &Problem,
     g: &Region,
     kept: &[Standing],
-    gone: &[u64],
+    gone: &Gone,
     members: &MachineSet,
     from: Instant,
 ) -> Seen
     requires region { IsSized p.now.given g.now }
     requires kept { AreRight p.now.given (sets g.now) kept.now }
-    requires gone { AreGone (sets g.now) gone.now }
+    requires gone { AreGone (sets g.now) gone.now.bounds gone.now.words.top }
     ensures { OnClear result ((v w : ℕ) → v < machine_count p.now.given → w < machine_count p.now.given → the_class_of (has_machine members.now) v ≢ the_class_of (has_machine members.now) w → KeepsClear p.now.given (sets g.now) from v w) }
 {
     let mut table = [NOBODY; MAX_NODES];
@@ -149,13 +151,13 @@ pub(crate) fn strangers_alone(
     p: &Problem,
     g: &Region,
     kept: &[Standing],
-    gone: &[u64],
+    gone: &Gone,
     machines: &[VmId],
     from: Instant,
 ) -> Seen
     requires region { IsSized p.now.given g.now }
     requires kept { AreRight p.now.given (sets g.now) kept.now }
-    requires gone { AreGone (sets g.now) gone.now }
+    requires gone { AreGone (sets g.now) gone.now.bounds gone.now.words.top }
     requires machines { list_all (λ x. nat_lt x.0 (machine_count p.now.given)) machines.now ≡ true }
     ensures { OnClear result ((v w : ℕ) → v < machine_count p.now.given → w < machine_count p.now.given → the_class_of (is_member machines.now) v ≢ the_class_of (is_member machines.now) w → KeepsClear p.now.given (sets g.now) from v w) }
 {

@@ -5,12 +5,12 @@ ghost use Rattle.rule_pair.specs.Prelude.{are_below, AreRight, IsSized, machine_
 
 use crate::clear::{Met, first_instant, part_of, row_met, tell_machines, tell_parts};
 use crate::longest::{NOBODY, Table, stay_after};
-use crate::members::part_with;
 use crate::pairs::separation_of;
 use crate::posts::last_before;
 use crate::strangers::{class_of, members, tell_all};
 use cluster::MachineSet;
 use cluster::limits::MAX_NODES;
+use quick_checks::members::part_with;
 use rule_constraint::host;
 use rule_frame::{
     Change, Element, Instant, Memory, NodeId, Part, Place, Problem, Reason, Region, Separation,

@@ -5,8 +5,8 @@ ghost use Rattle.cluster.specs.declared.choices.Choice.TheVariants.{Idle as Stay
 ghost use Rattle.rule_constraint.specs.Watches.{IsHarmless};
 ghost use Rattle.rule_pair.specs.Prelude.{are_below, Between, constraint_watch, FromOthers, HasTwin, IsInPart, IsSized, IsTwin, machine_count, separated, separation_seen, sets, StandsFor, Vm, vm};
 
-use crate::members::part_with;
 use crate::pairs::separation_of;
+use quick_checks::members::part_with;
 use rule_frame::{Element, Problem, Region, Separation, VmId, Vms};
 use slices::elements::state_of;
 

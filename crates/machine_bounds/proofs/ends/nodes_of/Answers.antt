@@ -1,9 +1,9 @@
-use Rattle.rule_pair.proofs.Prelude.{arith, slice_index_or, ◌∙◌}
+use Rattle.base.proofs.Public.{arith, slice_index_or, ◌∙◌}
 use Rattle.std.proofs.Common.{bit_or, ◌%◌, ◌*◌, ◌/◌, ◌^◌}
 use Rattle.std.proofs.lemmas.List.{length-set}
-use Rattle.rule_pair.proofs.ReachLemmas.{bits_more, bits_still}
-use Rattle.rule_pair.proofs.reach.nodes_of.Goals as goal
-use Rattle.rule_pair.proofs.reach.nodes_of.Goals.{then-until-n, else-until-n}
+use Rattle.machine_bounds.proofs.EndLemmas.{bits_more, bits_still}
+use Rattle.machine_bounds.proofs.ends.nodes_of.Goals as goal
+use Rattle.machine_bounds.proofs.ends.nodes_of.Goals.{then-until-n, else-until-n}
 
 pub loop-n-preserved : goal.loop-n-preserved
 loop-n-preserved c = elim c.if-until-n.branch [

@@ -1,7 +1,7 @@
-use Rattle.rule_pair.proofs.Prelude.{length, slice_index_or, ℕ, ◌<◌, ◌≡◌}
+use Rattle.base.proofs.Public.{length, slice_index_or, ℕ, ◌<◌, ◌≡◌}
 use Rattle.std.proofs.Common.{◌/◌, ◌%◌}
 use Rattle.std.specs.Int.{bit_at}
-use Rattle.rule_pair.proofs.reach.nodes_of.Given as goal
+use Rattle.machine_bounds.proofs.ends.nodes_of.Given as goal
 
 abbrev pub invariant-loop-n : goal.invariant-loop-n
 invariant-loop-n l = record {

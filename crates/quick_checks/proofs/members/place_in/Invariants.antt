@@ -1,6 +1,6 @@
-use Rattle.rule_pair.proofs.Prelude.{◌≤◌, length}
+use Rattle.quick_checks.proofs.Prelude.{◌≤◌, length}
 use Rattle.std.proofs.Common.{◌-◌}
-use Rattle.rule_pair.proofs.members.place_in.Given as goal
+use Rattle.quick_checks.proofs.members.place_in.Given as goal
 
 abbrev pub invariant-loop-low : goal.invariant-loop-low
 invariant-loop-low l = l.high ≤ length l.machines

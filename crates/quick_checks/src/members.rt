@@ -1,9 +1,11 @@
 //! Whether machines are members, found at once in a list that is in order.
 ghost use Rattle.std.specs.Prelude.{◌≢◌, ℕ, ◌<◌, IfSome, IsTrue};
-ghost use Rattle.rule_pair.specs.Prelude.{ForbidsPair, IsInPart, IsMember, Separates, separation_seen};
+ghost use Rattle.quick_checks.specs.Prelude.{ForbidsPair, IsInPart, IsMember, Separates, separation_seen};
 
-use crate::pairs::separation_of;
-use rule_frame::{Constraint, Separation, VmId, Vms};
+use catalogue::{Constraint, Vms};
+use cluster::VmId;
+use slices::Form;
+use slices::form::{Separation, form_of};
 
 // where a machine would stand in a list that is in order
 fn place_in(machines: &[VmId], v: VmId) -> usize {
@@ -20,19 +22,18 @@ fn place_in(machines: &[VmId], v: VmId) -> usize {
     low
 }
 
-// whether a machine stands at a place of a list
-#[tactic(auto, using(crate::proofs::StrangerLemmas::member_there))]
-fn stands_at(machines: &[VmId], i: usize, v: VmId) -> bool
+/// Whether a machine is at a place of a list.
+pub(crate) fn is_at(machines: &[VmId], place: usize, v: VmId) -> bool
     ensures { IsTrue result → IsMember machines.now v.0 }
 {
-    i < machines.len() && machines[i].0 == v.0
+    place < machines.len() && machines[place].0 == v.0
 }
 
 // whether a machine is found in a list. In one that is not in order it may be missed
 fn is_found(machines: &[VmId], v: VmId) -> bool
     ensures { IsTrue result → IsMember machines.now v.0 }
 {
-    stands_at(machines, place_in(machines, v), v)
+    is_at(machines, place_in(machines, v), v)
 }
 
 // whether it is in a list
@@ -56,7 +57,7 @@ fn part_found(parts: &[Vms], v: VmId) -> Option<usize>
 }
 
 /// A part in which it is.
-pub(crate) fn part_with(parts: &[Vms], v: VmId) -> Option<usize>
+pub fn part_with(parts: &[Vms], v: VmId) -> Option<usize>
     ensures { IfSome result (λ i. IsInPart parts.now i v.0) }
 {
     let found = part_found(parts, v);
@@ -98,11 +99,17 @@ fn are_separated(separation: &Separation, v: VmId, w: VmId) -> bool
 }
 
 /// Whether a constraint is seen to keep two machines apart: it is where no machine is in two parts.
-pub(crate) fn keeps_apart(constraint: &Constraint, v: VmId, w: VmId) -> bool
+pub fn keeps_apart(constraint: &Constraint, v: VmId, w: VmId) -> bool
     ensures { IsTrue result → ForbidsPair constraint.now v.0 w.0 }
 {
-    match separation_of(constraint) {
-        None => false,
-        Some(separation) => are_separated(&separation, v, w),
+    match form_of(constraint) {
+        Form::Apart(separation) => are_separated(&separation, v, w),
+        Form::Allowed(..)
+        | Form::Together(..)
+        | Form::Ordered(..)
+        | Form::InTurn(..)
+        | Form::Bounded(..)
+        | Form::Powered(..)
+        | Form::Settled => false,
     }
 }
